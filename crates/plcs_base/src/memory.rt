@@ -1,0 +1,17 @@
+use std::alloc::{AllocError, AllocFailed};
+
+/// Memory ran out. The call that answers it changed nothing.
+#[derive(Clone, Copy, Debug, PartialEq, Eq)]
+pub struct OutOfMemory;
+
+impl From<AllocError> for OutOfMemory {
+    fn from(_error: AllocError) -> Self {
+        OutOfMemory
+    }
+}
+
+impl<T: Drop> From<AllocFailed<T>> for OutOfMemory {
+    fn from(_refused: AllocFailed<T>) -> Self {
+        OutOfMemory
+    }
+}
