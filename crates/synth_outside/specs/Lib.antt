@@ -1,0 +1,7 @@
+pub mod Calls
+pub mod Cause
+pub mod Entries
+pub mod Filing
+pub mod Memory
+pub mod Reading
+pub mod Writing

@@ -1,0 +1,22 @@
+//! What the editor reads from and writes to: a source of bytes, a sink of bytes and files by name,
+//! each as a trait, in memory, and over std's streams.
+#![tactic(auto)]
+
+mod calls;
+mod faults;
+mod filing;
+mod mem_sink;
+mod mem_source;
+mod reading;
+mod std_sink;
+mod std_source;
+mod writing;
+
+pub use faults::{FilesFault, SinkFault, SourceFault};
+pub use filing::Files;
+pub use mem_sink::MemSink;
+pub use mem_source::MemSource;
+pub use reading::Source;
+pub use std_sink::StdSink;
+pub use std_source::StdSource;
+pub use writing::Sink;

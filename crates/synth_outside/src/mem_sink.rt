@@ -1,0 +1,76 @@
+ghost use Rattle.std.specs.Prelude.{◌≡◌, ◌<◌, ◌≤◌, [], length, take, Some, Err, IfOk, OnErr};
+ghost use Rattle.std.specs.Io.KnownBytes.{Appends};
+ghost use Rattle.synth_outside.specs.Calls.{Calls as CallsOnce};
+ghost use Rattle.synth_outside.specs.Cause.{HasCause};
+ghost use Rattle.synth_outside.specs.Writing.{AppendsFront};
+
+use super::calls::Calls;
+use super::{Sink, SinkFault};
+use std::alloc::Global;
+use std::marker::Model;
+
+/// A sink that keeps its bytes in memory, and that fails where it is told to.
+///
+/// It is seen as the bytes taken, and the calls made with those that are to fail.
+#[derive(Debug, Drop)]
+pub struct MemSink {
+    bytes: Vec<u8>,
+    calls: Calls,
+}
+
+impl Model for MemSink {
+    ghost use Rattle.synth_outside.specs.Memory.{SinkView};
+
+    ghost Value = { SinkView };
+
+    ghost view = { λ sink. record { taken = sink.bytes.items; calls = sink.calls } };
+}
+
+impl MemSink {
+    /// Nothing was taken yet, and the calls whose numbers, from 1, are in `fails` are to fail.
+    pub fn new(alloc: Global, fails: Vec<u64>) -> Self
+        ensures taken { result.taken ≡ [] }
+        ensures calls { result.calls ≡ record { fails = fails.items; made = 0; faults = 0 } }
+    {
+        MemSink {
+            bytes: Vec::new(alloc),
+            calls: Calls::new(fails),
+        }
+    }
+
+    /// The bytes taken so far.
+    pub fn bytes(&self) -> &[u8]
+        ensures { result.now ≡ self.now.taken }
+    {
+        self.bytes.as_slice()
+    }
+}
+
+impl Sink for MemSink {
+    ghost taken = { λ sink. Some sink.taken };
+
+    ghost faults = { λ sink. sink.calls.faults };
+
+    /// Takes the whole piece, or nothing of it.
+    fn write(&mut self, piece: &[u8]) -> Result<usize, SinkFault>
+        requires { 0 < length piece.now }
+        ensures some { IfOk result (λ n. 0 < n) }
+        ensures count { IfOk result (λ n. n ≤ length piece.now) }
+        ensures accepted { IfOk result (λ n. Appends (Some self.old.taken) (Some self.new.taken) (take n piece.now)) }
+        ensures front { OnErr result (AppendsFront (Some self.old.taken) (Some self.new.taken) piece.now) }
+        ensures cause { HasCause SinkFault.Failed self.old.calls.faults self.new.calls.faults result }
+
+        // Which answer comes, and what was taken, exactly; want of memory comes only in place of success.
+        ensures called { CallsOnce SinkFault.Failed self.old.calls self.new.calls result }
+        ensures whole { IfOk result (λ n. n ≡ length piece.now) }
+        ensures kept { OnErr result (self.new.taken ≡ self.old.taken) }
+    {
+        if self.calls.next_fails() {
+            return Err(SinkFault::Failed);
+        }
+        match self.bytes.extend_from_slice(piece) {
+            Ok(()) => Ok(piece.len()),
+            Err(_) => Err(SinkFault::OutOfMemory),
+        }
+    }
+}
