@@ -1,1 +1,9 @@
 pub mod Placeholder
+pub mod Builtin
+pub mod Sign
+pub mod Reading
+pub mod PlainForm
+pub mod Token
+pub mod Cuts
+pub mod Level
+pub mod Form
