@@ -7,3 +7,8 @@ pub mod Token
 pub mod Cuts
 pub mod Level
 pub mod Form
+pub mod Comment
+pub mod Limit
+pub mod Reads
+pub mod Syntax
+pub mod Canon
