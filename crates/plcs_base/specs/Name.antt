@@ -12,7 +12,7 @@ keywords =
     ∷ codes "SKIP" ∷ codes "THEN" ∷ codes "TO" ∷ codes "UNTIL" ∷ codes "VARYING" ∷ codes "WHEN" ∷ codes "WHILE" ∷ []
 
 -- one of the keywords, case by case
-abbrev pub is_keyword : List ℕ → Bool
+unfoldable pub is_keyword : List ℕ → Bool
 is_keyword bytes = list_any (bytes_eq bytes) keywords
 
 -- a letter, then letters, digits or `_`

@@ -104,6 +104,7 @@ fn all_name_bytes(bytes: &[u8]) -> bool
 }
 
 /// Whether the bytes are one of the keywords.
+#[tactic(auto, unfolding(crate::specs::Name::is_keyword))]
 fn is_keyword(bytes: &[u8]) -> bool
     ensures { result ≡ is_keyword bytes.now }
 {

@@ -4,7 +4,7 @@ use Rattle.plcs_grammar.specs.declared.category.Category.{Category}
 use Rattle.plcs_grammar.specs.declared.item.Item.{Item}
 use Rattle.plcs_grammar.specs.Sign.{Sign}
 use Rattle.plcs_grammar.specs.Token.{Token}
-use Rattle.plcs_grammar.specs.Reading.{Tree, Trees, Reference, Reading, category_of}
+use Rattle.plcs_grammar.specs.Reading.{Trees, Reading, category_of}
 use Rattle.plcs_grammar.specs.Level.{Level, IsReference, Joined, in_parentheses}
 
 -- the tokens are the name alone

@@ -19,7 +19,7 @@ pub data Sign : Type 0 where
   greater_equal : Sign
   ampersand : Sign
   bar : Sign
-  not : Sign
+  caret : Sign
   open_parenthesis : Sign
   close_parenthesis : Sign
   comma : Sign
@@ -38,7 +38,7 @@ sign_bytes greater = codes ">"
 sign_bytes greater_equal = codes ">="
 sign_bytes ampersand = codes "&"
 sign_bytes bar = codes "|"
-sign_bytes not = codes "^"
+sign_bytes caret = codes "^"
 sign_bytes open_parenthesis = codes "("
 sign_bytes close_parenthesis = codes ")"
 sign_bytes comma = codes ","
@@ -47,7 +47,7 @@ sign_bytes comma = codes ","
 abbrev pub prefix_sign : PrefixOp → Sign
 prefix_sign before.Plus = plus
 prefix_sign before.Minus = minus
-prefix_sign before.Not = not
+prefix_sign before.Not = caret
 
 -- the sign of an operator between its operands
 abbrev pub infix_sign : InfixOp → Sign
