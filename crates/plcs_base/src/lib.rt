@@ -9,6 +9,8 @@ mod memory;
 mod name;
 mod place;
 mod scope;
+#[cfg(test)]
+mod tests;
 mod text;
 mod value;
 mod work;

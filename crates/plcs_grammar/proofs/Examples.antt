@@ -1,17 +1,20 @@
 -- Rows that the definitions give by computing.
-use Rattle.std.proofs.Common.{◌≡◌, refl, ℕ, zero, suc, ◌≤◌, pos, Bool, true, false, List, [], ◌∷◌, ◌++◌, codes, length, Some, None, sym, ap, subst, arith, lit≤, length-append}
+use Rattle.std.proofs.Common.{◌≡◌, refl, ℕ, zero, suc, ◌≤◌, pos, negsuc, Bool, true, false, List, [], ◌∷◌, ◌++◌, codes, length, Some, None, sym, ap, subst, arith, lit≤, length-append, inl}
 use Rattle.std.specs.Fmt.{digits}
 use Rattle.std.specs.Prelude.{IsTrue}
 use Rattle.plcs_base.specs.Name.{IsName, is_keyword}
 use Rattle.plcs_grammar.specs.declared.operator.InfixOp.TheVariants.{Equal, Plus, Times}
 use Rattle.plcs_grammar.specs.Reading.{Tree, Trees, Reference, Reading}
-use Rattle.plcs_grammar.specs.Sign.{Sign, sign_bytes}
+use Rattle.plcs_grammar.specs.Sign.{Sign, sign_bytes, infix_sign}
 use Rattle.plcs_grammar.specs.Token.{Token, IsToken, IsNumeral, First, quoted, bit_bytes, numeral_value}
 use Rattle.plcs_grammar.specs.Cuts.{Piece, Cuts}
 use Rattle.plcs_grammar.specs.Level.{Level, in_parentheses}
 use Rattle.plcs_grammar.specs.Comment.{comment_syntax, trimmed}
 use Rattle.plcs_grammar.specs.Limit.{OverLimit, first_over, phrase_opened}
+use Rattle.plcs_grammar.specs.Form.{Form}
+use Rattle.plcs_grammar.specs.Syntax.{GoesWrong, SyntaxAt}
 use Rattle.plcs_grammar.specs.Canon.{Canon}
+use Rattle.plcs_grammar.specs.declared.category.Category.TheVariants.{Assignment, Condition, Expression, ExpressionList, VariableList, Variable, CallRef, DeclaredList, ProcedureName, NameList, Length, CommentText}
 
 abbrev num : ℕ → Tree
 num n = Tree.number (pos n)
@@ -182,3 +185,36 @@ one_byte_longest token front back e is = omega (arith, ap length e, length-appen
 
 one_piece : Cuts (record { token = Token.sign Sign.close_parenthesis; start = 2; end = 3 } ∷ []) 0 (codes "  )") None
 one_piece = (codes ")", [], record { whole = refl; is_token = refl; longest = one_byte_longest }, refl, refl, refl)
+
+-- no expression is made of no tokens
+no_empty_expression : (e : Tree) → ¬ (Level e 1 [])
+no_empty_expression (Tree.number (pos n)) e = cc
+no_empty_expression (Tree.number (negsuc n)) e = e
+no_empty_expression (Tree.text value) e = cc
+no_empty_expression (Tree.bit value) e = cc
+no_empty_expression (Tree.variable (Reference.simple name)) (own, e) = cc
+no_empty_expression (Tree.variable (Reference.subscripted name index)) (own, (inner, e, level)) = cc
+no_empty_expression (Tree.unary op a) (inner, e, level) = cc
+no_empty_expression (Tree.binary op a b) (low, left, right, e, a_level, b_level) =
+    absurd (omega (arith, ap length e, length-append left (Token.sign (infix_sign op) ∷ right)))
+no_empty_expression (Tree.builtin function arguments) (inner, e, joined) = cc
+no_empty_expression (Tree.parenthesized a) (inner, e, level) = cc
+
+no_empty_form : (phrase : Reading) → ¬ (Form Expression [] phrase)
+no_empty_form (Reading.expression e) form = no_empty_expression e form.1
+no_empty_form (Reading.assignment target value) form = let wrong : Assignment ≡ Expression = form.0 in cc
+no_empty_form (Reading.condition e) form = let wrong : Condition ≡ Expression = form.0 in cc
+no_empty_form (Reading.expression_list es) form = let wrong : ExpressionList ≡ Expression = form.0 in cc
+no_empty_form (Reading.variable_list targets) form = let wrong : VariableList ≡ Expression = form.0 in cc
+no_empty_form (Reading.variable_name name) form = let wrong : Variable ≡ Expression = form.0 in cc
+no_empty_form (Reading.call name arguments) form = let wrong : CallRef ≡ Expression = form.0 in cc
+no_empty_form (Reading.declared_list items) form = let wrong : DeclaredList ≡ Expression = form.0 in cc
+no_empty_form (Reading.procedure_name name) form = let wrong : ProcedureName ≡ Expression = form.0 in cc
+no_empty_form (Reading.name_list names) form = let wrong : NameList ≡ Expression = form.0 in cc
+no_empty_form (Reading.greatest_length n) form = let wrong : Length ≡ Expression = form.0 in cc
+no_empty_form (Reading.comment bytes) form = let wrong : CommentText ≡ Expression = form.0 in cc
+
+-- the empty text goes wrong at its end, which is place 0
+empty_text : SyntaxAt Expression [] 0
+empty_text =
+    inl ([], None, refl, GoesWrong.at_end (Token.number 1 ∷ [], Reading.expression (num 1), (refl, refl)) no_empty_form)

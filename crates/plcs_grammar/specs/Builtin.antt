@@ -18,5 +18,5 @@ abbrev pub builtins : List Builtin
 builtins = Abs ∷ Mod ∷ Min ∷ Max ∷ Length ∷ Substr ∷ Index ∷ []
 
 -- whether the name is a built-in function's
-abbrev pub is_builtin_name : List ℕ → Bool
+unfoldable pub is_builtin_name : List ℕ → Bool
 is_builtin_name name = list_any (λ function. bytes_eq name (builtin_name function)) builtins
