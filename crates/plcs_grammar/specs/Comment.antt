@@ -28,7 +28,8 @@ pub record IsCommentText (x : List ℕ) : Type 0 where
 abbrev pub comment_offence : ℕ → List ℕ → Option ℕ
 comment_offence place [] = None
 comment_offence place (byte ∷ rest) =
-    if not (is_printable byte) || starts_with nat_eq (byte ∷ rest) comment_end then Some place else comment_offence (place + 1) rest
+    if not (is_printable byte) || starts_with nat_eq (byte ∷ rest) comment_end then Some place
+    else comment_offence (place + 1) rest
 
 -- the place where the text is refused as a comment's, if it is: its end where it is blank, 0 for the placeholder
 abbrev pub comment_syntax : List ℕ → Option ℕ
