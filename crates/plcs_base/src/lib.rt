@@ -1,8 +1,27 @@
-//! What every other layer speaks of: counts of work, and want of memory.
+//! What every other layer speaks of: names, values, places, marks, counts of work, and want of
+//! memory.
 #![tactic(auto)]
 
+mod byte_out;
+mod item;
+mod mark;
 mod memory;
+mod name;
+mod place;
+mod scope;
+#[cfg(test)]
+mod tests;
+mod text;
+mod value;
 mod work;
 
+pub use byte_out::ByteOut;
+pub use item::{Declared, ItemType};
+pub use mark::{MarkKind, Marked};
 pub use memory::OutOfMemory;
+pub use name::Name;
+pub use place::{PhraseAt, Place, Point, Slot};
+pub use scope::Scope;
+pub use text::TextValue;
+pub use value::{Kind, Value};
 pub use work::{Counts, Work};

@@ -1,1 +1,14 @@
 pub mod Placeholder
+pub mod Builtin
+pub mod Sign
+pub mod Reading
+pub mod PlainForm
+pub mod Token
+pub mod Cuts
+pub mod Level
+pub mod Form
+pub mod Comment
+pub mod Limit
+pub mod Reads
+pub mod Syntax
+pub mod Canon

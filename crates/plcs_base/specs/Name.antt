@@ -1,0 +1,28 @@
+-- Which bytes are a name.
+use Rattle.std.specs.Prelude.{ℕ, Bool, false, ◌&&◌, not, nat_le, bytes_eq, List, [], ◌∷◌, length, codes, IsTrue}
+use Rattle.std.specs.List.{list_all, list_any}
+use Rattle.plcs_base.specs.Byte.{is_letter, is_name_byte}
+
+-- the words that are no names
+abbrev pub keywords : List (List ℕ)
+keywords =
+    codes "BIT" ∷ codes "BY" ∷ codes "CALL" ∷ codes "CHARACTER" ∷ codes "DECLARE" ∷ codes "DO" ∷ codes "ELSE"
+    ∷ codes "END" ∷ codes "FIXED" ∷ codes "FLOAT" ∷ codes "GET" ∷ codes "IF" ∷ codes "LIST" ∷ codes "MAIN"
+    ∷ codes "OPTIONS" ∷ codes "OTHERWISE" ∷ codes "PROCEDURE" ∷ codes "PUT" ∷ codes "RETURN" ∷ codes "SELECT"
+    ∷ codes "SKIP" ∷ codes "THEN" ∷ codes "TO" ∷ codes "UNTIL" ∷ codes "VARYING" ∷ codes "WHEN" ∷ codes "WHILE" ∷ []
+
+-- one of the keywords, case by case
+unfoldable pub is_keyword : List ℕ → Bool
+is_keyword bytes = list_any (bytes_eq bytes) keywords
+
+-- a letter, then letters, digits or `_`
+abbrev pub is_word : List ℕ → Bool
+is_word [] = false
+is_word (first ∷ rest) = is_letter first && list_all is_name_byte rest
+
+-- a word of at most 31 bytes that is no keyword
+abbrev pub is_name : List ℕ → Bool
+is_name bytes = is_word bytes && (nat_le (length bytes) 31 && not (is_keyword bytes))
+
+abbrev pub IsName : List ℕ → Type 0
+IsName bytes = IsTrue (is_name bytes)

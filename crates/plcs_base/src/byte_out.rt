@@ -1,0 +1,14 @@
+ghost use Rattle.std.specs.Prelude.{ℕ};
+
+/// Something that bytes are put into, one after the other.
+///
+/// What a byte changes is the implementation's own: it may keep the byte, keep only what it has room
+/// for, or pass it on. Putting several bytes is `PutsAll` of `specs/Put.antt`.
+pub trait ByteOut {
+    /// The value before, the byte, and a value that may be there after.
+    ghost puts: { Self → ℕ → Self → Type 0 };
+
+    /// Puts one byte.
+    fn put(&mut self, byte: u8)
+        ensures { puts self.old byte self.new };
+}

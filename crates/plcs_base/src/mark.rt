@@ -1,0 +1,43 @@
+use crate::place::PhraseAt;
+
+/// What is wrong with a phrase: its first offence.
+#[derive(Clone, Copy, Debug, PartialEq, Eq)]
+pub enum MarkKind {
+    /// A name without a type.
+    Undeclared,
+    /// An operand of another kind than is asked for.
+    TypeMismatch,
+    /// A scalar with a subscript.
+    NotArray,
+    /// An array without a subscript.
+    NeedsSubscript,
+    /// A name that is declared, or a procedure that is headed, a second time.
+    Duplicate,
+    /// A call of a name that heads no procedure.
+    UnknownProcedure,
+    /// Too many arguments, or too few.
+    WrongCount,
+    /// An argument whose kind is not the parameter's.
+    ArgumentType,
+    /// A parameter that is not declared as a scalar.
+    ParameterUndeclared,
+    /// An item that takes its procedure past 2,000 cells.
+    TooManyCells,
+    /// A built-in name where a name of the program's own is wanted.
+    Reserved,
+}
+
+/// The marks of a program's phrases.
+///
+/// They are a finite map from phrases to what is wrong with them.
+pub trait Marked {
+    ghost use Rattle.std.specs.Prelude.{◌≡◌};
+    ghost use Rattle.std.specs.FinMap.{get};
+    ghost use Rattle.plcs_base.specs.Mark.{MarkMap};
+
+    ghost marks: { Self → MarkMap };
+
+    /// What is wrong with the phrase, or `None` where nothing is.
+    fn mark(&self, at: PhraseAt) -> Option<MarkKind>
+        ensures { result ≡ get (marks self.now) at };
+}

@@ -1,0 +1,28 @@
+/// The number of a node: of a main procedure, a procedure, a declaration or a statement.
+///
+/// Numbers are given out in order from 0, and none is given out twice.
+#[derive(Clone, Copy, Debug, PartialEq, Eq, PartialOrd, Ord, Hash)]
+pub struct Slot(pub u32);
+
+/// Where in a slot a run stands: 0 is the start of what stands there, and the others are the points
+/// between its steps.
+#[derive(Clone, Copy, Debug, PartialEq, Eq, PartialOrd, Ord, Hash)]
+pub struct Point(pub u16);
+
+/// A place of a run.
+#[derive(Clone, Copy, Debug, PartialEq, Eq, PartialOrd, Ord, Hash)]
+pub struct Place {
+    /// The node.
+    pub slot: Slot,
+    /// The point in it.
+    pub point: Point,
+}
+
+/// A phrase of a node.
+#[derive(Clone, Copy, Debug, PartialEq, Eq, PartialOrd, Ord, Hash)]
+pub struct PhraseAt {
+    /// The node.
+    pub slot: Slot,
+    /// Which of its parts, counted from 0 in the order shown.
+    pub part: u8,
+}

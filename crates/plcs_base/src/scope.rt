@@ -1,0 +1,17 @@
+use crate::item::Declared;
+use crate::place::Slot;
+
+/// The effective items of a program's procedures.
+///
+/// They are a finite map from the slots of procedures to lists of items.
+pub trait Scope {
+    ghost use Rattle.std.specs.Prelude.{◌≡◌};
+    ghost use Rattle.plcs_base.specs.Scope.{ItemMap, item_at};
+
+    ghost items: { Self → ItemMap };
+
+    /// The procedure's effective item of number `k`, counted from 0 in listing order, or `None` where
+    /// there is no such item.
+    fn declared(&self, procedure: Slot, k: u32) -> Option<Declared>
+        ensures { result ≡ item_at (items self.now) procedure.0 k };
+}

@@ -1,0 +1,23 @@
+use crate::text::TextValue;
+
+/// What kind of value an expression has.
+#[derive(Clone, Copy, Debug, PartialEq, Eq)]
+pub enum Kind {
+    /// A whole number.
+    Fixed,
+    /// A truth value.
+    Bit,
+    /// A text.
+    Text,
+}
+
+/// A value that a program computes with.
+#[derive(Debug, Drop, PartialEq, Eq)]
+pub enum Value {
+    /// A whole number.
+    Fixed(i32),
+    /// A truth value.
+    Bit(bool),
+    /// A text of at most 256 bytes.
+    Text(TextValue),
+}

@@ -1,0 +1,22 @@
+-- The names of the built-in functions, which are reserved.
+use Rattle.std.specs.Prelude.{ℕ, Bool, List, [], ◌∷◌, codes}
+use Rattle.std.specs.Str.{bytes_eq}
+use Rattle.std.specs.List.{list_any}
+use Rattle.plcs_grammar.specs.declared.builtin.Builtin.{Builtin}
+use Rattle.plcs_grammar.specs.declared.builtin.Builtin.TheVariants.{Abs, Mod, Min, Max, Length, Substr, Index}
+
+abbrev pub builtin_name : Builtin → List ℕ
+builtin_name Abs = codes "ABS"
+builtin_name Mod = codes "MOD"
+builtin_name Min = codes "MIN"
+builtin_name Max = codes "MAX"
+builtin_name Length = codes "LENGTH"
+builtin_name Substr = codes "SUBSTR"
+builtin_name Index = codes "INDEX"
+
+abbrev pub builtins : List Builtin
+builtins = Abs ∷ Mod ∷ Min ∷ Max ∷ Length ∷ Substr ∷ Index ∷ []
+
+-- whether the name is a built-in function's
+unfoldable pub is_builtin_name : List ℕ → Bool
+is_builtin_name name = list_any (λ function. bytes_eq name (builtin_name function)) builtins

@@ -1,0 +1,81 @@
+-- The canonical text of a phrase.
+use Rattle.std.specs.Prelude.{ℕ, List, [], ◌∷◌, ◌++◌, codes, decimal, Option, Some, None}
+use Rattle.std.specs.Fmt.{signed_decimal}
+use Rattle.plcs_grammar.specs.declared.item.Item.{Item}
+use Rattle.plcs_grammar.specs.declared.category.Category.{Category}
+use Rattle.plcs_grammar.specs.Builtin.{builtin_name}
+use Rattle.plcs_grammar.specs.Sign.{sign_bytes, prefix_sign, infix_sign}
+use Rattle.plcs_grammar.specs.Token.{quoted, bit_bytes}
+use Rattle.plcs_grammar.specs.Reading.{Tree, Trees, Reference, Reading}
+use Rattle.plcs_grammar.specs.Reads.{Reads}
+
+-- the bytes in parentheses, with no blank inside
+abbrev pub parenthesized_bytes : List ℕ → List ℕ
+parenthesized_bytes bytes = codes "(" ++ (bytes ++ codes ")")
+
+abbrev mutual
+  -- the canonical text of an expression
+  pub canon : Tree → List ℕ
+  canon (Tree.number z) = signed_decimal z
+  canon (Tree.text value) = quoted value
+  canon (Tree.bit value) = bit_bytes value
+  canon (Tree.variable reference) = canon_reference reference
+  canon (Tree.unary op a) = sign_bytes (prefix_sign op) ++ canon a
+  canon (Tree.binary op a b) = canon a ++ (codes " " ++ (sign_bytes (infix_sign op) ++ (codes " " ++ canon b)))
+  canon (Tree.builtin function arguments) = builtin_name function ++ parenthesized_bytes (canon_list arguments)
+  canon (Tree.parenthesized a) = codes "( " ++ (canon a ++ codes " )")
+
+  pub canon_reference : Reference → List ℕ
+  canon_reference (Reference.simple name) = name
+  canon_reference (Reference.subscripted name index) = name ++ parenthesized_bytes (canon index)
+
+  -- a comma is followed by one blank
+  pub canon_list : Trees → List ℕ
+  canon_list Trees.nil = []
+  canon_list (Trees.cons a rest) = canon a ++ canon_behind rest
+
+  pub canon_behind : Trees → List ℕ
+  canon_behind Trees.nil = []
+  canon_behind (Trees.cons a rest) = codes ", " ++ (canon a ++ canon_behind rest)
+
+module _ {X : Type 0} (bytes_of : X → List ℕ) where
+  abbrev pub more_joined : List X → List ℕ
+  more_joined [] = []
+  more_joined (x ∷ xs) = codes ", " ++ (bytes_of x ++ more_joined xs)
+
+  -- their texts, joined by a comma and a blank
+  abbrev pub joined : List X → List ℕ
+  joined [] = []
+  joined (x ∷ xs) = bytes_of x ++ more_joined xs
+
+-- a declared name, with the size of an array or without one
+abbrev pub canon_sized : List ℕ → Option ℕ → List ℕ
+canon_sized name None = name
+canon_sized name (Some size) = name ++ parenthesized_bytes (decimal size)
+
+abbrev pub canon_item : Item → List ℕ
+canon_item item = canon_sized item.name item.size
+
+-- a call without arguments has no parentheses
+abbrev pub canon_call : List ℕ → Trees → List ℕ
+canon_call name Trees.nil = name
+canon_call name (Trees.cons a rest) = name ++ parenthesized_bytes (canon_list (Trees.cons a rest))
+
+-- the canonical text of a phrase
+abbrev pub Canon : Reading → List ℕ
+Canon (Reading.assignment target value) = canon_reference target ++ (codes " = " ++ canon value)
+Canon (Reading.condition e) = canon e
+Canon (Reading.expression e) = canon e
+Canon (Reading.expression_list es) = canon_list es
+Canon (Reading.variable_list targets) = joined canon_reference targets
+Canon (Reading.variable_name name) = name
+Canon (Reading.call name arguments) = canon_call name arguments
+Canon (Reading.declared_list items) = joined canon_item items
+Canon (Reading.procedure_name name) = name
+Canon (Reading.name_list names) = joined (λ name. name) names
+Canon (Reading.greatest_length n) = decimal n
+Canon (Reading.comment bytes) = bytes
+
+-- the phrase is what its canonical text reads as
+abbrev pub IsWellFormed : Category → Reading → Type 0
+IsWellFormed category phrase = Reads category (Canon phrase) phrase

@@ -1,0 +1,62 @@
+-- The forms of the categories of phrases, as tokens.
+use Rattle.std.specs.Prelude.{◌≡◌, ℕ, ◌≤◌, List, [], ◌∷◌, ◌++◌, Option, Some, None}
+use Rattle.plcs_grammar.specs.declared.category.Category.{Category}
+use Rattle.plcs_grammar.specs.declared.item.Item.{Item}
+use Rattle.plcs_grammar.specs.Sign.{Sign}
+use Rattle.plcs_grammar.specs.Token.{Token}
+use Rattle.plcs_grammar.specs.Reading.{Trees, Reading, category_of}
+use Rattle.plcs_grammar.specs.Level.{Level, IsReference, Joined, in_parentheses}
+
+-- the tokens are the name alone
+abbrev pub IsNameToken : List ℕ → List Token → Type 0
+IsNameToken name tokens = tokens ≡ Token.name name ∷ []
+
+-- the tokens are a declared name, with the size of an array or without one
+abbrev pub IsSizedName : List ℕ → Option ℕ → List Token → Type 0
+IsSizedName name None tokens = IsNameToken name tokens
+IsSizedName name (Some size) tokens = (1 ≤ size) × (tokens ≡ Token.name name ∷ in_parentheses (Token.number size ∷ []))
+
+abbrev pub IsItem : Item → List Token → Type 0
+IsItem item tokens = IsSizedName item.name item.size tokens
+
+module _ {X : Type 0} (Is : X → List Token → Type 0) where
+  -- the tokens are more of them, each behind a comma
+  abbrev pub MoreBehind : List X → List Token → Type 0
+  MoreBehind [] tokens = tokens ≡ []
+  MoreBehind (x ∷ xs) tokens =
+      (left right : List Token) × (tokens ≡ Token.sign Sign.comma ∷ (left ++ right)) × Is x left × MoreBehind xs right
+
+  -- the tokens are one or more of them, joined by commas
+  abbrev pub JoinedBy : List X → List Token → Type 0
+  JoinedBy [] tokens = ⊥
+  JoinedBy (x ∷ xs) tokens = (left right : List Token) × (tokens ≡ left ++ right) × Is x left × MoreBehind xs right
+
+-- the tokens are a call: a name, or a name and arguments in parentheses
+abbrev pub IsCall : List ℕ → Trees → List Token → Type 0
+IsCall name Trees.nil tokens = IsNameToken name tokens
+IsCall name (Trees.cons a rest) tokens =
+    (inner : List Token) × (tokens ≡ Token.name name ∷ in_parentheses inner) × Joined (Trees.cons a rest) inner
+
+-- the tokens are the phrase
+abbrev pub IsPhrase : Reading → List Token → Type 0
+IsPhrase (Reading.assignment target value) tokens =
+    (left right : List Token) × (tokens ≡ left ++ (Token.sign Sign.equal ∷ right)) × IsReference target left × Level value 1 right
+IsPhrase (Reading.condition e) tokens = Level e 1 tokens
+IsPhrase (Reading.expression e) tokens = Level e 1 tokens
+IsPhrase (Reading.expression_list es) tokens = Joined es tokens
+IsPhrase (Reading.variable_list targets) tokens = JoinedBy IsReference targets tokens
+IsPhrase (Reading.variable_name name) tokens = IsNameToken name tokens
+IsPhrase (Reading.call name arguments) tokens = IsCall name arguments tokens
+IsPhrase (Reading.declared_list items) tokens = JoinedBy IsItem items tokens
+IsPhrase (Reading.procedure_name name) tokens = IsNameToken name tokens
+IsPhrase (Reading.name_list names) tokens = JoinedBy IsNameToken names tokens
+IsPhrase (Reading.greatest_length n) tokens = (1 ≤ n) × (n ≤ 256) × (tokens ≡ Token.number n ∷ [])
+IsPhrase (Reading.comment bytes) tokens = ⊥
+
+-- the tokens are the phrase, which is of the category
+abbrev pub Form : Category → List Token → Reading → Type 0
+Form category tokens phrase = (category_of phrase ≡ category) × IsPhrase phrase tokens
+
+-- the tokens, followed by some further ones, are a phrase of the category
+abbrev pub Begins : Category → List Token → Type 0
+Begins category tokens = (more : List Token) × (phrase : Reading) × Form category (tokens ++ more) phrase

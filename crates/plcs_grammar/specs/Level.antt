@@ -1,0 +1,73 @@
+-- The levels of expressions: which tokens are which expression.
+use Rattle.std.specs.Prelude.{◌≡◌, ℕ, ◌+◌, ◌≤◌, pos, negsuc, not, List, [], ◌∷◌, ◌++◌, IsTrue}
+use Rattle.plcs_grammar.specs.declared.operator.InfixOp.{InfixOp}
+use Rattle.plcs_grammar.specs.declared.operator.InfixOp.TheVariants.{Or, And, Equal, NotEqual, Less, LessEqual, Greater, GreaterEqual, Join, Plus, Minus, Times, Divide}
+use Rattle.plcs_grammar.specs.Builtin.{builtin_name, is_builtin_name}
+use Rattle.plcs_grammar.specs.Sign.{Sign, prefix_sign, infix_sign}
+use Rattle.plcs_grammar.specs.Token.{Token}
+use Rattle.plcs_grammar.specs.Reading.{Tree, Trees, Reference}
+
+-- the level that an operator joins, the lowest first
+abbrev pub priority : InfixOp → ℕ
+priority Or = 1
+priority And = 2
+priority Equal = 3
+priority NotEqual = 3
+priority Less = 3
+priority LessEqual = 3
+priority Greater = 3
+priority GreaterEqual = 3
+priority Join = 4
+priority Plus = 5
+priority Minus = 5
+priority Times = 6
+priority Divide = 6
+
+-- the level of primaries, and of a prefix operator with its operand
+abbrev pub tightest : ℕ
+tightest = 7
+
+-- a built-in name before a parenthesis is a call's, and no variable's
+abbrev pub IsNoCall : Reference → Type 0
+IsNoCall (Reference.simple name) = Unit {0}
+IsNoCall (Reference.subscripted name index) = IsTrue (not (is_builtin_name name))
+
+-- the tokens in parentheses
+abbrev pub in_parentheses : List Token → List Token
+in_parentheses tokens = Token.sign Sign.open_parenthesis ∷ (tokens ++ (Token.sign Sign.close_parenthesis ∷ []))
+
+abbrev mutual
+  -- the tokens are the expression, at this level or a higher one
+  pub Level : Tree → ℕ → List Token → Type 0
+  Level (Tree.number (pos n)) level tokens = tokens ≡ Token.number n ∷ []
+  Level (Tree.number (negsuc n)) level tokens = ⊥
+  Level (Tree.text value) level tokens = tokens ≡ Token.text value ∷ []
+  Level (Tree.bit value) level tokens = tokens ≡ Token.bit value ∷ []
+  Level (Tree.variable reference) level tokens = IsNoCall reference × IsReference reference tokens
+  Level (Tree.unary op a) level tokens =
+      (inner : List Token) × (tokens ≡ Token.sign (prefix_sign op) ∷ inner) × Level a tightest inner
+  Level (Tree.binary op a b) level tokens =
+      (level ≤ priority op) × (left right : List Token) × (tokens ≡ left ++ (Token.sign (infix_sign op) ∷ right))
+      × Level a (priority op) left × Level b (priority op + 1) right
+  Level (Tree.builtin function arguments) level tokens =
+      (inner : List Token) × (tokens ≡ Token.name (builtin_name function) ∷ in_parentheses inner) × Joined arguments inner
+  Level (Tree.parenthesized a) level tokens =
+      (inner : List Token) × (tokens ≡ in_parentheses inner) × Level a 1 inner
+
+  -- the tokens are the variable: a name, or a name and a subscript in parentheses
+  pub IsReference : Reference → List Token → Type 0
+  IsReference (Reference.simple name) tokens = tokens ≡ Token.name name ∷ []
+  IsReference (Reference.subscripted name index) tokens =
+      (inner : List Token) × (tokens ≡ Token.name name ∷ in_parentheses inner) × Level index 1 inner
+
+  -- the tokens are the expressions, one or more, joined by commas
+  pub Joined : Trees → List Token → Type 0
+  Joined Trees.nil tokens = ⊥
+  Joined (Trees.cons a rest) tokens =
+      (left right : List Token) × (tokens ≡ left ++ right) × Level a 1 left × Behind rest right
+
+  -- the tokens are more expressions, each behind a comma
+  pub Behind : Trees → List Token → Type 0
+  Behind Trees.nil tokens = tokens ≡ []
+  Behind (Trees.cons a rest) tokens =
+      (left right : List Token) × (tokens ≡ Token.sign Sign.comma ∷ (left ++ right)) × Level a 1 left × Behind rest right
