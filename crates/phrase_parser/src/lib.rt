@@ -1,0 +1,2 @@
+//! Texts read as phrases of PL/CS.
+#![tactic(auto)]
