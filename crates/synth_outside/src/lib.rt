@@ -3,17 +3,21 @@
 #![tactic(auto)]
 
 mod calls;
+mod entries;
 mod faults;
 mod filing;
+mod mem_files;
 mod mem_sink;
 mod mem_source;
 mod reading;
 mod std_sink;
 mod std_source;
+mod unread;
 mod writing;
 
 pub use faults::{FilesFault, SinkFault, SourceFault};
 pub use filing::Files;
+pub use mem_files::MemFiles;
 pub use mem_sink::MemSink;
 pub use mem_source::MemSource;
 pub use reading::Source;

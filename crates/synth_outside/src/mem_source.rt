@@ -5,6 +5,7 @@ ghost use Rattle.synth_outside.specs.Cause.{HasCause};
 ghost use Rattle.synth_outside.specs.Reading.{IsZeroAtEnd, LosesAtMost};
 
 use super::calls::Calls;
+use super::unread::Unread;
 use super::{Source, SourceFault};
 use std::marker::Model;
 
@@ -13,20 +14,16 @@ use std::marker::Model;
 /// It is seen as the bytes left, and the calls made with those that are to fail. It never wants memory.
 #[derive(Debug, Drop)]
 pub struct MemSource {
-    bytes: Vec<u8>,
-    at: usize,
+    unread: Unread,
     calls: Calls,
 }
 
 impl Model for MemSource {
-    ghost use Rattle.std.specs.Prelude.{◌≤◌, drop, length};
     ghost use Rattle.synth_outside.specs.Memory.{SourceView};
 
     ghost Value = { SourceView };
 
-    ghost view = { λ source. record { left = drop source.at source.bytes.items; calls = source.calls } };
-
-    ghost invariant = { λ source. source.at ≤ length source.bytes.items };
+    ghost view = { λ source. record { left = source.unread; calls = source.calls } };
 }
 
 impl MemSource {
@@ -36,8 +33,7 @@ impl MemSource {
         ensures calls { result.calls ≡ record { fails = fails.items; made = 0; faults = 0 } }
     {
         MemSource {
-            bytes,
-            at: 0,
+            unread: Unread::new(bytes),
             calls: Calls::new(fails),
         }
     }
@@ -67,18 +63,6 @@ impl Source for MemSource {
         if self.calls.next_fails() {
             return Err(SourceFault::Failed);
         }
-        let count = copy_front(&self.bytes[self.at..], buf);
-        self.at += count;
-        Ok(count)
+        Ok(self.unread.give(buf))
     }
-}
-
-/// Copies the first bytes left to the front of the buffer, as many as there are and as fit.
-pub(crate) fn copy_front(left: &[u8], buf: &mut [u8]) -> usize
-    ensures count { result ≡ min (length buf.old) (length left.now) }
-    ensures given { take result buf.new ≡ take result left.now }
-{
-    let count = buf.len().min(left.len());
-    buf[..count].copy_from_slice(&left[..count]);
-    count
 }
