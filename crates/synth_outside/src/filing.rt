@@ -1,6 +1,7 @@
 ghost use Rattle.std.specs.Prelude.{◌≡◌, ◌≢◌, ℕ, ◌<◌, ◌≤◌, Bool, true, false, List, length, take, Option, Err, IfOk, OnOk, OnErr, IsErrOf};
 ghost use Rattle.std.specs.Io.KnownBytes.{Appends, Consumes, IsAtEnd};
 ghost use Rattle.synth_outside.specs.Cause.{HasCause};
+ghost use Rattle.synth_outside.specs.Entries.{OwnContentIsSet, OtherContentsStay};
 ghost use Rattle.synth_outside.specs.Filing.{Opens, Lacks, Begins, Commits};
 ghost use Rattle.synth_outside.specs.Reading.{IsZeroAtEnd, LosesAtMost};
 ghost use Rattle.synth_outside.specs.Writing.{AppendsFront};
@@ -133,3 +134,10 @@ pub trait Files {
         ensures cause { HasCause FilesFault.Failed (faults self.old) (faults self.new) result }
         ensures want { HasCause FilesFault.OutOfMemory (wants self.old) (wants self.new) result };
 }
+
+/// A law of the map: a commit gives its own name the new content, and every other name keeps its own.
+#[tactic(auto, using(crate::proofs::Contents::own_content, crate::proofs::Contents::other_content))]
+pub fn commit_sets_one_name()
+    ensures own { OwnContentIsSet }
+    ensures others { OtherContentsStay }
+{}

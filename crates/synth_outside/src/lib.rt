@@ -16,7 +16,7 @@ mod unread;
 mod writing;
 
 pub use faults::{FilesFault, SinkFault, SourceFault};
-pub use filing::Files;
+pub use filing::{Files, commit_sets_one_name};
 pub use mem_files::MemFiles;
 pub use mem_sink::MemSink;
 pub use mem_source::MemSource;

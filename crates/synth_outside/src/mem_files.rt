@@ -1,9 +1,9 @@
-ghost use Rattle.std.specs.Prelude.{◌≡◌, ◌≢◌, ◌<◌, ◌≤◌, true, false, [], min, length, take, Some, None, Ok, Err, is_some, option_copied, IfOk, OnOk, OnErr, IsErrOf};
+ghost use Rattle.std.specs.Prelude.{◌≡◌, ◌≢◌, ◌<◌, ◌≤◌, true, false, [], min, length, take, Some, None, Ok, Err, is_some, option_copied, IfOk, IfSome, OnOk, OnErr, IsErrOf};
 ghost use Rattle.std.specs.Io.KnownBytes.{Appends, Consumes, IsAtEnd};
 ghost use Rattle.plcs_base.specs.Count.{raised};
 ghost use Rattle.synth_outside.specs.Calls.{Calls as CallsOnce};
 ghost use Rattle.synth_outside.specs.Cause.{HasCause};
-ghost use Rattle.synth_outside.specs.Entries.{content_of, with_content};
+ghost use Rattle.synth_outside.specs.Entries.{content_of};
 ghost use Rattle.synth_outside.specs.Filing.{Opens, Lacks, Begins, Commits};
 ghost use Rattle.synth_outside.specs.MemFiles.{name_of, bytes_of, wants_after};
 ghost use Rattle.synth_outside.specs.Reading.{IsZeroAtEnd, LosesAtMost};
@@ -36,15 +36,25 @@ impl Model for MemFiles {
 
     ghost Value = { FilesView };
 
-    ghost view = { λ files. record { entries = files.entries; opened = files.opened; begun = files.begun;
-        calls = files.calls; wants = files.wants } };
+    ghost view = { λ files. record {
+      entries = files.entries;
+      opened = files.opened;
+      begun = files.begun;
+      calls = files.calls;
+      wants = files.wants;
+    } };
 }
 
 impl MemFiles {
     /// No file is there, and the calls whose numbers, from 1, are in `fails` are to fail.
     pub fn new(alloc: Global, fails: Vec<u64>) -> Self
-        ensures { result ≡ record { entries = []; opened = None; begun = None;
-            calls = record { fails = fails.items; made = 0; faults = 0 }; wants = 0 } }
+        ensures { result ≡ record {
+          entries = [];
+          opened = None;
+          begun = None;
+          calls = record { fails = fails.items; made = 0; faults = 0 };
+          wants = 0;
+        } }
     {
         MemFiles {
             alloc,
@@ -96,11 +106,6 @@ impl Files for MemFiles {
         ensures readable { OnOk result (is_some self.new.opened ≡ true) }
         ensures missing { IsErrOf result FilesFault.NoFile → Lacks (Some self.old.entries) name.now }
 
-        ensures map { Some self.new.entries ≡ Some self.old.entries }
-        ensures same_begun { bytes_of self.new.begun ≡ bytes_of self.old.begun }
-        ensures same_name { name_of self.new.begun ≡ name_of self.old.begun }
-        ensures same_writable { is_some self.new.begun ≡ is_some self.old.begun }
-
         ensures cause { HasCause FilesFault.Failed self.old.calls.faults self.new.calls.faults result }
         ensures want { HasCause FilesFault.OutOfMemory self.old.wants self.new.wants result }
 
@@ -137,13 +142,15 @@ impl Files for MemFiles {
         ensures readable { is_some self.new.opened ≡ true }
         ensures found { result ≢ Err FilesFault.NoFile }
 
-        ensures map { Some self.new.entries ≡ Some self.old.entries }
-        ensures same_begun { bytes_of self.new.begun ≡ bytes_of self.old.begun }
-        ensures same_name { name_of self.new.begun ≡ name_of self.old.begun }
-        ensures same_writable { is_some self.new.begun ≡ is_some self.old.begun }
-
         ensures cause { HasCause FilesFault.Failed self.old.calls.faults self.new.calls.faults result }
         ensures want { HasCause FilesFault.OutOfMemory self.old.wants self.new.wants result }
+
+        // How many bytes are given, and what is left after a failure, exactly; memory is never wanted.
+        ensures called { CallsOnce FilesFault.Failed self.old.calls self.new.calls result }
+        ensures fitting { IfOk result (λ n. IfSome self.old.opened (λ left. n ≡ min (length buf.old) (length left))) }
+        ensures memory { result ≢ Err FilesFault.OutOfMemory }
+        ensures kept { OnErr result (self.new.opened ≡ self.old.opened) }
+        ensures others { self.new ≡ record self.old { opened = self.new.opened; calls = self.new.calls } }
     {
         if self.calls.next_fails() {
             return Err(FilesFault::Failed);
@@ -160,12 +167,15 @@ impl Files for MemFiles {
         ensures writable { OnOk result (is_some self.new.begun ≡ true) }
         ensures found { result ≢ Err FilesFault.NoFile }
 
-        ensures map { Some self.new.entries ≡ Some self.old.entries }
-        ensures same_left { self.new.opened ≡ self.old.opened }
-        ensures same_readable { is_some self.new.opened ≡ is_some self.old.opened }
-
         ensures cause { HasCause FilesFault.Failed self.old.calls.faults self.new.calls.faults result }
         ensures want { HasCause FilesFault.OutOfMemory self.old.wants self.new.wants result }
+
+        // What is begun then, exactly; want of memory comes only in place of success.
+        ensures called { CallsOnce FilesFault.Failed self.old.calls self.new.calls result }
+        ensures wanted { self.new.wants ≡ wants_after result self.old.wants }
+        ensures begun { OnOk result (self.new.begun ≡ Some (name.now, [])) }
+        ensures kept { OnErr result (self.new.begun ≡ self.old.begun) }
+        ensures others { self.new ≡ record self.old { begun = self.new.begun; calls = self.new.calls; wants = self.new.wants } }
     {
         if self.calls.next_fails() {
             return Err(FilesFault::Failed);
@@ -191,12 +201,15 @@ impl Files for MemFiles {
         ensures writable { is_some self.new.begun ≡ true }
         ensures found { result ≢ Err FilesFault.NoFile }
 
-        ensures map { Some self.new.entries ≡ Some self.old.entries }
-        ensures same_left { self.new.opened ≡ self.old.opened }
-        ensures same_readable { is_some self.new.opened ≡ is_some self.old.opened }
-
         ensures cause { HasCause FilesFault.Failed self.old.calls.faults self.new.calls.faults result }
         ensures want { HasCause FilesFault.OutOfMemory self.old.wants self.new.wants result }
+
+        // The whole piece is taken or nothing of it; want of memory comes only in place of success.
+        ensures called { CallsOnce FilesFault.Failed self.old.calls self.new.calls result }
+        ensures wanted { self.new.wants ≡ wants_after result self.old.wants }
+        ensures whole { IfOk result (λ n. n ≡ length piece.now) }
+        ensures kept { OnErr result (self.new.begun ≡ self.old.begun) }
+        ensures others { self.new ≡ record self.old { begun = self.new.begun; calls = self.new.calls; wants = self.new.wants } }
     {
         if self.calls.next_fails() {
             return Err(FilesFault::Failed);
@@ -217,16 +230,22 @@ impl Files for MemFiles {
             (bytes_of self.old.begun)) }
         ensures over { OnOk result (is_some self.new.begun ≡ false) }
         ensures found { result ≢ Err FilesFault.NoFile }
-
-        ensures map { OnErr result (Some self.new.entries ≡ Some self.old.entries) }
-        ensures same_begun { OnErr result (bytes_of self.new.begun ≡ bytes_of self.old.begun) }
-        ensures same_name { OnErr result (name_of self.new.begun ≡ name_of self.old.begun) }
         ensures writable { OnErr result (is_some self.new.begun ≡ true) }
-        ensures same_left { self.new.opened ≡ self.old.opened }
-        ensures same_readable { is_some self.new.opened ≡ is_some self.old.opened }
 
         ensures cause { HasCause FilesFault.Failed self.old.calls.faults self.new.calls.faults result }
         ensures want { HasCause FilesFault.OutOfMemory self.old.wants self.new.wants result }
+
+        // What an answer changes, exactly; want of memory comes only in place of success.
+        ensures called { CallsOnce FilesFault.Failed self.old.calls self.new.calls result }
+        ensures wanted { self.new.wants ≡ wants_after result self.old.wants }
+        ensures done { OnOk result (self.new.begun ≡ None) }
+        ensures kept { OnErr result (self.new ≡ record self.old { calls = self.new.calls; wants = self.new.wants }) }
+        ensures others { self.new ≡ record self.old {
+          entries = self.new.entries;
+          begun = self.new.begun;
+          calls = self.new.calls;
+          wants = self.new.wants;
+        } }
     {
         if self.calls.next_fails() {
             return Err(FilesFault::Failed);
