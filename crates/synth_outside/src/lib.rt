@@ -24,3 +24,6 @@ pub use reading::Source;
 pub use std_sink::StdSink;
 pub use std_source::StdSource;
 pub use writing::Sink;
+
+#[cfg(test)]
+mod tests;
