@@ -1,8 +1,8 @@
 -- What stands under each name once one name's content is set.
-use Rattle.std.proofs.Common.{◌≡◌, ◌≢◌, ℕ, Bool, true, false, List, [], ◌∷◌, Option, Some, None, refl, sym, arith, bytes_eq}
+use Rattle.std.proofs.Common.{◌≡◌, ◌≢◌, ℕ, List, [], ◌∷◌, Some, arith}
 use Rattle.std.proofs.lemmas.Grind.{common_steps}
 use Rattle.std.proofs.lemmas.Slice.Eq.{bytes_eq-Decides}
-use Rattle.synth_outside.specs.Entries.{is_named, content_of, with_content}
+use Rattle.synth_outside.specs.Entries.{content_of, with_content}
 
 pub own_content : (name bytes : List ℕ) (entries : List (List ℕ × List ℕ)) → content_of name (with_content name bytes entries) ≡ Some bytes
 own_content name bytes [] = grind (arith, common_steps, bytes_eq-Decides)

@@ -1,5 +1,5 @@
 -- Setting a name's content, by the place of its first entry.
-use Rattle.std.proofs.Common.{◌≡◌, ℕ, ◌+◌, suc, Bool, true, false, not, List, [], ◌∷◌, ◌++◌, Option, Some, None, length, set, refl, arith, cond, nat_lt, position}
+use Rattle.std.proofs.Common.{◌≡◌, ℕ, ◌+◌, suc, Bool, true, false, not, List, [], ◌∷◌, ◌++◌, Some, None, length, set, refl, arith, cond, nat_lt, position}
 use Rattle.std.proofs.lemmas.Grind.{common_steps}
 use Rattle.std.specs.List.{position_or_len}
 use Rattle.std.specs.Bool.{if◌then◌else◌}

@@ -1,5 +1,5 @@
 -- What files in memory are seen as.
-use Rattle.std.specs.Prelude.{ℕ, Bool, List, [], Option, Some, None, Result, Ok, Err, is_some, option_map, unwrap_or}
+use Rattle.std.specs.Prelude.{ℕ, List, [], Option, Result, Ok, Err, option_map, unwrap_or}
 use Rattle.plcs_base.specs.Count.{raised}
 use Rattle.synth_outside.specs.Calls.{CallsView}
 use Rattle.synth_outside.specs.declared.faults.FilesFault.{FilesFault}

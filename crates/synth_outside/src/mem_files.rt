@@ -121,13 +121,11 @@ impl Files for MemFiles {
         let Some(content) = self.entries.content(name) else {
             return Err(FilesFault::NoFile);
         };
-        match Vec::from_slice(self.alloc, content) {
-            Ok(bytes) => {
-                self.opened = Some(Unread::new(bytes));
-                Ok(())
-            }
-            Err(_) => Err(counted_want(&mut self.wants)),
-        }
+        let Ok(bytes) = Vec::from_slice(self.alloc, content) else {
+            return Err(counted_want(&mut self.wants));
+        };
+        self.opened = Some(Unread::new(bytes));
+        Ok(())
     }
 
     fn read(&mut self, buf: &mut [u8]) -> Result<usize, FilesFault>
