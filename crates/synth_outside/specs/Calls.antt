@@ -19,6 +19,6 @@ after_call calls =
     record calls { made = raised calls.made; faults = if is_failing calls then raised calls.faults else calls.faults }
 
 -- one call was made, and it answered this fault exactly where its number is in the list
-pub record Calls {T E : Type 0} (fault : E) (before now : CallsView) (result : Result T E) : Type 0 where
+pub record MakesCall {T E : Type 0} (fault : E) (before now : CallsView) (result : Result T E) : Type 0 where
   pub one : now ≡ after_call before
   pub listed : IsErrOf result fault ↔ IsTrue (is_failing before)

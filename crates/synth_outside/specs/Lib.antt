@@ -3,6 +3,7 @@ pub mod Cause
 pub mod Entries
 pub mod Filing
 pub mod MemFiles
-pub mod Memory
+pub mod MemSink
+pub mod MemSource
 pub mod Reading
 pub mod Writing

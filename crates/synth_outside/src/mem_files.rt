@@ -1,7 +1,7 @@
 ghost use Rattle.std.specs.Prelude.{◌≡◌, ◌≢◌, ◌<◌, ◌≤◌, true, false, [], min, length, take, Some, None, Ok, Err, is_some, option_copied, IfOk, IfSome, OnOk, OnErr, IsErrOf};
 ghost use Rattle.std.specs.Io.KnownBytes.{Appends, Consumes, IsAtEnd};
 ghost use Rattle.plcs_base.specs.Count.{raised};
-ghost use Rattle.synth_outside.specs.Calls.{Calls as CallsOnce};
+ghost use Rattle.synth_outside.specs.Calls.{MakesCall};
 ghost use Rattle.synth_outside.specs.Cause.{HasCause};
 ghost use Rattle.synth_outside.specs.Entries.{content_of};
 ghost use Rattle.synth_outside.specs.Filing.{Opens, Lacks, Begins, Commits};
@@ -110,7 +110,7 @@ impl Files for MemFiles {
         ensures want { HasCause FilesFault.OutOfMemory self.old.wants self.new.wants result }
 
         // Which answer comes, want of memory aside, and what is left, exactly.
-        ensures called { CallsOnce FilesFault.Failed self.old.calls self.new.calls result }
+        ensures called { MakesCall FilesFault.Failed self.old.calls self.new.calls result }
         ensures wanted { self.new.wants ≡ wants_after result self.old.wants }
         ensures kept { OnErr result (self.new.opened ≡ self.old.opened) }
         ensures others { self.new ≡ record self.old { opened = self.new.opened; calls = self.new.calls; wants = self.new.wants } }
@@ -144,7 +144,7 @@ impl Files for MemFiles {
         ensures want { HasCause FilesFault.OutOfMemory self.old.wants self.new.wants result }
 
         // How many bytes are given, and what is left after a failure, exactly; memory is never wanted.
-        ensures called { CallsOnce FilesFault.Failed self.old.calls self.new.calls result }
+        ensures called { MakesCall FilesFault.Failed self.old.calls self.new.calls result }
         ensures fitting { IfOk result (λ n. IfSome self.old.opened (λ left. n ≡ min (length buf.old) (length left))) }
         ensures memory { result ≢ Err FilesFault.OutOfMemory }
         ensures kept { OnErr result (self.new.opened ≡ self.old.opened) }
@@ -169,7 +169,7 @@ impl Files for MemFiles {
         ensures want { HasCause FilesFault.OutOfMemory self.old.wants self.new.wants result }
 
         // What is begun then, exactly; want of memory comes only in place of success.
-        ensures called { CallsOnce FilesFault.Failed self.old.calls self.new.calls result }
+        ensures called { MakesCall FilesFault.Failed self.old.calls self.new.calls result }
         ensures wanted { self.new.wants ≡ wants_after result self.old.wants }
         ensures begun { OnOk result (self.new.begun ≡ Some (name.now, [])) }
         ensures kept { OnErr result (self.new.begun ≡ self.old.begun) }
@@ -203,7 +203,7 @@ impl Files for MemFiles {
         ensures want { HasCause FilesFault.OutOfMemory self.old.wants self.new.wants result }
 
         // The whole piece is taken or nothing of it; want of memory comes only in place of success.
-        ensures called { CallsOnce FilesFault.Failed self.old.calls self.new.calls result }
+        ensures called { MakesCall FilesFault.Failed self.old.calls self.new.calls result }
         ensures wanted { self.new.wants ≡ wants_after result self.old.wants }
         ensures whole { IfOk result (λ n. n ≡ length piece.now) }
         ensures kept { OnErr result (self.new.begun ≡ self.old.begun) }
@@ -234,7 +234,7 @@ impl Files for MemFiles {
         ensures want { HasCause FilesFault.OutOfMemory self.old.wants self.new.wants result }
 
         // What an answer changes, exactly; want of memory comes only in place of success.
-        ensures called { CallsOnce FilesFault.Failed self.old.calls self.new.calls result }
+        ensures called { MakesCall FilesFault.Failed self.old.calls self.new.calls result }
         ensures wanted { self.new.wants ≡ wants_after result self.old.wants }
         ensures done { OnOk result (self.new.begun ≡ None) }
         ensures kept { OnErr result (self.new ≡ record self.old { calls = self.new.calls; wants = self.new.wants }) }

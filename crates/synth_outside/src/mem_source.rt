@@ -1,6 +1,6 @@
 ghost use Rattle.std.specs.Prelude.{◌≡◌, ◌<◌, ◌≤◌, min, length, take, drop, Some, Ok, Err, IfOk, OnErr, if◌then◌else◌};
 ghost use Rattle.std.specs.Io.KnownBytes.{Consumes, IsAtEnd};
-ghost use Rattle.synth_outside.specs.Calls.{Calls as CallsOnce, is_failing};
+ghost use Rattle.synth_outside.specs.Calls.{MakesCall, is_failing};
 ghost use Rattle.synth_outside.specs.Cause.{HasCause};
 ghost use Rattle.synth_outside.specs.Reading.{IsZeroAtEnd, LosesAtMost};
 
@@ -19,7 +19,7 @@ pub struct MemSource {
 }
 
 impl Model for MemSource {
-    ghost use Rattle.synth_outside.specs.Memory.{SourceView};
+    ghost use Rattle.synth_outside.specs.MemSource.{SourceView};
 
     ghost Value = { SourceView };
 
@@ -55,7 +55,7 @@ impl Source for MemSource {
         ensures cause { HasCause SourceFault.Failed self.old.calls.faults self.new.calls.faults result }
 
         // Which answer comes, and what is left, exactly.
-        ensures called { CallsOnce SourceFault.Failed self.old.calls self.new.calls result }
+        ensures called { MakesCall SourceFault.Failed self.old.calls self.new.calls result }
         ensures answer { result ≡ (if is_failing self.old.calls then Err SourceFault.Failed
             else Ok (min (length buf.old) (length self.old.left))) }
         ensures kept { OnErr result (self.new.left ≡ self.old.left) }
