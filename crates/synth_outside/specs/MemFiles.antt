@@ -1,11 +1,12 @@
 -- What files in memory are seen as.
-use Rattle.std.specs.Prelude.{ℕ, List, [], Option, Result, Ok, Err, option_map, unwrap_or}
+use Rattle.std.specs.Prelude.{◌≡◌, ℕ, List, [], Option, Result, Ok, Err, option_map, unwrap_or}
 use Rattle.plcs_base.specs.Count.{raised}
 use Rattle.synth_outside.specs.Calls.{CallsView}
 use Rattle.synth_outside.specs.declared.faults.FilesFault.{FilesFault}
 use Rattle.synth_outside.specs.declared.faults.FilesFault.TheVariants.{NoFile, Failed, OutOfMemory}
 
--- the files, the bytes left of the one that is open, the name and bytes that were begun, the calls and the wants of memory
+-- the files, the bytes left of the one that is open, the name and bytes that were begun, the calls
+-- and the wants of memory
 pub record FilesView : Type 0 where
   pub entries : List (List ℕ × List ℕ)
   pub opened : Option (List ℕ)
@@ -27,3 +28,13 @@ wants_after (Ok value) wants = wants
 wants_after (Err NoFile) wants = wants
 wants_after (Err Failed) wants = wants
 wants_after (Err OutOfMemory) wants = raised wants
+
+-- what is open may be another, and all but the calls and the wants is as before
+abbrev pub ChangesOpened : FilesView → FilesView → Type 0
+ChangesOpened before now =
+    now ≡ record before { opened = now.opened; calls = now.calls; wants = now.wants }
+
+-- what was begun may be another, and all but the calls and the wants is as before
+abbrev pub ChangesBegun : FilesView → FilesView → Type 0
+ChangesBegun before now =
+    now ≡ record before { begun = now.begun; calls = now.calls; wants = now.wants }

@@ -5,7 +5,7 @@ ghost use Rattle.synth_outside.specs.Calls.{MakesCall};
 ghost use Rattle.synth_outside.specs.Cause.{HasCause};
 ghost use Rattle.synth_outside.specs.Entries.{content_of};
 ghost use Rattle.synth_outside.specs.Filing.{Opens, Lacks, Begins, Commits};
-ghost use Rattle.synth_outside.specs.MemFiles.{name_of, bytes_of, wants_after};
+ghost use Rattle.synth_outside.specs.MemFiles.{name_of, bytes_of, wants_after, ChangesOpened, ChangesBegun};
 ghost use Rattle.synth_outside.specs.Reading.{IsZeroAtEnd, LosesAtMost};
 ghost use Rattle.synth_outside.specs.Writing.{AppendsFront};
 
@@ -18,9 +18,9 @@ use std::marker::Model;
 
 /// Files that lie in memory, and that fail where they are told to.
 ///
-/// They are seen as the list of files, the bytes left of the one that is open, the name and the bytes that
-/// were begun, the calls made with those that are to fail, and the count of wants of memory. The bytes of a
-/// file are copied when it is opened.
+/// They are seen as the list of files, the bytes left of the one that is open, the name and the
+/// bytes that were begun, the calls made with those that are to fail, and the count of wants of
+/// memory. The bytes of a file are copied when it is opened.
 #[derive(Debug, Drop)]
 pub struct MemFiles {
     alloc: Global,
@@ -104,16 +104,18 @@ impl Files for MemFiles {
     fn open_read(&mut self, name: &[u8]) -> Result<(), FilesFault>
         ensures opened { OnOk result (Opens (Some self.old.entries) name.now self.new.opened) }
         ensures readable { OnOk result (is_some self.new.opened ≡ true) }
-        ensures missing { IsErrOf result FilesFault.NoFile → Lacks (Some self.old.entries) name.now }
+        ensures missing { IsErrOf result FilesFault.NoFile →
+            Lacks (Some self.old.entries) name.now }
 
-        ensures cause { HasCause FilesFault.Failed self.old.calls.faults self.new.calls.faults result }
+        ensures cause { HasCause FilesFault.Failed self.old.calls.faults self.new.calls.faults
+            result }
         ensures want { HasCause FilesFault.OutOfMemory self.old.wants self.new.wants result }
 
         // Which answer comes, want of memory aside, and what is left, exactly.
         ensures called { MakesCall FilesFault.Failed self.old.calls self.new.calls result }
         ensures wanted { self.new.wants ≡ wants_after result self.old.wants }
         ensures kept { OnErr result (self.new.opened ≡ self.old.opened) }
-        ensures others { self.new ≡ record self.old { opened = self.new.opened; calls = self.new.calls; wants = self.new.wants } }
+        ensures others { ChangesOpened self.old self.new }
     {
         if self.calls.next_fails() {
             return Err(FilesFault::Failed);
@@ -133,22 +135,27 @@ impl Files for MemFiles {
         requires room { 0 < length buf.old }
 
         ensures count { IfOk result (λ n. n ≤ length buf.new) }
-        ensures given { IfOk result (λ n. Consumes self.old.opened self.new.opened (take n buf.new)) }
+        ensures given { IfOk result
+            (λ n. Consumes self.old.opened self.new.opened (take n buf.new)) }
         ensures ended { IfOk result (λ n. n ≡ 0 → IsAtEnd self.new.opened) }
         ensures exact_end { IfOk result (λ n. IsZeroAtEnd self.old.opened n) }
         ensures lost { OnErr result (LosesAtMost self.old.opened self.new.opened (length buf.new)) }
         ensures readable { is_some self.new.opened ≡ true }
         ensures found { result ≢ Err FilesFault.NoFile }
 
-        ensures cause { HasCause FilesFault.Failed self.old.calls.faults self.new.calls.faults result }
+        ensures cause { HasCause FilesFault.Failed self.old.calls.faults self.new.calls.faults
+            result }
         ensures want { HasCause FilesFault.OutOfMemory self.old.wants self.new.wants result }
 
-        // How many bytes are given, and what is left after a failure, exactly; memory is never wanted.
+        // How many bytes are given, and what is left after a failure, exactly; memory is never
+        // wanted.
         ensures called { MakesCall FilesFault.Failed self.old.calls self.new.calls result }
-        ensures fitting { IfOk result (λ n. IfSome self.old.opened (λ left. n ≡ min (length buf.old) (length left))) }
+        ensures fitting { IfOk result
+            (λ n. IfSome self.old.opened (λ left. n ≡ min (length buf.old) (length left))) }
         ensures memory { result ≢ Err FilesFault.OutOfMemory }
         ensures kept { OnErr result (self.new.opened ≡ self.old.opened) }
-        ensures others { self.new ≡ record self.old { opened = self.new.opened; calls = self.new.calls } }
+        ensures others { self.new ≡
+            record self.old { opened = self.new.opened; calls = self.new.calls } }
     {
         if self.calls.next_fails() {
             return Err(FilesFault::Failed);
@@ -165,7 +172,8 @@ impl Files for MemFiles {
         ensures writable { OnOk result (is_some self.new.begun ≡ true) }
         ensures found { result ≢ Err FilesFault.NoFile }
 
-        ensures cause { HasCause FilesFault.Failed self.old.calls.faults self.new.calls.faults result }
+        ensures cause { HasCause FilesFault.Failed self.old.calls.faults self.new.calls.faults
+            result }
         ensures want { HasCause FilesFault.OutOfMemory self.old.wants self.new.wants result }
 
         // What is begun then, exactly; want of memory comes only in place of success.
@@ -173,7 +181,7 @@ impl Files for MemFiles {
         ensures wanted { self.new.wants ≡ wants_after result self.old.wants }
         ensures begun { OnOk result (self.new.begun ≡ Some (name.now, [])) }
         ensures kept { OnErr result (self.new.begun ≡ self.old.begun) }
-        ensures others { self.new ≡ record self.old { begun = self.new.begun; calls = self.new.calls; wants = self.new.wants } }
+        ensures others { ChangesBegun self.old self.new }
     {
         if self.calls.next_fails() {
             return Err(FilesFault::Failed);
@@ -193,13 +201,16 @@ impl Files for MemFiles {
 
         ensures some { IfOk result (λ n. 0 < n) }
         ensures count { IfOk result (λ n. n ≤ length piece.now) }
-        ensures accepted { IfOk result (λ n. Appends (bytes_of self.old.begun) (bytes_of self.new.begun) (take n piece.now)) }
-        ensures front { OnErr result (AppendsFront (bytes_of self.old.begun) (bytes_of self.new.begun) piece.now) }
+        ensures accepted { IfOk result
+            (λ n. Appends (bytes_of self.old.begun) (bytes_of self.new.begun) (take n piece.now)) }
+        ensures front { OnErr result
+            (AppendsFront (bytes_of self.old.begun) (bytes_of self.new.begun) piece.now) }
         ensures same_name { name_of self.new.begun ≡ name_of self.old.begun }
         ensures writable { is_some self.new.begun ≡ true }
         ensures found { result ≢ Err FilesFault.NoFile }
 
-        ensures cause { HasCause FilesFault.Failed self.old.calls.faults self.new.calls.faults result }
+        ensures cause { HasCause FilesFault.Failed self.old.calls.faults self.new.calls.faults
+            result }
         ensures want { HasCause FilesFault.OutOfMemory self.old.wants self.new.wants result }
 
         // The whole piece is taken or nothing of it; want of memory comes only in place of success.
@@ -207,7 +218,7 @@ impl Files for MemFiles {
         ensures wanted { self.new.wants ≡ wants_after result self.old.wants }
         ensures whole { IfOk result (λ n. n ≡ length piece.now) }
         ensures kept { OnErr result (self.new.begun ≡ self.old.begun) }
-        ensures others { self.new ≡ record self.old { begun = self.new.begun; calls = self.new.calls; wants = self.new.wants } }
+        ensures others { ChangesBegun self.old self.new }
     {
         if self.calls.next_fails() {
             return Err(FilesFault::Failed);
@@ -224,26 +235,24 @@ impl Files for MemFiles {
     fn commit(&mut self) -> Result<(), FilesFault>
         requires { is_some self.old.begun ≡ true }
 
-        ensures committed { OnOk result (Commits (Some self.old.entries) (Some self.new.entries) (name_of self.old.begun)
+        ensures committed { OnOk result
+            (Commits (Some self.old.entries) (Some self.new.entries) (name_of self.old.begun)
             (bytes_of self.old.begun)) }
         ensures over { OnOk result (is_some self.new.begun ≡ false) }
         ensures found { result ≢ Err FilesFault.NoFile }
         ensures writable { OnErr result (is_some self.new.begun ≡ true) }
 
-        ensures cause { HasCause FilesFault.Failed self.old.calls.faults self.new.calls.faults result }
+        ensures cause { HasCause FilesFault.Failed self.old.calls.faults self.new.calls.faults
+            result }
         ensures want { HasCause FilesFault.OutOfMemory self.old.wants self.new.wants result }
 
         // What an answer changes, exactly; want of memory comes only in place of success.
         ensures called { MakesCall FilesFault.Failed self.old.calls self.new.calls result }
         ensures wanted { self.new.wants ≡ wants_after result self.old.wants }
         ensures done { OnOk result (self.new.begun ≡ None) }
-        ensures kept { OnErr result (self.new ≡ record self.old { calls = self.new.calls; wants = self.new.wants }) }
-        ensures others { self.new ≡ record self.old {
-          entries = self.new.entries;
-          begun = self.new.begun;
-          calls = self.new.calls;
-          wants = self.new.wants;
-        } }
+        ensures kept { OnErr result
+            (self.new ≡ record self.old { calls = self.new.calls; wants = self.new.wants }) }
+        ensures others { self.new.opened ≡ self.old.opened }
     {
         if self.calls.next_fails() {
             return Err(FilesFault::Failed);

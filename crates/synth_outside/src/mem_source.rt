@@ -1,4 +1,4 @@
-ghost use Rattle.std.specs.Prelude.{◌≡◌, ◌<◌, ◌≤◌, min, length, take, drop, Some, Ok, Err, IfOk, OnErr, if◌then◌else◌};
+ghost use Rattle.std.specs.Prelude.{◌≡◌, ◌<◌, ◌≤◌, min, length, take, Some, Ok, Err, IfOk, OnErr, if◌then◌else◌};
 ghost use Rattle.std.specs.Io.KnownBytes.{Consumes, IsAtEnd};
 ghost use Rattle.synth_outside.specs.Calls.{MakesCall, is_failing};
 ghost use Rattle.synth_outside.specs.Cause.{HasCause};
@@ -11,7 +11,8 @@ use std::marker::Model;
 
 /// A source whose bytes lie in memory, and that fails where it is told to.
 ///
-/// It is seen as the bytes left, and the calls made with those that are to fail. It never wants memory.
+/// It is seen as the bytes left, and the calls made with those that are to fail. It never wants
+/// memory.
 #[derive(Debug, Drop)]
 pub struct MemSource {
     unread: Unread,
@@ -27,7 +28,8 @@ impl Model for MemSource {
 }
 
 impl MemSource {
-    /// All of `bytes` is left to read, and the calls whose numbers, from 1, are in `fails` are to fail.
+    /// All of `bytes` is left to read, and the calls whose numbers, from 1, are in `fails` are to
+    /// fail.
     pub fn new(bytes: Vec<u8>, fails: Vec<u64>) -> Self
         ensures left { result.left ≡ bytes.items }
         ensures calls { result.calls ≡ record { fails = fails.items; made = 0; faults = 0 } }
@@ -48,11 +50,14 @@ impl Source for MemSource {
     fn read(&mut self, buf: &mut [u8]) -> Result<usize, SourceFault>
         requires { 0 < length buf.old }
         ensures count { IfOk result (λ n. n ≤ length buf.new) }
-        ensures given { IfOk result (λ n. Consumes (Some self.old.left) (Some self.new.left) (take n buf.new)) }
+        ensures given { IfOk result
+            (λ n. Consumes (Some self.old.left) (Some self.new.left) (take n buf.new)) }
         ensures ended { IfOk result (λ n. n ≡ 0 → IsAtEnd (Some self.new.left)) }
         ensures exact_end { IfOk result (λ n. IsZeroAtEnd (Some self.old.left) n) }
-        ensures lost { OnErr result (LosesAtMost (Some self.old.left) (Some self.new.left) (length buf.new)) }
-        ensures cause { HasCause SourceFault.Failed self.old.calls.faults self.new.calls.faults result }
+        ensures lost { OnErr result
+            (LosesAtMost (Some self.old.left) (Some self.new.left) (length buf.new)) }
+        ensures cause { HasCause SourceFault.Failed self.old.calls.faults self.new.calls.faults
+            result }
 
         // Which answer comes, and what is left, exactly.
         ensures called { MakesCall SourceFault.Failed self.old.calls self.new.calls result }

@@ -105,7 +105,8 @@ fn a_stream_of_the_system_is_written_and_read(rt: HostRuntime) -> Result<(), Fai
     assert_eq!(rt; buf, *b"ab ");
     assert_eq!(rt; source.read(&mut buf), Ok(0));
 
-    // A file that was made for writing can't be read, and one that was opened for reading can't be written.
+    // A file that was made for writing can't be read, and one that was opened for reading can't be
+    // written.
     let mut unread = StdSource::new(File::create(&rt, PATH)?);
     assert_eq!(rt; unread.read(&mut buf), Err(SourceFault::Failed));
     let mut unwritten = StdSink::new(File::open(&rt, PATH)?);
