@@ -3,7 +3,7 @@ use Rattle.std.specs.Prelude.{◌≡◌, ◌==◌, ℕ, Bool, List, Result, IsEr
 use Rattle.std.specs.List.{list_any}
 use Rattle.plcs_base.specs.Count.{raised}
 
--- the numbers of the calls that are to fail, how many calls were made, and how many faults there were
+-- the numbers of the calls that are to fail, how many were made, and how many faults there were
 pub record CallsView : Type 0 where
   pub fails : List ℕ
   pub made : ℕ
@@ -13,12 +13,16 @@ pub record CallsView : Type 0 where
 abbrev pub is_failing : CallsView → Bool
 is_failing calls = list_any (λ number. number == raised calls.made) calls.fails
 
--- the same after one more call, which is a fault where it is to fail
+-- the count of faults after one more call, which is a fault where it is to fail
+abbrev pub faults_after : CallsView → ℕ
+faults_after calls = if is_failing calls then raised calls.faults else calls.faults
+
+-- the same calls after one more
 abbrev pub after_call : CallsView → CallsView
-after_call calls =
-    record calls { made = raised calls.made; faults = if is_failing calls then raised calls.faults else calls.faults }
+after_call calls = record calls { made = raised calls.made; faults = faults_after calls }
 
 -- one call was made, and it answered this fault exactly where its number is in the list
-pub record Calls {T E : Type 0} (fault : E) (before now : CallsView) (result : Result T E) : Type 0 where
+pub record MakesCall {T E : Type 0} (fault : E) (before now : CallsView) (result : Result T E)
+    : Type 0 where
   pub one : now ≡ after_call before
   pub listed : IsErrOf result fault ↔ IsTrue (is_failing before)

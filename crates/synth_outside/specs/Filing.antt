@@ -18,7 +18,9 @@ Begins None begun = Unit {0}
 Begins (Some entries) begun = begun ≡ Some []
 
 -- the map has the new content under the name, and all else is as before
-abbrev pub Commits : Option (List (List ℕ × List ℕ)) → Option (List (List ℕ × List ℕ)) → List ℕ → Option (List ℕ) → Type 0
+abbrev pub Commits : Option (List (List ℕ × List ℕ)) → Option (List (List ℕ × List ℕ)) → List ℕ →
+    Option (List ℕ) → Type 0
 Commits None now name begun = Unit {0}
-Commits (Some entries) now name None = (bytes : List ℕ) × (now ≡ Some (with_content name bytes entries))
+Commits (Some entries) now name None = (bytes : List ℕ) ×
+    (now ≡ Some (with_content name bytes entries))
 Commits (Some entries) now name (Some bytes) = now ≡ Some (with_content name bytes entries)

@@ -2,6 +2,8 @@ pub mod Calls
 pub mod Cause
 pub mod Entries
 pub mod Filing
-pub mod Memory
+pub mod MemFiles
+pub mod MemSink
+pub mod MemSource
 pub mod Reading
 pub mod Writing

@@ -16,7 +16,8 @@ impl Model for Calls {
 
     ghost Value = { CallsView };
 
-    ghost view = { λ calls. record { fails = calls.fails.items; made = calls.made; faults = calls.faults } };
+    ghost view = { λ calls.
+        record { fails = calls.fails.items; made = calls.made; faults = calls.faults } };
 }
 
 impl Calls {

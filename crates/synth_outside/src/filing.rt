@@ -1,6 +1,7 @@
 ghost use Rattle.std.specs.Prelude.{◌≡◌, ◌≢◌, ℕ, ◌<◌, ◌≤◌, Bool, true, false, List, length, take, Option, Err, IfOk, OnOk, OnErr, IsErrOf};
 ghost use Rattle.std.specs.Io.KnownBytes.{Appends, Consumes, IsAtEnd};
 ghost use Rattle.synth_outside.specs.Cause.{HasCause};
+ghost use Rattle.synth_outside.specs.Entries.{OwnContentIsSet, OtherContentsStay};
 ghost use Rattle.synth_outside.specs.Filing.{Opens, Lacks, Begins, Commits};
 ghost use Rattle.synth_outside.specs.Reading.{IsZeroAtEnd, LosesAtMost};
 ghost use Rattle.synth_outside.specs.Writing.{AppendsFront};
@@ -9,14 +10,14 @@ use super::FilesFault;
 
 /// Files by name: one can be open for reading, and a new content of one can be begun.
 ///
-/// `entries` is the map from names to bytes; where it is `None`, nothing is claimed of it. `is_open` says
-/// that a file is open for reading, and `left` is its bytes that are left, where they are told. `is_begun`
-/// says that a new content was begun, `begun_name` is the name that it is for, and `begun` its bytes so
-/// far, where they are told. The new content is no part of the map before it is committed, and a commit
-/// changes nothing of what is open for reading.
+/// `entries` is the map from names to bytes; where it is `None`, nothing is claimed of it.
+/// `is_open` says that a file is open for reading, and `left` is its bytes that are left, where
+/// they are told. `is_begun` says that a new content was begun, `begun_name` is the name that it is
+/// for, and `begun` its bytes so far, where they are told. The new content is no part of the map
+/// before it is committed, and a commit changes nothing of what is open for reading.
 ///
-/// `faults` counts the failures so far and `wants` the wants of memory. Neither ever falls, and each stays
-/// at 2^64 - 1 once it is there.
+/// `faults` counts the failures so far and `wants` the wants of memory. Neither ever falls, and
+/// each stays at 2^64 - 1 once it is there.
 pub trait Files {
     ghost entries: { Self → Option (List (List ℕ × List ℕ)) };
 
@@ -36,8 +37,8 @@ pub trait Files {
 
     /// Opens the file of the name for reading from its first byte, in place of one that is open.
     ///
-    /// Of the answers `Ok` and `NoFile` it is `NoFile` exactly where the map lacks the name. After an
-    /// answer that isn't `Ok` it isn't told whether a file is open.
+    /// Of the answers `Ok` and `NoFile` it is `NoFile` exactly where the map lacks the name. After
+    /// an answer that isn't `Ok` it isn't told whether a file is open.
     fn open_read(&mut self, name: &[u8]) -> Result<(), FilesFault>
         ensures opened { OnOk result (Opens (entries self.old) name.now (left self.new)) }
         ensures readable { OnOk result (is_open self.new ≡ true) }
@@ -51,16 +52,19 @@ pub trait Files {
         ensures cause { HasCause FilesFault.Failed (faults self.old) (faults self.new) result }
         ensures want { HasCause FilesFault.OutOfMemory (wants self.old) (wants self.new) result };
 
-    /// Moves the first bytes left of the opened file into the front of the buffer, and answers how many.
+    /// Moves the first bytes left of the opened file into the front of the buffer, and answers how
+    /// many.
     ///
-    /// `Ok(0)` is the end. After a failure some first bytes may be lost, at most as many as the buffer
-    /// holds. What stands in the buffer behind the bytes given, or after a failure, isn't told.
+    /// `Ok(0)` is the end. After a failure some first bytes may be lost, at most as many as the
+    /// buffer holds. What stands in the buffer behind the bytes given, or after a failure, isn't
+    /// told.
     fn read(&mut self, buf: &mut [u8]) -> Result<usize, FilesFault>
         requires open_file { is_open self.old ≡ true }
         requires room { 0 < length buf.old }
 
         ensures count { IfOk result (λ n. n ≤ length buf.new) }
-        ensures given { IfOk result (λ n. Consumes (left self.old) (left self.new) (take n buf.new)) }
+        ensures given { IfOk result
+            (λ n. Consumes (left self.old) (left self.new) (take n buf.new)) }
         ensures ended { IfOk result (λ n. n ≡ 0 → IsAtEnd (left self.new)) }
         ensures exact_end { IfOk result (λ n. IsZeroAtEnd (left self.old) n) }
         ensures lost { OnErr result (LosesAtMost (left self.old) (left self.new) (length buf.new)) }
@@ -100,7 +104,8 @@ pub trait Files {
 
         ensures some { IfOk result (λ n. 0 < n) }
         ensures count { IfOk result (λ n. n ≤ length piece.now) }
-        ensures accepted { IfOk result (λ n. Appends (begun self.old) (begun self.new) (take n piece.now)) }
+        ensures accepted { IfOk result
+            (λ n. Appends (begun self.old) (begun self.new) (take n piece.now)) }
         ensures front { OnErr result (AppendsFront (begun self.old) (begun self.new) piece.now) }
         ensures same_name { begun_name self.new ≡ begun_name self.old }
         ensures writable { is_begun self.new ≡ true }
@@ -119,7 +124,8 @@ pub trait Files {
     fn commit(&mut self) -> Result<(), FilesFault>
         requires { is_begun self.old ≡ true }
 
-        ensures committed { OnOk result (Commits (entries self.old) (entries self.new) (begun_name self.old) (begun self.old)) }
+        ensures committed { OnOk result
+            (Commits (entries self.old) (entries self.new) (begun_name self.old) (begun self.old)) }
         ensures over { OnOk result (is_begun self.new ≡ false) }
         ensures found { result ≢ Err FilesFault.NoFile }
 
@@ -133,3 +139,11 @@ pub trait Files {
         ensures cause { HasCause FilesFault.Failed (faults self.old) (faults self.new) result }
         ensures want { HasCause FilesFault.OutOfMemory (wants self.old) (wants self.new) result };
 }
+
+/// A law of the map: a commit gives its own name the new content, and every other name keeps its
+/// own.
+#[tactic(auto, using(crate::proofs::Contents::own_content, crate::proofs::Contents::other_content))]
+pub fn commit_sets_one_name()
+    ensures own { OwnContentIsSet }
+    ensures others { OtherContentsStay }
+{}

@@ -1,6 +1,6 @@
 ghost use Rattle.std.specs.Prelude.{◌≡◌, ◌<◌, ◌≤◌, [], length, take, Some, Err, IfOk, OnErr};
 ghost use Rattle.std.specs.Io.KnownBytes.{Appends};
-ghost use Rattle.synth_outside.specs.Calls.{Calls as CallsOnce};
+ghost use Rattle.synth_outside.specs.Calls.{MakesCall};
 ghost use Rattle.synth_outside.specs.Cause.{HasCause};
 ghost use Rattle.synth_outside.specs.Writing.{AppendsFront};
 
@@ -19,7 +19,7 @@ pub struct MemSink {
 }
 
 impl Model for MemSink {
-    ghost use Rattle.synth_outside.specs.Memory.{SinkView};
+    ghost use Rattle.synth_outside.specs.MemSink.{SinkView};
 
     ghost Value = { SinkView };
 
@@ -56,12 +56,16 @@ impl Sink for MemSink {
         requires { 0 < length piece.now }
         ensures some { IfOk result (λ n. 0 < n) }
         ensures count { IfOk result (λ n. n ≤ length piece.now) }
-        ensures accepted { IfOk result (λ n. Appends (Some self.old.taken) (Some self.new.taken) (take n piece.now)) }
-        ensures front { OnErr result (AppendsFront (Some self.old.taken) (Some self.new.taken) piece.now) }
-        ensures cause { HasCause SinkFault.Failed self.old.calls.faults self.new.calls.faults result }
+        ensures accepted { IfOk result
+            (λ n. Appends (Some self.old.taken) (Some self.new.taken) (take n piece.now)) }
+        ensures front { OnErr result
+            (AppendsFront (Some self.old.taken) (Some self.new.taken) piece.now) }
+        ensures cause { HasCause SinkFault.Failed self.old.calls.faults self.new.calls.faults
+            result }
 
-        // Which answer comes, and what was taken, exactly; want of memory comes only in place of success.
-        ensures called { CallsOnce SinkFault.Failed self.old.calls self.new.calls result }
+        // Which answer comes, and what was taken, exactly; want of memory comes only in place of
+        // success.
+        ensures called { MakesCall SinkFault.Failed self.old.calls self.new.calls result }
         ensures whole { IfOk result (λ n. n ≡ length piece.now) }
         ensures kept { OnErr result (self.new.taken ≡ self.old.taken) }
     {

@@ -1,43 +1,41 @@
-ghost use Rattle.std.specs.Prelude.{◌≡◌, ◌<◌, ◌≤◌, min, length, take, drop, Some, Ok, Err, IfOk, OnErr, if◌then◌else◌};
+ghost use Rattle.std.specs.Prelude.{◌≡◌, ◌<◌, ◌≤◌, min, length, take, Some, Ok, Err, IfOk, OnErr, if◌then◌else◌};
 ghost use Rattle.std.specs.Io.KnownBytes.{Consumes, IsAtEnd};
-ghost use Rattle.synth_outside.specs.Calls.{Calls as CallsOnce, is_failing};
+ghost use Rattle.synth_outside.specs.Calls.{MakesCall, is_failing};
 ghost use Rattle.synth_outside.specs.Cause.{HasCause};
 ghost use Rattle.synth_outside.specs.Reading.{IsZeroAtEnd, LosesAtMost};
 
 use super::calls::Calls;
+use super::unread::Unread;
 use super::{Source, SourceFault};
 use std::marker::Model;
 
 /// A source whose bytes lie in memory, and that fails where it is told to.
 ///
-/// It is seen as the bytes left, and the calls made with those that are to fail. It never wants memory.
+/// It is seen as the bytes left, and the calls made with those that are to fail. It never wants
+/// memory.
 #[derive(Debug, Drop)]
 pub struct MemSource {
-    bytes: Vec<u8>,
-    at: usize,
+    unread: Unread,
     calls: Calls,
 }
 
 impl Model for MemSource {
-    ghost use Rattle.std.specs.Prelude.{◌≤◌, drop, length};
-    ghost use Rattle.synth_outside.specs.Memory.{SourceView};
+    ghost use Rattle.synth_outside.specs.MemSource.{SourceView};
 
     ghost Value = { SourceView };
 
-    ghost view = { λ source. record { left = drop source.at source.bytes.items; calls = source.calls } };
-
-    ghost invariant = { λ source. source.at ≤ length source.bytes.items };
+    ghost view = { λ source. record { left = source.unread; calls = source.calls } };
 }
 
 impl MemSource {
-    /// All of `bytes` is left to read, and the calls whose numbers, from 1, are in `fails` are to fail.
+    /// All of `bytes` is left to read, and the calls whose numbers, from 1, are in `fails` are to
+    /// fail.
     pub fn new(bytes: Vec<u8>, fails: Vec<u64>) -> Self
         ensures left { result.left ≡ bytes.items }
         ensures calls { result.calls ≡ record { fails = fails.items; made = 0; faults = 0 } }
     {
         MemSource {
-            bytes,
-            at: 0,
+            unread: Unread::new(bytes),
             calls: Calls::new(fails),
         }
     }
@@ -52,14 +50,17 @@ impl Source for MemSource {
     fn read(&mut self, buf: &mut [u8]) -> Result<usize, SourceFault>
         requires { 0 < length buf.old }
         ensures count { IfOk result (λ n. n ≤ length buf.new) }
-        ensures given { IfOk result (λ n. Consumes (Some self.old.left) (Some self.new.left) (take n buf.new)) }
+        ensures given { IfOk result
+            (λ n. Consumes (Some self.old.left) (Some self.new.left) (take n buf.new)) }
         ensures ended { IfOk result (λ n. n ≡ 0 → IsAtEnd (Some self.new.left)) }
         ensures exact_end { IfOk result (λ n. IsZeroAtEnd (Some self.old.left) n) }
-        ensures lost { OnErr result (LosesAtMost (Some self.old.left) (Some self.new.left) (length buf.new)) }
-        ensures cause { HasCause SourceFault.Failed self.old.calls.faults self.new.calls.faults result }
+        ensures lost { OnErr result
+            (LosesAtMost (Some self.old.left) (Some self.new.left) (length buf.new)) }
+        ensures cause { HasCause SourceFault.Failed self.old.calls.faults self.new.calls.faults
+            result }
 
         // Which answer comes, and what is left, exactly.
-        ensures called { CallsOnce SourceFault.Failed self.old.calls self.new.calls result }
+        ensures called { MakesCall SourceFault.Failed self.old.calls self.new.calls result }
         ensures answer { result ≡ (if is_failing self.old.calls then Err SourceFault.Failed
             else Ok (min (length buf.old) (length self.old.left))) }
         ensures kept { OnErr result (self.new.left ≡ self.old.left) }
@@ -67,18 +68,6 @@ impl Source for MemSource {
         if self.calls.next_fails() {
             return Err(SourceFault::Failed);
         }
-        let count = copy_front(&self.bytes[self.at..], buf);
-        self.at += count;
-        Ok(count)
+        Ok(self.unread.give(buf))
     }
-}
-
-/// Copies the first bytes left to the front of the buffer, as many as there are and as fit.
-pub(crate) fn copy_front(left: &[u8], buf: &mut [u8]) -> usize
-    ensures count { result ≡ min (length buf.old) (length left.now) }
-    ensures given { take result buf.new ≡ take result left.now }
-{
-    let count = buf.len().min(left.len());
-    buf[..count].copy_from_slice(&left[..count]);
-    count
 }

@@ -16,13 +16,14 @@ pub trait Source {
 
     /// Moves the first bytes left into the front of the buffer, and answers how many.
     ///
-    /// `Ok(0)` is the end. After a failure some first bytes may be lost, at most as many as the buffer
-    /// holds. What stands in the buffer behind the bytes given, or after a failure, isn't told, and
-    /// want of memory has no cause that a count shows.
+    /// `Ok(0)` is the end. After a failure some first bytes may be lost, at most as many as the
+    /// buffer holds. What stands in the buffer behind the bytes given, or after a failure, isn't
+    /// told, and want of memory has no cause that a count shows.
     fn read(&mut self, buf: &mut [u8]) -> Result<usize, SourceFault>
         requires { 0 < length buf.old }
         ensures count { IfOk result (λ n. n ≤ length buf.new) }
-        ensures given { IfOk result (λ n. Consumes (left self.old) (left self.new) (take n buf.new)) }
+        ensures given { IfOk result
+            (λ n. Consumes (left self.old) (left self.new) (take n buf.new)) }
         ensures ended { IfOk result (λ n. n ≡ 0 → IsAtEnd (left self.new)) }
         ensures exact_end { IfOk result (λ n. IsZeroAtEnd (left self.old) n) }
         ensures lost { OnErr result (LosesAtMost (left self.old) (left self.new) (length buf.new)) }

@@ -10,8 +10,8 @@ use std::marker::Model;
 
 /// A sink over any writer of std's, as standard output, that is flushed in each write.
 ///
-/// It is seen as the writer with the count of faults. It tells the bytes that the writer tells; a stream of
-/// the system tells none.
+/// It is seen as the writer with the count of faults. It tells the bytes that the writer tells; a
+/// stream of the system tells none.
 #[derive(Debug, Drop)]
 pub struct StdSink<W> {
     inner: W,
@@ -40,14 +40,16 @@ impl<W: Write> Sink for StdSink<W> {
 
     ghost faults = { λ sink. sink.1 };
 
-    /// Each `Err` of the writer, a write that takes no byte and a failed flush raise the count by one
-    /// and are answered `Failed`.
+    /// Each `Err` of the writer, a write that takes no byte and a failed flush raise the count by
+    /// one and are answered `Failed`.
     fn write(&mut self, piece: &[u8]) -> Result<usize, SinkFault>
         requires { 0 < length piece.now }
         ensures some { IfOk result (λ n. 0 < n) }
         ensures count { IfOk result (λ n. n ≤ length piece.now) }
-        ensures accepted { IfOk result (λ n. Appends (W.contents self.old.0) (W.contents self.new.0) (take n piece.now)) }
-        ensures front { OnErr result (AppendsFront (W.contents self.old.0) (W.contents self.new.0) piece.now) }
+        ensures accepted { IfOk result
+            (λ n. Appends (W.contents self.old.0) (W.contents self.new.0) (take n piece.now)) }
+        ensures front { OnErr result
+            (AppendsFront (W.contents self.old.0) (W.contents self.new.0) piece.now) }
         ensures cause { HasCause SinkFault.Failed self.old.1 self.new.1 result }
 
         // The count, exactly; memory is never wanted.

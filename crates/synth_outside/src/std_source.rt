@@ -10,8 +10,8 @@ use std::marker::Model;
 
 /// A source over any reader of std's, as standard input.
 ///
-/// It is seen as the reader with the count of faults. It tells the bytes that the reader tells; a stream of
-/// the system tells none.
+/// It is seen as the reader with the count of faults. It tells the bytes that the reader tells; a
+/// stream of the system tells none.
 #[derive(Debug, Drop)]
 pub struct StdSource<R> {
     inner: R,
@@ -44,10 +44,12 @@ impl<R: Read> Source for StdSource<R> {
     fn read(&mut self, buf: &mut [u8]) -> Result<usize, SourceFault>
         requires { 0 < length buf.old }
         ensures count { IfOk result (λ n. n ≤ length buf.new) }
-        ensures given { IfOk result (λ n. Consumes (R.remaining self.old.0) (R.remaining self.new.0) (take n buf.new)) }
+        ensures given { IfOk result
+            (λ n. Consumes (R.remaining self.old.0) (R.remaining self.new.0) (take n buf.new)) }
         ensures ended { IfOk result (λ n. n ≡ 0 → IsAtEnd (R.remaining self.new.0)) }
         ensures exact_end { IfOk result (λ n. IsZeroAtEnd (R.remaining self.old.0) n) }
-        ensures lost { OnErr result (LosesAtMost (R.remaining self.old.0) (R.remaining self.new.0) (length buf.new)) }
+        ensures lost { OnErr result
+            (LosesAtMost (R.remaining self.old.0) (R.remaining self.new.0) (length buf.new)) }
         ensures cause { HasCause SourceFault.Failed self.old.1 self.new.1 result }
 
         // The count, exactly; memory is never wanted.

@@ -16,13 +16,14 @@ pub trait Sink {
 
     /// Takes the first bytes of the piece, at least one, and answers how many.
     ///
-    /// A failed write took a prefix of the piece too, and doesn't say how long it is. Want of memory
-    /// has no cause that a count shows.
+    /// A failed write took a prefix of the piece too, and doesn't say how long it is. Want of
+    /// memory has no cause that a count shows.
     fn write(&mut self, piece: &[u8]) -> Result<usize, SinkFault>
         requires { 0 < length piece.now }
         ensures some { IfOk result (λ n. 0 < n) }
         ensures count { IfOk result (λ n. n ≤ length piece.now) }
-        ensures accepted { IfOk result (λ n. Appends (taken self.old) (taken self.new) (take n piece.now)) }
+        ensures accepted { IfOk result
+            (λ n. Appends (taken self.old) (taken self.new) (take n piece.now)) }
         ensures front { OnErr result (AppendsFront (taken self.old) (taken self.new) piece.now) }
         ensures cause { HasCause SinkFault.Failed (faults self.old) (faults self.new) result };
 }

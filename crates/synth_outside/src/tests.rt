@@ -1,0 +1,142 @@
+use super::{
+    Files, FilesFault, MemFiles, MemSink, MemSource, Sink, SinkFault, Source, SourceFault, StdSink,
+    StdSource,
+};
+use std::fs::File;
+use std::io::{Error, ErrorKind, Write};
+use std::test::Fail;
+use std::{fs, io};
+
+#[test]
+fn a_source_in_memory_gives_its_bytes(rt: HostRuntime) -> Result<(), Fail> {
+    let bytes = b"abc".to_vec(rt.alloc())?;
+    let fails = [2].to_vec(rt.alloc())?;
+    let mut source = MemSource::new(bytes, fails);
+    let wanted = [
+        (Ok(2), b"ab"),
+        (Err(SourceFault::Failed), b"  "),
+        (Ok(1), b"c "),
+        (Ok(0), b"  "),
+        (Ok(0), b"  "),
+    ];
+    for (answer, given) in wanted {
+        let mut buf = [b' '; 2];
+        assert_eq!(rt; source.read(&mut buf), answer);
+        assert_eq!(rt; &buf, given);
+    }
+    Ok(())
+}
+
+#[test]
+fn a_sink_in_memory_keeps_its_bytes(rt: HostRuntime) -> Result<(), Fail> {
+    let fails = [2].to_vec(rt.alloc())?;
+    let mut sink = MemSink::new(rt.alloc(), fails);
+    assert_eq!(rt; sink.write(b"ab"), Ok(2));
+    assert_eq!(rt; sink.write(b"c"), Err(SinkFault::Failed));
+    assert_eq!(rt; sink.write(b"d"), Ok(1));
+    assert_eq!(rt; sink.bytes(), b"abd".as_slice());
+    Ok(())
+}
+
+// Sets P to the bytes `ab` and reads them: five calls.
+fn save_and_load(files: &mut MemFiles) -> Result<[u8; 3], FilesFault> {
+    let mut buf = [b' '; 3];
+    files.begin(b"P")?;
+    files.write(b"ab")?;
+    files.commit()?;
+    files.open_read(b"P")?;
+    files.read(&mut buf)?;
+    Ok(buf)
+}
+
+#[test]
+fn files_in_memory_fail_where_they_are_told_to(rt: HostRuntime) -> Result<(), Fail> {
+    for (number, is_saved) in [(1, false), (2, false), (3, false), (4, true), (5, true)] {
+        let fails = [number].to_vec(rt.alloc())?;
+        let mut files = MemFiles::new(rt.alloc(), fails);
+        assert_eq!(rt;
+            save_and_load(&mut files),
+            Err(FilesFault::Failed),
+            "at {number}"
+        );
+        assert_eq!(rt; files.content(b"P").is_some(), is_saved, "at {number}");
+    }
+    let mut files = MemFiles::new(rt.alloc(), Vec::new(rt.alloc()));
+    assert_eq!(rt; save_and_load(&mut files), Ok(*b"ab "));
+    Ok(())
+}
+
+// Whether the name has these bytes, if there is such a file.
+fn holds(files: &MemFiles, name: &[u8], bytes: &[u8]) -> Option<bool> {
+    files.content(name).map(|content| content == bytes)
+}
+
+#[test]
+fn a_commit_alone_sets_a_name(rt: HostRuntime) -> Result<(), Fail> {
+    let mut files = MemFiles::new(rt.alloc(), Vec::new(rt.alloc()));
+    save_and_load(&mut files)?;
+    files.begin(b"Q")?;
+    files.write(b"dropped")?;
+    files.begin(b"P")?;
+    files.write(b"c")?;
+    files.write(b"d")?;
+    assert_eq!(rt; holds(&files, b"P", b"ab"), Some(true));
+    files.open_read(b"P")?;
+    files.commit()?;
+    assert_eq!(rt; holds(&files, b"P", b"cd"), Some(true));
+    assert_eq!(rt; holds(&files, b"Q", b""), None);
+    let mut buf = [b' '; 3];
+    assert_eq!(rt; files.read(&mut buf), Ok(2));
+    assert_eq!(rt; buf, *b"ab ");
+    assert_eq!(rt; files.read(&mut buf), Ok(0));
+    assert_eq!(rt; files.open_read(b"Q"), Err(FilesFault::NoFile));
+    Ok(())
+}
+
+const PATH: &str = "synth_outside_test";
+
+#[test]
+fn a_stream_of_the_system_is_written_and_read(rt: HostRuntime) -> Result<(), Fail> {
+    let mut sink = StdSink::new(File::create(&rt, PATH)?);
+    assert_eq!(rt; sink.write(b"ab"), Ok(2));
+    let mut source = StdSource::new(File::open(&rt, PATH)?);
+    let mut buf = [b' '; 3];
+    assert_eq!(rt; source.read(&mut buf), Ok(2));
+    assert_eq!(rt; buf, *b"ab ");
+    assert_eq!(rt; source.read(&mut buf), Ok(0));
+
+    // A file that was made for writing can't be read, and one that was opened for reading can't be
+    // written.
+    let mut unread = StdSource::new(File::create(&rt, PATH)?);
+    assert_eq!(rt; unread.read(&mut buf), Err(SourceFault::Failed));
+    let mut unwritten = StdSink::new(File::open(&rt, PATH)?);
+    assert_eq!(rt; unwritten.write(b"c"), Err(SinkFault::Failed));
+    fs::remove_file(&rt, PATH)?;
+    Ok(())
+}
+
+// A writer that takes each piece, and can't be flushed.
+#[derive(Drop)]
+struct Unflushed;
+
+impl Write for Unflushed {
+    fn write(&mut self, piece: &[u8]) -> io::Result<usize> {
+        Ok(piece.len())
+    }
+
+    fn flush(&mut self) -> io::Result<()> {
+        Err(Error::from(ErrorKind::Other))
+    }
+}
+
+#[test]
+fn a_stream_that_takes_nothing_fails(rt: HostRuntime) {
+    let mut room = [b' '; 1];
+    let mut sink = StdSink::new(room.as_mut_slice());
+    assert_eq!(rt; sink.write(b"ab"), Ok(1));
+    assert_eq!(rt; sink.write(b"b"), Err(SinkFault::Failed));
+    assert_eq!(rt;
+        StdSink::new(Unflushed).write(b"ab"),
+        Err(SinkFault::Failed)
+    );
+}
