@@ -11,19 +11,20 @@ pub enum MarkKind {
     NotArray,
     /// An array without a subscript.
     NeedsSubscript,
-    /// A name that is declared, or a procedure that is headed, a second time.
+    /// A declared name that is effective already, a parameter that its list names twice, or a procedure
+    /// name that an earlier effective heading has or that is `main`.
     Duplicate,
-    /// A call of a name that heads no procedure.
+    /// A call of a name without an effective heading.
     UnknownProcedure,
     /// Too many arguments, or too few.
     WrongCount,
-    /// An argument whose kind is not the parameter's.
+    /// An argument whose kind is not the parameter's, or a parameter that has no kind.
     ArgumentType,
-    /// A parameter that is not declared as a scalar.
+    /// A parameter without an effective scalar item.
     ParameterUndeclared,
     /// An item that takes its procedure past 2,000 cells.
     TooManyCells,
-    /// A built-in name where a name of the program's own is wanted.
+    /// A built-in name as a variable, declared name, parameter or procedure name.
     Reserved,
 }
 

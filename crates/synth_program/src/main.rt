@@ -1,0 +1,55 @@
+//! The program: key bytes on standard input, screens on standard output.
+#![tactic(auto)]
+
+use plcs_base::Counts;
+use std::alloc::Global;
+use std::env;
+use std::io::ErrorKind;
+use std::process::ExitCode;
+use std::rt::Env;
+use synth_outside::{MemFiles, StdSink, StdSource};
+use synth_top::{Status, synth};
+
+/// The words that follow the program's name. One that isn't text is no word of the command.
+fn words_of<R: Env + AllocGlobal>(rt: &R, alloc: Global) -> Result<Vec<String>, Status> {
+    let arguments = env::args(rt).map_err(|error| match error.kind() {
+        ErrorKind::OutOfMemory => Status::NoMemory,
+        _ => Status::BadWords,
+    })?;
+    let mut words = Vec::new(alloc);
+    for word in arguments.skip(1) {
+        if words.push(word).is_err() {
+            return Err(Status::NoMemory);
+        }
+    }
+    Ok(words)
+}
+
+/// Edits over the system's streams.
+fn run(rt: &HostRuntime) -> Status {
+    let alloc = rt.alloc();
+    let words = match words_of(rt, alloc) {
+        Ok(words) => words,
+        Err(status) => return status,
+    };
+    let mut keys = StdSource::new(rt.stdin());
+    let mut screen = StdSink::new(rt.stdout());
+    let mut files = MemFiles::new(alloc, Vec::new(alloc));
+    let mut work = Counts::default();
+    synth(
+        alloc,
+        words.as_slice(),
+        &mut keys,
+        &mut screen,
+        &mut files,
+        &mut work,
+    )
+}
+
+fn main(rt: HostRuntime) -> ExitCode {
+    let status = run(&rt);
+    if status == Status::BadWords {
+        let _ = eprintln!(&rt; "usage: synth [--rows N --cols M]");
+    }
+    ExitCode::from(status.code())
+}

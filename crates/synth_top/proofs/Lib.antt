@@ -1,0 +1,7 @@
+pub mod Drawing
+pub mod Fronts
+pub mod Owing
+pub mod Pressing
+pub mod Runs
+pub mod Trimming
+pub mod Turns

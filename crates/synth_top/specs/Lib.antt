@@ -1,0 +1,13 @@
+pub mod Extent
+pub mod Number
+pub mod Words
+pub mod Keys
+pub mod Session
+pub mod Screen
+pub mod Sized
+pub mod Paint
+pub mod Owed
+pub mod View
+pub mod Run
+pub mod Turn
+pub mod Editing

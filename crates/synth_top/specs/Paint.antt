@@ -1,0 +1,56 @@
+-- The bytes that turn one screen into another.
+use Rattle.std.specs.Prelude.{ℕ, ◌+◌, ◌%◌, ◌==◌, nat_eq, nat_le, Bool, true, false, List, [], ◌∷◌, ◌++◌, codes, decimal, if◌then◌else◌}
+use Rattle.std.specs.Cmp.Lexicographic.{pointwise}
+use Rattle.synth_top.specs.Screen.{PlainGrid}
+
+-- a control sequence: ESC, [ and what it says
+abbrev pub control : List ℕ → List ℕ
+control what = 27 ∷ 91 ∷ what
+
+-- moves the cursor
+unfoldable pub go_to : ℕ → ℕ → List ℕ
+go_to row col = control (decimal row ++ (59 ∷ (decimal col ++ codes "H")))
+
+-- turns negative image on or off, where it isn't so already
+abbrev pub image_change : Bool → Bool → List ℕ
+image_change true true = []
+image_change true false = control (codes "0m")
+image_change false true = control (codes "7m")
+image_change false false = []
+
+-- whether a cell is in negative image
+abbrev pub is_negative : ℕ → Bool
+is_negative cell = nat_le 256 cell
+
+-- cells as bytes, each in its image; at the end the image is the default one
+abbrev pub spelled : Bool → List ℕ → List ℕ
+spelled image [] = image_change image false
+spelled image (cell ∷ cells) = image_change image (is_negative cell) ++ (cell % 256 ∷ spelled (is_negative cell) cells)
+
+-- a cell before others, where a blank before nothing falls away
+abbrev pub cut_before : ℕ → List ℕ → List ℕ
+cut_before cell [] = if cell == 32 then [] else cell ∷ []
+cut_before cell (next ∷ rest) = cell ∷ next ∷ rest
+
+-- cells up to the last that isn't a blank in default image
+abbrev pub trimmed : List ℕ → List ℕ
+trimmed [] = []
+trimmed (cell ∷ cells) = cut_before cell (trimmed cells)
+
+-- one row: the cursor goes there, its cells are written, and the rest of the row is blanked
+unfoldable pub row_piece : ℕ → List ℕ → List ℕ
+row_piece number cells = go_to number 1 ++ (spelled false (trimmed cells) ++ control (codes "K"))
+
+-- a row is written only where it differs
+abbrev pub row_paint : ℕ → List ℕ → List ℕ → List ℕ
+row_paint number old new = if pointwise nat_eq old new then [] else row_piece number new
+
+-- the rows that differ, from the top; rows count from 1
+abbrev pub rows_paint : ℕ → List (List ℕ) → List (List ℕ) → List ℕ
+rows_paint number [] news = []
+rows_paint number (old ∷ olds) [] = []
+rows_paint number (old ∷ olds) (new ∷ news) = row_paint number old new ++ rows_paint (number + 1) olds news
+
+-- the rows that differ, and then the cursor's place
+unfoldable pub paint : PlainGrid → PlainGrid → List ℕ
+paint old new = rows_paint 1 old.lines new.lines ++ go_to new.row new.col

@@ -1,0 +1,14 @@
+-- The plain data of the types of this crate.
+use Rattle.std.specs.Prelude.{map}
+use Rattle.synth_top.specs.declared.session.Session.{Session}
+use Rattle.synth_top.specs.declared.grid.Grid.{Grid}
+use Rattle.synth_top.specs.Session.{PlainSession}
+use Rattle.synth_top.specs.Screen.{PlainGrid}
+
+-- a session as plain data
+abbrev pub plain_session : Session → PlainSession
+plain_session s = record { size = s.size; statement = s.statement; typed = s.typed.items; message = s.message }
+
+-- a grid as plain data
+abbrev pub plain_grid : Grid → PlainGrid
+plain_grid g = record { lines = map (λ line. line.items) g.lines.items; row = g.row; col = g.col }

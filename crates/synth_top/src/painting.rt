@@ -1,0 +1,179 @@
+ghost use Rattle.std.specs.Prelude.{◌≡◌, ◌+◌, ◌≤◌, [], ◌++◌, false, decimal, length, take, OnOk, OnErr};
+ghost use Rattle.std.specs.Io.KnownBytes.{Appends};
+ghost use Rattle.arrayvec.specs.ArrayVec.{array_vec_len};
+ghost use Rattle.synth_outside.specs.Cause.{HasCause};
+ghost use Rattle.synth_outside.specs.Writing.{AppendsFront};
+ghost use Rattle.synth_top.specs.Paint.{go_to, image_change, paint, row_piece, row_paint, rows_paint, spelled, trimmed};
+ghost use Rattle.synth_top.specs.Sized.{IsSized};
+ghost use Rattle.synth_top.specs.View.{plain_grid};
+
+use crate::grid::Grid;
+use crate::size::ScreenSize;
+use arrayvec::ArrayVec;
+use synth_outside::{Sink, SinkFault};
+
+/// The bytes of one row with all its changes of image.
+type Piece = ArrayVec<u8, 1024>;
+
+/// Writes a piece; what the sink takes in part is written on.
+pub fn write_piece<K: Sink>(sink: &mut K, piece: &[u8]) -> Result<(), SinkFault>
+    ensures all { OnOk result (Appends (K.taken sink.old) (K.taken sink.new) piece.now) }
+    ensures front { OnErr result (AppendsFront (K.taken sink.old) (K.taken sink.new) piece.now) }
+    ensures cause { HasCause SinkFault.Failed (K.faults sink.old) (K.faults sink.new) result }
+{
+    let mut at = 0;
+    while at < piece.len() {
+        at += sink.write(&piece[at..])?;
+    }
+    Ok(())
+}
+
+/// Appends bytes to a piece that has room for them.
+fn put(piece: &mut Piece, bytes: &[u8])
+    requires { array_vec_len piece.old + length bytes.now ≤ 1024 }
+    ensures { piece.new.items ≡ piece.old.items ++ bytes.now }
+{
+    let _ = piece.try_extend_from_slice(bytes);
+}
+
+/// Appends a number in decimal.
+fn put_number(piece: &mut Piece, number: u16)
+    requires { array_vec_len piece.old ≤ 900 }
+    ensures number { piece.new.items ≡ piece.old.items ++ decimal number }
+    ensures short { array_vec_len piece.new ≤ array_vec_len piece.old + 40 }
+{
+    put(piece, itoa::Buffer::new().format(number).as_bytes());
+}
+
+/// Appends the sequence that moves the cursor.
+#[tactic(auto, unfolding(crate::specs::Paint::go_to), using(std::proofs::Common::append_assoc))]
+fn put_go_to(piece: &mut Piece, row: u16, col: u16)
+    requires { piece.old.items ≡ [] }
+    ensures place { piece.new.items ≡ go_to row col }
+    ensures short { array_vec_len piece.new ≤ 100 }
+{
+    put(piece, b"\x1b[");
+    put_number(piece, row);
+    put(piece, b";");
+    put_number(piece, col);
+    put(piece, b"H");
+}
+
+/// Appends the sequence that turns negative image on or off, where it isn't so already.
+fn put_image_change(piece: &mut Piece, image: bool, negative: bool)
+    requires { array_vec_len piece.old ≤ 1000 }
+    ensures change { piece.new.items ≡ piece.old.items ++ image_change image negative }
+    ensures short { array_vec_len piece.new ≤ array_vec_len piece.old + 4 }
+{
+    match (image, negative) {
+        (true, false) => put(piece, b"\x1b[0m"),
+        (false, true) => put(piece, b"\x1b[7m"),
+        _ => {}
+    }
+}
+
+/// How many cells there are up to the last that isn't a blank in default image.
+fn trimmed_len(cells: &[u16]) -> usize
+    ensures cells { take result cells.now ≡ trimmed cells.now }
+    ensures within { result ≤ length cells.now }
+{
+    let mut len = cells.len();
+    while len > 0 && cells[len - 1] == 32 {
+        len -= 1;
+    }
+    len
+}
+
+/// Appends cells, each in its image.
+fn put_cells(piece: &mut Piece, cells: &[u16])
+    requires room { array_vec_len piece.old ≤ 100 }
+    requires short { length cells.now ≤ 160 }
+    ensures cells { piece.new.items ≡ piece.old.items ++ spelled false cells.now }
+    ensures fits { array_vec_len piece.new ≤ 1000 }
+{
+    let mut image = false;
+    for cell in cells {
+        let negative = *cell >= 256;
+        put_image_change(piece, image, negative);
+        put(piece, &[(*cell % 256) as u8]);
+        image = negative;
+    }
+    put_image_change(piece, image, false);
+}
+
+/// Puts the bytes of one row, whose number counts from 1, into an empty piece.
+#[tactic(auto, unfolding(crate::specs::Paint::row_piece), using(std::proofs::Common::append_assoc))]
+fn put_row_piece(piece: &mut Piece, number: u16, cells: &[u16])
+    requires empty { piece.old.items ≡ [] }
+    requires short { length cells.now ≤ 160 }
+    ensures { piece.new.items ≡ row_piece number cells.now }
+{
+    put_go_to(piece, number, 1);
+    put_cells(piece, &cells[..trimmed_len(cells)]);
+    put(piece, b"\x1b[K");
+}
+
+/// Paints one row, whose number counts from 1, where it differs.
+fn paint_row<K: Sink>(number: u16, old: &[u16], new: &[u16], sink: &mut K) -> Result<(), SinkFault>
+    requires { length new.now ≤ 160 }
+    ensures all { OnOk result (Appends (K.taken sink.old) (K.taken sink.new) (row_paint number old.now new.now)) }
+    ensures front { OnErr result (AppendsFront (K.taken sink.old) (K.taken sink.new) (row_paint number old.now new.now)) }
+    ensures cause { HasCause SinkFault.Failed (K.faults sink.old) (K.faults sink.new) result }
+{
+    if old == new {
+        return Ok(());
+    }
+    let mut piece = Piece::new();
+    put_row_piece(&mut piece, number, new);
+    write_piece(sink, piece.as_slice())
+}
+
+/// Paints the rows that differ, from the top.
+fn paint_rows<K: Sink>(
+    size: ScreenSize,
+    old: &Grid,
+    new: &Grid,
+    sink: &mut K,
+) -> Result<(), SinkFault>
+    requires old { IsSized size (plain_grid old.now) }
+    requires new { IsSized size (plain_grid new.now) }
+    ensures all { OnOk result (Appends (K.taken sink.old) (K.taken sink.new) (rows_paint 1 (plain_grid old.now).lines (plain_grid new.now).lines)) }
+    ensures front { OnErr result (AppendsFront (K.taken sink.old) (K.taken sink.new) (rows_paint 1 (plain_grid old.now).lines (plain_grid new.now).lines)) }
+    ensures cause { HasCause SinkFault.Failed (K.faults sink.old) (K.faults sink.new) result }
+{
+    let _cols = size.cols();
+    for row in 0..size.rows() {
+        paint_row(row + 1, old.line(row), new.line(row), sink)?;
+    }
+    Ok(())
+}
+
+/// Paints the place of the cursor.
+fn paint_cursor<K: Sink>(grid: &Grid, sink: &mut K) -> Result<(), SinkFault>
+    ensures all { OnOk result (Appends (K.taken sink.old) (K.taken sink.new) (go_to grid.now.row grid.now.col)) }
+    ensures front { OnErr result (AppendsFront (K.taken sink.old) (K.taken sink.new) (go_to grid.now.row grid.now.col)) }
+    ensures cause { HasCause SinkFault.Failed (K.faults sink.old) (K.faults sink.new) result }
+{
+    let mut piece = Piece::new();
+    put_go_to(&mut piece, grid.row, grid.col);
+    write_piece(sink, piece.as_slice())
+}
+
+/// Writes the bytes that turn a terminal which shows the old grid into one which shows the new: each
+/// row that differs as one piece, and then the cursor's place.
+#[tactic(auto, unfolding(crate::specs::Paint::paint))]
+pub fn paint<K: Sink>(
+    size: ScreenSize,
+    old: &Grid,
+    new: &Grid,
+    sink: &mut K,
+) -> Result<(), SinkFault>
+    requires old { IsSized size (plain_grid old.now) }
+    requires new { IsSized size (plain_grid new.now) }
+    ensures all { OnOk result (Appends (K.taken sink.old) (K.taken sink.new) (paint (plain_grid old.now) (plain_grid new.now))) }
+    ensures front { OnErr result (AppendsFront (K.taken sink.old) (K.taken sink.new) (paint (plain_grid old.now) (plain_grid new.now))) }
+    ensures cause { HasCause SinkFault.Failed (K.faults sink.old) (K.faults sink.new) result }
+{
+    paint_rows(size, old, new, sink)?;
+    paint_cursor(new, sink)
+}

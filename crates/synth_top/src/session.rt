@@ -1,0 +1,168 @@
+ghost use Rattle.std.specs.Prelude.{◌≡◌};
+ghost use Rattle.synth_top.specs.Session.{opened, refused, done, char_typed, put_filled, phrase_entered, line_entered, press};
+ghost use Rattle.synth_top.specs.View.{plain_session};
+
+use crate::key::Key;
+use crate::number::number_of;
+use crate::size::ScreenSize;
+use arrayvec::ArrayVec;
+
+/// How many bytes the typed line holds.
+pub const LINE_LIMIT: usize = 200;
+
+/// The greatest number that a phrase holds.
+const GREATEST_NUMBER: u32 = 2_147_483_647;
+
+/// What stands where the new program has its hole for a statement.
+#[derive(Clone, Copy, Debug)]
+pub enum Statement {
+    /// The hole itself.
+    Hole,
+    /// A PUT LIST, whose part is empty or holds one number.
+    Put(Option<u32>),
+}
+
+/// Why a key was refused.
+#[derive(Clone, Copy, Debug)]
+pub enum Refusal {
+    /// The cursor stands where the command can't act.
+    NotHere,
+    /// The typed line is full.
+    PhraseFull,
+    /// The key or command isn't built yet.
+    NotBuilt,
+}
+
+/// What became of a key.
+#[derive(Clone, Copy, Debug)]
+pub enum Answer {
+    /// It was carried out.
+    Done,
+    /// It changed nothing but the message.
+    Refused(Refusal),
+    /// It ended the session.
+    Quit,
+}
+
+/// The program that is edited, with what was typed and the last refusal. The cursor stands at the
+/// hole while it stands, and then at the part of the PUT.
+#[derive(Debug, Drop)]
+pub struct Session {
+    size: ScreenSize,
+    statement: Statement,
+    typed: ArrayVec<u8, LINE_LIMIT>,
+    message: Option<Refusal>,
+}
+
+impl Session {
+    /// A session with a new program.
+    pub fn open(size: ScreenSize) -> Self
+        ensures { plain_session result ≡ opened size }
+    {
+        Session {
+            size,
+            statement: Statement::Hole,
+            typed: ArrayVec::new(),
+            message: None,
+        }
+    }
+
+    /// The size of the screen that the session is drawn on.
+    pub fn size(&self) -> ScreenSize
+        ensures { result ≡ self.now.size }
+    {
+        self.size
+    }
+
+    /// The statement in the program's one statement slot.
+    pub fn statement(&self) -> Statement
+        ensures { result ≡ self.now.statement }
+    {
+        self.statement
+    }
+
+    /// The bytes typed and not yet entered.
+    pub fn typed(&self) -> &[u8]
+        ensures { result.now ≡ self.now.typed.items }
+    {
+        self.typed.as_slice()
+    }
+
+    /// Why the last key was refused, if it was.
+    pub fn message(&self) -> Option<Refusal>
+        ensures { result ≡ self.now.message }
+    {
+        self.message
+    }
+
+    /// Does what a key asks for.
+    #[tactic(auto, unfolding(crate::specs::Session::press))]
+    pub fn press(&mut self, key: Key) -> Answer
+        ensures pressed { record { after = plain_session self.new; answer = result } ≡ press (plain_session self.old) key }
+        ensures size { self.new.size ≡ self.old.size }
+    {
+        match key {
+            Key::Char(byte) => self.char_typed(byte),
+            Key::Enter => self.line_entered(),
+            _ => self.refused(Refusal::NotBuilt),
+        }
+    }
+
+    fn refused(&mut self, why: Refusal) -> Answer
+        ensures { record { after = plain_session self.new; answer = result } ≡ refused (plain_session self.old) why }
+    {
+        self.message = Some(why);
+        Answer::Refused(why)
+    }
+
+    fn done(&mut self, statement: Statement) -> Answer
+        ensures { record { after = plain_session self.new; answer = result } ≡ done (plain_session self.old) statement }
+    {
+        self.statement = statement;
+        self.typed.clear();
+        self.message = None;
+        Answer::Done
+    }
+
+    fn char_typed(&mut self, byte: u8) -> Answer
+        ensures { record { after = plain_session self.new; answer = result } ≡ char_typed (plain_session self.old) byte }
+    {
+        if self.typed.is_full() {
+            return self.refused(Refusal::PhraseFull);
+        }
+        self.typed.push(byte);
+        self.message = None;
+        Answer::Done
+    }
+
+    fn line_entered(&mut self) -> Answer
+        ensures { record { after = plain_session self.new; answer = result } ≡ line_entered (plain_session self.old) }
+    {
+        if self.typed.as_slice() == b".put".as_slice() {
+            return self.put_filled();
+        }
+        if self.typed.as_slice() == b".quit".as_slice() {
+            return Answer::Quit;
+        }
+        let phrase = number_of(GREATEST_NUMBER, self.typed.as_slice());
+        self.phrase_entered(phrase)
+    }
+
+    fn put_filled(&mut self) -> Answer
+        ensures { record { after = plain_session self.new; answer = result } ≡ put_filled (plain_session self.old) self.old.statement }
+    {
+        match self.statement {
+            Statement::Hole => self.done(Statement::Put(None)),
+            Statement::Put(_) => self.refused(Refusal::NotHere),
+        }
+    }
+
+    fn phrase_entered(&mut self, phrase: Option<u32>) -> Answer
+        ensures { record { after = plain_session self.new; answer = result } ≡ phrase_entered (plain_session self.old) self.old.statement phrase }
+    {
+        match (self.statement, phrase) {
+            (Statement::Put(_), Some(_)) => self.done(Statement::Put(phrase)),
+            _ => self.refused(Refusal::NotBuilt),
+        }
+    }
+}

@@ -1,0 +1,23 @@
+/// How the editor ended. A program ends with the status's number.
+#[derive(Clone, Copy, Debug, PartialEq, Eq)]
+pub enum Status {
+    /// A key ended the session, or the source of keys ended.
+    Done = 0,
+    /// A read of keys failed.
+    ReadFault = 1,
+    /// A write of a screen failed.
+    WriteFault = 2,
+    /// Memory ran out.
+    NoMemory = 3,
+    /// The words aren't of the command. Nothing was read or written.
+    BadWords = 4,
+    /// The greatest number of key bytes was taken.
+    KeyLimit = 5,
+}
+
+impl Status {
+    /// The number that a program ends with.
+    pub fn code(self) -> u8 {
+        self as u8
+    }
+}
