@@ -5,3 +5,5 @@ pub mod FoundTokens
 pub mod Longest
 pub mod OneCut
 pub mod CutSoFar
+pub mod PieceFacts
+pub mod LexedTexts

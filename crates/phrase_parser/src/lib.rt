@@ -5,5 +5,7 @@ mod byte_class;
 mod constant;
 mod front;
 mod lexer;
+#[cfg(test)]
+mod lexer_tests;
 mod sign;
 mod token;
