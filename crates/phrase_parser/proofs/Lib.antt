@@ -1,0 +1,4 @@
+mod Spelling
+mod BuiltinNames
+mod Goes
+mod Arrival
