@@ -5,3 +5,5 @@ mod Arrival
 mod Phrases
 mod Lists
 mod Completeness
+mod Consumed
+mod Soundness
