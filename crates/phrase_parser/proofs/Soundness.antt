@@ -22,13 +22,13 @@ use Rattle.phrase_parser.proofs.Completeness.{run_none}
 use Rattle.phrase_parser.proofs.Arrival.{above_none}
 use Rattle.phrase_parser.proofs.Consumed.{spell_before, all_push, before_push, call_push, behind_fits, all_fit, call_fits, spell_each, listed_last, each_last, listed_comma, each_fits, listed_fits, listed_each, flat_base, flat_stack, flat_role, flat, hole, SoundBase, SoundStack, SoundRole, Sound, base_category, stack_category, role_category, state_category}
 
-abbrev comma : Token
+abbrev pub comma : Token
 comma = Token.sign Sign.comma
 
-abbrev close : Token
+abbrev pub close : Token
 close = Token.sign Sign.close_parenthesis
 
-abbrev open_ : Token
+abbrev pub open_ : Token
 open_ = Token.sign Sign.open_parenthesis
 
 -- an operand on a stack that came from another, with the operators of a level joined
@@ -164,7 +164,7 @@ pub regroup : {X : Type 0} (a b c d : List X) → a ++ (b ++ (c ++ d)) ≡ ((a +
 regroup a b c d = sym (append_assoc a b (c ++ d)) ∙ sym (append_assoc (a ++ b) c d)
 
 -- the tokens of a call in an expression
-arguments_tokens : (a : List Token) (k : Token) (done : Trees) (t : Tree)
+pub arguments_tokens : (a : List Token) (k : Token) (done : Trees) (t : Tree)
     → a ++ (k ∷ in_parentheses (spell_all (tree_push done t))) ≡ ((a ++ (k ∷ open_ ∷ spell_before done)) ++ spell t) ++ (close ∷ [])
 arguments_tokens a k done t =
     ap (λ z. a ++ (k ∷ in_parentheses z)) (all_push done t)
