@@ -8,3 +8,4 @@ mod Completeness
 mod Consumed
 mod Soundness
 mod Viable
+mod Limits
