@@ -9,3 +9,5 @@ mod Consumed
 mod Soundness
 mod Viable
 mod Limits
+mod Simulation
+mod Recognized
