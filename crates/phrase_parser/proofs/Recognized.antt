@@ -1,5 +1,5 @@
 -- Which tokens the machine without trees takes, where they may end, and which levels they open.
-use Rattle.std.proofs.Common.{◌≡◌, refl, ℕ, ◌+◌, Bool, true, false, List, [], ◌∷◌, map, Option, Some, None, is_some, ap, sym, subst, ◌∙◌}
+use Rattle.std.proofs.Common.{◌≡◌, refl, ℕ, ◌+◌, true, false, List, [], ◌∷◌, map, Option, Some, None, is_some, ap, sym, ◌∙◌}
 use Rattle.plcs_grammar.specs.declared.category.Category.{Category}
 use Rattle.plcs_grammar.specs.declared.category.Category.TheVariants.{Assignment, Condition, Expression, ExpressionList, VariableList, Variable, CallRef, DeclaredList, ProcedureName, NameList, Length, CommentText}
 use Rattle.plcs_grammar.specs.Sign.{Sign}
@@ -15,7 +15,7 @@ use Rattle.phrase_parser.specs.Recognizer
 use Rattle.phrase_parser.specs.Recognizer.{Kind, kind_of, Shape, next, next_if, follow, first_shape, may_end, level_of, follow_levels}
 use Rattle.phrase_parser.proofs.Completeness.{run_none, complete, traced_over}
 use Rattle.phrase_parser.proofs.Consumed.{Sound}
-use Rattle.phrase_parser.proofs.Soundness.{AfterIf, step_after, HasRead, has_read, IsFreshIf, start_fresh}
+use Rattle.phrase_parser.proofs.Soundness.{AfterIf, step_after, has_read, IsFreshIf, start_fresh}
 use Rattle.phrase_parser.proofs.Viable.{viable, stopped, sound, no_form}
 use Rattle.phrase_parser.proofs.Simulation.{use_of, last_of, shape_of, shape_if, simulates, ends_as}
 

@@ -1,27 +1,24 @@
 -- The machine without trees does as the machine with trees.
-use Rattle.std.proofs.Common.{◌≡◌, refl, ℕ, ◌+◌, ◌≤◌, Bool, true, false, not, cond, leb, ◌&&◌, List, [], ◌∷◌, map, Option, Some, None, is_some, ap, ap₂, sym, subst, ◌∙◌, arith, le_refl, lit≤}
+use Rattle.std.proofs.Common.{◌≡◌, refl, ℕ, ◌+◌, ◌≤◌, Bool, true, false, cond, leb, ◌&&◌, List, [], ◌∷◌, Option, Some, None, is_some, ap, ap₂, sym, ◌∙◌, arith, le_refl}
 use Rattle.std.proofs.lemmas.Bool.{cond_both, not-true}
 use Rattle.plcs_grammar.specs.declared.operator.PrefixOp.{PrefixOp}
 use Rattle.plcs_grammar.specs.declared.operator.InfixOp.{InfixOp}
 use Rattle.plcs_grammar.specs.declared.operator.InfixOp.TheVariants as between
 use Rattle.plcs_grammar.specs.declared.builtin.Builtin.{Builtin}
-use Rattle.plcs_grammar.specs.declared.category.Category.{Category}
-use Rattle.plcs_grammar.specs.declared.category.Category.TheVariants.{Assignment, Condition, Expression, ExpressionList, VariableList, Variable, CallRef, DeclaredList, ProcedureName, NameList, Length, CommentText}
 use Rattle.plcs_grammar.specs.Sign.{Sign}
 use Rattle.plcs_grammar.specs.Token.{Token}
-use Rattle.plcs_grammar.specs.Reading.{Tree, Trees, Reference, Reading}
+use Rattle.plcs_grammar.specs.Reading.{Tree, Reference}
 use Rattle.plcs_grammar.specs.Builtin.{is_builtin_name}
 use Rattle.plcs_grammar.specs.Level.{priority, tightest}
 use Rattle.phrase_parser.specs.Machine
 use Rattle.phrase_parser.specs.Machine.{Base, Stack, Role, State, Operand, reduced, joined, step, step_if, run, start, ended, ended_at, builtin_of, prefix_of, infix_of}
-use Rattle.phrase_parser.specs.Trace.{base_depth, depth, opens, opens_by_role, opens_behind, trace}
+use Rattle.phrase_parser.specs.Trace.{base_depth, depth}
 use Rattle.phrase_parser.specs.Recognizer
 use Rattle.phrase_parser.specs.Recognizer.{Kind, kind_of, Ground, ground_level, Bracket, Last, Use, Shape, inside, next, next_if, follow, first_shape, may_end, may_end_in, level_of, follow_levels, next_close_in, next_comma_in}
 use Rattle.phrase_parser.proofs.BuiltinNames.{builtin_missing, builtin_known}
 use Rattle.phrase_parser.proofs.Arrival.{above_none, below_tightest}
-use Rattle.phrase_parser.proofs.Completeness.{run_none}
 use Rattle.phrase_parser.proofs.Consumed.{hole, SoundStack, Sound}
-use Rattle.phrase_parser.proofs.Soundness.{Joins, reduced_joins, AfterIf, step_after}
+use Rattle.phrase_parser.proofs.Soundness.{Joins, reduced_joins}
 
 -- the shape of a state: what is left of it without trees
 abbrev pub ground_of_base : Base → Ground
@@ -107,7 +104,7 @@ same_place level (Stack.base b) t = (refl, refl)
 same_place level (Stack.prefix op s) t = same_place level s (Tree.unary op t)
 same_place level (Stack.left a op s) t =
     cond_both (leb level (priority op)) (reduced s level (Tree.binary op a t)) (Stack.left a op s, t) (SamePlace s)
-      (λ e. same_place level s (Tree.binary op a t)) (λ e. (refl, refl))
+    (λ e. same_place level s (Tree.binary op a t)) (λ e. (refl, refl))
 same_place level (Stack.parenthesis s) t = (refl, refl)
 same_place level (Stack.subscript name s) t = (refl, refl)
 same_place level (Stack.arguments function done s) t = (refl, refl)
@@ -123,12 +120,12 @@ sim_infix op s t h =
     let j = joins_at (priority op) s t h (above_none op) in
     let p = same_place (priority op) s t in
     sym (ap (λ d. Shape.wanted (ground_of o.0) (brackets_of o.0) d)
-          (level_inside o.0 j.sound (omega (arith, j.low, below_tightest op)))
-        ∙ ap₂ (λ g bs. Shape.wanted g bs (inside g bs)) p.0 p.1)
+    (level_inside o.0 j.sound (omega (arith, j.low, below_tightest op)))
+    ∙ ap₂ (λ g bs. Shape.wanted g bs (inside g bs)) p.0 p.1)
 
 sim_open_name : (name : List ℕ) (found : Option Builtin) (s : Stack) → builtin_of name ≡ found
     → Some (Recognizer.bracketed (is_builtin_name name) (ground_of s) (brackets_of s) (depth s))
-      ≡ Some (shape_of (State.wanted (Machine.named_open name found s)))
+    ≡ Some (shape_of (State.wanted (Machine.named_open name found s)))
 sim_open_name name None s e =
     ap (λ b. Some (Recognizer.bracketed b (ground_of s) (brackets_of s) (depth s))) (not-true _ (builtin_missing name e))
 sim_open_name name (Some function) s e =
