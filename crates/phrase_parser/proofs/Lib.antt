@@ -11,3 +11,4 @@ mod Viable
 mod Limits
 mod Simulation
 mod Recognized
+mod Checked
