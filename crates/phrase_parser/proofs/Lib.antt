@@ -9,6 +9,7 @@ mod Consumed
 mod Soundness
 mod Viable
 mod Limits
+mod KeptNumbers
 mod Simulation
 mod Recognized
 mod Checked
