@@ -21,12 +21,13 @@ follow_pieces pieces shape = follow (kinds_of (tokens_of pieces)) shape
 abbrev pub over_pieces : List Piece → Option Shape → Option OverLimit
 over_pieces pieces shape = first_over pieces (follow_levels (kinds_of (tokens_of pieces)) shape)
 
-follow_last : (front : List Piece) (piece : Piece) (s : Option Shape)
+-- one more piece
+pub follow_last : (front : List Piece) (piece : Piece) (s : Option Shape)
     → follow_pieces (front ++ (piece ∷ [])) s ≡ next_if (follow_pieces front s) (kind_of piece.token)
 follow_last [] piece s = refl
 follow_last (x ∷ xs) piece s = follow_last xs piece (next_if s (kind_of x.token))
 
-or_else_assoc : (a b c : Option OverLimit) → or_else (or_else a b) c ≡ or_else a (or_else b c)
+pub or_else_assoc : (a b c : Option OverLimit) → or_else (or_else a b) c ≡ or_else a (or_else b c)
 or_else_assoc None b c = refl
 or_else_assoc (Some o) b c = refl
 

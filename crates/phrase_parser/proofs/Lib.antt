@@ -13,3 +13,4 @@ mod KeptNumbers
 mod Simulation
 mod Recognized
 mod Checked
+mod Found
