@@ -18,6 +18,7 @@ use Rattle.phrase_parser.proofs.Recognized.{kinds_of, taken_begins, refused_begi
 abbrev pub follow_pieces : List Piece → Option Shape → Option Shape
 follow_pieces pieces shape = follow (kinds_of (tokens_of pieces)) shape
 
+-- the first piece that goes past a limit
 abbrev pub over_pieces : List Piece → Option Shape → Option OverLimit
 over_pieces pieces shape = first_over pieces (follow_levels (kinds_of (tokens_of pieces)) shape)
 
@@ -27,6 +28,7 @@ pub follow_last : (front : List Piece) (piece : Piece) (s : Option Shape)
 follow_last [] piece s = refl
 follow_last (x ∷ xs) piece s = follow_last xs piece (next_if s (kind_of x.token))
 
+-- the first of three
 pub or_else_assoc : (a b c : Option OverLimit) → or_else (or_else a b) c ≡ or_else a (or_else b c)
 or_else_assoc None b c = refl
 or_else_assoc (Some o) b c = refl
@@ -40,6 +42,7 @@ seen_large (Token.text value) = refl
 seen_large (Token.bit value) = refl
 seen_large (Token.sign sign) = refl
 
+-- the limit that a token goes past is that of the piece
 pub seen_as : (piece : Piece) (level : ℕ) → seen_over (seen_of piece) level ≡ over_at piece level
 seen_as piece level =
     ap (λ b. cond b (Some (OverLimit.number_too_large piece.start)) (cond (ltb greatest_nesting level) (Some (OverLimit.too_deep piece.start)) None))
