@@ -7,3 +7,19 @@ pub mod OneCut
 pub mod CutSoFar
 pub mod PieceFacts
 pub mod LexedTexts
+mod Spelling
+mod BuiltinNames
+mod Goes
+mod Arrival
+mod Phrases
+mod Lists
+mod Completeness
+mod Consumed
+mod Soundness
+mod Viable
+mod Limits
+mod KeptNumbers
+mod Simulation
+mod Recognized
+mod Checked
+mod Found

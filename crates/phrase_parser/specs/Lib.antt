@@ -1,3 +1,7 @@
 pub mod Kept
 pub mod Front
 pub mod Unquoted
+pub mod Machine
+pub mod Trace
+pub mod Recognizer
+pub mod Findings
