@@ -7,3 +7,4 @@ pub mod OneCut
 pub mod CutSoFar
 pub mod PieceFacts
 pub mod LexedTexts
+pub mod ShownTokens

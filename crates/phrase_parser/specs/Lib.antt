@@ -1,3 +1,4 @@
 pub mod Kept
 pub mod Front
 pub mod Unquoted
+pub mod Shown
