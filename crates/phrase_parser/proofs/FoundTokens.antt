@@ -105,9 +105,9 @@ bit_bytes_append : (bit : Bool) (behind : List ℕ) → 39 ∷ bit_byte bit ∷ 
 bit_bytes_append false behind = refl
 bit_bytes_append true behind = refl
 
-four : (bit : Bool) → length (bit_bytes bit) ≡ 4
-four false = refl
-four true = refl
+length_bit : (bit : Bool) → length (bit_bytes bit) ≡ 4
+length_bit false = refl
+length_bit true = refl
 
 -- a bit constant begins the text
 pub record BeginsBit (x : List ℕ) (bit : Bool) : Type 0 where
@@ -130,6 +130,7 @@ four_bytes : (a b c d k : ℕ) (behind : List ℕ) → a ≡ 39 → b ≡ k → 
     → a ∷ b ∷ c ∷ d ∷ behind ≡ 39 ∷ k ∷ 39 ∷ 66 ∷ behind
 four_bytes a b c d k behind p q r s = cc
 
+-- what is read as a bit constant is one
 pub bit_tells : (x : List ℕ) (bit : Bool) → bit_constant x ≡ Some bit → BeginsBit x bit
 bit_tells [] bit h = absurd (none-some bit h)
 bit_tells (a ∷ []) bit h = absurd (none-some bit h)
@@ -164,7 +165,7 @@ constant_tells rest front (Some bit) end is_bit read h =
       whole = begins.whole;
       is_token = (refl, not_from_false _ begins.ends);
       same_kind = ap (λ (f : Front). f.kind) found;
-      same_length = four bit ∙ ap (λ (f : Front). f.length) found;
+      same_length = length_bit bit ∙ ap (λ (f : Front). f.length) found;
     }
 constant_tells rest front None (Some end) is_bit read h =
     let closes = closing_tells 1 0 rest end read in

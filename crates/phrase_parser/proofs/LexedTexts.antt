@@ -119,6 +119,7 @@ sign_not_blank grammar.Sign.open_parenthesis behind = refl
 sign_not_blank grammar.Sign.close_parenthesis behind = refl
 sign_not_blank grammar.Sign.comma behind = refl
 
+-- where a token stands, no blank does
 pub token_not_blank : (token : Token) (bytes behind : List ℕ) → IsToken token bytes behind
     → begins_with is_blank (bytes ++ behind) ≡ false
 token_not_blank (Token.name n) bytes behind is = word_not_blank bytes behind (ap is_word is.0 ∙ name_word n is.1)
@@ -189,20 +190,24 @@ can_prolong byte = is_name_byte byte || (is_quote byte || is_second byte)
 abbrev pub Safe : List ℕ → Type 0
 Safe behind = begins_with can_prolong behind ≡ false
 
+-- what is safe ends a word
 pub safe_word : (behind : List ℕ) → Safe behind → begins_with is_name_byte behind ≡ false
 safe_word [] safe = refl
 safe_word (byte ∷ rest) safe = (or_parts (is_name_byte byte) (is_quote byte || is_second byte) safe).0
 
+-- what is safe doubles no quote
 pub safe_quote : (behind : List ℕ) → Safe behind → begins_with is_quote behind ≡ false
 safe_quote [] safe = refl
 safe_quote (byte ∷ rest) safe =
     (or_parts (is_quote byte) (is_second byte) (or_parts (is_name_byte byte) (is_quote byte || is_second byte) safe).1).0
 
+-- what is safe ends a sign
 pub safe_sign : (behind : List ℕ) → Safe behind → EndsSign behind
 safe_sign [] safe = refl
 safe_sign (byte ∷ rest) safe =
     (or_parts (is_quote byte) (is_second byte) (or_parts (is_name_byte byte) (is_quote byte || is_second byte) safe).1).1
 
+-- what is safe ends a number
 pub safe_digit : (behind : List ℕ) → Safe behind → begins_with is_digit behind ≡ false
 safe_digit [] safe = refl
 safe_digit (byte ∷ rest) safe =
@@ -227,21 +232,24 @@ safe_first (Token.bit bit) bytes behind is safe =
 safe_first (Token.sign s) bytes behind is safe =
     subst (λ (b : List ℕ). First (b ++ behind) (Token.sign s) b behind) (sym is) (sign_first s behind (safe_sign behind safe))
 
--- one name, number, constant or sign, where what follows is safe
+-- one name, where what follows is safe
 pub lexed_name : (n behind : List ℕ) → IsName n → Safe behind → Lexed n (Token.name n ∷ []) behind
 lexed_name n behind named safe = lexed_first (Token.name n) n behind (name_first n behind named (safe_word behind safe))
 
+-- one number in decimal, where what follows is safe
 pub lexed_number : (n : ℕ) (behind : List ℕ) → n < 2 ^ 64 → Safe behind → Lexed (decimal n) (Token.number n ∷ []) behind
 lexed_number n behind fits safe =
     let numeral = decimal_numeral n fits in
     subst (λ (m : ℕ). Lexed (decimal n) (Token.number m ∷ []) behind) numeral.1
     (lexed_first (Token.number (numeral_value (decimal n))) (decimal n) behind (number_first (decimal n) behind numeral.0 (safe_digit behind safe)))
 
+-- one character constant, where what follows is safe
 pub lexed_text : (value behind : List ℕ) → IsConstantText value → Safe behind
     → Lexed (quoted value) (Token.text value ∷ []) behind
 lexed_text value behind fits safe =
     lexed_first (Token.text value) (quoted value) behind (text_first value behind fits (safe_quote behind safe) (safe_word behind safe))
 
+-- one bit constant, where what follows is safe
 pub lexed_bit : (bit : Bool) (behind : List ℕ) → Safe behind → Lexed (bit_bytes bit) (Token.bit bit ∷ []) behind
 lexed_bit bit behind safe = lexed_first (Token.bit bit) (bit_bytes bit) behind (bit_first bit behind (safe_word behind safe))
 

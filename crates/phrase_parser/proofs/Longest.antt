@@ -77,6 +77,7 @@ word_found (first ∷ rest) behind word short ends =
     ∙ cond-true (nat_le (length w) 31) (Some (front_with (cond (is_name (take (length w) x)) kind.Name kind.Keyword) (length w))) None (le-leb (length w) 31 short)
     ∙ ap (λ (u : List ℕ). Some (front_with (cond (is_name u) kind.Name kind.Keyword) (length w))) (take_at w behind (length w) refl)
 
+-- a name is found, where no word goes on behind it
 pub name_found : (n behind : List ℕ) → IsName n → begins_with is_name_byte behind ≡ false
     → Finds (n ++ behind) kind.Name (length n)
 name_found n behind named ends =
@@ -88,6 +89,7 @@ keyword_no_name w h =
     and_right (is_word w) (nat_le (length w) 31 && not (is_keyword w))
     (and_right (nat_le (length w) 31) (not (is_keyword w)) (not_from_true (is_keyword w) h))
 
+-- and so is a keyword
 pub keyword_found : (w behind : List ℕ) → IsTrue (is_keyword w) → begins_with is_name_byte behind ≡ false
     → Finds (w ++ behind) kind.Keyword (length w)
 keyword_found w behind listed ends =
@@ -96,6 +98,7 @@ keyword_found w behind listed ends =
 
 -- numbers
 
+-- a number is found, where no digit follows
 pub number_found : (w behind : List ℕ) → IsNumeral w → begins_with is_digit behind ≡ false
     → Finds (w ++ behind) (kind.Number (min (numeral_value w) 4294967295)) (length w)
 number_found [] behind numeral ends = absurd (omega (arith, numeral.0))
@@ -180,6 +183,7 @@ pub text_found : (value behind : List ℕ) → IsConstantText value → begins_w
 text_found value behind fits closed ends =
     at_constant value behind fits closed ∙ text_found_by value behind (bit_constant (quoted value ++ behind)) refl fits closed ends
 
+-- a bit constant is found, where no word follows
 pub bit_found : (bit : Bool) (behind : List ℕ) → begins_with is_name_byte behind ≡ false
     → Finds (bit_bytes bit ++ behind) (kind.Bit bit) (length (bit_bytes bit))
 bit_found false behind ends =
@@ -221,6 +225,7 @@ is_second byte = eqb byte 61 || eqb byte 124
 abbrev pub EndsSign : List ℕ → Type 0
 EndsSign behind = begins_with is_second behind ≡ false
 
+-- where a sign ends, no sign of two bytes stands
 pub double_none : (first : ℕ) (behind : List ℕ) → EndsSign behind → double_at first behind ≡ None
 double_none first [] ends = refl
 double_none first (second ∷ rest) ends =
@@ -236,6 +241,7 @@ found_single : (first : ℕ) (behind : List ℕ) (sign : Sign) → EndsSign behi
     → sign_of (double_at first behind) (Some sign) ≡ Some (front_with (kind.Sign sign) 1)
 found_single first behind sign ends = ap (λ (o : Option Sign). sign_of o (Some sign)) (double_none first behind ends)
 
+-- a sign is found, where nothing makes it longer
 pub sign_found : (s : grammar.Sign) (behind : List ℕ) → EndsSign behind
     → Finds (sign_bytes s ++ behind) (kind.Sign (kept_sign s)) (length (sign_bytes s))
 sign_found grammar.Sign.plus behind ends = found_single 43 behind (kept_sign grammar.Sign.plus) ends

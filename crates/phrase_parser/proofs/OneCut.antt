@@ -122,6 +122,7 @@ undoubled_doubled (byte ∷ value) =
     (λ plain. ap (λ (rest : List ℕ). byte ∷ rest)
     (cond-false (is_quote byte) (undoubled_behind (with_quotes_doubled value)) (undoubled (with_quotes_doubled value)) plain ∙ undoubled_doubled value))
 
+-- a character constant has one value
 pub one_value : (v w : List ℕ) → quoted v ≡ quoted w → v ≡ w
 one_value v w h =
     let inner = same_from_push (with_quotes_doubled v) (with_quotes_doubled w) 39 39 (ap (λ (x : List ℕ). drop 1 x) h) in

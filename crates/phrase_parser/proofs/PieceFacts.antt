@@ -19,10 +19,12 @@ IsSound (Token.text value) = IsConstantText value
 IsSound (Token.bit value) = Unit {0}
 IsSound (Token.sign s) = Unit {0}
 
+-- each token of a list is sound
 abbrev pub AllSound : List Token → Type 0
 AllSound [] = Unit {0}
 AllSound (token ∷ tokens) = IsSound token × AllSound tokens
 
+-- what bytes make is sound
 pub token_sound : (token : Token) (bytes behind : List ℕ) → IsToken token bytes behind → IsSound token
 token_sound (Token.name n) bytes behind is = is.1
 token_sound (Token.keyword word) bytes behind is = is.1

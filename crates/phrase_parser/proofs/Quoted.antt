@@ -128,6 +128,7 @@ quote_closes read content (byte ∷ rest) short closed =
 pub quoted_append : (value behind : List ℕ) → quoted value ++ behind ≡ 39 ∷ (with_quotes_doubled value ++ (39 ∷ behind))
 quoted_append value behind = ap (λ (rest : List ℕ). 39 ∷ rest) (append_assoc (with_quotes_doubled value) (39 ∷ []) behind)
 
+-- two quotes stand round the value
 pub length_quoted : (value : List ℕ) → length (quoted value) ≡ length (with_quotes_doubled value) + 2
 length_quoted value = omega (arith, length-append (with_quotes_doubled value) (39 ∷ []))
 
