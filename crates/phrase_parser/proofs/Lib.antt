@@ -23,3 +23,4 @@ mod Simulation
 mod Recognized
 mod Checked
 mod Found
+pub mod ShownTokens

@@ -5,3 +5,4 @@ pub mod Machine
 pub mod Trace
 pub mod Recognizer
 pub mod Findings
+pub mod Shown
