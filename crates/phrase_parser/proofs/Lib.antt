@@ -1,0 +1,16 @@
+mod Spelling
+mod BuiltinNames
+mod Goes
+mod Arrival
+mod Phrases
+mod Lists
+mod Completeness
+mod Consumed
+mod Soundness
+mod Viable
+mod Limits
+mod KeptNumbers
+mod Simulation
+mod Recognized
+mod Checked
+mod Found

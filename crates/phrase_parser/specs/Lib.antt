@@ -1,0 +1,4 @@
+pub mod Machine
+pub mod Trace
+pub mod Recognizer
+pub mod Findings
