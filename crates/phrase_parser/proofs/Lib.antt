@@ -14,3 +14,12 @@ mod Simulation
 mod Recognized
 mod Checked
 mod Found
+pub mod Numerals
+pub mod Runs
+pub mod Quoted
+pub mod FoundTokens
+pub mod Longest
+pub mod OneCut
+pub mod CutSoFar
+pub mod PieceFacts
+pub mod LexedTexts

@@ -1,2 +1,11 @@
 //! Texts read as phrases of PL/CS.
 #![tactic(auto)]
+
+mod byte_class;
+mod constant;
+mod front;
+mod lexer;
+#[cfg(test)]
+mod lexer_tests;
+mod sign;
+mod token;
