@@ -23,3 +23,6 @@ pub mod OneCut
 pub mod CutSoFar
 pub mod PieceFacts
 pub mod LexedTexts
+pub mod CanonicalTokens
+pub mod TrimmedTexts
+pub mod CanonicalText

@@ -5,3 +5,4 @@ pub mod Findings
 pub mod Kept
 pub mod Front
 pub mod Unquoted
+pub mod Laws

@@ -4,8 +4,11 @@
 mod byte_class;
 mod constant;
 mod front;
+mod law;
 mod lexer;
 #[cfg(test)]
 mod lexer_tests;
 mod sign;
 mod token;
+
+pub use law::canonical_text_reads;

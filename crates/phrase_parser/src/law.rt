@@ -1,0 +1,7 @@
+//! Laws about what texts read as. Each is the contract of a function that does nothing.
+ghost use Rattle.phrase_parser.specs.Laws.{CanonicalTextReads};
+
+/// The canonical text of a phrase that some text reads as reads as that same phrase, so the phrase is well formed.
+pub fn canonical_text_reads()
+    ensures { CanonicalTextReads }
+{}
