@@ -13,8 +13,7 @@ use Rattle.phrase_parser.proofs.Runs.{run_none, run_ends}
 -- the text without its front blanks is its trimmed text, and blanks behind it
 trimmed_first : (x : List ℕ) → (behind : List ℕ) × (unblanked x ≡ trimmed x ++ behind)
 trimmed_first x =
-    let turned = reverse (unblanked x) in
-    (
+    let turned = reverse (unblanked x) in (
       reverse (take (blanks turned) turned),
       sym (reverse-reverse (unblanked x)) ∙ ap (λ (z : List ℕ). reverse z) (sym (take-append-drop (blanks turned) turned))
           ∙ reverse-append (take (blanks turned) turned) (unblanked turned),
