@@ -8,3 +8,10 @@ mod Completeness
 mod Consumed
 mod Soundness
 mod Viable
+pub mod Numerals
+pub mod Runs
+pub mod Quoted
+pub mod FoundTokens
+pub mod Longest
+pub mod OneCut
+pub mod CutSoFar

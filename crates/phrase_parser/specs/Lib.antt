@@ -1,2 +1,5 @@
 pub mod Machine
 pub mod Trace
+pub mod Kept
+pub mod Front
+pub mod Unquoted

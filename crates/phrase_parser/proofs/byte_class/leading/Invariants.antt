@@ -1,0 +1,12 @@
+use Rattle.std.proofs.Common.{length, drop, ◌+◌, ◌-◌, ◌≡◌, ◌≤◌}
+use Rattle.std.specs.List.{prefix_len}
+use Rattle.phrase_parser.specs.Front.{is_in}
+use Rattle.phrase_parser.proofs.byte_class.leading.Given as goal
+
+abbrev pub invariant-loop-count : goal.invariant-loop-count
+invariant-loop-count l =
+    (l.count ≤ length l.text)
+    × (l.count + prefix_len (is_in l.class) (drop l.count l.text) ≡ prefix_len (is_in l.class) l.text)
+
+abbrev pub decreases-loop-count : goal.decreases-loop-count
+decreases-loop-count l = length l.text - l.count

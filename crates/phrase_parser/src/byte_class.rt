@@ -1,0 +1,66 @@
+ghost use Rattle.std.specs.Prelude.{◌≡◌, ◌≤◌, length};
+ghost use Rattle.std.specs.List.{prefix_len};
+ghost use Rattle.plcs_base.specs.Byte.{is_letter, is_digit, is_name_byte, is_printable};
+ghost use Rattle.phrase_parser.specs.Front.{is_in};
+
+/// The classes of bytes that stand in a row.
+#[derive(Clone, Copy)]
+pub enum ByteClass {
+    /// The blank between tokens.
+    Blank,
+    /// `0` to `9`.
+    Digit,
+    /// What may follow in a name: a letter, a digit or `_`.
+    NameByte,
+}
+
+/// How many bytes of the class the text begins with.
+pub fn leading(class: ByteClass, text: &[u8]) -> usize
+    ensures counted { result ≡ prefix_len (is_in class) text.now }
+    ensures within { result ≤ length text.now }
+{
+    let mut count = 0;
+    while count < text.len() && is_in(class, text[count]) {
+        count += 1;
+    }
+    count
+}
+
+/// Whether the byte is of the class.
+fn is_in(class: ByteClass, byte: u8) -> bool
+    ensures { result ≡ is_in class byte }
+{
+    match class {
+        ByteClass::Blank => byte == b' ',
+        ByteClass::Digit => is_digit(byte),
+        ByteClass::NameByte => is_name_byte(byte),
+    }
+}
+
+/// Whether the byte is a letter.
+pub fn is_letter(byte: u8) -> bool
+    ensures { result ≡ is_letter byte }
+{
+    matches!(byte, b'a'..=b'z' | b'A'..=b'Z')
+}
+
+/// Whether the byte is a digit.
+pub fn is_digit(byte: u8) -> bool
+    ensures { result ≡ is_digit byte }
+{
+    byte.is_ascii_digit()
+}
+
+/// Whether the byte may follow in a name.
+pub fn is_name_byte(byte: u8) -> bool
+    ensures { result ≡ is_name_byte byte }
+{
+    is_letter(byte) || is_digit(byte) || byte == b'_'
+}
+
+/// Whether a phrase may have the byte.
+pub fn is_printable(byte: u8) -> bool
+    ensures { result ≡ is_printable byte }
+{
+    matches!(byte, b' '..=b'~')
+}

@@ -1,0 +1,65 @@
+ghost use Rattle.std.specs.Prelude.{◌≡◌, drop};
+ghost use Rattle.phrase_parser.specs.Front.{bit_value, bit_constant, closing, ends_word};
+
+use crate::byte_class::{is_name_byte, is_printable};
+
+/// The greatest number of bytes that a character constant may be the value of.
+const MAX_CONTENT: usize = 256;
+
+/// The bit constant that the text begins with.
+pub fn bit_constant(text: &[u8]) -> Option<bool>
+    ensures { result ≡ bit_constant text.now }
+{
+    match text {
+        [b'\'', digit, b'\'', b'B', behind @ ..] if ends_word(behind) => bit_value(*digit),
+        _ => None,
+    }
+}
+
+/// The bit that the digit stands for.
+fn bit_value(digit: u8) -> Option<bool>
+    ensures { result ≡ bit_value digit }
+{
+    match digit {
+        b'0' => Some(false),
+        b'1' => Some(true),
+        _ => None,
+    }
+}
+
+/// Whether a word may end where the text begins.
+fn ends_word(behind: &[u8]) -> bool
+    ensures { result ≡ ends_word behind.now }
+{
+    match behind {
+        [] => true,
+        [byte, ..] => !is_name_byte(*byte),
+    }
+}
+
+/// How many bytes the character constant has whose opening quote is the first byte of the text. `None`
+/// where it is no token: it isn't closed, holds a byte that isn't printable, or is too long.
+pub fn constant_length(text: &[u8]) -> Option<usize>
+    ensures { result ≡ closing 1 0 (drop 1 text.now) }
+{
+    let mut end = 1;
+    let mut content = 0;
+    while end < text.len() {
+        if text[end] != b'\'' {
+            if !is_printable(text[end]) {
+                return None;
+            }
+            end += 1;
+        } else if end + 1 < text.len() && text[end + 1] == b'\'' {
+            end += 2;
+        } else {
+            return if content <= MAX_CONTENT {
+                Some(end + 1)
+            } else {
+                None
+            };
+        }
+        content += 1;
+    }
+    None
+}

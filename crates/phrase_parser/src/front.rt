@@ -1,0 +1,114 @@
+ghost use Rattle.std.specs.Prelude.{◌≡◌, min};
+ghost use Rattle.plcs_grammar.specs.Token.{numeral_value};
+ghost use Rattle.phrase_parser.specs.Front.{front_of, word_front, number_front, constant_front, sign_front, sign_kept};
+
+use crate::byte_class::{ByteClass, is_digit, is_letter, leading};
+use crate::constant::{bit_constant, constant_length};
+use crate::sign::{double_sign, single_sign};
+use crate::token::{Sign, TokenKind};
+use plcs_base::Name;
+
+/// The greatest number of bytes of a name.
+const MAX_NAME: usize = 31;
+
+/// A token that a text begins with.
+#[derive(Clone, Copy)]
+pub struct Front {
+    /// What it is.
+    pub kind: TokenKind,
+    /// How many bytes it has.
+    pub length: usize,
+}
+
+/// The longest token that the text begins with. `None` where no token can be made there.
+pub fn front_of(text: &[u8]) -> Option<Front>
+    ensures { result ≡ front_of text.now }
+{
+    match text {
+        [] => None,
+        [b'\'', ..] => constant_front(text),
+        [byte, ..] if is_letter(*byte) => word_front(text),
+        [byte, ..] if is_digit(*byte) => Some(number_front(text)),
+        [first, rest @ ..] => sign_front(*first, rest),
+    }
+}
+
+/// A name or a keyword, from its first letter on. A longer run of bytes of names is neither.
+fn word_front(text: &[u8]) -> Option<Front>
+    ensures { result ≡ word_front text.now }
+{
+    let length = leading(ByteClass::NameByte, text);
+    if length > MAX_NAME {
+        return None;
+    }
+    let kind = match Name::read(&text[..length]) {
+        Some(_) => TokenKind::Name,
+        None => TokenKind::Keyword,
+    };
+    Some(Front { kind, length })
+}
+
+/// A number, from its first digit on.
+fn number_front(text: &[u8]) -> Front
+    ensures { result ≡ number_front text.now }
+{
+    let length = leading(ByteClass::Digit, text);
+    let kind = TokenKind::Number(capped_value(&text[..length]));
+    Front { kind, length }
+}
+
+/// The number that the digits write, or 4294967295 where it is greater.
+fn capped_value(digits: &[u8]) -> u32
+    ensures { result ≡ min (numeral_value digits.now) 4294967295 }
+{
+    let mut value: u32 = 0;
+    for digit in digits {
+        let ones = u32::from(digit.saturating_sub(b'0'));
+        value = value.saturating_mul(10).saturating_add(ones);
+    }
+    value
+}
+
+/// A bit constant, or else a character constant, from its opening quote on.
+fn constant_front(text: &[u8]) -> Option<Front>
+    ensures { result ≡ constant_front text.now }
+{
+    if let Some(bit) = bit_constant(text) {
+        return Some(Front {
+            kind: TokenKind::Bit(bit),
+            length: 4,
+        });
+    }
+    match constant_length(text) {
+        Some(length) => Some(Front {
+            kind: TokenKind::Text,
+            length,
+        }),
+        None => None,
+    }
+}
+
+/// A sign of two bytes, or else of one.
+fn sign_front(first: u8, rest: &[u8]) -> Option<Front>
+    ensures { result ≡ sign_front first rest.now }
+{
+    if let [second, ..] = rest {
+        if let Some(sign) = double_sign(first, *second) {
+            return Some(sign_kept(sign, 2));
+        }
+    }
+    match single_sign(first) {
+        Some(sign) => Some(sign_kept(sign, 1)),
+        None => None,
+    }
+}
+
+/// A sign with its count of bytes.
+fn sign_kept(sign: Sign, length: usize) -> Front
+    ensures { result ≡ sign_kept sign length }
+{
+    Front {
+        kind: TokenKind::Sign(sign),
+        length,
+    }
+}

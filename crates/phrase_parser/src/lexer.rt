@@ -1,0 +1,59 @@
+ghost use Rattle.std.specs.Prelude.{◌≡◌, ◌+◌, ◌≤◌, drop, length, IfOk};
+ghost use Rattle.plcs_grammar.specs.Cuts.{blanks};
+ghost use Rattle.phrase_parser.specs.Kept.{AreTokens};
+ghost use Rattle.phrase_parser.specs.Front.{front_of, placed_at};
+
+use crate::byte_class::{ByteClass, leading};
+use crate::front::front_of;
+use crate::token::Placed;
+use std::alloc::{AllocError, Global};
+
+/// The tokens of a text, with the place where it stops being tokens.
+#[derive(Drop)]
+pub struct TokenList {
+    /// The tokens in their order.
+    pub items: Vec<Placed>,
+    /// The place of the first byte, blanks aside, at which no token can be made. `None` where the whole
+    /// text consists of tokens.
+    pub stop: Option<usize>,
+}
+
+/// All tokens of the text, up to its end or to the byte where none can be made.
+pub fn tokens(alloc: Global, text: &[u8]) -> Result<TokenList, AllocError>
+    ensures { IfOk result (λ tokens. AreTokens tokens.items.items tokens.stop text.now) }
+{
+    let mut items = Vec::new(alloc);
+    let mut start = behind_blanks(text, 0);
+    while start < text.len() {
+        let Some(token) = token_at(text, start) else {
+            let stop = Some(start);
+            return Ok(TokenList { items, stop });
+        };
+        items.push(token)?;
+        start = behind_blanks(text, token.end);
+    }
+    Ok(TokenList { items, stop: None })
+}
+
+/// The place behind the blanks that stand at this one.
+fn behind_blanks(text: &[u8], at: usize) -> usize
+    requires { at ≤ length text.now }
+    ensures { result ≡ at + blanks (drop at text.now) }
+{
+    at + leading(ByteClass::Blank, &text[at..])
+}
+
+/// The longest token that begins at the place. `None` where no token can be made there.
+fn token_at(text: &[u8], start: usize) -> Option<Placed>
+    requires { start ≤ length text.now }
+    ensures { result ≡ placed_at start (front_of (drop start text.now)) }
+{
+    match front_of(&text[start..]) {
+        Some(front) => Some(Placed {
+            kind: front.kind,
+            start,
+            end: start + front.length,
+        }),
+        None => None,
+    }
+}
