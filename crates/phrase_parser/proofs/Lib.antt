@@ -15,3 +15,4 @@ pub mod FoundTokens
 pub mod Longest
 pub mod OneCut
 pub mod CutSoFar
+mod Limits

@@ -10,7 +10,7 @@ use Rattle.plcs_grammar.specs.Form.{Form, Begins}
 use Rattle.phrase_parser.specs.Machine.{Base, Stack, Role, State, tree_push, run, start, ended, ended_if}
 use Rattle.phrase_parser.proofs.Spelling.{spell, spell_reference, spell_all, Fits, FitsReference, FitsAll}
 use Rattle.phrase_parser.proofs.Phrases.{spell_name, spell_item, spell_call, spell_listed, spell_phrase, FitsPhrase, FitsItem, AnyName, form_from}
-use Rattle.phrase_parser.proofs.Completeness.{complete}
+use Rattle.phrase_parser.proofs.Completeness.{complete, alive}
 use Rattle.phrase_parser.proofs.Consumed.{spell_before, all_push, call_push, all_fit, call_fits, spell_each, listed_last, listed_fits, flat_base, flat_stack, flat_role, flat, hole, SoundBase, SoundStack, SoundRole, Sound, base_category, stack_category, role_category, state_category}
 use Rattle.phrase_parser.proofs.Soundness.{comma, close, open_, regroup, arguments_tokens, IsWhole, IsWholeIf, ended_whole, HasRead, has_read}
 
@@ -149,3 +149,11 @@ sound_run c ks p (Some s) h e = let r = has_read c ks s h in sound_if c ks s p (
 -- what the machine reads tokens as is what they are
 pub sound : (c : Category) (ks : List Token) (p : Reading) → ended_if (run ks (start c)) ≡ Some p → Form c ks p
 sound c ks p e = sound_run c ks p (run ks (start c)) refl e
+
+-- where the machine has stopped no phrase begins
+pub stopped : (c : Category) (ks : List Token) → run ks (start c) ≡ None → Begins c ks → ⊥
+stopped c ks e h = let r = alive c ks h in let a = r.1 in absurd (cc)
+
+-- where the machine reads no phrase the tokens are none
+pub no_form : (c : Category) (ks : List Token) → ended_if (run ks (start c)) ≡ None → (p : Reading) → Form c ks p → ⊥
+no_form c ks e p h = let a = complete c ks p h in absurd (cc)
