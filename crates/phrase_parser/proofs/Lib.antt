@@ -16,3 +16,5 @@ pub mod Longest
 pub mod OneCut
 pub mod CutSoFar
 mod Limits
+mod WrongPlaces
+mod OneAnswer

@@ -3,3 +3,5 @@ pub mod Trace
 pub mod Kept
 pub mod Front
 pub mod Unquoted
+pub mod Answers
+pub mod Verdict

@@ -3,7 +3,10 @@
 
 mod byte_class;
 mod constant;
+mod fault;
 mod front;
 mod lexer;
 mod sign;
 mod token;
+
+pub use fault::PhraseFault;
