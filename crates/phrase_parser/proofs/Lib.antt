@@ -18,3 +18,5 @@ pub mod CutSoFar
 mod Limits
 mod WrongPlaces
 mod OneAnswer
+mod VerdictSays
+mod Trimming
