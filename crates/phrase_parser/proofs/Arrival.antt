@@ -1,5 +1,5 @@
 -- The tokens of a tree are read as the tree.
-use Rattle.std.proofs.Common.{◌≡◌, refl, ℕ, ◌+◌, ◌<◌, ◌≤◌, pos, negsuc, Bool, true, false, cond, leb, List, [], ◌∷◌, ◌++◌, Option, Some, None, ap, sym, subst, ◌∙◌, arith, le_refl, le_trans, le-leb, leb-false, leb-true, lit≤}
+use Rattle.std.proofs.Common.{◌≡◌, refl, ℕ, ◌+◌, ◌<◌, ◌≤◌, pos, negsuc, leb, List, Some, ap, subst, ◌∙◌, arith, le_refl, le_trans, le-leb, leb-true, lit≤}
 use Rattle.std.proofs.lemmas.Bool.{cond-true, cond-false, false_from_ne_true}
 use Rattle.plcs_grammar.specs.declared.operator.PrefixOp.{PrefixOp}
 use Rattle.plcs_grammar.specs.declared.operator.PrefixOp.TheVariants as before
@@ -7,13 +7,13 @@ use Rattle.plcs_grammar.specs.declared.operator.InfixOp.{InfixOp}
 use Rattle.plcs_grammar.specs.declared.operator.InfixOp.TheVariants.{Or, And, Equal, NotEqual, Less, LessEqual, Greater, GreaterEqual, Join, Plus, Minus, Times, Divide}
 use Rattle.plcs_grammar.specs.Sign.{Sign, prefix_sign, infix_sign}
 use Rattle.plcs_grammar.specs.Token.{Token}
-use Rattle.plcs_grammar.specs.Reading.{Tree, Trees, Reference, Reading}
+use Rattle.plcs_grammar.specs.Reading.{Tree, Trees, Reference}
 use Rattle.plcs_grammar.specs.Builtin.{builtin_name}
-use Rattle.plcs_grammar.specs.Level.{IsNoCall, priority, tightest, in_parentheses}
-use Rattle.plcs_grammar.specs.Limit.{opened as levels, reference_opened as reference_levels, opened_by_all as levels_of_all, opened_behind as levels_behind}
-use Rattle.phrase_parser.specs.Machine.{Base, Stack, State, Operand, tree_push, reduced, joined, step, closed_at, separated_at, named_open, builtin_of}
+use Rattle.plcs_grammar.specs.Level.{IsNoCall, priority, tightest}
+use Rattle.plcs_grammar.specs.Limit.{opened as levels, opened_by_all as levels_of_all, opened_behind as levels_behind}
+use Rattle.phrase_parser.specs.Machine.{Stack, State, Operand, tree_push, reduced, joined, step, closed_at, separated_at, named_open}
 use Rattle.phrase_parser.specs.Trace.{depth, opens}
-use Rattle.phrase_parser.proofs.Spelling.{spell, spell_reference, spell_all, spell_behind, Fits, FitsReference, FitsAll, FitsBehind}
+use Rattle.phrase_parser.proofs.Spelling.{spell, spell_all, spell_behind, Fits, FitsReference, FitsAll, FitsBehind}
 use Rattle.phrase_parser.proofs.BuiltinNames.{builtin_of_name, no_builtin}
 use Rattle.phrase_parser.proofs.Goes.{Goes, there, by, joins}
 
@@ -186,9 +186,9 @@ mutual
       let p = arrives a (priority op) s under f.1 (blocks_above l (priority op) s h f.0) in
       let q = arrives b (priority op + 1) (Stack.left a op s) (below_tightest op) f.2 (omega arith) in
       let now : step (State.had p.stack p.top) (Token.sign (infix_sign op)) ≡ Some (State.wanted (Stack.left a op s)) =
-          steps_infix op p.stack p.top
-          ∙ ap (λ o. Some (joined op o))
-              (p.same (priority op) (le_refl _) ∙ settled (priority op) s a (blocks_above l (priority op) s h f.0) (omega (arith, below_tightest op)))
+      steps_infix op p.stack p.top
+      ∙ ap (λ o. Some (joined op o))
+      (p.same (priority op) (le_refl _) ∙ settled (priority op) s a (blocks_above l (priority op) s h f.0) (omega (arith, below_tightest op)))
       in
       record {
         stack = q.stack;
@@ -203,7 +203,7 @@ mutual
         top = Tree.builtin function ts;
         goes = by refl refl (by (ap (λ o. Some (State.wanted (named_open (builtin_name function) o s))) (builtin_of_name function)) refl
             (joins r.goes
-              (by (ap (λ (o : Operand). closed_at o.0 o.1) r.same ∙ ap (λ z. Some (State.had s (Tree.builtin function z))) r.whole) refl there)));
+            (by (ap (λ (o : Operand). closed_at o.0 o.1) r.same ∙ ap (λ z. Some (State.had s (Tree.builtin function z))) r.whole) refl there)));
         same = λ m k. refl;
       }
   arrives (Tree.parenthesized a) l s le f h =

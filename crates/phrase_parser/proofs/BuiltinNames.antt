@@ -43,6 +43,14 @@ module _ {X : Type 0} where
   found_by test [] y e = cc
   found_by test (x ∷ xs) y e = found_if test x y (test x) (find test xs) refl e (λ h. found_by test xs y h)
 
+  any_found_if : (x y : X) (b c : Bool) (r : Option X) → cond b (Some x) r ≡ Some y → (r ≡ Some y → c ≡ true) → (b || c) ≡ true
+  any_found_if x y true c r e h = refl
+  any_found_if x y false c r e h = h e
+
+  any_found : (test : X → Bool) (xs : List X) (y : X) → find test xs ≡ Some y → list_any test xs ≡ true
+  any_found test [] y e = absurd (cc)
+  any_found test (x ∷ xs) y e = any_found_if x y (test x) (list_any test xs) (find test xs) e (λ h. any_found test xs y h)
+
 -- a name that is no built-in function's finds none
 pub no_builtin : (name : List ℕ) → IsTrue (not (is_builtin_name name)) → builtin_of name ≡ None
 unfolding is_builtin_name
@@ -57,3 +65,8 @@ builtin_missing name h = any_of (λ function. bytes_eq name (builtin_name functi
 pub builtin_found : (name : List ℕ) (function : Builtin) → builtin_of name ≡ Some function → name ≡ builtin_name function
 builtin_found name function h =
     (bytes_eq-Decides name (builtin_name function)).0 (found_by (λ f. bytes_eq name (builtin_name f)) builtins function h)
+
+-- and is a built-in function's name
+pub builtin_known : (name : List ℕ) (function : Builtin) → builtin_of name ≡ Some function → is_builtin_name name ≡ true
+unfolding is_builtin_name
+builtin_known name function h = any_found (λ f. bytes_eq name (builtin_name f)) builtins function h

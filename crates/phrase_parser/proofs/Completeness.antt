@@ -1,5 +1,5 @@
 -- The tokens of each phrase are read as the phrase, which is the only one.
-use Rattle.std.proofs.Common.{◌≡◌, refl, ℕ, ◌≤◌, ◌&&◌, cond, leb, le-leb, List, [], ◌∷◌, ◌++◌, Option, Some, None, ap, sym, subst, ◌∙◌, le_refl, lit≤}
+use Rattle.std.proofs.Common.{◌≡◌, refl, ℕ, ◌&&◌, leb, le-leb, List, [], ◌∷◌, ◌++◌, Option, Some, None, ap, sym, subst, ◌∙◌, le_refl, lit≤}
 use Rattle.std.proofs.lemmas.Bool.{cond-true, and_from}
 use Rattle.plcs_grammar.specs.declared.category.Category.{Category}
 use Rattle.plcs_grammar.specs.declared.item.Item.{Item}
@@ -9,10 +9,10 @@ use Rattle.plcs_grammar.specs.Cuts.{Piece, tokens_of}
 use Rattle.plcs_grammar.specs.Reading.{Tree, Trees, Reference, Reading, category_of}
 use Rattle.plcs_grammar.specs.Form.{Form, Begins}
 use Rattle.plcs_grammar.specs.Limit.{opened as levels, reference_opened as reference_levels, opened_by_all as levels_of_all, references_behind, phrase_opened, first_over, or_else, over_at}
-use Rattle.phrase_parser.specs.Machine.{Base, Stack, State, Role, Operand, tree_push, reduced, joined, step, step_if, run, start, closed_at, ended_at, ended, ended_if, equated}
+use Rattle.phrase_parser.specs.Machine.{Base, Stack, State, Role, Operand, step, step_if, run, start, closed_at, ended_at, ended, ended_if}
 use Rattle.phrase_parser.specs.Trace.{depth, opens, trace}
-use Rattle.phrase_parser.proofs.Spelling.{spell, spell_reference, spell_all, Fits, FitsReference, FitsAll}
-use Rattle.phrase_parser.proofs.Phrases.{spell_phrase, spell_name, spell_item, spell_sized, spell_call, FitsPhrase, FitsItem, FitsSize, FitsCall, AnyName, FitsListed, EachFits, form_spelled}
+use Rattle.phrase_parser.proofs.Spelling.{spell, spell_reference, Fits, FitsReference, FitsAll}
+use Rattle.phrase_parser.proofs.Phrases.{spell_phrase, spell_name, spell_item, spell_sized, FitsPhrase, FitsItem, FitsSize, FitsCall, AnyName, FitsListed, form_spelled}
 use Rattle.phrase_parser.proofs.Goes.{Goes, there, by, joins, goes_runs, goes_opens}
 use Rattle.phrase_parser.proofs.Lists.{Listing, levels_more, levels_listed, reads_listed}
 use Rattle.phrase_parser.proofs.Arrival.{Holds, arrives, arrives_all}
@@ -47,20 +47,22 @@ pub record Reaches (p : Reading) : Type 0 where
 -- an expression that stands in no other is read
 at_base : (b : Base) (t : Tree) → Fits t 1
     → (z : State) × Goes (State.wanted (Stack.base b)) (spell t) (levels t (depth (Stack.base b))) z
-      × (ended z ≡ ended_at (Stack.base b) t) × (step z (Token.sign Sign.close_parenthesis) ≡ closed_at (Stack.base b) t)
-      × (opens z (Token.sign Sign.close_parenthesis) ≡ 0)
+    × (ended z ≡ ended_at (Stack.base b) t) × (step z (Token.sign Sign.close_parenthesis) ≡ closed_at (Stack.base b) t)
+    × (opens z (Token.sign Sign.close_parenthesis) ≡ 0)
 at_base b t f =
-    let r = arrives t 1 (Stack.base b) (lit≤ tt) f tt in
-    ( State.had r.stack r.top, r.goes
-    , ap (λ (o : Operand). ended_at o.0 o.1) (r.same 1 (le_refl _))
-    , ap (λ (o : Operand). closed_at o.0 o.1) (r.same 1 (le_refl _))
-    , refl )
+    let r = arrives t 1 (Stack.base b) (lit≤ tt) f tt in (
+      State.had r.stack r.top,
+      r.goes,
+      ap (λ (o : Operand). ended_at o.0 o.1) (r.same 1 (le_refl _)),
+      ap (λ (o : Operand). closed_at o.0 o.1) (r.same 1 (le_refl _)),
+      refl,
+    )
 
 -- a target is read, and `=` and what follows behind it
 behind_target : (reference : Reference) (ks : List Token) (ls : List ℕ) (z : State) → FitsReference reference
     → Goes (State.wanted (Stack.base (Base.assigned reference))) ks ls z
     → Goes (State.name_wanted Role.target) (spell_reference reference ++ (Token.sign Sign.equal ∷ ks))
-      (reference_levels reference 0 ++ (0 ∷ ls)) z
+    (reference_levels reference 0 ++ (0 ∷ ls)) z
 behind_target (Reference.simple name) ks ls z f q = by refl refl (by refl refl q)
 behind_target (Reference.subscripted name index) ks ls z f q =
     let r = at_base (Base.target_subscript name) index f in
@@ -76,7 +78,7 @@ variable_levels reference = reference_levels reference 0
 
 variable_reads : (done : List Reference) (reference : Reference) → FitsReference reference
     → Goes (State.name_wanted (Role.variables done)) (spell_reference reference) (variable_levels reference)
-      (variable_has done reference)
+    (variable_has done reference)
 variable_reads done (Reference.simple name) f = by refl refl there
 variable_reads done (Reference.subscripted name index) f =
     let r = at_base (Base.variable_subscript done name) index f in
@@ -84,7 +86,7 @@ variable_reads done (Reference.subscripted name index) f =
 
 variable_comma : (done : List Reference) (reference : Reference)
     → step (variable_has done reference) (Token.sign Sign.comma)
-      ≡ Some (State.name_wanted (Role.variables (done ++ (reference ∷ []))))
+    ≡ Some (State.name_wanted (Role.variables (done ++ (reference ∷ []))))
 variable_comma done (Reference.simple name) = refl
 variable_comma done (Reference.subscripted name index) = refl
 
@@ -134,7 +136,7 @@ sized_reads done name (Some size) f =
 
 sized_comma : (done : List Item) (name : List ℕ) (size : Option ℕ)
     → step (item_has_sized done name size) (Token.sign Sign.comma)
-      ≡ Some (State.name_wanted (Role.items (done ++ (record { name = name; size = size } ∷ []))))
+    ≡ Some (State.name_wanted (Role.items (done ++ (record { name = name; size = size } ∷ []))))
 sized_comma done name None = refl
 sized_comma done name (Some size) = refl
 
@@ -324,16 +326,17 @@ reaches (Reading.comment bytes) f = absurd f
 -- where the machine comes to over the tokens of a phrase, and the levels that it opens
 runs_form : (c : Category) (ks : List Token) (p : Reading) → Form c ks p
     → (z : State) × (run ks (start c) ≡ Some z) × (ended z ≡ Some p)
-      × ((pieces : List Piece) → first_over pieces (trace ks (start c)) ≡ first_over pieces (phrase_opened p))
+    × ((pieces : List Piece) → first_over pieces (trace ks (start c)) ≡ first_over pieces (phrase_opened p))
 runs_form c ks p h =
     let f = form_spelled c ks p h in
     let r = reaches p f.1 in
-    let from : start c ≡ Some r.first = sym (ap start f.0) ∙ r.begins in
-    ( r.end
-    , ap (λ s. run ks s) from ∙ ap (λ z. run z (Some r.first)) f.2 ∙ goes_runs r.goes
-    , r.ends
-    , λ pieces. ap (λ s. first_over pieces (trace ks s)) from ∙ ap (λ z. first_over pieces (trace z (Some r.first))) f.2
-        ∙ ap (first_over pieces) (goes_opens r.goes) ∙ r.agrees pieces )
+    let from : start c ≡ Some r.first = sym (ap start f.0) ∙ r.begins in (
+      r.end,
+      ap (λ s. run ks s) from ∙ ap (λ z. run z (Some r.first)) f.2 ∙ goes_runs r.goes,
+      r.ends,
+      λ pieces. ap (λ s. first_over pieces (trace ks s)) from ∙ ap (λ z. first_over pieces (trace z (Some r.first))) f.2
+          ∙ ap (first_over pieces) (goes_opens r.goes) ∙ r.agrees pieces,
+    )
 
 -- the tokens of a phrase are read as the phrase
 pub complete : (c : Category) (ks : List Token) (p : Reading) → Form c ks p → ended_if (run ks (start c)) ≡ Some p

@@ -1,10 +1,10 @@
 -- The tokens that the machine has read in a state, and what a state keeps.
-use Rattle.std.proofs.Common.{◌≡◌, refl, ℕ, ◌+◌, ◌≤◌, not, IsTrue, List, [], ◌∷◌, ◌++◌, Option, Some, None, ap, sym, subst, ◌∙◌, append_assoc, append-nil}
+use Rattle.std.proofs.Common.{◌≡◌, refl, ℕ, ◌+◌, ◌≤◌, not, IsTrue, List, [], ◌∷◌, ◌++◌, ap, sym, ◌∙◌, append_assoc, append-nil}
 use Rattle.plcs_grammar.specs.declared.category.Category.{Category}
-use Rattle.plcs_grammar.specs.declared.category.Category.TheVariants.{Assignment, Condition, Expression, ExpressionList, VariableList, Variable, CallRef, DeclaredList, ProcedureName, NameList, Length, CommentText}
+use Rattle.plcs_grammar.specs.declared.category.Category.TheVariants.{Assignment, Condition, Expression, ExpressionList, VariableList, Variable, CallRef, DeclaredList, ProcedureName, NameList, Length}
 use Rattle.plcs_grammar.specs.Sign.{Sign, prefix_sign, infix_sign}
 use Rattle.plcs_grammar.specs.Token.{Token}
-use Rattle.plcs_grammar.specs.Reading.{Tree, Trees, Reference, Reading}
+use Rattle.plcs_grammar.specs.Reading.{Tree, Trees}
 use Rattle.plcs_grammar.specs.Builtin.{builtin_name, is_builtin_name}
 use Rattle.plcs_grammar.specs.Level.{priority, tightest, in_parentheses}
 use Rattle.phrase_parser.specs.Machine.{Base, Stack, Role, State, tree_push}

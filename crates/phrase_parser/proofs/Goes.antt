@@ -1,8 +1,8 @@
 -- Runs of the machine that do not stop, with the levels that their tokens open.
-use Rattle.std.proofs.Common.{◌≡◌, refl, ℕ, suc, List, [], ◌∷◌, ◌++◌, length, Option, Some, None, ap, sym, ◌∙◌}
+use Rattle.std.proofs.Common.{◌≡◌, refl, ℕ, suc, List, [], ◌∷◌, ◌++◌, length, Some, ap, ◌∙◌}
 use Rattle.plcs_grammar.specs.Token.{Token}
-use Rattle.phrase_parser.specs.Machine.{State, step, step_if, run}
-use Rattle.phrase_parser.specs.Trace.{opens, opens_if, trace}
+use Rattle.phrase_parser.specs.Machine.{State, step, run}
+use Rattle.phrase_parser.specs.Trace.{opens, trace}
 
 -- the tokens lead from one state to another, and open the levels
 pub data Goes : State → List Token → List ℕ → State → Type 0 where

@@ -20,3 +20,6 @@ mod WrongPlaces
 mod OneAnswer
 mod VerdictSays
 mod Trimming
+mod Simulation
+mod Recognized
+mod Checked

@@ -1,16 +1,14 @@
 -- A phrase keeps both limits exactly where none of its tokens goes past one.
-use Rattle.std.proofs.Common.{◌≡◌, refl, ℕ, zero, ◌+◌, ◌-◌, ◌<◌, ◌≤◌, max, pos, negsuc, nat_abs, Bool, true, false, cond, ltb, ltb-true, ltb-false, le-ltb, List, [], ◌∷◌, ◌++◌, All, Option, Some, None, ap, sym, subst, ◌∙◌, arith, le_refl, le_trans, lit≤, zero-le, flat_map}
+use Rattle.std.proofs.Common.{◌≡◌, refl, ℕ, ◌+◌, ◌-◌, ◌≤◌, max, Bool, true, false, cond, ltb, ltb-false, le-ltb, List, [], ◌∷◌, ◌++◌, Option, Some, None, ap, sym, subst, ◌∙◌, arith, lit≤, zero-le, flat_map}
 use Rattle.std.specs.List.{AllByRecursion}
 use Rattle.std.proofs.Math.Nat.{le-max_left, le-max_right, max-le}
 use Rattle.std.proofs.lemmas.List.Elements.{All-from_recursion, recursion_from_All}
 use Rattle.plcs_grammar.specs.declared.category.Category.{Category}
-use Rattle.plcs_grammar.specs.declared.item.Item.{Item}
 use Rattle.plcs_grammar.specs.Sign.{Sign}
 use Rattle.plcs_grammar.specs.Token.{Token}
 use Rattle.plcs_grammar.specs.Cuts.{Piece, tokens_of}
 use Rattle.plcs_grammar.specs.Reading.{Tree, Trees, Reference, Reading}
 use Rattle.plcs_grammar.specs.Form.{Form}
-use Rattle.plcs_grammar.specs.Limit
 use Rattle.plcs_grammar.specs.Limit.{greatest_number, greatest_nesting, nesting, reference_nesting, deepest, deepest_reference, arguments_nesting, phrase_nesting, numbers, reference_numbers, numbers_of_all, size_numbers, phrase_numbers, IsWithinLimits, opened, reference_opened, opened_by_all, opened_behind, references_behind, opened_by_references, opened_by_call, phrase_opened, OverLimit, is_too_large, over_at, or_else, first_over}
 use Rattle.phrase_parser.proofs.Spelling.{spell, spell_reference, spell_all, spell_behind}
 use Rattle.phrase_parser.proofs.Phrases.{spell_name, spell_item, spell_sized, spell_call, spell_more, spell_listed, spell_phrase, form_spelled}
@@ -59,7 +57,7 @@ at_none piece level e =
 none_at : (piece : Piece) (level : ℕ) → NumberFits piece.token → level ≤ greatest_nesting → over_at piece level ≡ None
 none_at piece level f le =
     ap (λ b. cond b (Some (OverLimit.number_too_large piece.start)) (cond (ltb greatest_nesting level) (Some (OverLimit.too_deep piece.start)) None))
-      (fits_large piece.token f)
+    (fits_large piece.token f)
     ∙ ap (λ b. cond b (Some (OverLimit.too_deep piece.start)) None) (le-ltb greatest_nesting level le)
 
 both_none : (a b : Option OverLimit) → or_else a b ≡ None → (a ≡ None) × (b ≡ None)
@@ -148,7 +146,6 @@ under_max : (a b d k : ℕ) → a + d ≤ k → b + d ≤ k → max a b + d ≤ 
 under_max a b d k h g =
     let m : max a b ≤ k - d = max-le (omega arith) (omega arith) in
     omega arith
-
 
 outside : (n k : ℕ) → n ≤ k → n + 0 ≤ k
 outside n k h = omega arith
@@ -262,9 +259,10 @@ fine_references [] h = (tt, zero-le)
 fine_references (reference ∷ rest) h =
     let p = append_fine _ _ (even_reference reference 0) h.2 in
     let q = fine_reference reference 0 zero-le p.0 in
-    let r = fine_references rest p.1 in
-    ( small_append (reference_numbers reference) (flat_map reference_numbers rest) q.0 r.0
-    , under_max (reference_nesting reference) (deepest_reference rest) 0 greatest_nesting q.1 r.1 )
+    let r = fine_references rest p.1 in (
+      small_append (reference_numbers reference) (flat_map reference_numbers rest) q.0 r.0,
+      under_max (reference_nesting reference) (deepest_reference rest) 0 greatest_nesting q.1 r.1,
+    )
 
 -- where no level is told, numbers alone count
 plain_append : (xs ys : List Token) → AllFine xs [] → AllFine ys [] → AllFine (xs ++ ys) []
@@ -348,9 +346,10 @@ fine_listed_references [] h = (tt, zero-le)
 fine_listed_references (reference ∷ rest) h =
     let p = append_fine _ _ (even_reference reference 0) h in
     let q = fine_reference reference 0 zero-le p.0 in
-    let r = fine_references rest p.1 in
-    ( small_append (reference_numbers reference) (flat_map reference_numbers rest) q.0 r.0
-    , from_outside _ _ (under_max (reference_nesting reference) (deepest_reference rest) 0 greatest_nesting q.1 r.1) )
+    let r = fine_references rest p.1 in (
+      small_append (reference_numbers reference) (flat_map reference_numbers rest) q.0 r.0,
+      from_outside _ _ (under_max (reference_nesting reference) (deepest_reference rest) 0 greatest_nesting q.1 r.1),
+    )
 
 -- a phrase within the limits has no token that goes past one
 phrase_fine : (p : Reading) → Kept p → AllFine (spell_phrase p) (phrase_opened p)
@@ -366,7 +365,7 @@ phrase_fine (Reading.variable_name name) h = (tt, tt)
 phrase_fine (Reading.call name passed) h = call_fine name passed h.0 h.1
 phrase_fine (Reading.declared_list items) h =
     plain_listed spell_item (λ item. size_numbers item.size) (λ item s. sized_plain item.name item.size s)
-      (λ item s. plain_sized item.name item.size s) items h.0
+    (λ item s. plain_sized item.name item.size s) items h.0
 phrase_fine (Reading.procedure_name name) h = (tt, tt)
 phrase_fine (Reading.name_list names) h = listed_names_plain names
 phrase_fine (Reading.greatest_length n) h = (h.0.0, tt)
@@ -377,19 +376,21 @@ fine_phrase : (p : Reading) → AllFine (spell_phrase p) (phrase_opened p) → K
 fine_phrase (Reading.assignment target value) h =
     let p = append_fine _ _ (even_reference target 0) h in
     let q = fine_reference target 0 zero-le p.0 in
-    let r = fine_tree value 0 zero-le p.1.2 in
-    ( small_append (reference_numbers target) (numbers value) q.0 r.0
-    , from_outside _ _ (under_max (reference_nesting target) (nesting value) 0 greatest_nesting q.1 r.1) )
+    let r = fine_tree value 0 zero-le p.1.2 in (
+      small_append (reference_numbers target) (numbers value) q.0 r.0,
+      from_outside _ _ (under_max (reference_nesting target) (nesting value) 0 greatest_nesting q.1 r.1),
+    )
 fine_phrase (Reading.condition e) h = let r = fine_tree e 0 zero-le h in (r.0, from_outside _ _ r.1)
 fine_phrase (Reading.expression e) h = let r = fine_tree e 0 zero-le h in (r.0, from_outside _ _ r.1)
 fine_phrase (Reading.expression_list es) h = let r = fine_all es 0 zero-le h in (r.0, from_outside _ _ r.1)
 fine_phrase (Reading.variable_list targets) h = fine_listed_references targets h
 fine_phrase (Reading.variable_name name) h = (tt, zero-le)
 fine_phrase (Reading.call name passed) h = fine_call name passed h
-fine_phrase (Reading.declared_list items) h =
-    ( listed_plain spell_item (λ item. size_numbers item.size) (λ item s. sized_plain item.name item.size s)
-        (λ item s. plain_sized item.name item.size s) items h
-    , zero-le )
+fine_phrase (Reading.declared_list items) h = (
+  listed_plain spell_item (λ item. size_numbers item.size) (λ item s. sized_plain item.name item.size s)
+      (λ item s. plain_sized item.name item.size s) items h,
+  zero-le,
+)
 fine_phrase (Reading.procedure_name name) h = (tt, zero-le)
 fine_phrase (Reading.name_list names) h = (tt, zero-le)
 fine_phrase (Reading.greatest_length n) h = ((h.0, tt), zero-le)
@@ -401,8 +402,8 @@ pub within : (c : Category) (pieces : List Piece) (p : Reading) → Form c (toke
 within c pieces p f w =
     let s = form_spelled c (tokens_of pieces) p f in
     fine_none pieces (phrase_opened p)
-      (subst (λ ks. AllFine ks (phrase_opened p)) (sym s.2)
-        (phrase_fine p (recursion_from_All _ (phrase_numbers p) w.numbers_fit, w.nesting_fits)))
+    (subst (λ ks. AllFine ks (phrase_opened p)) (sym s.2)
+    (phrase_fine p (recursion_from_All _ (phrase_numbers p) w.numbers_fit, w.nesting_fits)))
 
 -- a phrase with no token over a limit is within the limits
 pub none_over : (c : Category) (pieces : List Piece) (p : Reading) → Form c (tokens_of pieces) p

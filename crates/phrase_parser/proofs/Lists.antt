@@ -1,5 +1,5 @@
 -- Lists that stand in no expression are read item by item.
-use Rattle.std.proofs.Common.{◌≡◌, refl, ℕ, List, [], ◌∷◌, ◌++◌, Option, Some, None, ap, sym, ◌∙◌, append_assoc}
+use Rattle.std.proofs.Common.{◌≡◌, refl, ℕ, List, [], ◌∷◌, ◌++◌, Some, ◌∙◌, append_assoc}
 use Rattle.plcs_grammar.specs.Sign.{Sign}
 use Rattle.plcs_grammar.specs.Token.{Token}
 use Rattle.phrase_parser.specs.Machine.{State, step}

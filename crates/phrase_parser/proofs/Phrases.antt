@@ -4,7 +4,7 @@ use Rattle.plcs_grammar.specs.declared.category.Category.{Category}
 use Rattle.plcs_grammar.specs.declared.item.Item.{Item}
 use Rattle.plcs_grammar.specs.Sign.{Sign}
 use Rattle.plcs_grammar.specs.Token.{Token}
-use Rattle.plcs_grammar.specs.Reading.{Tree, Trees, Reference, Reading, category_of}
+use Rattle.plcs_grammar.specs.Reading.{Trees, Reading, category_of}
 use Rattle.plcs_grammar.specs.Level.{in_parentheses, IsReference}
 use Rattle.plcs_grammar.specs.Form.{Form, IsPhrase, IsCall, IsItem, IsSizedName, IsNameToken, JoinedBy, MoreBehind}
 use Rattle.phrase_parser.proofs.Spelling.{spell, spell_reference, spell_all, Fits, FitsReference, FitsAll, spelled, spelled_reference, spelled_all, levelled, levelled_reference, levelled_all}

@@ -1,5 +1,5 @@
 -- Each token that the machine takes is one more that it has read, and what it has read keeps its levels.
-use Rattle.std.proofs.Common.{◌≡◌, refl, ℕ, ◌+◌, ◌<◌, ◌≤◌, not, IsTrue, Bool, true, false, cond, leb, ◌&&◌, leb-true, leb-false, List, [], ◌∷◌, ◌++◌, Option, Some, None, ap, sym, subst, ◌∙◌, arith, append_assoc, append-nil, le_refl, lit≤}
+use Rattle.std.proofs.Common.{◌≡◌, refl, ℕ, ◌≤◌, leb, ◌&&◌, leb-true, leb-false, List, [], ◌∷◌, ◌++◌, Option, Some, None, ap, sym, subst, ◌∙◌, arith, append_assoc, append-nil, le_refl}
 use Rattle.std.proofs.lemmas.Bool.{cond_both, and_parts}
 use Rattle.plcs_grammar.specs.declared.operator.PrefixOp.{PrefixOp}
 use Rattle.plcs_grammar.specs.declared.operator.InfixOp.{InfixOp}
@@ -7,20 +7,19 @@ use Rattle.plcs_grammar.specs.declared.operator.InfixOp.TheVariants as between
 use Rattle.plcs_grammar.specs.declared.builtin.Builtin.{Builtin}
 use Rattle.plcs_grammar.specs.declared.category.Category.{Category}
 use Rattle.plcs_grammar.specs.declared.category.Category.TheVariants.{Assignment, Condition, Expression, ExpressionList, VariableList, Variable, CallRef, DeclaredList, ProcedureName, NameList, Length, CommentText}
-use Rattle.plcs_grammar.specs.declared.item.Item.{Item}
 use Rattle.plcs_grammar.specs.Sign.{Sign, prefix_sign, infix_sign}
 use Rattle.plcs_grammar.specs.Token.{Token}
 use Rattle.plcs_grammar.specs.Reading.{Tree, Trees, Reference, Reading, category_of}
-use Rattle.plcs_grammar.specs.Builtin.{builtin_name, is_builtin_name}
-use Rattle.plcs_grammar.specs.Level.{priority, tightest, in_parentheses}
+use Rattle.plcs_grammar.specs.Builtin.{builtin_name}
+use Rattle.plcs_grammar.specs.Level.{priority, in_parentheses}
 use Rattle.phrase_parser.specs.Machine
 use Rattle.phrase_parser.specs.Machine.{Base, Stack, Role, State, Operand, tree_push, reduced, joined, step, run, step_if, start, ended, ended_at, ended_base, ended_by_role, builtin_of, prefix_of, infix_of}
-use Rattle.phrase_parser.proofs.Spelling.{spell, spell_reference, spell_all, Fits, FitsReference, FitsAll, FitsBehind}
-use Rattle.phrase_parser.proofs.Phrases.{spell_name, spell_item, spell_call, spell_listed, spell_phrase, FitsPhrase, EachFits, FitsListed, FitsItem, FitsCall, AnyName}
+use Rattle.phrase_parser.proofs.Spelling.{spell, spell_reference, spell_all, Fits, FitsReference, FitsAll}
+use Rattle.phrase_parser.proofs.Phrases.{spell_name, spell_item, spell_phrase, FitsPhrase, FitsItem, AnyName}
 use Rattle.phrase_parser.proofs.BuiltinNames.{builtin_found, builtin_missing}
 use Rattle.phrase_parser.proofs.Completeness.{run_none}
 use Rattle.phrase_parser.proofs.Arrival.{above_none}
-use Rattle.phrase_parser.proofs.Consumed.{spell_before, all_push, before_push, call_push, behind_fits, all_fit, call_fits, spell_each, listed_last, each_last, listed_comma, each_fits, listed_fits, listed_each, flat_base, flat_stack, flat_role, flat, hole, SoundBase, SoundStack, SoundRole, Sound, base_category, stack_category, role_category, state_category}
+use Rattle.phrase_parser.proofs.Consumed.{spell_before, all_push, before_push, call_push, behind_fits, all_fit, call_fits, spell_each, listed_last, each_last, listed_comma, each_fits, listed_fits, listed_each, flat_stack, flat, hole, SoundStack, SoundRole, Sound, stack_category, state_category}
 
 abbrev pub comma : Token
 comma = Token.sign Sign.comma
@@ -59,17 +58,17 @@ reduced_joins level (Stack.base b) t h f g le =
     record { sound = h; fits_hole = f; fits = g; low = le; tokens = refl; category = refl }
 reduced_joins level (Stack.prefix op s) t h f g le =
     rejoins level s (Stack.prefix op s) (Tree.unary op t) t (reduced s level (Tree.unary op t))
-      (reduced_joins level s (Tree.unary op t) h f f le)
-      (sym (append_assoc (flat_stack s) (Token.sign (prefix_sign op) ∷ []) (spell t))) refl
+    (reduced_joins level s (Tree.unary op t) h f f le)
+    (sym (append_assoc (flat_stack s) (Token.sign (prefix_sign op) ∷ []) (spell t))) refl
 reduced_joins level (Stack.left a op s) t h f g le =
     cond_both (leb level (priority op)) (reduced s level (Tree.binary op a t)) (Stack.left a op s, t)
-      (Joins level (Stack.left a op s) t)
-      (λ e. rejoins level s (Stack.left a op s) (Tree.binary op a t) t (reduced s level (Tree.binary op a t))
-        (reduced_joins level s (Tree.binary op a t) h.2 (h.0, h.1, f) (leb-true level (priority op) e, h.1, f) le)
-        (ap (λ z. flat_stack s ++ z) (sym (append_assoc (spell a) (Token.sign (infix_sign op) ∷ []) (spell t)))
-          ∙ sym (append_assoc (flat_stack s) (spell a ++ (Token.sign (infix_sign op) ∷ [])) (spell t))) refl)
-      (λ e. let under = leb-false level (priority op) e in
-        record { sound = h; fits_hole = f; fits = g; low = omega (arith, under); tokens = refl; category = refl })
+    (Joins level (Stack.left a op s) t)
+    (λ e. rejoins level s (Stack.left a op s) (Tree.binary op a t) t (reduced s level (Tree.binary op a t))
+    (reduced_joins level s (Tree.binary op a t) h.2 (h.0, h.1, f) (leb-true level (priority op) e, h.1, f) le)
+    (ap (λ z. flat_stack s ++ z) (sym (append_assoc (spell a) (Token.sign (infix_sign op) ∷ []) (spell t)))
+    ∙ sym (append_assoc (flat_stack s) (spell a ++ (Token.sign (infix_sign op) ∷ [])) (spell t))) refl)
+    (λ e. let under = leb-false level (priority op) e in
+    record { sound = h; fits_hole = f; fits = g; low = omega (arith, under); tokens = refl; category = refl })
 reduced_joins level (Stack.parenthesis s) t h f g le =
     record { sound = h; fits_hole = f; fits = g; low = le; tokens = refl; category = refl }
 reduced_joins level (Stack.subscript name s) t h f g le =
@@ -103,17 +102,17 @@ numbered_after : (s : State) (n : ℕ) → Sound s → AfterIf s (Token.number n
 numbered_after (State.wanted s) n h = record { sound = (h, λ level. tt); tokens = refl; category = refl }
 numbered_after (State.size_wanted done name) n h =
     cond_both (leb 1 n) (Some (State.size_had done name n)) None (AfterIf (State.size_wanted done name) (Token.number n))
-      (λ e. record {
-        sound = (leb-true 1 n e, h);
-        tokens = sym (append_assoc (spell_each spell_item done) (Token.name name ∷ open_ ∷ []) (Token.number n ∷ []));
-        category = refl;
-      })
-      (λ e. tt)
+    (λ e. record {
+      sound = (leb-true 1 n e, h);
+      tokens = sym (append_assoc (spell_each spell_item done) (Token.name name ∷ open_ ∷ []) (Token.number n ∷ []));
+      category = refl;
+    })
+    (λ e. tt)
 numbered_after State.length_wanted n h =
     cond_both (leb 1 n && leb n 256) (Some (State.length_had n)) None (AfterIf State.length_wanted (Token.number n))
-      (λ e. let p = and_parts (leb 1 n) (leb n 256) e in
-        record { sound = (leb-true 1 n p.0, leb-true n 256 p.1); tokens = refl; category = refl })
-      (λ e. tt)
+    (λ e. let p = and_parts (leb 1 n) (leb n 256) e in
+    record { sound = (leb-true 1 n p.0, leb-true n 256 p.1); tokens = refl; category = refl })
+    (λ e. tt)
 numbered_after s n h = tt
 
 named_open_after : (name : List ℕ) (found : Option Builtin) (s : Stack) (t : Tree) → builtin_of name ≡ found → SoundStack s
@@ -304,7 +303,7 @@ infix_after : (op : InfixOp) (s : Stack) (t : Tree) → Sound (State.had s t)
     → After (State.had s t) (Token.sign (infix_sign op)) (joined op (reduced s (priority op) t))
 infix_after op s t h =
     joined_after op s t (reduced s (priority op) t)
-      (reduced_joins (priority op) s t h.0 (h.1 (hole s)) (h.1 (priority op)) (above_none op))
+    (reduced_joins (priority op) s t h.0 (h.1 (hole s)) (h.1 (priority op)) (above_none op))
 
 assigned_by_role_after : (role : Role) (name : List ℕ) → SoundRole role
     → AfterIf (State.name_had role name) (Token.sign Sign.equal) (Machine.assigned_by_role role name)

@@ -1,8 +1,8 @@
 -- The tokens of a tree as a list, and the levels that its operators keep.
-use Rattle.std.proofs.Common.{◌≡◌, refl, ℕ, ◌+◌, ◌≤◌, pos, negsuc, nat_abs, List, [], ◌∷◌, ◌++◌, Option, Some, None, ap, sym, ◌∙◌, ap₂}
+use Rattle.std.proofs.Common.{◌≡◌, refl, ℕ, ◌+◌, ◌≤◌, pos, negsuc, nat_abs, List, [], ◌∷◌, ◌++◌, ap, ◌∙◌, ap₂}
 use Rattle.plcs_grammar.specs.Sign.{Sign, prefix_sign, infix_sign}
 use Rattle.plcs_grammar.specs.Token.{Token}
-use Rattle.plcs_grammar.specs.Reading.{Tree, Trees, Reference, Reading}
+use Rattle.plcs_grammar.specs.Reading.{Tree, Trees, Reference}
 use Rattle.plcs_grammar.specs.Builtin.{builtin_name}
 use Rattle.plcs_grammar.specs.Level.{Level, IsReference, Joined, Behind, IsNoCall, priority, tightest, in_parentheses}
 

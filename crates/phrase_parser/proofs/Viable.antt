@@ -1,5 +1,5 @@
 -- Tokens that the machine takes can be finished to a phrase: what is open is closed, and what is wanted is added.
-use Rattle.std.proofs.Common.{◌≡◌, refl, ℕ, pos, ◌≤◌, List, [], ◌∷◌, ◌++◌, Option, Some, None, ap, sym, subst, ◌∙◌, append_assoc, append-nil, le_refl, lit≤}
+use Rattle.std.proofs.Common.{◌≡◌, refl, ℕ, pos, List, [], ◌∷◌, ◌++◌, Option, Some, None, ap, sym, subst, ◌∙◌, append_assoc, append-nil, le_refl, lit≤}
 use Rattle.plcs_grammar.specs.declared.category.Category.{Category}
 use Rattle.plcs_grammar.specs.declared.item.Item.{Item}
 use Rattle.plcs_grammar.specs.Sign.{Sign, prefix_sign, infix_sign}
@@ -8,11 +8,11 @@ use Rattle.plcs_grammar.specs.Reading.{Tree, Trees, Reference, Reading, category
 use Rattle.plcs_grammar.specs.Builtin.{builtin_name}
 use Rattle.plcs_grammar.specs.Form.{Form, Begins}
 use Rattle.phrase_parser.specs.Machine.{Base, Stack, Role, State, tree_push, run, start, ended, ended_if}
-use Rattle.phrase_parser.proofs.Spelling.{spell, spell_reference, spell_all, Fits, FitsReference, FitsAll}
+use Rattle.phrase_parser.proofs.Spelling.{spell, spell_reference, Fits, FitsReference}
 use Rattle.phrase_parser.proofs.Phrases.{spell_name, spell_item, spell_call, spell_listed, spell_phrase, FitsPhrase, FitsItem, AnyName, form_from}
 use Rattle.phrase_parser.proofs.Completeness.{complete, alive}
 use Rattle.phrase_parser.proofs.Consumed.{spell_before, all_push, call_push, all_fit, call_fits, spell_each, listed_last, listed_fits, flat_base, flat_stack, flat_role, flat, hole, SoundBase, SoundStack, SoundRole, Sound, base_category, stack_category, role_category, state_category}
-use Rattle.phrase_parser.proofs.Soundness.{comma, close, open_, regroup, arguments_tokens, IsWhole, IsWholeIf, ended_whole, HasRead, has_read}
+use Rattle.phrase_parser.proofs.Soundness.{close, open_, regroup, arguments_tokens, IsWholeIf, ended_whole, HasRead, has_read}
 
 abbrev equal : Token
 equal = Token.sign Sign.equal
@@ -44,21 +44,21 @@ plug_base (Base.expressions done) t h f =
     begins_whole _ (Reading.expression_list (tree_push done t)) (spell_before done ++ spell t) refl (all_fit done t h f) (sym (all_push done t))
 plug_base (Base.assigned reference) t h f =
     begins_whole _ (Reading.assignment reference t) ((spell_reference reference ++ (equal ∷ [])) ++ spell t) refl (h, f)
-      (append_assoc (spell_reference reference) (equal ∷ []) (spell t))
+    (append_assoc (spell_reference reference) (equal ∷ []) (spell t))
 plug_base (Base.target_subscript name) t h f =
     begins_by _ (Reading.assignment (Reference.subscripted name t) anything) (Token.name name ∷ open_ ∷ spell t)
-      (close ∷ equal ∷ spell anything) refl (f, tt)
-      (ap (λ z. Token.name name ∷ open_ ∷ z) (sym (append_assoc (spell t) (close ∷ []) (equal ∷ spell anything))))
+    (close ∷ equal ∷ spell anything) refl (f, tt)
+    (ap (λ z. Token.name name ∷ open_ ∷ z) (sym (append_assoc (spell t) (close ∷ []) (equal ∷ spell anything))))
 plug_base (Base.variable_subscript done name) t h f =
     begins_by _ (Reading.variable_list (done ++ (Reference.subscripted name t ∷ [])))
-      ((spell_each spell_reference done ++ (Token.name name ∷ open_ ∷ [])) ++ spell t) (close ∷ []) refl
-      (listed_fits FitsReference done (Reference.subscripted name t) h f)
-      (sym (regroup (spell_each spell_reference done) (Token.name name ∷ open_ ∷ []) (spell t) (close ∷ []))
-        ∙ sym (listed_last spell_reference done (Reference.subscripted name t)))
+    ((spell_each spell_reference done ++ (Token.name name ∷ open_ ∷ [])) ++ spell t) (close ∷ []) refl
+    (listed_fits FitsReference done (Reference.subscripted name t) h f)
+    (sym (regroup (spell_each spell_reference done) (Token.name name ∷ open_ ∷ []) (spell t) (close ∷ []))
+    ∙ sym (listed_last spell_reference done (Reference.subscripted name t)))
 plug_base (Base.call_arguments name done) t h f =
     begins_by _ (Reading.call name (tree_push done t)) (Token.name name ∷ open_ ∷ (spell_before done ++ spell t)) (close ∷ []) refl
-      (call_fits (tree_push done t) (all_fit done t h f))
-      (sym (call_push name done t ∙ arguments_tokens [] (Token.name name) done t))
+    (call_fits (tree_push done t) (all_fit done t h f))
+    (sym (call_push name done t ∙ arguments_tokens [] (Token.name name) done t))
 
 -- an operand on the stack, with all that is open closed behind it
 pub plug : (s : Stack) (t : Tree) → SoundStack s → Fits t (hole s) → Begins (stack_category s) (flat_stack s ++ spell t)
@@ -67,20 +67,20 @@ plug (Stack.prefix op s) t h f =
     begins_as _ _ _ (sym (append_assoc (flat_stack s) (Token.sign (prefix_sign op) ∷ []) (spell t))) (plug s (Tree.unary op t) h f)
 plug (Stack.left a op s) t h f =
     begins_as _ _ _
-      (ap (λ z. flat_stack s ++ z) (sym (append_assoc (spell a) (Token.sign (infix_sign op) ∷ []) (spell t)))
-        ∙ sym (append_assoc (flat_stack s) (spell a ++ (Token.sign (infix_sign op) ∷ [])) (spell t)))
-      (plug s (Tree.binary op a t) h.2 (h.0, h.1, f))
+    (ap (λ z. flat_stack s ++ z) (sym (append_assoc (spell a) (Token.sign (infix_sign op) ∷ []) (spell t)))
+    ∙ sym (append_assoc (flat_stack s) (spell a ++ (Token.sign (infix_sign op) ∷ [])) (spell t)))
+    (plug s (Tree.binary op a t) h.2 (h.0, h.1, f))
 plug (Stack.parenthesis s) t h f =
     begins_front _ ((flat_stack s ++ (open_ ∷ [])) ++ spell t) (close ∷ [])
-      (begins_as _ _ _ (regroup (flat_stack s) (open_ ∷ []) (spell t) (close ∷ [])) (plug s (Tree.parenthesized t) h f))
+    (begins_as _ _ _ (regroup (flat_stack s) (open_ ∷ []) (spell t) (close ∷ [])) (plug s (Tree.parenthesized t) h f))
 plug (Stack.subscript name s) t h f =
     begins_front _ ((flat_stack s ++ (Token.name name ∷ open_ ∷ [])) ++ spell t) (close ∷ [])
-      (begins_as _ _ _ (regroup (flat_stack s) (Token.name name ∷ open_ ∷ []) (spell t) (close ∷ []))
-        (plug s (Tree.variable (Reference.subscripted name t)) h.1 (h.0, f)))
+    (begins_as _ _ _ (regroup (flat_stack s) (Token.name name ∷ open_ ∷ []) (spell t) (close ∷ []))
+    (plug s (Tree.variable (Reference.subscripted name t)) h.1 (h.0, f)))
 plug (Stack.arguments function done s) t h f =
     begins_front _ ((flat_stack s ++ (Token.name (builtin_name function) ∷ open_ ∷ spell_before done)) ++ spell t) (close ∷ [])
-      (begins_as _ _ _ (arguments_tokens (flat_stack s) (Token.name (builtin_name function)) done t)
-        (plug s (Tree.builtin function (tree_push done t)) h.1 (all_fit done t h.0 f)))
+    (begins_as _ _ _ (arguments_tokens (flat_stack s) (Token.name (builtin_name function)) done t)
+    (plug s (Tree.builtin function (tree_push done t)) h.1 (all_fit done t h.0 f)))
 
 begins_by_role : (role : Role) (name : List ℕ) → SoundRole role
     → Begins (role_category role) (flat_role role ++ (Token.name name ∷ []))
@@ -88,15 +88,15 @@ begins_by_role Role.target name h =
     begins_by _ (Reading.assignment (Reference.simple name) anything) (Token.name name ∷ []) (equal ∷ spell anything) refl (tt, tt) refl
 begins_by_role (Role.variables done) name h =
     begins_whole _ (Reading.variable_list (done ++ (Reference.simple name ∷ []))) (spell_each spell_reference done ++ (Token.name name ∷ []))
-      refl (listed_fits FitsReference done (Reference.simple name) h tt) (sym (listed_last spell_reference done (Reference.simple name)))
+    refl (listed_fits FitsReference done (Reference.simple name) h tt) (sym (listed_last spell_reference done (Reference.simple name)))
 begins_by_role Role.callee name h = begins_whole _ (Reading.call name Trees.nil) (Token.name name ∷ []) refl tt refl
 begins_by_role (Role.items done) name h =
     begins_whole _ (Reading.declared_list (done ++ (record { name = name; size = None } ∷ []))) (spell_each spell_item done ++ (Token.name name ∷ []))
-      refl (listed_fits FitsItem done (record { name = name; size = None }) h tt)
-      (sym (listed_last spell_item done (record { name = name; size = None })))
+    refl (listed_fits FitsItem done (record { name = name; size = None }) h tt)
+    (sym (listed_last spell_item done (record { name = name; size = None })))
 begins_by_role (Role.names done) name h =
     begins_whole _ (Reading.name_list (done ++ (name ∷ []))) (spell_each spell_name done ++ (Token.name name ∷ []))
-      refl (listed_fits AnyName done name h tt) (sym (listed_last spell_name done name))
+    refl (listed_fits AnyName done name h tt) (sym (listed_last spell_name done name))
 begins_by_role Role.variable name h = begins_whole _ (Reading.variable_name name) (Token.name name ∷ []) refl tt refl
 begins_by_role Role.procedure name h = begins_whole _ (Reading.procedure_name name) (Token.name name ∷ []) refl tt refl
 
@@ -104,9 +104,9 @@ begins_sized : (done : List Item) (name : List ℕ) (n : ℕ) → Sound (State.s
     → Begins (state_category (State.size_had done name n)) (flat (State.size_had done name n))
 begins_sized done name n h =
     begins_by _ (Reading.declared_list (done ++ (record { name = name; size = Some n } ∷ []))) (flat (State.size_had done name n)) (close ∷ [])
-      refl (listed_fits FitsItem done (record { name = name; size = Some n }) h.1 h.0)
-      (append_assoc (spell_each spell_item done) (Token.name name ∷ open_ ∷ Token.number n ∷ []) (close ∷ [])
-        ∙ sym (listed_last spell_item done (record { name = name; size = Some n })))
+    refl (listed_fits FitsItem done (record { name = name; size = Some n }) h.1 h.0)
+    (append_assoc (spell_each spell_item done) (Token.name name ∷ open_ ∷ Token.number n ∷ []) (close ∷ [])
+    ∙ sym (listed_last spell_item done (record { name = name; size = Some n })))
 
 -- what was read in a sound state begins a phrase
 pub begins : (s : State) → Sound s → Begins (state_category s) (flat s)
@@ -120,8 +120,8 @@ begins (State.variable_had done) h = begins_whole _ (Reading.variable_list done)
 begins (State.call_had name passed) h = begins_whole _ (Reading.call name passed) (spell_call name passed) refl (call_fits passed h) refl
 begins (State.size_wanted done name) h =
     begins_front _ (flat (State.size_wanted done name)) (Token.number 1 ∷ [])
-      (begins_as _ _ _ (sym (append_assoc (spell_each spell_item done) (Token.name name ∷ open_ ∷ []) (Token.number 1 ∷ [])))
-        (begins_sized done name 1 (le_refl _, h)))
+    (begins_as _ _ _ (sym (append_assoc (spell_each spell_item done) (Token.name name ∷ open_ ∷ []) (Token.number 1 ∷ [])))
+    (begins_sized done name 1 (le_refl _, h)))
 begins (State.size_had done name n) h = begins_sized done name n h
 begins (State.item_had done) h = begins_whole _ (Reading.declared_list done) (spell_listed spell_item done) refl h refl
 begins State.length_wanted h =

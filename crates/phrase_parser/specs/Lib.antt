@@ -5,3 +5,5 @@ pub mod Front
 pub mod Unquoted
 pub mod Answers
 pub mod Verdict
+pub mod Recognizer
+pub mod Findings
