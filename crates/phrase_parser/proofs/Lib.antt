@@ -23,3 +23,5 @@ mod Trimming
 mod Simulation
 mod Recognized
 mod Checked
+pub mod PieceFacts
+pub mod LexedTexts

@@ -1,8 +1,8 @@
 -- No token at the front of a text is longer than the one that the model of the code finds there.
-use Rattle.std.proofs.Common.{◌≡◌, ℕ, ◌<◌, ◌≤◌, ◌⊎◌, min, Bool, true, false, not, ◌&&◌, cond, eqb, List, [], ◌∷◌, ◌++◌, length, take, drop, refl, sym, ap, ◌∙◌, subst, inl, inr, arith, lit≤, Option, Some, None}
+use Rattle.std.proofs.Common.{◌≡◌, ℕ, ◌<◌, ◌≤◌, ◌⊎◌, min, Bool, true, false, not, ◌&&◌, ◌||◌, cond, eqb, List, [], ◌∷◌, ◌++◌, length, take, drop, refl, sym, ap, ◌∙◌, subst, inl, inr, arith, lit≤, Option, Some, None}
 use Rattle.std.specs.Prelude.{nat_le, IsTrue}
 use Rattle.std.specs.List.{list_all, prefix_len}
-use Rattle.std.proofs.lemmas.Bool.{and_parts, and_right, cond-true, cond-false, le-leb, cases_Bool, not-true, not_from_false, not_from_true, false≢true}
+use Rattle.std.proofs.lemmas.Bool.{or_parts, and_parts, and_right, cond-true, cond-false, le-leb, cases_Bool, not-true, not_from_false, not_from_true, false≢true}
 use Rattle.std.proofs.lemmas.Bool.Decides.{nat_tests}
 use Rattle.std.proofs.lemmas.Option.{same_Some}
 use Rattle.std.proofs.lemmas.List.{take_at, drop_at}
@@ -205,15 +205,20 @@ sign_covered grammar.Sign.open_parenthesis behind = covered_single (double_at 40
 sign_covered grammar.Sign.close_parenthesis behind = covered_single (double_at 41 behind) (kept_sign grammar.Sign.close_parenthesis)
 sign_covered grammar.Sign.comma behind = covered_single (double_at 44 behind) (kept_sign grammar.Sign.comma)
 
--- neither `=` nor `|` follows, which could make a sign longer
+-- `=` and `|`, the bytes that may be the second of a sign
+abbrev pub is_second : ℕ → Bool
+is_second byte = eqb byte 61 || eqb byte 124
+
+-- nothing follows that could make a sign longer
 abbrev pub EndsSign : List ℕ → Type 0
-EndsSign behind = (begins_with (eqb 61) behind ≡ false) × (begins_with (eqb 124) behind ≡ false)
+EndsSign behind = begins_with is_second behind ≡ false
 
 pub double_none : (first : ℕ) (behind : List ℕ) → EndsSign behind → double_at first behind ≡ None
 double_none first [] ends = refl
 double_none first (second ∷ rest) ends =
-    let equal : eqb second 61 ≡ false = grind (arith, nat_tests, ends.0) in
-    let bar : eqb second 124 ≡ false = grind (arith, nat_tests, ends.1) in
+    let parts = or_parts (eqb second 61) (eqb second 124) ends in
+    let equal = parts.0 in
+    let bar = parts.1 in
     cond-false (eqb first 124 && eqb second 124) _ _ (and_right (eqb first 124) (eqb second 124) bar)
     ∙ cond-false (eqb first 94 && eqb second 61) _ _ (and_right (eqb first 94) (eqb second 61) equal)
     ∙ cond-false (eqb first 60 && eqb second 61) _ _ (and_right (eqb first 60) (eqb second 61) equal)

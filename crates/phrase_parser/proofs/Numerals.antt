@@ -1,9 +1,15 @@
 -- The number that digits write, digit after digit.
-use Rattle.std.proofs.Common.{◌≡◌, ℕ, ◌+◌, ◌-◌, ◌*◌, ◌<◌, min, List, length, map, take, get_or, sym, ap, ◌∙◌, arith}
+use Rattle.std.proofs.Common.{◌≡◌, ℕ, ◌+◌, ◌-◌, ◌*◌, ◌/◌, ◌%◌, ◌^◌, ◌<◌, ◌≤◌, true, List, [], ◌∷◌, ◌++◌, length, map, take, get_or, refl, sym, ap, ◌∙◌, arith}
+use Rattle.std.specs.Prelude.{decimal, nat_le}
+use Rattle.std.specs.List.{list_all}
 use Rattle.std.specs.Int.Digits.{number_from_digits}
-use Rattle.std.proofs.lemmas.Int.Digits.{number_more}
-use Rattle.std.proofs.lemmas.List.{take-map, get_or-map, length-map}
-use Rattle.plcs_grammar.specs.Token.{numeral_value}
+use Rattle.std.proofs.lemmas.Bool.{and_from, le-leb}
+use Rattle.std.proofs.lemmas.Fmt.{decimal_by_steps}
+use Rattle.std.proofs.lemmas.Int.Digits.{number_more, number_push}
+use Rattle.std.proofs.lemmas.List.{take-map, get_or-map, length-map, length-append, map-append}
+use Rattle.std.proofs.lemmas.List.Folds.{list_all-append}
+use Rattle.plcs_base.specs.Byte.{is_digit}
+use Rattle.plcs_grammar.specs.Token.{numeral_value, IsNumeral}
 
 abbrev value_of_digit : ℕ → ℕ
 value_of_digit digit = digit - 48
@@ -18,6 +24,36 @@ numeral_more xs i h =
     ∙ ap (λ (ds : List ℕ). number_from_digits 10 ds * 10 + get_or digits i 0) (take-map value_of_digit i xs)
     ∙ ap (λ (d : ℕ). numeral_value (take i xs) * 10 + d) (get_or-map value_of_digit xs i 0 0 h)
 
--- one digit more of a number that is kept up to a limit
-pub capped_more : (limit n digit : ℕ) → min (min (min n limit * 10) limit + digit) limit ≡ min (n * 10 + digit) limit
-capped_more limit n digit = omega arith
+-- one digit more at the end
+pub numeral_push : (digits : List ℕ) (digit : ℕ) → numeral_value (digits ++ (digit ∷ [])) ≡ numeral_value digits * 10 + (digit - 48)
+numeral_push digits digit =
+    ap (λ (ds : List ℕ). number_from_digits 10 ds) (map-append value_of_digit digits (digit ∷ []))
+    ∙ number_push 10 (map value_of_digit digits) (digit - 48)
+
+digit_byte : (k : ℕ) → k < 10 → is_digit (48 + k) ≡ true
+digit_byte k h =
+    and_from (nat_le 48 (48 + k)) (nat_le (48 + k) 57) (le-leb 48 (48 + k) (omega arith)) (le-leb (48 + k) 57 (omega arith))
+
+abbrev Writes : ℕ → List ℕ → Type 0
+Writes n digits = IsNumeral digits × (numeral_value digits ≡ n)
+
+one_digit : (n : ℕ) → n < 10 → Writes n ((48 + n) ∷ [])
+one_digit n h =
+    let none : numeral_value [] ≡ 0 = refl in
+    ((omega arith, and_from (is_digit (48 + n)) true (digit_byte n h) refl), omega (arith, numeral_push [] (48 + n), none))
+
+one_digit_more : (n : ℕ) (digits : List ℕ) → 10 ≤ n → Writes (n / 10) digits → Writes n (digits ++ ((48 + n % 10) ∷ []))
+one_digit_more n digits h writes =
+    let low : n % 10 < 10 = omega arith in
+    let last = and_from (is_digit (48 + n % 10)) true (digit_byte (n % 10) low) refl in (
+      (
+        omega (arith, length-append digits ((48 + n % 10) ∷ [])),
+        list_all-append is_digit digits ((48 + n % 10) ∷ [])
+            ∙ and_from (list_all is_digit digits) (list_all is_digit ((48 + n % 10) ∷ [])) writes.0.1 last,
+      ),
+      omega (arith, numeral_push digits (48 + n % 10), writes.1),
+    )
+
+-- a number in decimal is read back
+pub decimal_numeral : (n : ℕ) → n < 2 ^ 64 → IsNumeral (decimal n) × (numeral_value (decimal n) ≡ n)
+decimal_numeral n h = decimal_by_steps Writes one_digit one_digit_more n h

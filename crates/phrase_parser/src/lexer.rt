@@ -18,7 +18,8 @@ pub struct TokenList {
     pub stop: Option<usize>,
 }
 
-/// All tokens of the text, up to its end or to the byte where none can be made.
+/// All tokens of the text, up to its end or to the byte where none can be made. The work grows with the
+/// text's length alone: no byte is looked at more than a few times.
 pub fn tokens(alloc: Global, text: &[u8]) -> Result<TokenList, AllocError>
     ensures { IfOk result (λ tokens. AreTokens tokens.items.items tokens.stop text.now) }
 {

@@ -6,6 +6,8 @@ mod constant;
 mod fault;
 mod front;
 mod lexer;
+#[cfg(test)]
+mod lexer_tests;
 mod sign;
 mod token;
 
