@@ -1,14 +1,16 @@
 -- What the check finds is so.
-use Rattle.std.proofs.Common.{◌≡◌, refl, ℕ, Bool, true, false, cond, List, [], ◌∷◌, ◌++◌, Option, Some, None, ap, sym, subst, ◌∙◌, append_assoc, append-nil}
+use Rattle.std.proofs.Common.{◌≡◌, refl, ℕ, Bool, true, false, cond, ltb, lit≤, map, List, [], ◌∷◌, ◌++◌, Option, Some, None, ap, sym, subst, ◌∙◌, append_assoc, append-nil}
 use Rattle.std.proofs.lemmas.Bool.{cond_both}
 use Rattle.plcs_grammar.specs.declared.category.Category.{Category}
+use Rattle.plcs_grammar.specs.Token.{Token}
 use Rattle.plcs_grammar.specs.Cuts.{Piece, tokens_of}
 use Rattle.plcs_grammar.specs.Reading.{Reading}
 use Rattle.plcs_grammar.specs.Form.{Form, Begins}
 use Rattle.plcs_grammar.specs.Syntax.{GoesWrong}
-use Rattle.plcs_grammar.specs.Limit.{OverLimit, IsWithinLimits, first_over, phrase_opened, over_at, or_else}
+use Rattle.plcs_grammar.specs.Limit.{greatest_number, greatest_nesting, OverLimit, IsWithinLimits, is_too_large, first_over, phrase_opened, over_at, or_else}
 use Rattle.phrase_parser.specs.Recognizer.{Shape, kind_of, next, next_if, follow, first_shape, may_end, level_of, follow_levels}
-use Rattle.phrase_parser.specs.Findings.{Finding, finding_of, found_at, found_at_end, findings}
+use Rattle.phrase_parser.specs.Findings.{Finding, finding_of, found_at, found_at_end, Seen, seen_of, is_large, seen_over, findings}
+use Rattle.phrase_parser.proofs.KeptNumbers.{kept_above}
 use Rattle.phrase_parser.proofs.Limits.{none_over}
 use Rattle.phrase_parser.proofs.Recognized.{kinds_of, taken_begins, refused_begins, whole_form, part_form, levels_over}
 
@@ -19,18 +21,29 @@ follow_pieces pieces shape = follow (kinds_of (tokens_of pieces)) shape
 abbrev pub over_pieces : List Piece → Option Shape → Option OverLimit
 over_pieces pieces shape = first_over pieces (follow_levels (kinds_of (tokens_of pieces)) shape)
 
-follow_last : (front : List Piece) (piece : Piece) (s : Option Shape)
+-- one more piece
+pub follow_last : (front : List Piece) (piece : Piece) (s : Option Shape)
     → follow_pieces (front ++ (piece ∷ [])) s ≡ next_if (follow_pieces front s) (kind_of piece.token)
 follow_last [] piece s = refl
 follow_last (x ∷ xs) piece s = follow_last xs piece (next_if s (kind_of x.token))
 
-or_else_assoc : (a b c : Option OverLimit) → or_else (or_else a b) c ≡ or_else a (or_else b c)
+pub or_else_assoc : (a b c : Option OverLimit) → or_else (or_else a b) c ≡ or_else a (or_else b c)
 or_else_assoc None b c = refl
 or_else_assoc (Some o) b c = refl
 
-or_else_none : (a : Option OverLimit) → or_else a None ≡ a
-or_else_none None = refl
-or_else_none (Some o) = refl
+-- a token as it is kept goes past the same limit
+seen_large : (k : Token) → is_large (kind_of k) ≡ is_too_large k
+seen_large (Token.number n) = kept_above n greatest_number (lit≤ tt)
+seen_large (Token.name name) = refl
+seen_large (Token.keyword word) = refl
+seen_large (Token.text value) = refl
+seen_large (Token.bit value) = refl
+seen_large (Token.sign sign) = refl
+
+pub seen_as : (piece : Piece) (level : ℕ) → seen_over (seen_of piece) level ≡ over_at piece level
+seen_as piece level =
+    ap (λ b. cond b (Some (OverLimit.number_too_large piece.start)) (cond (ltb greatest_nesting level) (Some (OverLimit.too_deep piece.start)) None))
+      (seen_large piece.token)
 
 -- the pieces lead from the shape to one that may end, and this goes past a limit first
 pub record Ends (pieces : List Piece) (stop : Option ℕ) (shape : Shape) (found first : Option OverLimit) : Type 0 where
@@ -68,21 +81,23 @@ says_end c None end front shape found e =
 
 ends_more : (piece : Piece) (pieces : List Piece) (stop : Option ℕ) (shape z : Shape) (found first : Option OverLimit)
     → next shape (kind_of piece.token) ≡ Some z
-    → Ends pieces stop z (or_else found (over_at piece (level_of shape (kind_of piece.token)))) first
+    → Ends pieces stop z (or_else found (seen_over (seen_of piece) (level_of shape (kind_of piece.token)))) first
     → Ends (piece ∷ pieces) stop shape found first
 ends_more piece pieces stop shape z found first e h = record {
   end = h.end;
   stops = h.stops;
   leads = ap (follow_pieces pieces) e ∙ h.leads;
   may = h.may;
-  over = ap (λ o. or_else found (or_else (over_at piece (level_of shape (kind_of piece.token))) (over_pieces pieces o))) e
-      ∙ sym (or_else_assoc found (over_at piece (level_of shape (kind_of piece.token))) (over_pieces pieces (Some z)))
+  over = ap (λ o. or_else found (or_else o (over_pieces pieces (next shape (kind_of piece.token)))))
+        (sym (seen_as piece (level_of shape (kind_of piece.token))))
+      ∙ ap (λ o. or_else found (or_else (seen_over (seen_of piece) (level_of shape (kind_of piece.token))) (over_pieces pieces o))) e
+      ∙ sym (or_else_assoc found (seen_over (seen_of piece) (level_of shape (kind_of piece.token))) (over_pieces pieces (Some z)))
       ∙ h.over;
 }
 
 says_more : (c : Category) (stop : Option ℕ) (end : ℕ) (front : List Piece) (piece : Piece) (pieces : List Piece)
     (shape z : Shape) (found : Option OverLimit) (r : Finding) → next shape (kind_of piece.token) ≡ Some z
-    → Says c stop end (front ++ (piece ∷ [])) pieces z (or_else found (over_at piece (level_of shape (kind_of piece.token)))) r
+    → Says c stop end (front ++ (piece ∷ [])) pieces z (or_else found (seen_over (seen_of piece) (level_of shape (kind_of piece.token)))) r
     → Says c stop end front (piece ∷ pieces) shape found r
 says_more c stop end front piece pieces shape z found Finding.fine e h = ends_more piece pieces stop shape z found None e h
 says_more c stop end front piece pieces shape z found (Finding.syntax_at place) e h =
@@ -93,7 +108,7 @@ says_next : (c : Category) (stop : Option ℕ) (end : ℕ) (front : List Piece) 
     (shape : Shape) (found : Option OverLimit) (r : Option Shape) (behind : Shape → Finding)
     → next shape (kind_of piece.token) ≡ r → follow_pieces front (first_shape c) ≡ Some shape
     → ((z : Shape) → follow_pieces (front ++ (piece ∷ [])) (first_shape c) ≡ Some z
-      → Says c stop end (front ++ (piece ∷ [])) pieces z (or_else found (over_at piece (level_of shape (kind_of piece.token)))) (behind z))
+      → Says c stop end (front ++ (piece ∷ [])) pieces z (or_else found (seen_over (seen_of piece) (level_of shape (kind_of piece.token)))) (behind z))
     → Says c stop end front (piece ∷ pieces) shape found (found_at r piece.start behind)
 says_next c stop end front piece pieces shape found None behind n e go =
     GoesWrong.at_token front piece pieces refl (taken_begins c (tokens_of front) shape e)
@@ -106,14 +121,14 @@ says_next c stop end front piece pieces shape found (Some z) behind n e go =
 -- what is found in the pieces behind others is so
 pub says : (c : Category) (stop : Option ℕ) (end : ℕ) (pieces front : List Piece) (shape : Shape) (found : Option OverLimit)
     → follow_pieces front (first_shape c) ≡ Some shape
-    → Says c stop end front pieces shape found (findings pieces stop end shape found)
+    → Says c stop end front pieces shape found (findings (map seen_of pieces) stop end shape found)
 says c stop end [] front shape found e = says_end c stop end front shape found e
 says c stop end (piece ∷ pieces) front shape found e =
     says_next c stop end front piece pieces shape found (next shape (kind_of piece.token))
-      (λ z. findings pieces stop end z (or_else found (over_at piece (level_of shape (kind_of piece.token)))))
+      (λ z. findings (map seen_of pieces) stop end z (or_else found (seen_over (seen_of piece) (level_of shape (kind_of piece.token)))))
       refl e
       (λ z f. says c stop end pieces (front ++ (piece ∷ [])) z
-        (or_else found (over_at piece (level_of shape (kind_of piece.token)))) f)
+        (or_else found (seen_over (seen_of piece) (level_of shape (kind_of piece.token)))) f)
 
 -- what a finding says of all pieces of a text
 abbrev pub Means : Category → List Piece → Option ℕ → ℕ → Finding → Type 0
@@ -141,6 +156,6 @@ means_if c pieces stop end shape (Finding.over o) e h =
 
 -- what is found in all pieces of a text is so
 pub found_means : (c : Category) (pieces : List Piece) (stop : Option ℕ) (end : ℕ) (shape : Shape) → first_shape c ≡ Some shape
-    → Means c pieces stop end (findings pieces stop end shape None)
+    → Means c pieces stop end (findings (map seen_of pieces) stop end shape None)
 found_means c pieces stop end shape e =
-    means_if c pieces stop end shape (findings pieces stop end shape None) e (says c stop end pieces [] shape None e)
+    means_if c pieces stop end shape (findings (map seen_of pieces) stop end shape None) e (says c stop end pieces [] shape None e)

@@ -26,8 +26,3 @@ pub goes_opens : {a z : State} {ks : List Token} {ls : List ℕ} → Goes a ks l
 goes_opens there = refl
 goes_opens (by {s = s} {k = k} {ks = ks} {l = l} e o p) =
     ap (λ n. n ∷ trace ks (step s k)) o ∙ ap (λ r. l ∷ trace ks r) e ∙ ap (λ r. l ∷ r) (goes_opens p)
-
--- it opens one for each token
-pub goes_evenly : {a z : State} {ks : List Token} {ls : List ℕ} → Goes a ks ls z → length ls ≡ length ks
-goes_evenly there = refl
-goes_evenly (by e o p) = ap suc (goes_evenly p)

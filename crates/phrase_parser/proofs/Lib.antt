@@ -25,3 +25,8 @@ mod Recognized
 mod Checked
 pub mod PieceFacts
 pub mod LexedTexts
+mod KeptNumbers
+mod Simulation
+mod Recognized
+mod Checked
+mod Found

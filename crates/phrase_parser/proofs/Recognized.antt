@@ -13,7 +13,7 @@ use Rattle.phrase_parser.specs.Machine.{Stack, Role, State, step, step_if, run, 
 use Rattle.phrase_parser.specs.Trace.{opens, opens_by_role, opens_before, opens_behind, trace, depth}
 use Rattle.phrase_parser.specs.Recognizer
 use Rattle.phrase_parser.specs.Recognizer.{Kind, kind_of, Shape, next, next_if, follow, first_shape, may_end, level_of, follow_levels}
-use Rattle.phrase_parser.proofs.Completeness.{run_none, complete, traced_over}
+use Rattle.phrase_parser.proofs.Completeness.{run_none, complete, traced_over, alive}
 use Rattle.phrase_parser.proofs.Consumed.{Sound}
 use Rattle.phrase_parser.proofs.Soundness.{AfterIf, step_after, has_read, IsFreshIf, start_fresh}
 use Rattle.phrase_parser.proofs.Viable.{viable, stopped, sound, no_form}
@@ -23,7 +23,8 @@ use Rattle.phrase_parser.proofs.Simulation.{use_of, last_of, shape_of, shape_if,
 abbrev pub kinds_of : List Token → List Kind
 kinds_of ks = map kind_of ks
 
-follow_none : (kinds : List Kind) → follow kinds None ≡ None
+-- what stopped stays so
+pub follow_none : (kinds : List Kind) → follow kinds None ≡ None
 follow_none [] = refl
 follow_none (kind ∷ kinds) = follow_none kinds
 
@@ -213,3 +214,16 @@ levels_over c pieces p h =
     ap (λ o. first_over pieces (follow_levels (kinds_of ks) o)) (first_as c)
     ∙ ap (first_over pieces) (first_levels c (start c) ks r.0 (start_fresh c) r.1)
     ∙ traced_over c pieces p h
+
+-- tokens that begin a phrase are taken
+pub begins_taken : (c : Category) (ks : List Token) → Begins c ks
+    → (shape : Shape) × (follow (kinds_of ks) (first_shape c) ≡ Some shape)
+begins_taken c ks h = let r = alive c ks h in (shape_of r.0, follows_start c ks ∙ ap shape_if r.1)
+
+-- a phrase is taken, and may end
+pub form_taken : (c : Category) (ks : List Token) (p : Reading) → Form c ks p
+    → (shape : Shape) × (follow (kinds_of ks) (first_shape c) ≡ Some shape) × (may_end shape ≡ true)
+form_taken c ks p h =
+    let r = state_ended (run ks (start c)) p (complete c ks p h) in
+    let e : follow (kinds_of ks) (first_shape c) ≡ Some (shape_of r.0) = follows_start c ks ∙ ap shape_if r.1 in
+    (shape_of r.0, e, ended_as c ks (shape_of r.0) e ∙ ap is_some (complete c ks p h))

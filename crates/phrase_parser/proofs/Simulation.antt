@@ -1,5 +1,5 @@
 -- The machine without trees does as the machine with trees.
-use Rattle.std.proofs.Common.{◌≡◌, refl, ℕ, ◌+◌, ◌≤◌, Bool, true, false, cond, leb, ◌&&◌, List, [], ◌∷◌, Option, Some, None, is_some, ap, ap₂, sym, ◌∙◌, arith, le_refl}
+use Rattle.std.proofs.Common.{◌≡◌, refl, ℕ, ◌+◌, ◌≤◌, Bool, true, false, cond, leb, ◌&&◌, List, [], ◌∷◌, Option, Some, None, is_some, ap, ap₂, sym, ◌∙◌, arith, le_refl, lit≤, min}
 use Rattle.std.proofs.lemmas.Bool.{cond_both, not-true}
 use Rattle.plcs_grammar.specs.declared.operator.PrefixOp.{PrefixOp}
 use Rattle.plcs_grammar.specs.declared.operator.InfixOp.{InfixOp}
@@ -14,7 +14,8 @@ use Rattle.phrase_parser.specs.Machine
 use Rattle.phrase_parser.specs.Machine.{Base, Stack, Role, State, Operand, reduced, joined, step, step_if, run, start, ended, ended_at, builtin_of, prefix_of, infix_of}
 use Rattle.phrase_parser.specs.Trace.{base_depth, depth}
 use Rattle.phrase_parser.specs.Recognizer
-use Rattle.phrase_parser.specs.Recognizer.{Kind, kind_of, Ground, ground_level, Bracket, Last, Use, Shape, inside, next, next_if, follow, first_shape, may_end, may_end_in, level_of, follow_levels, next_close_in, next_comma_in}
+use Rattle.phrase_parser.specs.Recognizer.{greatest_kept, Kind, kind_of, Ground, ground_level, Bracket, Last, Use, Shape, inside, next, next_if, follow, first_shape, may_end, may_end_in, level_of, follow_levels, next_close_in, next_comma_in}
+use Rattle.phrase_parser.proofs.KeptNumbers.{kept_from, kept_to}
 use Rattle.phrase_parser.proofs.BuiltinNames.{builtin_missing, builtin_known}
 use Rattle.phrase_parser.proofs.Arrival.{above_none, below_tightest}
 use Rattle.phrase_parser.proofs.Consumed.{hole, SoundStack, Sound}
@@ -252,13 +253,16 @@ sim_name (State.wanted s) name = refl
 sim_name (State.name_wanted role) name = refl
 sim_name s name = refl
 
-if_shape : (b : Bool) (s : State) → cond b (Some (shape_of s)) None ≡ shape_if (cond b (Some s) None)
-if_shape true s = refl
-if_shape false s = refl
+if_shape : (a b : Bool) (s : State) → a ≡ b → cond a (Some (shape_of s)) None ≡ shape_if (cond b (Some s) None)
+if_shape a true s e = ap (λ z. cond z (Some (shape_of s)) None) e
+if_shape a false s e = ap (λ z. cond z (Some (shape_of s)) None) e
 
-sim_number : (s : State) (n : ℕ) → Recognizer.next_number (shape_of s) n ≡ shape_if (Machine.numbered s n)
-sim_number (State.size_wanted done name) n = if_shape (leb 1 n) (State.size_had done name n)
-sim_number State.length_wanted n = if_shape (leb 1 n && leb n 256) (State.length_had n)
+sim_number : (s : State) (n : ℕ) → Recognizer.next_number (shape_of s) (min n greatest_kept) ≡ shape_if (Machine.numbered s n)
+sim_number (State.size_wanted done name) n =
+    if_shape (leb 1 (min n greatest_kept)) (leb 1 n) (State.size_had done name n) (kept_from n 1 (lit≤ tt))
+sim_number State.length_wanted n =
+    if_shape (leb 1 (min n greatest_kept) && leb (min n greatest_kept) 256) (leb 1 n && leb n 256) (State.length_had n)
+      (ap₂ (λ a b. a && b) (kept_from n 1 (lit≤ tt)) (kept_to n 256 (lit≤ tt)))
 sim_number s n = refl
 
 sim_constant : (s : State) (t : Tree) → last_of 0 t ≡ Last.operand → ((d : ℕ) → last_of d t ≡ Last.operand)

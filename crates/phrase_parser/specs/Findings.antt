@@ -1,8 +1,8 @@
 -- What the check of the tokens of a text finds, without trees.
-use Rattle.std.specs.Prelude.{ℕ, if◌then◌else◌, List, [], ◌∷◌, Option, Some, None}
+use Rattle.std.specs.Prelude.{ℕ, Bool, false, nat_lt, if◌then◌else◌, List, [], ◌∷◌, Option, Some, None}
 use Rattle.plcs_grammar.specs.Cuts.{Piece}
-use Rattle.plcs_grammar.specs.Limit.{OverLimit, over_at, or_else}
-use Rattle.phrase_parser.specs.Recognizer.{Shape, kind_of, next, may_end, level_of}
+use Rattle.plcs_grammar.specs.Limit.{greatest_number, greatest_nesting, OverLimit, or_else}
+use Rattle.phrase_parser.specs.Recognizer.{Kind, Shape, kind_of, next, may_end, level_of}
 
 -- nothing, the place where the text goes wrong, or what goes past a limit first
 pub data Finding : Type 0 where
@@ -25,10 +25,31 @@ abbrev pub found_at : Option Shape → ℕ → (Shape → Finding) → Finding
 found_at None place behind = syntax_at place
 found_at (Some shape) place behind = behind shape
 
--- what is found in the pieces that follow a shape, where this is the first that went past a limit before them; the text
--- is cut up to its end, or up to a place where no token can be made
-abbrev pub findings : List Piece → Option ℕ → ℕ → Shape → Option OverLimit → Finding
+-- a token where it stands
+pub record Seen : Type 0 where
+  pub kind : Kind
+  pub start : ℕ
+
+abbrev pub seen_of : Piece → Seen
+seen_of piece = record { kind = kind_of piece.token; start = piece.start }
+
+abbrev pub is_large : Kind → Bool
+is_large (Kind.number n) = nat_lt greatest_number n
+is_large (Kind.name is_builtin) = false
+is_large Kind.keyword = false
+is_large Kind.constant = false
+is_large (Kind.sign s) = false
+
+-- whether the token, which opens the level, goes past a limit
+abbrev pub seen_over : Seen → ℕ → Option OverLimit
+seen_over seen level =
+    if is_large seen.kind then Some (OverLimit.number_too_large seen.start)
+    else (if nat_lt greatest_nesting level then Some (OverLimit.too_deep seen.start) else None)
+
+-- what is found in the tokens that follow a shape, where this went past a limit first before them; the text is cut up to
+-- its end, or up to a place where no token can be made
+abbrev pub findings : List Seen → Option ℕ → ℕ → Shape → Option OverLimit → Finding
 findings [] stop end shape found = found_at_end stop end shape found
-findings (piece ∷ pieces) stop end shape found =
-    found_at (next shape (kind_of piece.token)) piece.start
-      (λ z. findings pieces stop end z (or_else found (over_at piece (level_of shape (kind_of piece.token)))))
+findings (seen ∷ rest) stop end shape found =
+    found_at (next shape seen.kind) seen.start
+      (λ z. findings rest stop end z (or_else found (seen_over seen (level_of shape seen.kind))))

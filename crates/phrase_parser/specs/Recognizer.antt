@@ -1,5 +1,5 @@
 -- The machine without trees: it tells which tokens can stand where, whether a phrase may end, and which levels are opened.
-use Rattle.std.specs.Prelude.{ℕ, ◌+◌, Bool, true, false, ◌&&◌, nat_le, if◌then◌else◌, List, [], ◌∷◌, Option, Some, None}
+use Rattle.std.specs.Prelude.{ℕ, ◌+◌, min, Bool, true, false, ◌&&◌, nat_le, if◌then◌else◌, List, [], ◌∷◌, Option, Some, None}
 use Rattle.plcs_grammar.specs.declared.operator.PrefixOp.{PrefixOp}
 use Rattle.plcs_grammar.specs.declared.operator.InfixOp.{InfixOp}
 use Rattle.plcs_grammar.specs.declared.category.Category.{Category}
@@ -9,7 +9,7 @@ use Rattle.plcs_grammar.specs.Token.{Token}
 use Rattle.plcs_grammar.specs.Builtin.{is_builtin_name}
 use Rattle.phrase_parser.specs.Machine.{prefix_of, infix_of}
 
--- what is looked at of a token: whether a name is a built-in function's, the number, the sign
+-- what is looked at of a token: whether a name is a built-in function's, the number as it is kept, the sign
 pub data Kind : Type 0 where
   name : Bool → Kind
   keyword : Kind
@@ -17,10 +17,14 @@ pub data Kind : Type 0 where
   constant : Kind
   sign : Sign → Kind
 
+-- a number is kept up to this one
+abbrev pub greatest_kept : ℕ
+greatest_kept = 4294967295
+
 abbrev pub kind_of : Token → Kind
 kind_of (Token.name n) = name (is_builtin_name n)
 kind_of (Token.keyword word) = keyword
-kind_of (Token.number n) = number n
+kind_of (Token.number n) = number (min n greatest_kept)
 kind_of (Token.text value) = constant
 kind_of (Token.bit value) = constant
 kind_of (Token.sign s) = sign s
