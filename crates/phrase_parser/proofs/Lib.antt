@@ -16,9 +16,7 @@ pub mod Longest
 pub mod OneCut
 pub mod CutSoFar
 mod Limits
-mod WrongPlaces
 mod OneAnswer
-mod VerdictSays
 mod Trimming
 mod Simulation
 mod Recognized
@@ -26,7 +24,5 @@ mod Checked
 pub mod PieceFacts
 pub mod LexedTexts
 mod KeptNumbers
-mod Simulation
-mod Recognized
-mod Checked
 mod Found
+mod FindingSays

@@ -1,7 +1,7 @@
 -- What the answers say of a text excludes each other.
-use Rattle.std.proofs.Common.{◌≡◌, ◌⊎◌, inl, inr, refl, ℕ, List, [], ◌∷◌, ◌++◌, Option, Some, None, Result, Ok, Err, ap, sym, subst, ◌∙◌, length}
+use Rattle.std.proofs.Common.{◌≡◌, ◌⊎◌, inl, inr, refl, ℕ, List, [], ◌∷◌, ◌++◌, Option, Some, None, Result, Ok, Err, ap, sym, subst, ◌∙◌, length, map}
 use Rattle.plcs_grammar.specs.declared.category.Category.{Category}
-use Rattle.plcs_grammar.specs.declared.category.Category.TheVariants.{CommentText}
+use Rattle.plcs_grammar.specs.declared.category.Category.TheVariants.{Assignment, Condition, Expression, ExpressionList, VariableList, Variable, CallRef, DeclaredList, ProcedureName, NameList, Length, CommentText}
 use Rattle.plcs_grammar.specs.declared.phrase.Phrase.{Phrase}
 use Rattle.plcs_grammar.specs.Token.{Token}
 use Rattle.plcs_grammar.specs.Reading.{Reading}
@@ -15,12 +15,13 @@ use Rattle.plcs_grammar.specs.Syntax.{GoesWrong, SyntaxAt}
 use Rattle.phrase_parser.specs.declared.fault.PhraseFault.{PhraseFault}
 use Rattle.phrase_parser.specs.declared.fault.PhraseFault.TheVariants.{Syntax, NumberTooLarge, TooDeep, OutOfMemory}
 use Rattle.phrase_parser.specs.Machine.{run, start, ended_if}
-use Rattle.phrase_parser.specs.Verdict.{wrong_from}
+use Rattle.phrase_parser.specs.Recognizer.{Shape, first_shape}
+use Rattle.phrase_parser.specs.Findings.{Finding, seen_of, findings}
 use Rattle.phrase_parser.specs.Answers.{FaultSays, Answers, Only, OnlyFault, over_fault}
 use Rattle.phrase_parser.proofs.OneCut.{one_cut}
 use Rattle.phrase_parser.proofs.Completeness.{complete, unique, run_none, alive}
 use Rattle.phrase_parser.proofs.Limits.{within}
-use Rattle.phrase_parser.proofs.WrongPlaces.{wrong_found}
+use Rattle.phrase_parser.proofs.Found.{finds_wrong}
 
 -- no tokens are the phrase of a comment, or begin one
 comment_no_form : (c : Category) (ks : List Token) (p : Reading) → c ≡ CommentText → Form c ks p → ⊥
@@ -37,6 +38,20 @@ comment_not_wrong : (c : Category) (pieces : List Piece) (end : ℕ) (stop : Opt
 comment_not_wrong c pieces end stop _ e (GoesWrong.at_token front piece back whole b n) = comment_no_begins c (tokens_of front) e b
 comment_not_wrong c pieces end _ _ e (GoesWrong.at_byte at b) = comment_no_begins c (tokens_of pieces) e b
 comment_not_wrong c pieces end _ _ e (GoesWrong.at_end b n) = comment_no_begins c (tokens_of pieces) e b
+
+no_shape : (c : Category) → first_shape c ≡ None → c ≡ CommentText
+no_shape Assignment e = absurd (cc)
+no_shape Condition e = absurd (cc)
+no_shape Expression e = absurd (cc)
+no_shape ExpressionList e = absurd (cc)
+no_shape VariableList e = absurd (cc)
+no_shape Variable e = absurd (cc)
+no_shape CallRef e = absurd (cc)
+no_shape DeclaredList e = absurd (cc)
+no_shape ProcedureName e = absurd (cc)
+no_shape NameList e = absurd (cc)
+no_shape Length e = absurd (cc)
+no_shape CommentText e = refl
 
 -- a text is cut as one phrase
 one_phrase : (c : Category) (x : List ℕ) (ps qs : List Piece) (p q : Reading) → IsCutAs c x ps p → IsCutAs c x qs q → p ≡ q
@@ -77,15 +92,22 @@ reads_outline c x p h = (p, h.0)
 pub over_outline : (c : Category) (x : List ℕ) (f : OverLimit) → IsOver c x f → Outline c x
 over_outline c x f (ps, p, a, e) = (p, inl (ps, a))
 
--- a text goes wrong at one place
+-- the pieces of a text go wrong at one place
+one_place : (c : Category) (ps qs : List Piece) (s t : Option ℕ) (end a b : ℕ) (shape : Option Shape) → first_shape c ≡ shape
+    → ps ≡ qs → s ≡ t → GoesWrong c ps end s a → GoesWrong c qs end t b → a ≡ b
+one_place c ps qs s t end a b None e p k g h = absurd (comment_not_wrong c ps end s a (no_shape c e) g)
+one_place c ps qs s t end a b (Some shape) e p k g h =
+    let first = finds_wrong c ps s end shape a e g in
+    let second = finds_wrong c qs t end shape b e h in
+    let joined : findings (map seen_of ps) s end shape None ≡ findings (map seen_of qs) t end shape None =
+        ap (λ z. findings (map seen_of z) s end shape None) p ∙ ap (λ z. findings (map seen_of qs) z end shape None) k in
+    let same : Finding.syntax_at a ≡ Finding.syntax_at b = sym first ∙ joined ∙ second in
+    cc
+
 pub one_wrong : (c : Category) (x : List ℕ) (a b : ℕ) → SyntaxAt c x a → SyntaxAt c x b → a ≡ b
 one_wrong c x a b (inl (ps, s, cut, g)) (inl (qs, t, other, h)) =
     let same = one_cut ps qs 0 x s t cut other in
-    let first = wrong_found c ps 0 s (length x) a g in
-    let second = wrong_found c qs 0 t (length x) b h in
-    let joined : wrong_from ps (start c) 0 s (length x) ≡ wrong_from qs (start c) 0 t (length x) =
-        ap (λ z. wrong_from z (start c) 0 s (length x)) same.0 ∙ ap (λ z. wrong_from qs (start c) 0 z (length x)) same.1 in
-    cc
+    one_place c ps qs s t (length x) a b (first_shape c) refl same.0 same.1 g h
 one_wrong c x a b (inl (ps, s, cut, g)) (inr k) = absurd (comment_not_wrong c ps (length x) s a k.0 g)
 one_wrong c x a b (inr k) (inl (qs, t, other, h)) = absurd (comment_not_wrong c qs (length x) t b k.0 h)
 one_wrong c x a b (inr j) (inr k) = let e = sym j.1 ∙ k.1 in cc

@@ -4,6 +4,5 @@ pub mod Kept
 pub mod Front
 pub mod Unquoted
 pub mod Answers
-pub mod Verdict
 pub mod Recognizer
 pub mod Findings
