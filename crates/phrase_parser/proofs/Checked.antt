@@ -43,7 +43,7 @@ seen_large (Token.sign sign) = refl
 pub seen_as : (piece : Piece) (level : ℕ) → seen_over (seen_of piece) level ≡ over_at piece level
 seen_as piece level =
     ap (λ b. cond b (Some (OverLimit.number_too_large piece.start)) (cond (ltb greatest_nesting level) (Some (OverLimit.too_deep piece.start)) None))
-      (seen_large piece.token)
+    (seen_large piece.token)
 
 -- the pieces lead from the shape to one that may end, and this goes past a limit first
 pub record Ends (pieces : List Piece) (stop : Option ℕ) (shape : Shape) (found first : Option OverLimit) : Type 0 where
@@ -75,9 +75,9 @@ says_end c (Some stop) end front shape found e =
     GoesWrong.at_byte stop (begins_all c front (taken_begins c (tokens_of front) shape e))
 says_end c None end front shape found e =
     cond_both (may_end shape) (finding_of found) (Finding.syntax_at end) (Says c None end front [] shape found)
-      (λ m. says_found c end front shape found m)
-      (λ m. GoesWrong.at_end (begins_all c front (taken_begins c (tokens_of front) shape e))
-        (λ p f. part_form c (tokens_of front) shape e m p (subst (λ z. Form c (tokens_of z) p) (append-nil front) f)))
+    (λ m. says_found c end front shape found m)
+    (λ m. GoesWrong.at_end (begins_all c front (taken_begins c (tokens_of front) shape e))
+    (λ p f. part_form c (tokens_of front) shape e m p (subst (λ z. Form c (tokens_of z) p) (append-nil front) f)))
 
 ends_more : (piece : Piece) (pieces : List Piece) (stop : Option ℕ) (shape z : Shape) (found first : Option OverLimit)
     → next shape (kind_of piece.token) ≡ Some z
@@ -89,7 +89,7 @@ ends_more piece pieces stop shape z found first e h = record {
   leads = ap (follow_pieces pieces) e ∙ h.leads;
   may = h.may;
   over = ap (λ o. or_else found (or_else o (over_pieces pieces (next shape (kind_of piece.token)))))
-        (sym (seen_as piece (level_of shape (kind_of piece.token))))
+      (sym (seen_as piece (level_of shape (kind_of piece.token))))
       ∙ ap (λ o. or_else found (or_else (seen_over (seen_of piece) (level_of shape (kind_of piece.token))) (over_pieces pieces o))) e
       ∙ sym (or_else_assoc found (seen_over (seen_of piece) (level_of shape (kind_of piece.token))) (over_pieces pieces (Some z)))
       ∙ h.over;
@@ -108,15 +108,15 @@ says_next : (c : Category) (stop : Option ℕ) (end : ℕ) (front : List Piece) 
     (shape : Shape) (found : Option OverLimit) (r : Option Shape) (behind : Shape → Finding)
     → next shape (kind_of piece.token) ≡ r → follow_pieces front (first_shape c) ≡ Some shape
     → ((z : Shape) → follow_pieces (front ++ (piece ∷ [])) (first_shape c) ≡ Some z
-      → Says c stop end (front ++ (piece ∷ [])) pieces z (or_else found (seen_over (seen_of piece) (level_of shape (kind_of piece.token)))) (behind z))
+    → Says c stop end (front ++ (piece ∷ [])) pieces z (or_else found (seen_over (seen_of piece) (level_of shape (kind_of piece.token)))) (behind z))
     → Says c stop end front (piece ∷ pieces) shape found (found_at r piece.start behind)
 says_next c stop end front piece pieces shape found None behind n e go =
     GoesWrong.at_token front piece pieces refl (taken_begins c (tokens_of front) shape e)
-      (refused_begins c (tokens_of (front ++ (piece ∷ [])))
-        (follow_last front piece (first_shape c) ∙ ap (λ s. next_if s (kind_of piece.token)) e ∙ n))
+    (refused_begins c (tokens_of (front ++ (piece ∷ [])))
+    (follow_last front piece (first_shape c) ∙ ap (λ s. next_if s (kind_of piece.token)) e ∙ n))
 says_next c stop end front piece pieces shape found (Some z) behind n e go =
     says_more c stop end front piece pieces shape z found (behind z) n
-      (go z (follow_last front piece (first_shape c) ∙ ap (λ s. next_if s (kind_of piece.token)) e ∙ n))
+    (go z (follow_last front piece (first_shape c) ∙ ap (λ s. next_if s (kind_of piece.token)) e ∙ n))
 
 -- what is found in the pieces behind others is so
 pub says : (c : Category) (stop : Option ℕ) (end : ℕ) (pieces front : List Piece) (shape : Shape) (found : Option OverLimit)
@@ -125,10 +125,10 @@ pub says : (c : Category) (stop : Option ℕ) (end : ℕ) (pieces front : List P
 says c stop end [] front shape found e = says_end c stop end front shape found e
 says c stop end (piece ∷ pieces) front shape found e =
     says_next c stop end front piece pieces shape found (next shape (kind_of piece.token))
-      (λ z. findings (map seen_of pieces) stop end z (or_else found (seen_over (seen_of piece) (level_of shape (kind_of piece.token)))))
-      refl e
-      (λ z f. says c stop end pieces (front ++ (piece ∷ [])) z
-        (or_else found (seen_over (seen_of piece) (level_of shape (kind_of piece.token)))) f)
+    (λ z. findings (map seen_of pieces) stop end z (or_else found (seen_over (seen_of piece) (level_of shape (kind_of piece.token)))))
+    refl e
+    (λ z f. says c stop end pieces (front ++ (piece ∷ [])) z
+    (or_else found (seen_over (seen_of piece) (level_of shape (kind_of piece.token)))) f)
 
 -- what a finding says of all pieces of a text
 abbrev pub Means : Category → List Piece → Option ℕ → ℕ → Finding → Type 0

@@ -50,9 +50,9 @@ no_outline : (c : Category) (x : List ℕ) (pieces : List Piece) (stop : Option 
 no_outline c x pieces stop shape place e cut h (p, inl (qs, q)) =
     let same = one_cut pieces qs 0 x stop None cut q.cuts in
     let wrong : findings (map seen_of qs) None (length x) shape None ≡ Finding.syntax_at place =
-        ap (λ z. findings (map seen_of qs) z (length x) shape None) (sym same.1)
-        ∙ ap (λ z. findings (map seen_of z) stop (length x) shape None) (sym same.0)
-        ∙ finds_wrong c pieces stop (length x) shape place e h in
+    ap (λ z. findings (map seen_of qs) z (length x) shape None) (sym same.1)
+    ∙ ap (λ z. findings (map seen_of z) stop (length x) shape None) (sym same.0)
+    ∙ finds_wrong c pieces stop (length x) shape place e h in
     form_found c qs (length x) place shape p (first_over qs (phrase_opened p)) e q.form refl wrong
 no_outline c x pieces stop shape place e cut h (p, inr k) =
     let a = sym e ∙ ap first_shape k.category_is in absurd (cc)

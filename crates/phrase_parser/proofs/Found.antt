@@ -34,9 +34,9 @@ comes_next piece front rest stop end shape z found (Some y) n e go =
     ap (λ w. found_at w piece.start (λ x. findings (map seen_of (front ++ rest)) stop end x (or_else found (seen_over (seen_of piece) level)))) n
     ∙ go y (or_else found (seen_over (seen_of piece) level)) e
     ∙ ap (λ o. findings (map seen_of rest) stop end z o)
-        (or_else_assoc found (seen_over (seen_of piece) level) (over_pieces front (Some y))
-          ∙ ap (λ o. or_else found (or_else o (over_pieces front (Some y)))) (seen_as piece level)
-          ∙ sym (ap (λ w. or_else found (or_else (over_at piece level) (over_pieces front w))) n))
+    (or_else_assoc found (seen_over (seen_of piece) level) (over_pieces front (Some y))
+    ∙ ap (λ o. or_else found (or_else o (over_pieces front (Some y)))) (seen_as piece level)
+    ∙ sym (ap (λ w. or_else found (or_else (over_at piece level) (over_pieces front w))) n))
 
 comes : (front rest : List Piece) (stop : Option ℕ) (end : ℕ) (shape z : Shape) (found : Option OverLimit)
     → follow_pieces front (Some shape) ≡ Some z → Comes front rest stop end shape z found
@@ -46,7 +46,7 @@ comes [] rest stop end shape z found e =
     ∙ ap (λ o. findings (map seen_of rest) stop end z o) (none_behind found)
 comes (piece ∷ front) rest stop end shape z found e =
     comes_next piece front rest stop end shape z found (next shape (kind_of piece.token)) refl e
-      (λ y o f. comes front rest stop end y z o f)
+    (λ y o f. comes front rest stop end y z o f)
 
 comes_all : (pieces : List Piece) (stop : Option ℕ) (end : ℕ) (shape z : Shape) → follow_pieces pieces (Some shape) ≡ Some z
     → findings (map seen_of pieces) stop end shape None ≡ found_at_end stop end z (over_pieces pieces (Some shape))
@@ -87,8 +87,8 @@ pub finds_wrong : (c : Category) (pieces : List Piece) (stop : Option ℕ) (end 
 finds_wrong c pieces stop end shape place e (GoesWrong.at_token front piece back is begins ends) =
     let r = begins_taken c (tokens_of front) begins in
     let dead = λ (y : Shape) (n : next r.0 (kind_of piece.token) ≡ Some y).
-        ends (taken_begins c (tokens_of (front ++ (piece ∷ []))) y
-          (follow_last front piece (first_shape c) ∙ ap (λ s. next_if s (kind_of piece.token)) r.1 ∙ n)) in
+    ends (taken_begins c (tokens_of (front ++ (piece ∷ []))) y
+    (follow_last front piece (first_shape c) ∙ ap (λ s. next_if s (kind_of piece.token)) r.1 ∙ n)) in
     ap (λ ps. findings (map seen_of ps) stop end shape None) is
     ∙ comes front (piece ∷ back) stop end shape r.0 None (sym (ap (follow_pieces front) e) ∙ r.1)
     ∙ finds_token piece back stop end r.0 (over_pieces front (Some shape)) (next r.0 (kind_of piece.token)) refl dead
@@ -98,6 +98,6 @@ finds_wrong c pieces stop end shape place e (GoesWrong.at_byte at begins) =
 finds_wrong c pieces stop end shape place e (GoesWrong.at_end begins none) =
     let r = begins_taken c (tokens_of pieces) begins in
     let part : may_end r.0 ≡ false = false_from_ne_true (may_end r.0)
-        (λ m. let f = whole_form c (tokens_of pieces) r.0 r.1 m in none f.0 f.1) in
+    (λ m. let f = whole_form c (tokens_of pieces) r.0 r.1 m in none f.0 f.1) in
     comes_all pieces None end shape r.0 (sym (ap (follow_pieces pieces) e) ∙ r.1)
     ∙ cond-false (may_end r.0) (finding_of (over_pieces pieces (Some shape))) (Finding.syntax_at end) part

@@ -24,7 +24,7 @@ use Rattle.phrase_parser.proofs.Limits.{within}
 use Rattle.phrase_parser.proofs.Found.{finds_wrong}
 
 -- no tokens are the phrase of a comment, or begin one
-comment_no_form : (c : Category) (ks : List Token) (p : Reading) → c ≡ CommentText → Form c ks p → ⊥
+pub comment_no_form : (c : Category) (ks : List Token) (p : Reading) → c ≡ CommentText → Form c ks p → ⊥
 comment_no_form c ks p e h =
     let a = ap (λ z. ended_if (run ks (start z))) (sym e) ∙ complete c ks p h in
     let b = run_none ks in
@@ -75,7 +75,7 @@ one_over c x f g (ps, p, a, e) (qs, q, b, k) =
     let cut = one_cut ps qs 0 x None None a.cuts b.cuts in
     let phrase = one_phrase c x ps qs p q a b in
     let same : first_over ps (phrase_opened p) ≡ first_over qs (phrase_opened q) =
-        ap (λ z. first_over z (phrase_opened p)) cut.0 ∙ ap (λ z. first_over qs (phrase_opened z)) phrase in
+    ap (λ z. first_over z (phrase_opened p)) cut.0 ∙ ap (λ z. first_over qs (phrase_opened z)) phrase in
     cc
 
 -- what reads goes past no limit
@@ -100,7 +100,7 @@ one_place c ps qs s t end a b (Some shape) e p k g h =
     let first = finds_wrong c ps s end shape a e g in
     let second = finds_wrong c qs t end shape b e h in
     let joined : findings (map seen_of ps) s end shape None ≡ findings (map seen_of qs) t end shape None =
-        ap (λ z. findings (map seen_of z) s end shape None) p ∙ ap (λ z. findings (map seen_of qs) z end shape None) k in
+    ap (λ z. findings (map seen_of z) s end shape None) p ∙ ap (λ z. findings (map seen_of qs) z end shape None) k in
     let same : Finding.syntax_at a ≡ Finding.syntax_at b = sym first ∙ joined ∙ second in
     cc
 

@@ -262,7 +262,7 @@ sim_number (State.size_wanted done name) n =
     if_shape (leb 1 (min n greatest_kept)) (leb 1 n) (State.size_had done name n) (kept_from n 1 (lit≤ tt))
 sim_number State.length_wanted n =
     if_shape (leb 1 (min n greatest_kept) && leb (min n greatest_kept) 256) (leb 1 n && leb n 256) (State.length_had n)
-      (ap₂ (λ a b. a && b) (kept_from n 1 (lit≤ tt)) (kept_to n 256 (lit≤ tt)))
+    (ap₂ (λ a b. a && b) (kept_from n 1 (lit≤ tt)) (kept_to n 256 (lit≤ tt)))
 sim_number s n = refl
 
 sim_constant : (s : State) (t : Tree) → last_of 0 t ≡ Last.operand → ((d : ℕ) → last_of d t ≡ Last.operand)

@@ -52,4 +52,4 @@ abbrev pub findings : List Seen → Option ℕ → ℕ → Shape → Option Over
 findings [] stop end shape found = found_at_end stop end shape found
 findings (seen ∷ rest) stop end shape found =
     found_at (next shape seen.kind) seen.start
-      (λ z. findings rest stop end z (or_else found (seen_over seen (level_of shape seen.kind))))
+    (λ z. findings rest stop end z (or_else found (seen_over seen (level_of shape seen.kind))))

@@ -2,6 +2,7 @@
 #![tactic(auto)]
 
 mod byte_class;
+mod comment;
 mod constant;
 mod fault;
 mod front;
@@ -10,5 +11,7 @@ mod lexer;
 mod lexer_tests;
 mod sign;
 mod token;
+mod uniqueness;
 
 pub use fault::PhraseFault;
+pub use uniqueness::one_reading;
