@@ -8,11 +8,22 @@ mod Completeness
 mod Consumed
 mod Soundness
 mod Viable
+pub mod Numerals
+pub mod Runs
+pub mod Quoted
+pub mod FoundTokens
+pub mod Longest
+pub mod OneCut
+pub mod CutSoFar
 mod Limits
-mod KeptNumbers
+mod OneAnswer
+mod Trimming
 mod Simulation
 mod Recognized
 mod Checked
+pub mod PieceFacts
+pub mod LexedTexts
+mod KeptNumbers
 mod Found
 pub mod Numerals
 pub mod Runs
@@ -26,3 +37,4 @@ pub mod LexedTexts
 pub mod CanonicalTokens
 pub mod TrimmedTexts
 pub mod CanonicalText
+mod FindingSays

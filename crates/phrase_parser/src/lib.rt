@@ -2,7 +2,9 @@
 #![tactic(auto)]
 
 mod byte_class;
+mod comment;
 mod constant;
+mod fault;
 mod front;
 mod law;
 mod lexer;
@@ -12,3 +14,7 @@ mod sign;
 mod token;
 
 pub use law::canonical_text_reads;
+mod uniqueness;
+
+pub use fault::PhraseFault;
+pub use uniqueness::one_reading;
