@@ -18,6 +18,7 @@ use Rattle.phrase_parser.proofs.Spelling.{spell, spell_reference, spell_all, Fit
 use Rattle.phrase_parser.proofs.Phrases.{spell_more, spell_listed, EachFits, FitsListed, spell_name, AnyName, spell_sized, spell_item, FitsSize, FitsItem, spell_call, FitsCall, spell_phrase, FitsPhrase, form_spelled, form_from}
 use Rattle.phrase_parser.proofs.LexedTexts.{Lexed, Safe, lexed_empty, lexed_append, lexed_name, lexed_number, lexed_whole}
 use Rattle.phrase_parser.proofs.CanonicalTokens.{AllWritable, writable_split, small_number, number_ends_sign, list_ends_sign, lexed_called, lexed_behind_comma, lexed_behind_sign, inner_writable, canon_lexed, reference_lexed, list_lexed}
+use Rattle.phrase_parser.proofs.OneAnswer.{one_reading}
 use Rattle.phrase_parser.proofs.TrimmedTexts.{trimmed_again, trimmed_comment}
 
 -- the parts of the phrase keep what they have to, and its names, constants and numbers can be written
@@ -27,10 +28,12 @@ pub record IsWritable (phrase : Reading) : Type 0 where
 
 module _ {X : Type 0} (bytes_of : X → List ℕ) (f : X → List Token) (Fit : X → Type 0)
     (each : (x : X) → Fit x → AllWritable (f x) → (behind : List ℕ) → Safe behind → Lexed (bytes_of x) (f x) behind) where
+  -- behind an item stands a comma, or what stands behind all of them
   more_safe : (xs : List X) (behind : List ℕ) → Safe behind → Safe (more_joined bytes_of xs ++ behind)
   more_safe [] behind safe = safe
   more_safe (x ∷ xs) behind safe = refl
 
+  -- texts, each behind a comma
   more_lexed : (xs : List X) → EachFits Fit xs → AllWritable (spell_more f xs) → (behind : List ℕ) → Safe behind
       → Lexed (more_joined bytes_of xs) (spell_more f xs) behind
   more_lexed [] fits writable behind safe = lexed_empty behind
@@ -94,9 +97,11 @@ phrase_lexed (Reading.name_list names) fits writable behind safe =
 phrase_lexed (Reading.greatest_length n) fits writable behind safe = lexed_number n behind (small_number n writable.1) safe
 phrase_lexed (Reading.comment bytes) fits writable behind safe = absurd fits
 
+-- so it is for each phrase that can be written
 pub writable_lexed : (p : Reading) → IsWritable p → (behind : List ℕ) → Safe behind → Lexed (Canon p) (spell_phrase p) behind
 writable_lexed p writable behind safe = phrase_lexed p writable.fits writable.tokens behind safe
 
+-- sound tokens within the limits can be written
 sound_fine_writable : (tokens : List Token) (levels : List ℕ) → AllSound tokens → AllFine tokens levels → AllWritable tokens
 sound_fine_writable [] levels sound fine = tt
 sound_fine_writable (token ∷ tokens) [] sound fine = (sound.0, fine.0, sound_fine_writable tokens [] sound.1 fine.1)
@@ -113,6 +118,7 @@ cut_writable c x pieces p cut limits =
           (sound_fine_writable (tokens_of pieces) (phrase_opened p) (cut_sound pieces 0 x None cut.cuts) fine);
     }
 
+-- the canonical text of a phrase that is tokens is cut as the phrase
 cut_canonical : (c : Category) (x : List ℕ) (pieces : List Piece) (p : Reading) → IsCutAs c x pieces p → IsWithinLimits p
     → (others : List Piece) × IsCutAs c (Canon p) others p
 cut_canonical c x pieces p cut limits =
@@ -120,6 +126,7 @@ cut_canonical c x pieces p cut limits =
     let (others, cuts, same) = lexed_whole (Canon p) (spell_phrase p) (writable_lexed p writable [] refl) in
     (others, record { cuts = cuts; form = form_from c (tokens_of others) p cut.form.0 writable.fits same })
 
+-- the canonical text of a comment is its text
 comment_canonical : (c : Category) (x : List ℕ) (p : Reading) → IsCommentAs c x p → IsCommentAs c (Canon p) p
 comment_canonical c x p comment =
     subst (λ (q : Reading). IsCommentAs c (Canon q) q) (sym comment.phrase_is)
@@ -133,3 +140,8 @@ comment_canonical c x p comment =
 pub canonical_reads : (c : Category) (x : List ℕ) (p : Reading) → Reads c x p → Reads c (Canon p) p
 canonical_reads c x p (inl (pieces, cut), limits) = (inl (cut_canonical c x pieces p cut limits), limits)
 canonical_reads c x p (inr comment, limits) = (inr (comment_canonical c x p comment), limits)
+
+-- phrases with one canonical text are one phrase
+pub canonical_tells : (c : Category) (x y : List ℕ) (p q : Reading) → Reads c x p → Reads c y q → Canon p ≡ Canon q → p ≡ q
+canonical_tells c x y p q a b same =
+    one_reading c (Canon p) p q (canonical_reads c x p a) (subst (λ (z : List ℕ). Reads c z q) (sym same) (canonical_reads c y q b))

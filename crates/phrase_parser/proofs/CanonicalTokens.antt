@@ -35,12 +35,15 @@ writable_split (token ∷ front) back h =
     let further = writable_split front back h.2 in
     ((h.0, h.1, further.0), further.1)
 
+-- a number within the limit is one that can be written in decimal
 pub small_number : (n : ℕ) → n ≤ greatest_number → n < 2 ^ 64
 small_number n h = omega arith
 
+-- no letter is the second byte of a sign
 letter_no_sign : (byte : ℕ) → is_letter byte ≡ true → is_second byte ≡ false
 letter_no_sign byte h = grind (arith, nat_tests)
 
+-- no digit is one
 digit_no_sign : (byte : ℕ) → is_digit byte ≡ true → is_second byte ≡ false
 digit_no_sign byte h = grind (arith, nat_tests)
 
@@ -49,18 +52,21 @@ pub name_ends_sign : (name behind : List ℕ) → is_word name ≡ true → Ends
 name_ends_sign [] behind word = absurd (false≢true word)
 name_ends_sign (first ∷ rest) behind word = letter_no_sign first (and_parts (is_letter first) (list_all is_name_byte rest) word).0
 
+-- so do digits
 numeral_ends_sign : (digits behind : List ℕ) → IsNumeral digits → EndsSign (digits ++ behind)
 numeral_ends_sign [] behind numeral = absurd (omega (arith, numeral.0))
 numeral_ends_sign (first ∷ rest) behind numeral = digit_no_sign first (and_parts (is_digit first) (list_all is_digit rest) numeral.1).0
 
--- so does a number
+-- so does a number in decimal
 pub number_ends_sign : (n : ℕ) (behind : List ℕ) → n ≤ greatest_number → EndsSign (decimal n ++ behind)
 number_ends_sign n behind h = numeral_ends_sign (decimal n) behind (decimal_numeral n (small_number n h)).0
 
+-- so does a bit constant
 bit_ends_sign : (bit : Bool) (behind : List ℕ) → EndsSign (bit_bytes bit ++ behind)
 bit_ends_sign false behind = refl
 bit_ends_sign true behind = refl
 
+-- so does a sign before an operand
 prefix_ends_sign : (op : PrefixOp) (behind : List ℕ) → EndsSign (sign_bytes (prefix_sign op) ++ behind)
 prefix_ends_sign before.Plus behind = refl
 prefix_ends_sign before.Minus behind = refl
@@ -130,11 +136,12 @@ lexed_behind_sign s x tokens behind a =
     (lexed_append (sign_bytes s) (32 ∷ x) (Token.sign s ∷ []) tokens behind (lexed_sign s ((32 ∷ x) ++ behind) refl)
     (lexed_blank x tokens behind a))
 
+-- behind an expression in a list stands a comma, or what stands behind the list
 behind_safe : (ts : Trees) (behind : List ℕ) → Safe behind → Safe (canon_behind ts ++ behind)
 behind_safe Trees.nil behind safe = safe
 behind_safe (Trees.cons a rest) behind safe = refl
 
--- what is in parentheses
+-- what is in parentheses can be written where the whole can
 pub inner_writable : (tokens : List Token) → AllWritable (in_parentheses tokens) → AllWritable tokens
 inner_writable tokens h = (writable_split tokens (Token.sign Sign.close_parenthesis ∷ []) h.2).0
 
@@ -190,6 +197,7 @@ mutual
       (canon_lexed a 1 fits.0 parts.0 (canon_behind rest ++ behind) (behind_safe rest behind safe))
       (behind_lexed rest fits.1 parts.1 behind safe)
 
+  -- that of expressions, each behind a comma
   pub behind_lexed : (ts : Trees) → FitsBehind ts → AllWritable (spell_behind ts) → (behind : List ℕ) → Safe behind
       → Lexed (canon_behind ts) (spell_behind ts) behind
   behind_lexed Trees.nil fits writable behind safe = lexed_empty behind

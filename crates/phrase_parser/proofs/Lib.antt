@@ -25,16 +25,7 @@ pub mod PieceFacts
 pub mod LexedTexts
 mod KeptNumbers
 mod Found
-pub mod Numerals
-pub mod Runs
-pub mod Quoted
-pub mod FoundTokens
-pub mod Longest
-pub mod OneCut
-pub mod CutSoFar
-pub mod PieceFacts
-pub mod LexedTexts
+mod FindingSays
 pub mod CanonicalTokens
 pub mod TrimmedTexts
 pub mod CanonicalText
-mod FindingSays

@@ -28,6 +28,7 @@ front_begins test (byte ∷ rest) behind h = h
 unblanked_same : (x : List ℕ) → begins_with is_blank x ≡ false → unblanked x ≡ x
 unblanked_same x h = ap (λ (n : ℕ). drop n x) (run_none is_blank x h)
 
+-- a trimmed text begins with no blank
 trimmed_begins : (x : List ℕ) → begins_with is_blank (trimmed x) ≡ false
 trimmed_begins x =
     let first = trimmed_first x in

@@ -6,7 +6,4 @@ pub mod Unquoted
 pub mod Answers
 pub mod Recognizer
 pub mod Findings
-pub mod Kept
-pub mod Front
-pub mod Unquoted
 pub mod Laws

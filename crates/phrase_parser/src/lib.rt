@@ -12,9 +12,8 @@ mod lexer;
 mod lexer_tests;
 mod sign;
 mod token;
-
-pub use law::canonical_text_reads;
 mod uniqueness;
 
 pub use fault::PhraseFault;
+pub use law::{canonical_text_reads, canonical_text_tells};
 pub use uniqueness::one_reading;
