@@ -1,21 +1,18 @@
 -- The canonical text of a phrase reads as the phrase.
-use Rattle.std.proofs.Common.{◌≡◌, ◌⊎◌, inl, inr, ℕ, ◌≤◌, List, [], ◌∷◌, ◌++◌, Option, Some, None, refl, sym, ap, ◌∙◌, subst, arith}
+use Rattle.std.proofs.Common.{◌≡◌, inl, inr, ℕ, List, [], ◌∷◌, ◌++◌, Option, Some, None, refl, sym, ap, subst}
 use Rattle.std.specs.Prelude.{decimal}
 use Rattle.plcs_grammar.specs.declared.category.Category.{Category}
-use Rattle.plcs_grammar.specs.declared.item.Item.{Item}
 use Rattle.plcs_grammar.specs.Sign.{Sign}
 use Rattle.plcs_grammar.specs.Token.{Token}
-use Rattle.plcs_grammar.specs.Reading.{Trees, Reference, Reading}
+use Rattle.plcs_grammar.specs.Reading.{Trees, Reading}
 use Rattle.plcs_grammar.specs.Cuts.{Piece, tokens_of}
-use Rattle.plcs_grammar.specs.Level.{in_parentheses}
-use Rattle.plcs_grammar.specs.Comment.{trimmed}
-use Rattle.plcs_grammar.specs.Limit.{IsWithinLimits, phrase_opened, greatest_number}
+use Rattle.plcs_grammar.specs.Limit.{IsWithinLimits, phrase_opened}
 use Rattle.plcs_grammar.specs.Reads.{IsCutAs, IsCommentAs, Reads}
-use Rattle.plcs_grammar.specs.Canon.{canon, canon_reference, canon_list, parenthesized_bytes, more_joined, joined, canon_sized, canon_item, canon_call, Canon}
+use Rattle.plcs_grammar.specs.Canon.{canon, canon_reference, canon_list, more_joined, joined, canon_sized, canon_item, canon_call, Canon}
 use Rattle.phrase_parser.proofs.PieceFacts.{AllSound, cut_sound}
 use Rattle.phrase_parser.proofs.Limits.{AllFine, none_fine, within}
 use Rattle.phrase_parser.proofs.Spelling.{spell, spell_reference, spell_all, FitsReference}
-use Rattle.phrase_parser.proofs.Phrases.{spell_more, spell_listed, EachFits, FitsListed, spell_name, AnyName, spell_sized, spell_item, FitsSize, FitsItem, spell_call, FitsCall, spell_phrase, FitsPhrase, form_spelled, form_from}
+use Rattle.phrase_parser.proofs.Phrases.{spell_more, spell_listed, EachFits, FitsListed, spell_name, AnyName, spell_sized, spell_item, FitsItem, spell_call, FitsCall, spell_phrase, FitsPhrase, form_spelled, form_from}
 use Rattle.phrase_parser.proofs.LexedTexts.{Lexed, Safe, lexed_empty, lexed_append, lexed_name, lexed_number, lexed_whole}
 use Rattle.phrase_parser.proofs.CanonicalTokens.{AllWritable, writable_split, small_number, number_ends_sign, list_ends_sign, lexed_called, lexed_behind_comma, lexed_behind_sign, inner_writable, canon_lexed, reference_lexed, list_lexed}
 use Rattle.phrase_parser.proofs.OneAnswer.{one_reading}
@@ -107,7 +104,7 @@ sound_fine_writable [] levels sound fine = tt
 sound_fine_writable (token ∷ tokens) [] sound fine = (sound.0, fine.0, sound_fine_writable tokens [] sound.1 fine.1)
 sound_fine_writable (token ∷ tokens) (level ∷ levels) sound fine = (sound.0, fine.0, sound_fine_writable tokens levels sound.1 fine.2)
 
--- the phrase that the pieces of a text are within the limits can be written
+-- a phrase that a text is cut as, within the limits, can be written
 pub cut_writable : (c : Category) (x : List ℕ) (pieces : List Piece) (p : Reading) → IsCutAs c x pieces p → IsWithinLimits p → IsWritable p
 cut_writable c x pieces p cut limits =
     let form = form_spelled c (tokens_of pieces) p cut.form in
@@ -126,7 +123,7 @@ cut_canonical c x pieces p cut limits =
     let (others, cuts, same) = lexed_whole (Canon p) (spell_phrase p) (writable_lexed p writable [] refl) in
     (others, record { cuts = cuts; form = form_from c (tokens_of others) p cut.form.0 writable.fits same })
 
--- the canonical text of a comment is its text
+-- the canonical text of a comment is that of the comment
 comment_canonical : (c : Category) (x : List ℕ) (p : Reading) → IsCommentAs c x p → IsCommentAs c (Canon p) p
 comment_canonical c x p comment =
     subst (λ (q : Reading). IsCommentAs c (Canon q) q) (sym comment.phrase_is)

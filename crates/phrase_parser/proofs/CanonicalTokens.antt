@@ -1,15 +1,15 @@
 -- The canonical text of an expression is cut into the expression's tokens.
-use Rattle.std.proofs.Common.{◌≡◌, ℕ, ◌≤◌, ◌<◌, ◌^◌, pos, negsuc, Bool, true, false, List, [], ◌∷◌, ◌++◌, refl, sym, ap, ◌∙◌, subst, append_assoc, arith}
-use Rattle.std.specs.Prelude.{IsTrue, decimal}
+use Rattle.std.proofs.Common.{◌≡◌, ℕ, ◌≤◌, ◌<◌, ◌^◌, pos, negsuc, Bool, true, false, List, [], ◌∷◌, ◌++◌, refl, sym, subst, append_assoc, arith}
+use Rattle.std.specs.Prelude.{decimal}
 use Rattle.std.specs.List.{list_all}
 use Rattle.std.proofs.lemmas.Bool.{and_parts, false≢true}
 use Rattle.std.proofs.lemmas.Bool.Decides.{nat_tests}
 use Rattle.plcs_base.specs.Byte.{is_letter, is_digit, is_name_byte}
-use Rattle.plcs_base.specs.Name.{is_word, is_keyword, IsName}
+use Rattle.plcs_base.specs.Name.{is_word, IsName}
 use Rattle.plcs_grammar.specs.declared.operator.PrefixOp.{PrefixOp}
 use Rattle.plcs_grammar.specs.declared.operator.PrefixOp.TheVariants as before
 use Rattle.plcs_grammar.specs.Sign.{Sign, sign_bytes, prefix_sign, infix_sign}
-use Rattle.plcs_grammar.specs.Token.{Token, IsNumeral, bit_bytes, quoted}
+use Rattle.plcs_grammar.specs.Token.{Token, IsNumeral, bit_bytes}
 use Rattle.plcs_grammar.specs.Reading.{Tree, Trees, Reference}
 use Rattle.plcs_grammar.specs.Builtin.{builtin_name}
 use Rattle.plcs_grammar.specs.Level.{priority, tightest, in_parentheses}
@@ -35,7 +35,7 @@ writable_split (token ∷ front) back h =
     let further = writable_split front back h.2 in
     ((h.0, h.1, further.0), further.1)
 
--- a number within the limit is one that can be written in decimal
+-- a number within the limit is below 2 ^ 64
 pub small_number : (n : ℕ) → n ≤ greatest_number → n < 2 ^ 64
 small_number n h = omega arith
 

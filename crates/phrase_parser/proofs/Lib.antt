@@ -26,6 +26,6 @@ pub mod LexedTexts
 mod KeptNumbers
 mod Found
 mod FindingSays
-pub mod CanonicalTokens
-pub mod TrimmedTexts
-pub mod CanonicalText
+mod CanonicalTokens
+mod TrimmedTexts
+mod CanonicalText

@@ -1,5 +1,5 @@
 -- A comment's trimmed text is a comment's text, and is its own trimmed text.
-use Rattle.std.proofs.Common.{◌≡◌, ◌≢◌, ℕ, Bool, true, false, ◌&&◌, List, [], ◌∷◌, ◌++◌, take, drop, reverse, refl, sym, ap, ◌∙◌, subst}
+use Rattle.std.proofs.Common.{◌≡◌, ℕ, Bool, true, false, List, [], ◌∷◌, ◌++◌, take, drop, reverse, refl, sym, ap, ◌∙◌}
 use Rattle.std.specs.List.{list_all}
 use Rattle.std.proofs.lemmas.Bool.{and_parts}
 use Rattle.std.proofs.lemmas.List.{reverse-append, reverse-reverse, take-append-drop}
@@ -10,7 +10,7 @@ use Rattle.plcs_grammar.specs.Cuts.{is_blank, blanks, unblanked}
 use Rattle.plcs_grammar.specs.Comment.{trimmed, IsCommentText}
 use Rattle.phrase_parser.proofs.Runs.{run_none, run_ends}
 
--- the text without its front blanks is its trimmed text, and blanks behind it
+-- the text without the blanks at its front begins with its trimmed text
 trimmed_first : (x : List ℕ) → (behind : List ℕ) × (unblanked x ≡ trimmed x ++ behind)
 trimmed_first x =
     let turned = reverse (unblanked x) in (
