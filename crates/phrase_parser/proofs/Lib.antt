@@ -1,12 +1,3 @@
-pub mod Numerals
-pub mod Runs
-pub mod Quoted
-pub mod FoundTokens
-pub mod Longest
-pub mod OneCut
-pub mod CutSoFar
-pub mod PieceFacts
-pub mod LexedTexts
 mod Spelling
 mod BuiltinNames
 mod Goes
@@ -17,10 +8,25 @@ mod Completeness
 mod Consumed
 mod Soundness
 mod Viable
+pub mod Numerals
+pub mod Runs
+pub mod Quoted
+pub mod FoundTokens
+pub mod Longest
+pub mod OneCut
+pub mod CutSoFar
 mod Limits
-mod KeptNumbers
+mod OneAnswer
+mod Trimming
 mod Simulation
 mod Recognized
 mod Checked
+pub mod PieceFacts
+pub mod LexedTexts
+mod KeptNumbers
 mod Found
 pub mod ShownTokens
+mod FindingSays
+mod CanonicalTokens
+mod TrimmedTexts
+mod CanonicalText

@@ -1,8 +1,10 @@
+pub mod Machine
+pub mod Trace
 pub mod Kept
 pub mod Front
 pub mod Unquoted
-pub mod Machine
-pub mod Trace
+pub mod Answers
 pub mod Recognizer
 pub mod Findings
 pub mod Shown
+pub mod Laws

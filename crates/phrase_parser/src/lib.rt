@@ -2,10 +2,18 @@
 #![tactic(auto)]
 
 mod byte_class;
+mod comment;
 mod constant;
+mod fault;
 mod front;
+mod law;
 mod lexer;
 #[cfg(test)]
 mod lexer_tests;
 mod sign;
 mod token;
+mod uniqueness;
+
+pub use fault::PhraseFault;
+pub use law::{canonical_text_reads, canonical_text_tells};
+pub use uniqueness::one_reading;

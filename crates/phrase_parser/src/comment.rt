@@ -1,0 +1,63 @@
+ghost use Rattle.std.specs.Prelude.{◌≡◌, ◌<◌, ◌^◌, length, drop};
+ghost use Rattle.plcs_grammar.specs.Comment.{trimmed, comment_syntax, comment_offence};
+ghost use Rattle.plcs_grammar.specs.declared.category.Category.TheVariants.{CommentText};
+ghost use Rattle.phrase_parser.specs.Answers.{Answers};
+
+use crate::byte_class::{ByteClass, is_printable, leading};
+use crate::fault::PhraseFault;
+use plcs_grammar::Phrase;
+use std::alloc::Global;
+
+/// What stands for a comment's text that isn't there yet.
+const PLACEHOLDER: &[u8] = b"{comment}";
+
+/// The text of a comment, without the blanks at both its ends.
+pub fn comment(alloc: Global, text: &[u8]) -> Result<Phrase, PhraseFault>
+    requires { length text.now < 2 ^ 32 }
+    ensures says { Answers CommentText text.now result }
+{
+    match comment_syntax(text) {
+        Some(place) => Err(PhraseFault::Syntax(place as u32)),
+        None => Ok(Phrase::CommentText(trimmed(text).to_vec(alloc)?)),
+    }
+}
+
+/// The place where the text is refused as a comment's, if it is: its end where it is blank, 0 for the
+/// placeholder, else the first place at which a comment's end begins or a byte isn't printable.
+fn comment_syntax(text: &[u8]) -> Option<usize>
+    ensures { result ≡ comment_syntax text.now }
+{
+    let inner = trimmed(text);
+    if inner.is_empty() {
+        Some(text.len())
+    } else if inner == PLACEHOLDER {
+        Some(0)
+    } else {
+        comment_offence(text)
+    }
+}
+
+/// The first place at which a comment's end begins or a byte isn't printable.
+fn comment_offence(text: &[u8]) -> Option<usize>
+    ensures { result ≡ comment_offence 0 text.now }
+{
+    let mut place = 0;
+    while place < text.len() {
+        if !is_printable(text[place]) || text[place..].starts_with(b"*/") {
+            return Some(place);
+        }
+        place += 1;
+    }
+    None
+}
+
+/// The text without the blanks at both its ends.
+fn trimmed(text: &[u8]) -> &[u8]
+    ensures { result.now ≡ trimmed text.now }
+{
+    let mut rest = &text[leading(ByteClass::Blank, text)..];
+    while rest.ends_with(b" ") {
+        rest = &rest[..rest.len() - 1];
+    }
+    rest
+}

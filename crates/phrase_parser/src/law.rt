@@ -1,0 +1,12 @@
+//! Laws about what texts read as. Each is the contract of a function that does nothing.
+ghost use Rattle.phrase_parser.specs.Laws.{CanonicalTextReads, CanonicalTextTells};
+
+/// The canonical text of a phrase that some text reads as reads as that same phrase, so the phrase is well formed.
+pub fn canonical_text_reads()
+    ensures { CanonicalTextReads }
+{}
+
+/// Two phrases of one category that some texts read as, and that have one canonical text, are one phrase.
+pub fn canonical_text_tells()
+    ensures { CanonicalTextTells }
+{}
