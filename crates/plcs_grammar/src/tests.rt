@@ -1,39 +1,40 @@
 use super::*;
-use arrayvec::ArrayVec;
 use plcs_base::{ByteOut, Name, TextValue};
 use std::alloc::{AllocError, Global};
 use std::test::Fail;
 
-/// Keeps the first 64 bytes.
+/// Compares what is put with what is awaited.
 #[derive(Drop)]
-struct Kept {
-    bytes: ArrayVec<u8, 64>,
+struct Awaited<'a> {
+    left: &'a [u8],
+    same: bool,
 }
 
-impl ByteOut for Kept {
+impl ByteOut for Awaited<'_> {
     ghost puts = { λ _ _ _. Unit {0} };
 
     fn put(&mut self, byte: u8) {
-        let _ = self.bytes.try_push(byte);
+        match self.left {
+            [first, rest @ ..] if *first == byte => self.left = rest,
+            _ => self.same = false,
+        }
     }
+}
+
+/// Whether the phrase has this canonical text.
+fn has_text(phrase: &Phrase, text: &[u8]) -> bool {
+    let mut out = Awaited {
+        left: text,
+        same: true,
+    };
+    show(phrase, &mut out);
+    out.same && out.left.is_empty() && shown_len(phrase) as usize == text.len()
 }
 
 /// Whether the phrase, and a copy of it, has this canonical text.
 fn is_shown(alloc: Global, phrase: Phrase, text: &[u8]) -> Result<bool, Fail> {
     let copy = copy_phrase(alloc, &phrase).map_err(|_| "a copy")?;
-    let mut out = Kept {
-        bytes: ArrayVec::new(),
-    };
-    show(&phrase, &mut out);
-    let mut copied = Kept {
-        bytes: ArrayVec::new(),
-    };
-    show(&copy, &mut copied);
-    Ok(
-        out.bytes.as_slice() == text
-            && copied.bytes.as_slice() == text
-            && shown_len(&phrase) as usize == text.len(),
-    )
+    Ok(has_text(&phrase, text) && has_text(&copy, text))
 }
 
 fn name(bytes: &[u8]) -> Result<Name, Fail> {
