@@ -1,5 +1,5 @@
 -- Bytes that are counted, up to the greatest number of a u32.
-use Rattle.std.proofs.Common.{ℕ, ◌+◌, ◌≤◌, ◌≡◌, List, [], ◌∷◌, length, min, arith}
+use Rattle.std.proofs.Common.{ℕ, ◌+◌, ◌≤◌, ◌≡◌, List, length, min, arith}
 use Rattle.plcs_base.specs.Put.{PutsAll, puts_nothing, puts_next}
 
 pub counted : {Out : Type 0} (count : Out → ℕ) {before after : Out} {bytes : List ℕ}

@@ -1,8 +1,7 @@
 -- The text of a list, item by item.
-use Rattle.std.proofs.Common.{ℕ, zero, suc, ◌+◌, ◌<◌, ◌≡◌, List, [], ◌∷◌, ◌++◌, length, take, get_or, map, codes, refl, sym, ap, ◌∙◌, append_assoc, arith}
+use Rattle.std.proofs.Common.{ℕ, ◌+◌, ◌<◌, ◌≡◌, List, [], ◌∷◌, ◌++◌, length, take, get_or, map, codes, refl, sym, ap, ◌∙◌, append_assoc, arith}
 use Rattle.std.proofs.lemmas.List.{append-nil, take_more, length-take-le}
 use Rattle.plcs_grammar.specs.declared.expr.Expr.{Expr}
-use Rattle.plcs_grammar.specs.Reading.{Trees}
 use Rattle.plcs_grammar.specs.PlainForm.{tree_of, trees_of}
 use Rattle.plcs_grammar.specs.Canon.{canon, canon_list, canon_behind, canon_call, parenthesized_bytes, joined, more_joined}
 use Rattle.plcs_grammar.specs.Separator.{separator}

@@ -1,5 +1,5 @@
 -- The text of a negative number.
-use Rattle.std.proofs.Common.{ℕ, ◌≡◌, List, ◌∷◌, ℤ, pos, negsuc, decimal, ap, sym, true, arith}
+use Rattle.std.proofs.Common.{ℕ, ◌≡◌, ◌∷◌, ℤ, pos, negsuc, decimal, ap, true, arith}
 use Rattle.std.specs.Int.Signed.{lt_z}
 use Rattle.std.specs.Prelude.{nat_abs}
 use Rattle.std.proofs.lemmas.Int.{ints}

@@ -1,10 +1,10 @@
 -- Canonical texts put for values that are known in another way.
-use Rattle.std.proofs.Common.{ℕ, ◌≡◌, List, sym, ap}
+use Rattle.std.proofs.Common.{ℕ, ◌≡◌, sym, ap}
 use Rattle.plcs_base.specs.Put.{PutsAll}
 use Rattle.plcs_grammar.specs.declared.expr.Expr.{Expr}
 use Rattle.plcs_grammar.specs.declared.phrase.Phrase.{Phrase}
 use Rattle.plcs_grammar.specs.Reading.{Tree, Reference}
-use Rattle.plcs_grammar.specs.PlainForm.{tree_of, reference_of, reading_of}
+use Rattle.plcs_grammar.specs.PlainForm.{tree_of, reading_of}
 use Rattle.plcs_grammar.specs.Canon.{canon, canon_reference, Canon}
 use Rattle.plcs_grammar.proofs.Putting.{puts_same}
 

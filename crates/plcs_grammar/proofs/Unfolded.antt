@@ -1,5 +1,5 @@
 -- The plain form of an expression, variant by variant.
-use Rattle.std.proofs.Common.{◌≡◌, ◌≤◌, ℕ, Option, Some, List, [], refl, ap, sym, ◌∙◌, arith, rules}
+use Rattle.std.proofs.Common.{◌≡◌, ◌≤◌, ℕ, Option, Some, [], refl, ap, sym, ◌∙◌, arith, rules}
 use Rattle.std.specs.Prelude.{Box, Vec}
 use Rattle.std.specs.declared.alloc.Global.{Global}
 use Rattle.plcs_grammar.specs.declared.builtin.Builtin.{Builtin as Function}
@@ -12,7 +12,7 @@ use Rattle.plcs_grammar.specs.declared.expr.Expr.TheVariants.{Prefix, Infix, Bui
 use Rattle.plcs_grammar.specs.declared.expr.Expr.TheFolds.{fold-roll-Expr}
 use Rattle.plcs_grammar.specs.declared.expr.VarRef.{VarRef}
 use Rattle.plcs_grammar.specs.declared.expr.VarRef.{fold_out-VarRef, map-VarRef}
-use Rattle.plcs_grammar.specs.Reading.{Tree, Trees, Reference}
+use Rattle.plcs_grammar.specs.Reading.{Tree, Reference}
 use Rattle.plcs_grammar.specs.Chain.{chain_text}
 use Rattle.plcs_grammar.specs.PlainForm.{tree_of, tree_step, reference_step, trees_of, reference_of}
 

@@ -78,11 +78,8 @@ fn chain(alloc: Global, operators: u32) -> Result<Expr, AllocError> {
 }
 
 #[test]
-fn expressions_are_shown(rt: HostRuntime) -> Result<(), Fail> {
+fn constants_are_shown(rt: HostRuntime) -> Result<(), Fail> {
     let alloc = rt.alloc();
-    let sum = infix(alloc, Expr::Number(1), InfixOp::Plus, Expr::Number(2))?;
-    let product = infix(alloc, paren(alloc, sum)?, InfixOp::Times, Expr::Number(3))?;
-    assert!(rt; is_shown(alloc, Phrase::Expression(product), b"( 1 + 2 ) * 3")?);
     assert!(rt; is_shown(alloc, Phrase::Expression(Expr::Number(7)), b"7")?);
     assert!(rt;
         is_shown(
@@ -98,28 +95,50 @@ fn expressions_are_shown(rt: HostRuntime) -> Result<(), Fail> {
             b"-2147483648"
         )?
     );
-    let first = infix(alloc, variable(b"a")?, InfixOp::Equal, variable(b"b")?)?;
-    let equal = infix(alloc, first, InfixOp::Equal, variable(b"c")?)?;
-    assert!(rt; is_shown(alloc, Phrase::Condition(equal), b"a = b = c")?);
     assert!(rt; is_shown(alloc, Phrase::Expression(text(alloc, b"'")?), b"''''")?);
     assert!(rt; is_shown(alloc, Phrase::Expression(Expr::Bit(true)), b"'1'B")?);
     assert!(rt; is_shown(alloc, Phrase::Expression(Expr::Bit(false)), b"'0'B")?);
-    let negative = Expr::Prefix(PrefixOp::Minus, Box::new(alloc, variable(b"x")?)?);
-    assert!(rt; is_shown(alloc, Phrase::Expression(negative), b"-x")?);
-    let both = infix(alloc, variable(b"a")?, InfixOp::And, variable(b"b")?)?;
-    let neither = Expr::Prefix(PrefixOp::Not, Box::new(alloc, paren(alloc, both)?)?);
-    assert!(rt; is_shown(alloc, Phrase::Condition(neither), b"^( a & b )")?);
-    let remainder = Expr::Builtin(
-        Builtin::Mod,
-        vec![in alloc; variable(b"x")?, Expr::Number(2)]?,
-    );
-    assert!(rt; is_shown(alloc, Phrase::Expression(remainder), b"MOD(x, 2)")?);
     Ok(())
 }
 
 #[test]
-fn the_other_phrases_are_shown(rt: HostRuntime) -> Result<(), Fail> {
+fn operators_are_shown(rt: HostRuntime) -> Result<(), Fail> {
     let alloc = rt.alloc();
+    let sum = infix(alloc, Expr::Number(1), InfixOp::Plus, Expr::Number(2))?;
+    let product = infix(alloc, paren(alloc, sum)?, InfixOp::Times, Expr::Number(3))?;
+    assert!(rt; is_shown(alloc, Phrase::Expression(product), b"( 1 + 2 ) * 3")?);
+    let first = infix(alloc, variable(b"a")?, InfixOp::Equal, variable(b"b")?)?;
+    let equal = infix(alloc, first, InfixOp::Equal, variable(b"c")?)?;
+    assert!(rt; is_shown(alloc, Phrase::Condition(equal), b"a = b = c")?);
+    let negative = Expr::Prefix(PrefixOp::Minus, Box::new(alloc, variable(b"x")?)?);
+    assert!(rt; is_shown(alloc, Phrase::Expression(negative), b"-x")?);
+    let both = infix(alloc, variable(b"a")?, InfixOp::And, variable(b"b")?)?;
+    let not_both = Expr::Prefix(PrefixOp::Not, Box::new(alloc, paren(alloc, both)?)?);
+    assert!(rt; is_shown(alloc, Phrase::Condition(not_both), b"^( a & b )")?);
+    Ok(())
+}
+
+#[test]
+fn calls_are_shown(rt: HostRuntime) -> Result<(), Fail> {
+    let alloc = rt.alloc();
+    let operands = vec![in alloc; variable(b"x")?, Expr::Number(2)]?;
+    let remainder = Expr::Builtin(Builtin::Mod, operands);
+    assert!(rt; is_shown(alloc, Phrase::Expression(remainder), b"MOD(x, 2)")?);
+    let arguments = vec![in alloc; Expr::Number(1), variable(b"x")?]?;
+    assert!(rt; is_shown(alloc, Phrase::CallRef(name(b"p")?, arguments), b"p(1, x)")?);
+    assert!(rt; is_shown(alloc, Phrase::CallRef(name(b"p")?, Vec::new(alloc)), b"p")?);
+    assert!(rt; is_shown(alloc, Phrase::ProcedureName(name(b"p")?), b"p")?);
+    Ok(())
+}
+
+#[test]
+fn variables_are_shown(rt: HostRuntime) -> Result<(), Fail> {
+    let alloc = rt.alloc();
+    let simple = VarRef {
+        name: name(b"x")?,
+        index: None,
+    };
+    assert!(rt; is_shown(alloc, Phrase::Assignment(simple, variable(b"y")?), b"x = y")?);
     let target = cell(alloc, b"a", Expr::Number(10))?;
     assert!(rt;
         is_shown(
@@ -128,36 +147,30 @@ fn the_other_phrases_are_shown(rt: HostRuntime) -> Result<(), Fail> {
             b"a(10) = y"
         )?
     );
-    let simple = VarRef {
-        name: name(b"x")?,
-        index: None,
-    };
-    assert!(rt; is_shown(alloc, Phrase::Assignment(simple, variable(b"y")?), b"x = y")?);
-    let arguments = vec![in alloc; Expr::Number(1), variable(b"x")?]?;
-    assert!(rt; is_shown(alloc, Phrase::CallRef(name(b"p")?, arguments), b"p(1, x)")?);
-    assert!(rt; is_shown(alloc, Phrase::CallRef(name(b"p")?, Vec::new(alloc)), b"p")?);
+    let first = cell(alloc, b"a", variable(b"i")?)?;
+    let targets = vec![in alloc; first, cell(alloc, b"b", Expr::Number(2))?]?;
+    assert!(rt; is_shown(alloc, Phrase::VariableList(targets), b"a(i), b(2)")?);
+    assert!(rt; is_shown(alloc, Phrase::Variable(name(b"i")?), b"i")?);
+    Ok(())
+}
+
+#[test]
+fn lists_and_texts_are_shown(rt: HostRuntime) -> Result<(), Fail> {
+    let alloc = rt.alloc();
     let names = vec![in alloc; name(b"a")?, name(b"b")?]?;
     assert!(rt; is_shown(alloc, Phrase::NameList(names), b"a, b")?);
     let values = vec![in alloc; variable(b"x")?, text(alloc, b"it's")?]?;
     assert!(rt; is_shown(alloc, Phrase::ExpressionList(values), b"x, 'it''s'")?);
-    let targets = vec![in alloc;
-        cell(alloc, b"a", variable(b"i")?)?,
-        cell(alloc, b"b", Expr::Number(2))?,
-    ]?;
-    assert!(rt; is_shown(alloc, Phrase::VariableList(targets), b"a(i), b(2)")?);
-    let items = vec![in alloc;
-        Item {
-            name: name(b"a")?,
-            size: Some(10)
-        },
-        Item {
-            name: name(b"b")?,
-            size: None
-        },
-    ]?;
+    let array = Item {
+        name: name(b"a")?,
+        size: Some(10),
+    };
+    let scalar = Item {
+        name: name(b"b")?,
+        size: None,
+    };
+    let items = vec![in alloc; array, scalar]?;
     assert!(rt; is_shown(alloc, Phrase::DeclaredList(items), b"a(10), b")?);
-    assert!(rt; is_shown(alloc, Phrase::Variable(name(b"i")?), b"i")?);
-    assert!(rt; is_shown(alloc, Phrase::ProcedureName(name(b"p")?), b"p")?);
     assert!(rt; is_shown(alloc, Phrase::Length(256), b"256")?);
     let comment = Vec::from_slice(alloc, b"sum it")?;
     assert!(rt; is_shown(alloc, Phrase::CommentText(comment), b"sum it")?);

@@ -1,4 +1,4 @@
-use Rattle.std.proofs.Common.{ℕ, ◌≡◌, length}
+use Rattle.std.proofs.Common.{◌≡◌, length}
 use Rattle.plcs_grammar.specs.PlainForm.{tree_of}
 use Rattle.plcs_grammar.specs.Link.{linked}
 use Rattle.plcs_grammar.proofs.expr_copy.chained.Given as goal

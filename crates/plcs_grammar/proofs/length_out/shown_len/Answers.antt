@@ -1,6 +1,4 @@
 use Rattle.std.proofs.Common.{lit≤, arith}
-use Rattle.plcs_grammar.specs.PlainForm.{reading_of}
-use Rattle.plcs_grammar.specs.Canon.{Canon}
 use Rattle.plcs_grammar.proofs.Counting.{counted}
 use Rattle.plcs_grammar.proofs.length_out.shown_len.Goals as goal
 

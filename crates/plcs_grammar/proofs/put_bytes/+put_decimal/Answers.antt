@@ -1,4 +1,4 @@
-use Rattle.std.proofs.Common.{ℕ, ◌+◌, ◌/◌, ◌%◌, ◌^◌, ◌<◌, ◌≤◌, sym, arith}
+use Rattle.std.proofs.Common.{sym, arith}
 use Rattle.std.proofs.lemmas.Fmt.{decimal_digit, decimal_step}
 use Rattle.plcs_grammar.proofs.Putting.{puts_one, puts_behind, puts_same}
 use Rattle.plcs_grammar.proofs.put_bytes.+put_decimal.Goals as goal

@@ -1,4 +1,4 @@
-use Rattle.std.proofs.Common.{◌≡◌, ℤ, pos, true, ap, sym, ◌∙◌, subst, w32, to_z, of_z}
+use Rattle.std.proofs.Common.{◌≡◌, pos, true, ap, ◌∙◌, subst, w32, to_z, of_z}
 use Rattle.std.specs.Prelude.{nat_abs}
 use Rattle.std.specs.Int.Signed.{lt_z}
 use Rattle.std.proofs.lemmas.Int.{to_z-of_z}

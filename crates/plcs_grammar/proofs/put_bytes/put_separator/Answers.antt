@@ -1,4 +1,4 @@
-use Rattle.std.proofs.Common.{ℕ, zero, suc, ◌+◌, ◌≤◌, ◌≡◌, [], sym, ap, arith}
+use Rattle.std.proofs.Common.{◌≡◌, sym, ap, arith}
 use Rattle.plcs_base.specs.Put.{puts_nothing}
 use Rattle.plcs_grammar.specs.Separator.{separator}
 use Rattle.plcs_grammar.proofs.Putting.{puts_same}

@@ -1,13 +1,10 @@
-use Rattle.std.proofs.Common.{ℕ, ◌+◌, ◌-◌, ◌/◌, ◌<◌, ◌≤◌, ◌≡◌, List, [], ◌∷◌, ◌++◌, codes, length, take, get_or, refl, sym, ap, ◌∙◌, subst, rules, arith}
-use Rattle.std.proofs.lemmas.List.{append-nil, take_more, length-take-le}
+use Rattle.std.proofs.Common.{◌+◌, ◌-◌, ◌/◌, ◌<◌, ◌≡◌, length, take, sym, ap, ◌∙◌, arith}
 use Rattle.std.proofs.Math.Seq.{take-length}
-use Rattle.plcs_base.specs.Put.{PutsAll, puts_nothing}
-use Rattle.plcs_grammar.specs.Sign.{sign_bytes, prefix_sign, infix_sign}
-use Rattle.plcs_grammar.specs.Reading.{Tree}
-use Rattle.plcs_grammar.specs.PlainForm.{tree_of, trees_of, reference_of}
-use Rattle.plcs_grammar.specs.Canon.{canon, canon_list, canon_reference, joined}
+use Rattle.plcs_base.specs.Put.{puts_nothing}
+use Rattle.plcs_grammar.specs.PlainForm.{tree_of, trees_of}
+use Rattle.plcs_grammar.specs.Canon.{canon, canon_list, joined}
 use Rattle.plcs_grammar.specs.Chain.{leftmost, chain_text, operator_text}
-use Rattle.plcs_grammar.proofs.Putting.{puts_append, puts_same, puts_before, puts_behind, puts_three, puts_parenthesized}
+use Rattle.plcs_grammar.proofs.Putting.{puts_append, puts_same, puts_before, puts_three, puts_parenthesized}
 use Rattle.plcs_grammar.proofs.Shown.{shown_tree, shown_reference, shown_expr}
 use Rattle.plcs_grammar.proofs.Chaining.{chain_whole, chain_halves}
 use Rattle.plcs_grammar.proofs.Joining.{joined_next, list_is}

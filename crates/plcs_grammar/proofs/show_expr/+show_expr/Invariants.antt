@@ -1,4 +1,4 @@
-use Rattle.std.proofs.Common.{ℕ, ◌+◌, ◌*◌, take}
+use Rattle.std.proofs.Common.{◌+◌, ◌*◌, take}
 use Rattle.plcs_base.specs.Put.{PutsAll}
 use Rattle.plcs_grammar.specs.PlainForm.{tree_of}
 use Rattle.plcs_grammar.specs.Canon.{canon, joined}

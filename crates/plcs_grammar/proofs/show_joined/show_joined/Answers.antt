@@ -1,4 +1,4 @@
-use Rattle.std.proofs.Common.{◌+◌, ◌<◌, length, sym, arith}
+use Rattle.std.proofs.Common.{◌<◌, length, sym, arith}
 use Rattle.plcs_base.specs.Put.{puts_nothing}
 use Rattle.plcs_grammar.proofs.Putting.{puts_same, puts_three}
 use Rattle.plcs_grammar.proofs.Joining.{joined_next}
