@@ -1,0 +1,369 @@
+-- The tokens of each phrase are read as the phrase, which is the only one.
+use Rattle.std.proofs.Common.{◌≡◌, refl, ℕ, ◌≤◌, ◌&&◌, cond, leb, le-leb, List, [], ◌∷◌, ◌++◌, Option, Some, None, ap, sym, subst, ◌∙◌, le_refl, lit≤}
+use Rattle.std.proofs.lemmas.Bool.{cond-true, and_from}
+use Rattle.plcs_grammar.specs.declared.category.Category.{Category}
+use Rattle.plcs_grammar.specs.declared.item.Item.{Item}
+use Rattle.plcs_grammar.specs.Sign.{Sign}
+use Rattle.plcs_grammar.specs.Token.{Token}
+use Rattle.plcs_grammar.specs.Cuts.{Piece, tokens_of}
+use Rattle.plcs_grammar.specs.Reading.{Tree, Trees, Reference, Reading, category_of}
+use Rattle.plcs_grammar.specs.Form.{Form, Begins}
+use Rattle.plcs_grammar.specs.Limit.{opened as levels, reference_opened as reference_levels, opened_by_all as levels_of_all, references_behind, phrase_opened, first_over, or_else, over_at}
+use Rattle.phrase_parser.specs.Machine.{Base, Stack, State, Role, Operand, tree_push, reduced, joined, step, step_if, run, start, closed_at, ended_at, ended, ended_if, equated}
+use Rattle.phrase_parser.specs.Trace.{depth, opens, trace}
+use Rattle.phrase_parser.proofs.Spelling.{spell, spell_reference, spell_all, Fits, FitsReference, FitsAll}
+use Rattle.phrase_parser.proofs.Phrases.{spell_phrase, spell_name, spell_item, spell_sized, spell_call, FitsPhrase, FitsItem, FitsSize, FitsCall, AnyName, FitsListed, EachFits, form_spelled}
+use Rattle.phrase_parser.proofs.Goes.{Goes, there, by, joins, goes_runs, goes_opens}
+use Rattle.phrase_parser.proofs.Lists.{Listing, levels_more, levels_listed, reads_listed}
+use Rattle.phrase_parser.proofs.Arrival.{Holds, arrives, arrives_all}
+
+-- each is 0
+abbrev pub NoLevels : List ℕ → Type 0
+NoLevels [] = Unit {0}
+NoLevels (l ∷ ls) = (l ≡ 0) × NoLevels ls
+
+no_levels_append : (xs ys : List ℕ) → NoLevels xs → NoLevels ys → NoLevels (xs ++ ys)
+no_levels_append [] ys h k = k
+no_levels_append (x ∷ xs) ys h k = (h.0, no_levels_append xs ys h.1 k)
+
+-- tokens that open no level are over no other limit than those of which no level is told
+pub over_none : (pieces : List Piece) (ls : List ℕ) → NoLevels ls → first_over pieces ls ≡ first_over pieces []
+over_none [] ls h = refl
+over_none (piece ∷ pieces) [] h = refl
+over_none (piece ∷ pieces) (l ∷ ls) h =
+    ap (λ n. or_else (over_at piece n) (first_over pieces ls)) h.0
+    ∙ ap (λ r. or_else (over_at piece 0) r) (over_none pieces ls h.1)
+
+-- the tokens lead from the first state of the phrase's category to one that ends as the phrase
+pub record Reaches (p : Reading) : Type 0 where
+  pub first : State
+  pub end : State
+  pub traced : List ℕ
+  pub begins : start (category_of p) ≡ Some first
+  pub goes : Goes first (spell_phrase p) traced end
+  pub ends : ended end ≡ Some p
+  pub agrees : (pieces : List Piece) → first_over pieces traced ≡ first_over pieces (phrase_opened p)
+
+-- an expression that stands in no other is read
+at_base : (b : Base) (t : Tree) → Fits t 1
+    → (z : State) × Goes (State.wanted (Stack.base b)) (spell t) (levels t (depth (Stack.base b))) z
+      × (ended z ≡ ended_at (Stack.base b) t) × (step z (Token.sign Sign.close_parenthesis) ≡ closed_at (Stack.base b) t)
+      × (opens z (Token.sign Sign.close_parenthesis) ≡ 0)
+at_base b t f =
+    let r = arrives t 1 (Stack.base b) (lit≤ tt) f tt in
+    ( State.had r.stack r.top, r.goes
+    , ap (λ (o : Operand). ended_at o.0 o.1) (r.same 1 (le_refl _))
+    , ap (λ (o : Operand). closed_at o.0 o.1) (r.same 1 (le_refl _))
+    , refl )
+
+-- a target is read, and `=` and what follows behind it
+behind_target : (reference : Reference) (ks : List Token) (ls : List ℕ) (z : State) → FitsReference reference
+    → Goes (State.wanted (Stack.base (Base.assigned reference))) ks ls z
+    → Goes (State.name_wanted Role.target) (spell_reference reference ++ (Token.sign Sign.equal ∷ ks))
+      (reference_levels reference 0 ++ (0 ∷ ls)) z
+behind_target (Reference.simple name) ks ls z f q = by refl refl (by refl refl q)
+behind_target (Reference.subscripted name index) ks ls z f q =
+    let r = at_base (Base.target_subscript name) index f in
+    by refl refl (by refl refl (joins (joins r.1 (by r.3 r.4 there)) (by refl refl q)))
+
+-- how variables are listed
+abbrev variable_has : List Reference → Reference → State
+variable_has done (Reference.simple name) = State.name_had (Role.variables done) name
+variable_has done (Reference.subscripted name index) = State.variable_had (done ++ (Reference.subscripted name index ∷ []))
+
+abbrev variable_levels : Reference → List ℕ
+variable_levels reference = reference_levels reference 0
+
+variable_reads : (done : List Reference) (reference : Reference) → FitsReference reference
+    → Goes (State.name_wanted (Role.variables done)) (spell_reference reference) (variable_levels reference)
+      (variable_has done reference)
+variable_reads done (Reference.simple name) f = by refl refl there
+variable_reads done (Reference.subscripted name index) f =
+    let r = at_base (Base.variable_subscript done name) index f in
+    by refl refl (by refl refl (joins r.1 (by r.3 r.4 there)))
+
+variable_comma : (done : List Reference) (reference : Reference)
+    → step (variable_has done reference) (Token.sign Sign.comma)
+      ≡ Some (State.name_wanted (Role.variables (done ++ (reference ∷ []))))
+variable_comma done (Reference.simple name) = refl
+variable_comma done (Reference.subscripted name index) = refl
+
+variable_opens : (done : List Reference) (reference : Reference)
+    → opens (variable_has done reference) (Token.sign Sign.comma) ≡ 0
+variable_opens done (Reference.simple name) = refl
+variable_opens done (Reference.subscripted name index) = refl
+
+variable_ends : (done : List Reference) (reference : Reference)
+    → ended (variable_has done reference) ≡ Some (Reading.variable_list (done ++ (reference ∷ [])))
+variable_ends done (Reference.simple name) = refl
+variable_ends done (Reference.subscripted name index) = refl
+
+abbrev variables_listing : Listing Reference spell_reference variable_levels FitsReference
+variables_listing = record {
+  wants = λ done. State.name_wanted (Role.variables done);
+  has = variable_has;
+  reads = variable_reads;
+  comma = variable_comma;
+  none = variable_opens;
+}
+
+variables_levels : (targets : List Reference) → levels_more variable_levels targets ≡ references_behind targets
+variables_levels [] = refl
+variables_levels (reference ∷ rest) = ap (λ z. 0 ∷ (variable_levels reference ++ z)) (variables_levels rest)
+
+-- how declared names are listed
+abbrev item_has_sized : List Item → List ℕ → Option ℕ → State
+item_has_sized done name None = State.name_had (Role.items done) name
+item_has_sized done name (Some size) = State.item_had (done ++ (record { name = name; size = Some size } ∷ []))
+
+abbrev item_has : List Item → Item → State
+item_has done item = item_has_sized done item.name item.size
+
+abbrev sized_levels : Option ℕ → List ℕ
+sized_levels None = 0 ∷ []
+sized_levels (Some size) = 0 ∷ 0 ∷ 0 ∷ 0 ∷ []
+
+abbrev item_levels : Item → List ℕ
+item_levels item = sized_levels item.size
+
+sized_reads : (done : List Item) (name : List ℕ) (size : Option ℕ) → FitsSize size
+    → Goes (State.name_wanted (Role.items done)) (spell_sized name size) (sized_levels size) (item_has_sized done name size)
+sized_reads done name None f = by refl refl there
+sized_reads done name (Some size) f =
+    by refl refl (by refl refl (by (cond-true (leb 1 size) _ _ (le-leb 1 size f)) refl (by refl refl there)))
+
+sized_comma : (done : List Item) (name : List ℕ) (size : Option ℕ)
+    → step (item_has_sized done name size) (Token.sign Sign.comma)
+      ≡ Some (State.name_wanted (Role.items (done ++ (record { name = name; size = size } ∷ []))))
+sized_comma done name None = refl
+sized_comma done name (Some size) = refl
+
+sized_opens : (done : List Item) (name : List ℕ) (size : Option ℕ)
+    → opens (item_has_sized done name size) (Token.sign Sign.comma) ≡ 0
+sized_opens done name None = refl
+sized_opens done name (Some size) = refl
+
+sized_ends : (done : List Item) (name : List ℕ) (size : Option ℕ)
+    → ended (item_has_sized done name size) ≡ Some (Reading.declared_list (done ++ (record { name = name; size = size } ∷ [])))
+sized_ends done name None = refl
+sized_ends done name (Some size) = refl
+
+abbrev items_listing : Listing Item spell_item item_levels FitsItem
+items_listing = record {
+  wants = λ done. State.name_wanted (Role.items done);
+  has = item_has;
+  reads = λ done item. sized_reads done item.name item.size;
+  comma = λ done item. sized_comma done item.name item.size;
+  none = λ done item. sized_opens done item.name item.size;
+}
+
+sized_none : (size : Option ℕ) → NoLevels (sized_levels size)
+sized_none None = (refl, tt)
+sized_none (Some size) = (refl, (refl, (refl, (refl, tt))))
+
+-- how names are listed
+abbrev name_levels : List ℕ → List ℕ
+name_levels name = 0 ∷ []
+
+abbrev names_listing : Listing (List ℕ) spell_name name_levels AnyName
+names_listing = record {
+  wants = λ done. State.name_wanted (Role.names done);
+  has = λ done name. State.name_had (Role.names done) name;
+  reads = λ done name f. by refl refl there;
+  comma = λ done name. refl;
+  none = λ done name. refl;
+}
+
+module _ {X : Type 0} (g : X → List ℕ) (h : (x : X) → NoLevels (g x)) where
+  more_none : (xs : List X) → NoLevels (levels_more g xs)
+  more_none [] = tt
+  more_none (x ∷ xs) = (refl, no_levels_append (g x) (levels_more g xs) (h x) (more_none xs))
+
+  listed_none : (xs : List X) → NoLevels (levels_listed g xs)
+  listed_none [] = tt
+  listed_none (x ∷ xs) = no_levels_append (g x) (levels_more g xs) (h x) (more_none xs)
+
+reaches_expression : (p : Reading) (b : Base) (t : Tree) → Fits t 1 → start (category_of p) ≡ Some (State.wanted (Stack.base b))
+    → spell_phrase p ≡ spell t → ended_at (Stack.base b) t ≡ Some p → depth (Stack.base b) ≡ 0 → phrase_opened p ≡ levels t 0
+    → Reaches p
+reaches_expression p b t f begins tokens ends zero opens =
+    let r = at_base b t f in
+    record {
+      first = State.wanted (Stack.base b);
+      end = r.0;
+      traced = levels t (depth (Stack.base b));
+      begins = begins;
+      goes = subst (λ ks. Goes (State.wanted (Stack.base b)) ks (levels t (depth (Stack.base b))) r.0) (sym tokens) r.1;
+      ends = r.2 ∙ ends;
+      agrees = λ pieces. ap (λ d. first_over pieces (levels t d)) zero ∙ ap (first_over pieces) (sym opens);
+    }
+
+reaches_variables : (targets : List Reference) → FitsListed FitsReference targets → Reaches (Reading.variable_list targets)
+reaches_variables [] f = absurd f
+reaches_variables (reference ∷ rest) f =
+    let r = reads_listed spell_reference variable_levels FitsReference variables_listing (reference ∷ rest) f in
+    record {
+      first = State.name_wanted (Role.variables []);
+      end = variable_has r.front r.last;
+      traced = levels_listed variable_levels (reference ∷ rest);
+      begins = refl;
+      goes = r.goes;
+      ends = variable_ends r.front r.last ∙ ap (λ z. Some (Reading.variable_list z)) r.whole;
+      agrees = λ pieces. ap (λ z. first_over pieces (variable_levels reference ++ z)) (variables_levels rest);
+    }
+
+reaches_call : (name : List ℕ) (passed : Trees) → FitsCall passed → Reaches (Reading.call name passed)
+reaches_call name Trees.nil f = record {
+  first = State.name_wanted Role.callee;
+  end = State.name_had Role.callee name;
+  traced = 0 ∷ [];
+  begins = refl;
+  goes = by refl refl there;
+  ends = refl;
+  agrees = λ pieces. refl;
+}
+reaches_call name (Trees.cons a rest) f =
+    let h : Trees → Stack = λ done. Stack.base (Base.call_arguments name done) in
+    let holds : Holds h 1 = record { ends = λ done t. refl; comma = λ done t. refl; blocks = λ done. tt; deep = λ done. refl } in
+    let r = arrives_all (Trees.cons a rest) h 1 holds Trees.nil f in
+    record {
+      first = State.name_wanted Role.callee;
+      end = State.call_had name (Trees.cons a rest);
+      traced = 0 ∷ 1 ∷ (levels_of_all (Trees.cons a rest) 1 ++ (0 ∷ []));
+      begins = refl;
+      goes = by refl refl (by refl refl (joins r.goes
+          (by (ap (λ (o : Operand). closed_at o.0 o.1) r.same ∙ ap (λ z. Some (State.call_had name z)) r.whole) refl there)));
+      ends = refl;
+      agrees = λ pieces. refl;
+    }
+
+reaches_expressions : (es : Trees) → FitsAll es → Reaches (Reading.expression_list es)
+reaches_expressions es f =
+    let h : Trees → Stack = λ done. Stack.base (Base.expressions done) in
+    let holds : Holds h 0 = record { ends = λ done t. refl; comma = λ done t. refl; blocks = λ done. tt; deep = λ done. refl } in
+    let r = arrives_all es h 0 holds Trees.nil f in
+    record {
+      first = State.wanted (h Trees.nil);
+      end = State.had r.stack r.top;
+      traced = levels_of_all es 0;
+      begins = refl;
+      goes = r.goes;
+      ends = ap (λ (o : Operand). ended_at o.0 o.1) r.same ∙ ap (λ z. Some (Reading.expression_list z)) r.whole;
+      agrees = λ pieces. refl;
+    }
+
+-- each phrase whose parts keep what they have to is read
+pub reaches : (p : Reading) → FitsPhrase p → Reaches p
+reaches (Reading.assignment target value) f =
+    let r = at_base (Base.assigned target) value f.1 in
+    record {
+      first = State.name_wanted Role.target;
+      end = r.0;
+      traced = reference_levels target 0 ++ (0 ∷ levels value 0);
+      begins = refl;
+      goes = behind_target target (spell value) (levels value 0) r.0 f.0 r.1;
+      ends = r.2;
+      agrees = λ pieces. refl;
+    }
+reaches (Reading.condition e) f = reaches_expression (Reading.condition e) Base.condition e f refl refl refl refl refl
+reaches (Reading.expression e) f = reaches_expression (Reading.expression e) Base.expression e f refl refl refl refl refl
+reaches (Reading.expression_list es) f = reaches_expressions es f
+reaches (Reading.variable_list targets) f = reaches_variables targets f
+reaches (Reading.variable_name name) f = record {
+  first = State.name_wanted Role.variable;
+  end = State.name_had Role.variable name;
+  traced = 0 ∷ [];
+  begins = refl;
+  goes = by refl refl there;
+  ends = refl;
+  agrees = λ pieces. over_none pieces (0 ∷ []) (refl, tt);
+}
+reaches (Reading.call name passed) f = reaches_call name passed f
+reaches (Reading.declared_list items) f =
+    let r = reads_listed spell_item item_levels FitsItem items_listing items f in
+    record {
+      first = State.name_wanted (Role.items []);
+      end = item_has r.front r.last;
+      traced = levels_listed item_levels items;
+      begins = refl;
+      goes = r.goes;
+      ends = sized_ends r.front r.last.name r.last.size ∙ ap (λ z. Some (Reading.declared_list z)) r.whole;
+      agrees = λ pieces. over_none pieces (levels_listed item_levels items) (listed_none item_levels (λ item. sized_none item.size) items);
+    }
+reaches (Reading.procedure_name name) f = record {
+  first = State.name_wanted Role.procedure;
+  end = State.name_had Role.procedure name;
+  traced = 0 ∷ [];
+  begins = refl;
+  goes = by refl refl there;
+  ends = refl;
+  agrees = λ pieces. over_none pieces (0 ∷ []) (refl, tt);
+}
+reaches (Reading.name_list names) f =
+    let r = reads_listed spell_name name_levels AnyName names_listing names f in
+    record {
+      first = State.name_wanted (Role.names []);
+      end = State.name_had (Role.names r.front) r.last;
+      traced = levels_listed name_levels names;
+      begins = refl;
+      goes = r.goes;
+      ends = ap (λ z. Some (Reading.name_list z)) r.whole;
+      agrees = λ pieces. over_none pieces (levels_listed name_levels names) (listed_none name_levels (λ name. (refl, tt)) names);
+    }
+reaches (Reading.greatest_length n) f = record {
+  first = State.length_wanted;
+  end = State.length_had n;
+  traced = 0 ∷ [];
+  begins = refl;
+  goes = by (cond-true (leb 1 n && leb n 256) _ _ (and_from (leb 1 n) (leb n 256) (le-leb 1 n f.0) (le-leb n 256 f.1))) refl there;
+  ends = refl;
+  agrees = λ pieces. over_none pieces (0 ∷ []) (refl, tt);
+}
+reaches (Reading.comment bytes) f = absurd f
+
+-- where the machine comes to over the tokens of a phrase, and the levels that it opens
+runs_form : (c : Category) (ks : List Token) (p : Reading) → Form c ks p
+    → (z : State) × (run ks (start c) ≡ Some z) × (ended z ≡ Some p)
+      × ((pieces : List Piece) → first_over pieces (trace ks (start c)) ≡ first_over pieces (phrase_opened p))
+runs_form c ks p h =
+    let f = form_spelled c ks p h in
+    let r = reaches p f.1 in
+    let from : start c ≡ Some r.first = sym (ap start f.0) ∙ r.begins in
+    ( r.end
+    , ap (λ s. run ks s) from ∙ ap (λ z. run z (Some r.first)) f.2 ∙ goes_runs r.goes
+    , r.ends
+    , λ pieces. ap (λ s. first_over pieces (trace ks s)) from ∙ ap (λ z. first_over pieces (trace z (Some r.first))) f.2
+        ∙ ap (first_over pieces) (goes_opens r.goes) ∙ r.agrees pieces )
+
+-- the tokens of a phrase are read as the phrase
+pub complete : (c : Category) (ks : List Token) (p : Reading) → Form c ks p → ended_if (run ks (start c)) ≡ Some p
+complete c ks p h = let r = runs_form c ks p h in ap ended_if r.1 ∙ r.2
+
+-- by the levels that the machine opens, the first token over a limit is the phrase's
+pub traced_over : (c : Category) (pieces : List Piece) (p : Reading) → Form c (tokens_of pieces) p
+    → first_over pieces (trace (tokens_of pieces) (start c)) ≡ first_over pieces (phrase_opened p)
+traced_over c pieces p h = (runs_form c (tokens_of pieces) p h).3 pieces
+
+-- tokens are one phrase of a category at most
+pub unique : (c : Category) (ks : List Token) (p q : Reading) → Form c ks p → Form c ks q → p ≡ q
+unique c ks p q h k = let a = complete c ks p h in let b = complete c ks q k in cc
+
+-- tokens and more of them
+pub run_append : (xs ys : List Token) (s : Option State) → run (xs ++ ys) s ≡ run ys (run xs s)
+run_append [] ys s = refl
+run_append (x ∷ xs) ys s = run_append xs ys (step_if s x)
+
+-- a machine that stopped stays so
+pub run_none : (ks : List Token) → run ks None ≡ None
+run_none [] = refl
+run_none (k ∷ ks) = run_none ks
+
+runs_before : (more : List Token) (s : Option State) (z : State) → run more s ≡ Some z → (y : State) × (s ≡ Some y)
+runs_before more None z e = let n = run_none more in absurd (cc)
+runs_before more (Some y) z e = (y, refl)
+
+-- tokens that begin a phrase don't stop the machine
+pub alive : (c : Category) (ks : List Token) → Begins c ks → (s : State) × (run ks (start c) ≡ Some s)
+alive c ks h =
+    let r = runs_form c (ks ++ h.0) h.1 h.2 in
+    runs_before h.0 (run ks (start c)) r.0 (sym (run_append ks h.0 (start c)) ∙ r.1)

@@ -1,0 +1,9 @@
+mod Spelling
+mod BuiltinNames
+mod Goes
+mod Arrival
+mod Phrases
+mod Lists
+mod Completeness
+mod Consumed
+mod Soundness

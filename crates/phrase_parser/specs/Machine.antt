@@ -1,0 +1,308 @@
+-- The machine that reads a phrase token by token. What is open stands on a stack, and an operator's operands are joined
+-- no sooner than the next token asks for it.
+use Rattle.std.specs.Prelude.{ℕ, pos, ◌&&◌, nat_le, if◌then◌else◌, bytes_eq, find, List, [], ◌∷◌, ◌++◌, Option, Some, None}
+use Rattle.plcs_grammar.specs.declared.operator.PrefixOp.{PrefixOp}
+use Rattle.plcs_grammar.specs.declared.operator.PrefixOp.TheVariants as before
+use Rattle.plcs_grammar.specs.declared.operator.InfixOp.{InfixOp}
+use Rattle.plcs_grammar.specs.declared.operator.InfixOp.TheVariants as between
+use Rattle.plcs_grammar.specs.declared.builtin.Builtin.{Builtin}
+use Rattle.plcs_grammar.specs.declared.item.Item.{Item}
+use Rattle.plcs_grammar.specs.declared.category.Category.{Category}
+use Rattle.plcs_grammar.specs.declared.category.Category.TheVariants.{Assignment, Condition, Expression, ExpressionList, VariableList, Variable, CallRef, DeclaredList, ProcedureName, NameList, Length, CommentText}
+use Rattle.plcs_grammar.specs.Sign.{Sign}
+use Rattle.plcs_grammar.specs.Token.{Token}
+use Rattle.plcs_grammar.specs.Reading.{Tree, Trees, Reference, Reading}
+use Rattle.plcs_grammar.specs.Builtin.{builtin_name, builtins}
+use Rattle.plcs_grammar.specs.Level.{priority}
+
+-- what an expression that stands in no other is for, with what of the phrase stands before it
+pub data Base : Type 0 where
+  condition : Base
+  expression : Base
+  expressions : Trees → Base
+  assigned : Reference → Base
+  target_subscript : List ℕ → Base
+  variable_subscript : List Reference → List ℕ → Base
+  call_arguments : List ℕ → Trees → Base
+
+-- what is open around an operand, the innermost outside
+pub data Stack : Type 0 where
+  base : Base → Stack
+  prefix : PrefixOp → Stack → Stack
+  left : Tree → InfixOp → Stack → Stack
+  parenthesis : Stack → Stack
+  subscript : List ℕ → Stack → Stack
+  arguments : Builtin → Trees → Stack → Stack
+
+-- what a name that stands in no expression is for, with what of the phrase stands before it
+pub data Role : Type 0 where
+  target : Role
+  variables : List Reference → Role
+  callee : Role
+  items : List Item → Role
+  names : List (List ℕ) → Role
+  variable : Role
+  procedure : Role
+
+-- what was read last, and what is wanted
+pub data State : Type 0 where
+  -- an operand is wanted
+  wanted : Stack → State
+  -- an operand that is no operator with its own operands was just read
+  had : Stack → Tree → State
+  -- a name is wanted, or was just read
+  name_wanted : Role → State
+  name_had : Role → List ℕ → State
+  -- the parenthesis behind a target's subscript, a variable's subscript or a call's arguments was just read
+  target_had : Reference → State
+  variable_had : List Reference → State
+  call_had : List ℕ → Trees → State
+  -- the size of an array is wanted, or it or the parenthesis behind it was just read
+  size_wanted : List Item → List ℕ → State
+  size_had : List Item → List ℕ → ℕ → State
+  item_had : List Item → State
+  -- a length is wanted, or was just read
+  length_wanted : State
+  length_had : ℕ → State
+
+-- a stack and the operand on it
+abbrev pub Operand : Type 0
+Operand = Stack × Tree
+
+-- the trees with one more at the end
+abbrev pub tree_push : Trees → Tree → Trees
+tree_push Trees.nil t = Trees.cons t Trees.nil
+tree_push (Trees.cons a rest) t = Trees.cons a (tree_push rest t)
+
+-- the built-in function of the name
+abbrev pub builtin_of : List ℕ → Option Builtin
+builtin_of name = find (λ function. bytes_eq name (builtin_name function)) builtins
+
+-- the operator that the sign is before an operand
+abbrev pub prefix_of : Sign → Option PrefixOp
+prefix_of Sign.plus = Some before.Plus
+prefix_of Sign.minus = Some before.Minus
+prefix_of Sign.caret = Some before.Not
+prefix_of sign = None
+
+-- the operator that the sign is behind an operand
+abbrev pub infix_of : Sign → Option InfixOp
+infix_of Sign.bar = Some between.Or
+infix_of Sign.ampersand = Some between.And
+infix_of Sign.equal = Some between.Equal
+infix_of Sign.not_equal = Some between.NotEqual
+infix_of Sign.less = Some between.Less
+infix_of Sign.less_equal = Some between.LessEqual
+infix_of Sign.greater = Some between.Greater
+infix_of Sign.greater_equal = Some between.GreaterEqual
+infix_of Sign.join = Some between.Join
+infix_of Sign.plus = Some between.Plus
+infix_of Sign.minus = Some between.Minus
+infix_of Sign.times = Some between.Times
+infix_of Sign.divide = Some between.Divide
+infix_of sign = None
+
+-- the operand, joined with each open operator of the level or a higher one
+abbrev pub reduced : Stack → ℕ → Tree → Operand
+reduced (base b) level t = (base b, t)
+reduced (prefix op s) level t = reduced s level (Tree.unary op t)
+reduced (left a op s) level t = if nat_le level (priority op) then reduced s level (Tree.binary op a t) else (left a op s, t)
+reduced (parenthesis s) level t = (parenthesis s, t)
+reduced (subscript name s) level t = (subscript name s, t)
+reduced (arguments function done s) level t = (arguments function done s, t)
+
+-- behind an operator that joins what stands before it
+abbrev pub joined : InfixOp → Operand → State
+joined op o = wanted (left o.1 op o.0)
+
+-- a whole operand is read
+abbrev pub operand : State → Tree → Option State
+operand (wanted s) t = Some (had s t)
+operand state t = None
+
+-- a name is read
+abbrev pub named : State → List ℕ → Option State
+named (wanted s) name = Some (had s (Tree.variable (Reference.simple name)))
+named (name_wanted role) name = Some (name_had role name)
+named state name = None
+
+-- a number is read
+abbrev pub numbered : State → ℕ → Option State
+numbered (wanted s) n = Some (had s (Tree.number (pos n)))
+numbered (size_wanted done name) n = if nat_le 1 n then Some (size_had done name n) else None
+numbered length_wanted n = if nat_le 1 n && nat_le n 256 then Some (length_had n) else None
+numbered state n = None
+
+-- a parenthesis is opened behind a name in an expression
+abbrev pub named_open : List ℕ → Option Builtin → Stack → Stack
+named_open name None s = subscript name s
+named_open name (Some function) s = arguments function Trees.nil s
+
+abbrev pub opened_behind : Stack → Tree → Option State
+opened_behind s (Tree.variable (Reference.simple name)) = Some (wanted (named_open name (builtin_of name) s))
+opened_behind s t = None
+
+-- a parenthesis is opened behind a name that stands in no expression
+abbrev pub opened_by_role : Role → List ℕ → Option State
+opened_by_role target name = Some (wanted (base (target_subscript name)))
+opened_by_role (variables done) name = Some (wanted (base (variable_subscript done name)))
+opened_by_role callee name = Some (wanted (base (call_arguments name Trees.nil)))
+opened_by_role (items done) name = Some (size_wanted done name)
+opened_by_role role name = None
+
+-- a parenthesis is opened
+abbrev pub opened : State → Option State
+opened (wanted s) = Some (wanted (parenthesis s))
+opened (had s t) = opened_behind s t
+opened (name_had role name) = opened_by_role role name
+opened state = None
+
+-- the parenthesis in which the phrase's own expression stands is closed
+abbrev pub closed_base : Base → Tree → Option State
+closed_base (target_subscript name) t = Some (target_had (Reference.subscripted name t))
+closed_base (variable_subscript done name) t = Some (variable_had (done ++ (Reference.subscripted name t ∷ [])))
+closed_base (call_arguments name done) t = Some (call_had name (tree_push done t))
+closed_base b t = None
+
+abbrev pub closed_at : Stack → Tree → Option State
+closed_at (base b) t = closed_base b t
+closed_at (prefix op s) t = None
+closed_at (left a op s) t = None
+closed_at (parenthesis s) t = Some (had s (Tree.parenthesized t))
+closed_at (subscript name s) t = Some (had s (Tree.variable (Reference.subscripted name t)))
+closed_at (arguments function done s) t = Some (had s (Tree.builtin function (tree_push done t)))
+
+-- a parenthesis is closed
+abbrev pub closed : State → Option State
+closed (had s t) = let o = reduced s 1 t in closed_at o.0 o.1
+closed (size_had done name n) = Some (item_had (done ++ (record { name = name; size = Some n } ∷ [])))
+closed state = None
+
+-- a comma stands behind an expression
+abbrev pub separated_base : Base → Tree → Option State
+separated_base (expressions done) t = Some (wanted (base (expressions (tree_push done t))))
+separated_base (call_arguments name done) t = Some (wanted (base (call_arguments name (tree_push done t))))
+separated_base b t = None
+
+abbrev pub separated_at : Stack → Tree → Option State
+separated_at (base b) t = separated_base b t
+separated_at (arguments function done s) t = Some (wanted (arguments function (tree_push done t) s))
+separated_at s t = None
+
+-- a comma stands behind a name
+abbrev pub separated_by_role : Role → List ℕ → Option State
+separated_by_role (variables done) name = Some (name_wanted (variables (done ++ (Reference.simple name ∷ []))))
+separated_by_role (items done) name = Some (name_wanted (items (done ++ (record { name = name; size = None } ∷ []))))
+separated_by_role (names done) name = Some (name_wanted (names (done ++ (name ∷ []))))
+separated_by_role role name = None
+
+-- a comma is read
+abbrev pub separated : State → Option State
+separated (had s t) = let o = reduced s 1 t in separated_at o.0 o.1
+separated (name_had role name) = separated_by_role role name
+separated (variable_had done) = Some (name_wanted (variables done))
+separated (item_had done) = Some (name_wanted (items done))
+separated state = None
+
+-- `=` behind a name that stands in no expression
+abbrev pub assigned_by_role : Role → List ℕ → Option State
+assigned_by_role target name = Some (wanted (base (assigned (Reference.simple name))))
+assigned_by_role role name = None
+
+-- `=` is read: it assigns to the target of an assignment, and elsewhere it compares
+abbrev pub equated : State → Option State
+equated (had s t) = Some (joined between.Equal (reduced s (priority between.Equal) t))
+equated (name_had role name) = assigned_by_role role name
+equated (target_had reference) = Some (wanted (base (assigned reference)))
+equated state = None
+
+abbrev pub with_prefix : Stack → Option PrefixOp → Option State
+with_prefix s None = None
+with_prefix s (Some op) = Some (wanted (prefix op s))
+
+abbrev pub with_infix : Stack → Tree → Option InfixOp → Option State
+with_infix s t None = None
+with_infix s t (Some op) = Some (joined op (reduced s (priority op) t))
+
+-- a sign is read that is an operator wherever it stands
+abbrev pub operated : State → Sign → Option State
+operated (wanted s) sign = with_prefix s (prefix_of sign)
+operated (had s t) sign = with_infix s t (infix_of sign)
+operated state sign = None
+
+-- a sign is read
+abbrev pub signed : State → Sign → Option State
+signed state Sign.open_parenthesis = opened state
+signed state Sign.close_parenthesis = closed state
+signed state Sign.comma = separated state
+signed state Sign.equal = equated state
+signed state sign = operated state sign
+
+-- the state behind one more token, if it can stand there
+abbrev pub step : State → Token → Option State
+step state (Token.name name) = named state name
+step state (Token.keyword word) = None
+step state (Token.number n) = numbered state n
+step state (Token.text value) = operand state (Tree.text value)
+step state (Token.bit value) = operand state (Tree.bit value)
+step state (Token.sign sign) = signed state sign
+
+abbrev pub step_if : Option State → Token → Option State
+step_if None token = None
+step_if (Some state) token = step state token
+
+-- the state behind more tokens, if they can stand there
+abbrev pub run : List Token → Option State → Option State
+run [] state = state
+run (token ∷ tokens) state = run tokens (step_if state token)
+
+-- the state before all tokens of a phrase; a comment has no tokens
+abbrev pub start : Category → Option State
+start Assignment = Some (name_wanted target)
+start Condition = Some (wanted (base condition))
+start Expression = Some (wanted (base expression))
+start ExpressionList = Some (wanted (base (expressions Trees.nil)))
+start VariableList = Some (name_wanted (variables []))
+start Variable = Some (name_wanted variable)
+start CallRef = Some (name_wanted callee)
+start DeclaredList = Some (name_wanted (items []))
+start ProcedureName = Some (name_wanted procedure)
+start NameList = Some (name_wanted (names []))
+start Length = Some length_wanted
+start CommentText = None
+
+-- the phrase, if an expression is its last part
+abbrev pub ended_base : Base → Tree → Option Reading
+ended_base condition t = Some (Reading.condition t)
+ended_base expression t = Some (Reading.expression t)
+ended_base (expressions done) t = Some (Reading.expression_list (tree_push done t))
+ended_base (assigned reference) t = Some (Reading.assignment reference t)
+ended_base b t = None
+
+abbrev pub ended_at : Stack → Tree → Option Reading
+ended_at (base b) t = ended_base b t
+ended_at s t = None
+
+-- the phrase, if a name is its last part
+abbrev pub ended_by_role : Role → List ℕ → Option Reading
+ended_by_role target name = None
+ended_by_role (variables done) name = Some (Reading.variable_list (done ++ (Reference.simple name ∷ [])))
+ended_by_role callee name = Some (Reading.call name Trees.nil)
+ended_by_role (items done) name = Some (Reading.declared_list (done ++ (record { name = name; size = None } ∷ [])))
+ended_by_role (names done) name = Some (Reading.name_list (done ++ (name ∷ [])))
+ended_by_role variable name = Some (Reading.variable_name name)
+ended_by_role procedure name = Some (Reading.procedure_name name)
+
+-- the phrase, if the tokens are all of it
+abbrev pub ended : State → Option Reading
+ended (had s t) = let o = reduced s 1 t in ended_at o.0 o.1
+ended (name_had role name) = ended_by_role role name
+ended (variable_had done) = Some (Reading.variable_list done)
+ended (call_had name passed) = Some (Reading.call name passed)
+ended (item_had done) = Some (Reading.declared_list done)
+ended (length_had n) = Some (Reading.greatest_length n)
+ended state = None
+
+abbrev pub ended_if : Option State → Option Reading
+ended_if None = None
+ended_if (Some state) = ended state
