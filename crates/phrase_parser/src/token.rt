@@ -1,0 +1,64 @@
+/// The signs of phrases.
+#[derive(Clone, Copy, Debug, PartialEq, Eq)]
+pub enum Sign {
+    /// `+`
+    Plus,
+    /// `-`
+    Minus,
+    /// `*`
+    Times,
+    /// `/`
+    Divide,
+    /// `||`
+    Join,
+    /// `=`
+    Equal,
+    /// `^=`
+    NotEqual,
+    /// `<`
+    Less,
+    /// `<=`
+    LessEqual,
+    /// `>`
+    Greater,
+    /// `>=`
+    GreaterEqual,
+    /// `&`
+    Ampersand,
+    /// `|`
+    Bar,
+    /// `^`
+    Caret,
+    /// `(`
+    OpenParenthesis,
+    /// `)`
+    CloseParenthesis,
+    /// `,`
+    Comma,
+}
+
+/// What kind of token it is. The bytes of names, keywords and character constants are read from the
+/// text again where they are wanted.
+#[derive(Clone, Copy, Debug, PartialEq, Eq)]
+pub enum TokenKind {
+    Name,
+    Keyword,
+    /// The number, or 4294967295 where it is greater.
+    Number(u32),
+    /// A character constant.
+    Text,
+    /// A bit constant.
+    Bit(bool),
+    Sign(Sign),
+}
+
+/// A token where it stands in a text.
+#[derive(Clone, Copy, Debug, PartialEq, Eq)]
+pub struct Placed {
+    /// What it is.
+    pub kind: TokenKind,
+    /// The place of its first byte, counted from 0.
+    pub start: usize,
+    /// The place behind its last byte.
+    pub end: usize,
+}
