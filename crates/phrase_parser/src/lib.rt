@@ -1,2 +1,5 @@
 //! Texts read as phrases of PL/CS.
 #![tactic(auto)]
+
+mod builder;
+mod token;

@@ -1,0 +1,14 @@
+-- What stands between the quotes of a character constant, each doubled quote once.
+use Rattle.std.specs.Prelude.{ℕ, if◌then◌else◌, List, [], ◌∷◌}
+use Rattle.plcs_grammar.specs.Token.{is_quote}
+
+-- the bytes with one quote for each two
+abbrev mutual
+  pub undoubled : List ℕ → List ℕ
+  undoubled [] = []
+  undoubled (byte ∷ rest) = byte ∷ (if is_quote byte then undoubled_behind rest else undoubled rest)
+
+  -- behind the first quote of two
+  pub undoubled_behind : List ℕ → List ℕ
+  undoubled_behind [] = []
+  undoubled_behind (byte ∷ rest) = undoubled rest
