@@ -7,3 +7,4 @@ mod Lists
 mod Completeness
 mod Consumed
 mod Soundness
+pub mod Stacks

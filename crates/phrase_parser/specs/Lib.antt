@@ -5,3 +5,4 @@ pub mod Unquoted
 pub mod TokenIn
 pub mod Gives
 pub mod Views
+pub mod Reduction

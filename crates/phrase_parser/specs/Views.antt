@@ -1,5 +1,6 @@
 -- What the builder's stacks and states stand for.
 use Rattle.std.specs.Prelude.{ℕ, List, [], ◌∷◌, map}
+use Rattle.plcs_grammar.specs.declared.expr.Expr.{Expr}
 use Rattle.plcs_grammar.specs.Reading.{Tree, Reference}
 use Rattle.plcs_grammar.specs.PlainForm.{tree_of, trees_of, reference_of}
 use Rattle.phrase_parser.specs.Machine as machine
@@ -8,8 +9,8 @@ use Rattle.phrase_parser.specs.declared.builder.state.Base.TheVariants as base
 use Rattle.phrase_parser.specs.declared.builder.state.Frame.{Frame}
 use Rattle.phrase_parser.specs.declared.builder.state.Frame.TheVariants as frame
 use Rattle.phrase_parser.specs.declared.builder.state.Stack.{Stack}
-use Rattle.phrase_parser.specs.declared.builder.state.Operand.{Operand}
-use Rattle.phrase_parser.specs.declared.builder.state.Operand.TheVariants as operand
+use Rattle.phrase_parser.specs.declared.builder.state.Primary.{Primary}
+use Rattle.phrase_parser.specs.declared.builder.state.Primary.TheVariants as primary
 use Rattle.phrase_parser.specs.declared.builder.state.Role.{Role}
 use Rattle.phrase_parser.specs.declared.builder.state.Role.TheVariants as role
 use Rattle.phrase_parser.specs.declared.builder.state.State.{State}
@@ -40,9 +41,14 @@ stack_on s (f ∷ fs) = stack_on (pushed f s) fs
 abbrev pub stack_of : Stack → machine.Stack
 stack_of s = stack_on (machine.Stack.base (base_of s.base)) s.frames.items
 
-abbrev pub operand_of : Operand → Tree
-operand_of (operand.Name name) = Tree.variable (Reference.simple name)
-operand_of (operand.Tree t) = tree_of t
+abbrev pub primary_of : Primary → Tree
+primary_of (primary.Number z) = Tree.number z
+primary_of (primary.Text value) = Tree.text value.value
+primary_of (primary.Bit value) = Tree.bit value
+primary_of (primary.Name name) = Tree.variable (Reference.simple name)
+primary_of (primary.Subscripted name index) = Tree.variable (Reference.subscripted name (tree_of index.value))
+primary_of (primary.Call function passed) = Tree.builtin function (trees_of passed.items)
+primary_of (primary.Parenthesized t) = Tree.parenthesized (tree_of t.value)
 
 abbrev pub role_of : Role → machine.Role
 role_of role.Target = machine.Role.target
@@ -55,7 +61,7 @@ role_of role.Procedure = machine.Role.procedure
 
 abbrev pub state_of : State → machine.State
 state_of (state.Wanted s) = machine.State.wanted (stack_of s)
-state_of (state.Had s t) = machine.State.had (stack_of s) (operand_of t)
+state_of (state.Had s t) = machine.State.had (stack_of s) (primary_of t)
 state_of (state.NameWanted role) = machine.State.name_wanted (role_of role)
 state_of (state.NameHad role name) = machine.State.name_had (role_of role) name
 state_of (state.TargetHad target) = machine.State.target_had (reference_of target)
@@ -67,6 +73,6 @@ state_of (state.ItemHad done) = machine.State.item_had done.items
 state_of state.LengthWanted = machine.State.length_wanted
 state_of (state.LengthHad n) = machine.State.length_had n
 
--- a stack with an operand on it
-abbrev pub pair_of : Stack × Operand → machine.Operand
-pair_of o = (stack_of o.0, operand_of o.1)
+-- a stack and the operand on it
+abbrev pub pair_of : Stack × Expr → machine.Operand
+pair_of o = (stack_of o.0, tree_of o.1)

@@ -1,3 +1,4 @@
 mod fault;
 mod make;
+mod operators;
 mod state;

@@ -1,35 +1,40 @@
-ghost use Rattle.std.specs.Prelude.{◌≡◌, ◌+◌, ◌≤◌, Some, pos};
+ghost use Rattle.std.specs.Prelude.{◌≡◌, ◌≤◌, IfOk, pos};
 ghost use Rattle.plcs_grammar.specs.Reading.{Tree, Reference};
 ghost use Rattle.plcs_grammar.specs.PlainForm.{tree_of, trees_of, reference_of};
-ghost use Rattle.phrase_parser.specs.Gives.{Gives};
-ghost use Rattle.phrase_parser.specs.Views.{operand_of};
+ghost use Rattle.phrase_parser.specs.Views.{primary_of};
 
-use crate::builder::fault::BuildError;
-use crate::builder::state::Operand;
+use crate::builder::state::Primary;
 use plcs_base::{Name, TextValue};
 use plcs_grammar::{Builtin, Expr, InfixOp, PrefixOp, VarRef};
-use std::alloc::Global;
+use std::alloc::{AllocError, Global};
 
-/// The number.
-pub fn number(n: u32) -> Expr
+/// The number as an operand.
+pub fn number(n: u32) -> Primary
     requires { n ≤ 2147483647 }
-    ensures { tree_of result ≡ Tree.number (pos n) }
+    ensures { primary_of result ≡ Tree.number (pos n) }
 {
-    Expr::Number(n as i32)
+    Primary::Number(n as i32)
 }
 
-/// The character constant.
-pub fn text(alloc: Global, value: TextValue) -> Result<Expr, BuildError>
-    ensures { Gives tree_of result (Some (Tree.text value)) }
+/// The character constant as an operand.
+pub fn constant(alloc: Global, value: TextValue) -> Result<Primary, AllocError>
+    ensures { IfOk result (λ made. primary_of made ≡ Tree.text value) }
 {
-    Ok(Expr::Text(Box::new(alloc, value)?))
+    Ok(Primary::Text(Box::new(alloc, value)?))
 }
 
-/// The bit constant.
-pub fn bit(value: bool) -> Expr
-    ensures { tree_of result ≡ Tree.bit value }
+/// The variable with the subscript as an operand.
+pub fn cell(alloc: Global, name: Name, index: Expr) -> Result<Primary, AllocError>
+    ensures { IfOk result (λ made. primary_of made ≡ Tree.variable (Reference.subscripted name (tree_of index))) }
 {
-    Expr::Bit(value)
+    Ok(Primary::Subscripted(name, Box::new(alloc, index)?))
+}
+
+/// The expression in parentheses as an operand.
+pub fn parenthesized(alloc: Global, inside: Expr) -> Result<Primary, AllocError>
+    ensures { IfOk result (λ made. primary_of made ≡ Tree.parenthesized (tree_of inside)) }
+{
+    Ok(Primary::Parenthesized(Box::new(alloc, inside)?))
 }
 
 /// The variable without a subscript.
@@ -40,56 +45,54 @@ pub fn simple(name: Name) -> VarRef
 }
 
 /// The variable with the subscript.
-pub fn subscripted(alloc: Global, name: Name, index: Expr) -> Result<VarRef, BuildError>
-    ensures { Gives reference_of result (Some (Reference.subscripted name (tree_of index))) }
+pub fn subscripted(alloc: Global, name: Name, index: Expr) -> Result<VarRef, AllocError>
+    ensures { IfOk result (λ made. reference_of made ≡ Reference.subscripted name (tree_of index)) }
 {
-    let index = Some(Box::new(alloc, index)?);
-    Ok(VarRef { name, index })
+    Ok(boxed_subscript(name, Box::new(alloc, index)?))
+}
+
+/// The variable with the subscript.
+fn boxed_subscript(name: Name, index: Box<Expr>) -> VarRef
+    ensures { reference_of result ≡ Reference.subscripted name (tree_of index.value) }
+{
+    let index = Some(index);
+    VarRef { name, index }
 }
 
 /// The variable as an expression.
-pub fn variable(reference: VarRef) -> Expr
+fn variable(reference: VarRef) -> Expr
     ensures { tree_of result ≡ Tree.variable (reference_of reference) }
 {
     Expr::Var(reference)
 }
 
 /// The operator with its operand.
-pub fn unary(alloc: Global, op: PrefixOp, operand: Expr) -> Result<Expr, BuildError>
-    ensures { Gives tree_of result (Some (Tree.unary op (tree_of operand))) }
+pub fn unary(alloc: Global, op: PrefixOp, operand: Expr) -> Result<Expr, AllocError>
+    ensures { IfOk result (λ made. tree_of made ≡ Tree.unary op (tree_of operand)) }
 {
     Ok(Expr::Prefix(op, Box::new(alloc, operand)?))
 }
 
 /// The operator with its left and its right operand.
-pub fn binary(alloc: Global, op: InfixOp, left: Expr, right: Expr) -> Result<Expr, BuildError>
-    ensures { Gives tree_of result (Some (Tree.binary op (tree_of left) (tree_of right))) }
+pub fn binary(alloc: Global, op: InfixOp, left: Expr, right: Expr) -> Result<Expr, AllocError>
+    ensures { IfOk result (λ made. tree_of made ≡ Tree.binary op (tree_of left) (tree_of right)) }
 {
     let left = Box::new(alloc, left)?;
     let right = Box::new(alloc, right)?;
     Ok(Expr::Infix(op, left, right))
 }
 
-/// The call of the built-in function.
-pub fn builtin(function: Builtin, arguments: Vec<Expr>) -> Expr
-    ensures { tree_of result ≡ Tree.builtin function (trees_of arguments.items) }
+/// The primary as an expression.
+pub fn expression(primary: Primary) -> Expr
+    ensures { tree_of result ≡ primary_of primary }
 {
-    Expr::Builtin(function, arguments)
-}
-
-/// The expression in parentheses.
-pub fn parenthesized(alloc: Global, inside: Expr) -> Result<Expr, BuildError>
-    ensures { Gives tree_of result (Some (Tree.parenthesized (tree_of inside))) }
-{
-    Ok(Expr::Paren(Box::new(alloc, inside)?))
-}
-
-/// The operand as an expression; a name is a variable's.
-pub fn expression(operand: Operand) -> Expr
-    ensures { tree_of result ≡ operand_of operand }
-{
-    match operand {
-        Operand::Name(name) => variable(simple(name)),
-        Operand::Tree(expr) => expr,
+    match primary {
+        Primary::Number(n) => Expr::Number(n),
+        Primary::Text(value) => Expr::Text(value),
+        Primary::Bit(value) => Expr::Bit(value),
+        Primary::Name(name) => variable(simple(name)),
+        Primary::Subscripted(name, index) => variable(boxed_subscript(name, index)),
+        Primary::Call(function, arguments) => Expr::Builtin(function, arguments),
+        Primary::Parenthesized(inside) => Expr::Paren(inside),
     }
 }

@@ -1,4 +1,4 @@
-use plcs_base::Name;
+use plcs_base::{Name, TextValue};
 use plcs_grammar::{Builtin, Expr, InfixOp, Item, PrefixOp, VarRef};
 
 /// What an expression that stands in no other is for, with what of the phrase stands before it.
@@ -37,12 +37,17 @@ pub struct Stack {
     pub frames: Vec<Frame>,
 }
 
-/// An operand that was just read. A name may turn out to be that of a subscripted variable or of a
-/// built-in function.
+/// An operand that is no operator with operands of its own.
 #[derive(Drop)]
-pub enum Operand {
+pub enum Primary {
+    Number(i32),
+    Text(Box<TextValue>),
+    Bit(bool),
+    /// A name, behind which a parenthesis may still open.
     Name(Name),
-    Tree(Expr),
+    Subscripted(Name, Box<Expr>),
+    Call(Builtin, Vec<Expr>),
+    Parenthesized(Box<Expr>),
 }
 
 /// What a name that stands in no expression is for, with what of the phrase stands before it.
@@ -62,8 +67,8 @@ pub enum Role {
 pub enum State {
     /// An operand is wanted.
     Wanted(Stack),
-    /// An operand that is no operator with its own operands was just read.
-    Had(Stack, Operand),
+    /// A primary was just read.
+    Had(Stack, Primary),
     /// A name is wanted.
     NameWanted(Role),
     /// A name was just read.
