@@ -1,4 +1,7 @@
+mod closing;
 mod fault;
+mod lists;
 mod make;
+mod opening;
 mod operators;
 mod state;
