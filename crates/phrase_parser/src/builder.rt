@@ -1,7 +1,10 @@
 mod closing;
+mod ending;
 mod fault;
 mod lists;
 mod make;
 mod opening;
 mod operators;
+mod separating;
+mod signs;
 mod state;
