@@ -8,3 +8,4 @@ mod Completeness
 mod Consumed
 mod Soundness
 pub mod Stacks
+pub mod Constants

@@ -50,12 +50,18 @@ bytes_in text placed = slice_range text placed.start placed.end
 abbrev pub token_in : List ℕ → Placed → Token
 token_in text placed = token_from placed.kind (bytes_in text placed)
 
+-- the bytes are a character constant
+pub record IsConstant (bytes : List ℕ) : Type 0 where
+  pub value : List ℕ
+  pub whole : bytes ≡ quoted value
+  pub content : IsConstantText value
+
 -- the bytes are a token of the kind, and a number is one that an expression can hold
 abbrev pub IsOfKind : TokenKind → List ℕ → Type 0
 IsOfKind kind.Name bytes = IsName bytes
 IsOfKind kind.Keyword bytes = Unit {0}
 IsOfKind (kind.Number n) bytes = n ≤ 2147483647
-IsOfKind kind.Text bytes = (value : List ℕ) × (bytes ≡ quoted value) × IsConstantText value
+IsOfKind kind.Text bytes = IsConstant bytes
 IsOfKind (kind.Bit value) bytes = Unit {0}
 IsOfKind (kind.Sign s) bytes = Unit {0}
 
