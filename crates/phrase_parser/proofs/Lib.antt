@@ -26,3 +26,5 @@ pub mod LexedTexts
 mod KeptNumbers
 mod Found
 mod FindingSays
+pub mod Stacks
+pub mod Constants

@@ -15,3 +15,5 @@ mod uniqueness;
 
 pub use fault::PhraseFault;
 pub use uniqueness::one_reading;
+mod builder;
+mod token;

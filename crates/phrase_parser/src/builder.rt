@@ -1,0 +1,12 @@
+mod closing;
+mod ending;
+mod fault;
+mod lists;
+mod make;
+mod opening;
+mod operands;
+mod operators;
+mod reading;
+mod separating;
+mod signs;
+mod state;
