@@ -28,3 +28,4 @@ mod Found
 mod FindingSays
 pub mod Stacks
 pub mod Constants
+mod OpenBrackets

@@ -6,8 +6,8 @@ pub mod Unquoted
 pub mod Answers
 pub mod Recognizer
 pub mod Findings
-pub mod Unquoted
 pub mod TokenIn
 pub mod Gives
 pub mod Views
 pub mod Reduction
+pub mod Shapes

@@ -1,7 +1,9 @@
 //! Texts read as phrases of PL/CS.
 #![tactic(auto)]
 
+mod builder;
 mod byte_class;
+mod check;
 mod comment;
 mod constant;
 mod fault;
@@ -15,5 +17,3 @@ mod uniqueness;
 
 pub use fault::PhraseFault;
 pub use uniqueness::one_reading;
-mod builder;
-mod token;

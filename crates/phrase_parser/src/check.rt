@@ -1,0 +1,4 @@
+mod kind;
+mod nesting;
+mod operator;
+mod shape;
