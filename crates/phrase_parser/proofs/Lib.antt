@@ -29,3 +29,4 @@ mod FindingSays
 pub mod Stacks
 pub mod Constants
 mod OpenBrackets
+mod Operators

@@ -2,3 +2,5 @@ mod kind;
 mod nesting;
 mod operator;
 mod shape;
+mod level;
+mod step;

@@ -1,4 +1,6 @@
 ghost use Rattle.std.specs.Prelude.{◌≡◌, ◌≤◌, length};
+ghost use Rattle.std.specs.Str.{bytes_eq};
+ghost use Rattle.std.specs.List.{list_any};
 ghost use Rattle.plcs_grammar.specs.Builtin.{is_builtin_name};
 ghost use Rattle.phrase_parser.specs.TokenIn.{bytes_in};
 ghost use Rattle.phrase_parser.specs.Shapes.{kind_of, kind_from};
@@ -42,5 +44,12 @@ pub fn kind_at(text: &[u8], token: &Placed) -> Kind
 fn is_builtin_name(name: &[u8]) -> bool
     ensures { result ≡ is_builtin_name name.now }
 {
-    BUILTIN_NAMES.contains(&name)
+    is_one_of(name, &BUILTIN_NAMES)
+}
+
+/// Whether the bytes are one of the words.
+fn is_one_of(bytes: &[u8], words: &[&[u8]]) -> bool
+    ensures { result ≡ list_any (λ word. bytes_eq bytes.now word.now) words.now }
+{
+    words.iter().any(|word| bytes == *word)
 }
