@@ -9,3 +9,4 @@ mod Consumed
 mod Soundness
 pub mod Stacks
 pub mod Constants
+pub mod Fails
