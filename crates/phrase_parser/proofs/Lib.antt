@@ -30,3 +30,4 @@ pub mod Stacks
 pub mod Constants
 mod OpenBrackets
 mod Operators
+pub mod Fails

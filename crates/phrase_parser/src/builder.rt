@@ -17,9 +17,11 @@ mod separating;
 mod signs;
 mod state;
 mod step;
+#[cfg(test)]
+mod tests;
 
-pub use crate::builder::fault::BuildError;
 use crate::builder::ending::ended;
+pub use crate::builder::fault::BuildError;
 use crate::builder::step::{start, step};
 use crate::token::Placed;
 use plcs_grammar::{Category, Phrase};

@@ -27,11 +27,7 @@ pub fn with_variable(done: Vec<VarRef>, variable: VarRef) -> Result<Vec<VarRef>,
 }
 
 /// The items with one more.
-pub fn with_item(
-    done: Vec<Item>,
-    name: Name,
-    size: Option<u32>,
-) -> Result<Vec<Item>, AllocError>
+pub fn with_item(done: Vec<Item>, name: Name, size: Option<u32>) -> Result<Vec<Item>, AllocError>
     ensures { IfOk result (λ all. all.items ≡ done.items ++ (record { name = name; size = size } ∷ [])) }
 {
     let mut all = done;

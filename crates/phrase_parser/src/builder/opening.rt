@@ -93,10 +93,7 @@ fn opened_by_role(alloc: Global, role: Role, name: Name) -> Result<State, BuildE
     match role {
         Role::Target => Ok(wanted_on(alloc, Base::TargetSubscript(name))),
         Role::Variables(done) => Ok(wanted_on(alloc, Base::VariableSubscript(done, name))),
-        Role::Callee => Ok(wanted_on(
-            alloc,
-            Base::CallArguments(name, Vec::new(alloc)),
-        )),
+        Role::Callee => Ok(wanted_on(alloc, Base::CallArguments(name, Vec::new(alloc)))),
         Role::Items(done) => Ok(State::SizeWanted(done, name)),
         Role::Names(_) | Role::Variable | Role::Procedure => Err(BuildError::Refused),
     }
