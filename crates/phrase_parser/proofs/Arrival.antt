@@ -42,6 +42,7 @@ below_tightest Minus = lit≤ tt
 below_tightest Times = lit≤ tt
 below_tightest Divide = lit≤ tt
 
+-- and of no level below the lowest
 pub above_none : (op : InfixOp) → 1 ≤ priority op
 above_none Or = lit≤ tt
 above_none And = lit≤ tt
@@ -74,6 +75,7 @@ steps_infix Minus s t = refl
 steps_infix Times s t = refl
 steps_infix Divide s t = refl
 
+-- which opens no level
 opens_infix : (op : InfixOp) (s : Stack) (t : Tree) → opens (State.had s t) (Token.sign (infix_sign op)) ≡ 0
 opens_infix Or s t = refl
 opens_infix And s t = refl
@@ -125,10 +127,12 @@ abbrev pub trees_append : Trees → Trees → Trees
 trees_append Trees.nil ts = ts
 trees_append (Trees.cons a rest) ts = Trees.cons a (trees_append rest ts)
 
+-- one more at the end of those that are done is the first of the rest
 pub push_append : (done : Trees) (t : Tree) (ts : Trees) → trees_append (tree_push done t) ts ≡ trees_append done (Trees.cons t ts)
 push_append Trees.nil t ts = refl
 push_append (Trees.cons a rest) t ts = ap (Trees.cons a) (push_append rest t ts)
 
+-- one more at the end is a rest of one
 pub push_as_append : (done : Trees) (t : Tree) → tree_push done t ≡ trees_append done (Trees.cons t Trees.nil)
 push_as_append Trees.nil t = refl
 push_as_append (Trees.cons a rest) t = ap (Trees.cons a) (push_as_append rest t)
@@ -157,9 +161,11 @@ pub record ArrivesAll (h : Trees → Stack) (outside : ℕ) (done ts : Trees) (k
   pub same : reduced stack 1 top ≡ (h front, last)
   pub whole : tree_push front last ≡ trees_append done ts
 
+-- the arguments of a built-in call stand in such a place
 holds_arguments : (s : Stack) (function : _) → Holds (λ done. Stack.arguments function done s) (depth s + 1)
 holds_arguments s function = record { ends = λ done t. refl; comma = λ done t. refl; blocks = λ done. tt; deep = λ done. refl }
 
+-- a comma behind an expression in such a place
 comma_step : (h : Trees → Stack) (outside : ℕ) → Holds h outside → (done : Trees) (stack : Stack) (top t : Tree)
     → reduced stack 1 top ≡ (h done, t)
     → step (State.had stack top) (Token.sign Sign.comma) ≡ Some (State.wanted (h (tree_push done t)))
@@ -215,6 +221,7 @@ mutual
         same = λ m k. refl;
       }
 
+  -- the same for a variable
   arrives_reference : (reference : Reference) (l : ℕ) (s : Stack) → IsNoCall reference → FitsReference reference → Arrives s (Tree.variable reference) l
   arrives_reference (Reference.simple name) l s free f =
       record { stack = s; top = Tree.variable (Reference.simple name); goes = by refl refl there; same = λ m k. refl }

@@ -1,5 +1,5 @@
 -- What the check finds is so.
-use Rattle.std.proofs.Common.{◌≡◌, refl, ℕ, Bool, true, false, cond, ltb, lit≤, map, List, [], ◌∷◌, ◌++◌, Option, Some, None, ap, sym, subst, ◌∙◌, append_assoc, append-nil}
+use Rattle.std.proofs.Common.{◌≡◌, refl, ℕ, true, cond, ltb, lit≤, map, List, [], ◌∷◌, ◌++◌, Option, Some, None, ap, sym, subst, ◌∙◌, append_assoc, append-nil}
 use Rattle.std.proofs.lemmas.Bool.{cond_both}
 use Rattle.plcs_grammar.specs.declared.category.Category.{Category}
 use Rattle.plcs_grammar.specs.Token.{Token}
@@ -9,7 +9,7 @@ use Rattle.plcs_grammar.specs.Form.{Form, Begins}
 use Rattle.plcs_grammar.specs.Syntax.{GoesWrong}
 use Rattle.plcs_grammar.specs.Limit.{greatest_number, greatest_nesting, OverLimit, IsWithinLimits, is_too_large, first_over, phrase_opened, over_at, or_else}
 use Rattle.phrase_parser.specs.Recognizer.{Shape, kind_of, next, next_if, follow, first_shape, may_end, level_of, follow_levels}
-use Rattle.phrase_parser.specs.Findings.{Finding, finding_of, found_at, found_at_end, Seen, seen_of, is_large, seen_over, findings}
+use Rattle.phrase_parser.specs.Findings.{Finding, finding_of, found_at, found_at_end, seen_of, is_large, seen_over, findings}
 use Rattle.phrase_parser.proofs.KeptNumbers.{kept_above}
 use Rattle.phrase_parser.proofs.Limits.{none_over}
 use Rattle.phrase_parser.proofs.Recognized.{kinds_of, taken_begins, refused_begins, whole_form, part_form, levels_over}
@@ -18,6 +18,7 @@ use Rattle.phrase_parser.proofs.Recognized.{kinds_of, taken_begins, refused_begi
 abbrev pub follow_pieces : List Piece → Option Shape → Option Shape
 follow_pieces pieces shape = follow (kinds_of (tokens_of pieces)) shape
 
+-- the first piece that goes past a limit
 abbrev pub over_pieces : List Piece → Option Shape → Option OverLimit
 over_pieces pieces shape = first_over pieces (follow_levels (kinds_of (tokens_of pieces)) shape)
 
@@ -27,6 +28,7 @@ pub follow_last : (front : List Piece) (piece : Piece) (s : Option Shape)
 follow_last [] piece s = refl
 follow_last (x ∷ xs) piece s = follow_last xs piece (next_if s (kind_of x.token))
 
+-- the first of three
 pub or_else_assoc : (a b c : Option OverLimit) → or_else (or_else a b) c ≡ or_else a (or_else b c)
 or_else_assoc None b c = refl
 or_else_assoc (Some o) b c = refl
@@ -40,6 +42,7 @@ seen_large (Token.text value) = refl
 seen_large (Token.bit value) = refl
 seen_large (Token.sign sign) = refl
 
+-- the limit that a token goes past is that of the piece
 pub seen_as : (piece : Piece) (level : ℕ) → seen_over (seen_of piece) level ≡ over_at piece level
 seen_as piece level =
     ap (λ b. cond b (Some (OverLimit.number_too_large piece.start)) (cond (ltb greatest_nesting level) (Some (OverLimit.too_deep piece.start)) None))

@@ -37,19 +37,23 @@ before_push (Trees.cons a rest) t =
     ap (λ z. spell a ++ (Token.sign Sign.comma ∷ z)) (before_push rest t)
     ∙ sym (append_assoc (spell a) (Token.sign Sign.comma ∷ spell_before rest) (spell t ++ (Token.sign Sign.comma ∷ [])))
 
+-- a call with an argument has its parentheses
 pub call_push : (name : List ℕ) (done : Trees) (t : Tree)
     → spell_call name (tree_push done t) ≡ Token.name name ∷ in_parentheses (spell_all (tree_push done t))
 call_push name Trees.nil t = refl
 call_push name (Trees.cons a rest) t = refl
 
+-- each of them keeps its levels with one more that does
 pub behind_fits : (done : Trees) (t : Tree) → FitsBehind done → Fits t 1 → FitsBehind (tree_push done t)
 behind_fits Trees.nil t h f = (f, tt)
 behind_fits (Trees.cons a rest) t h f = (h.0, behind_fits rest t h.1 f)
 
+-- and there is one
 pub all_fit : (done : Trees) (t : Tree) → FitsBehind done → Fits t 1 → FitsAll (tree_push done t)
 all_fit Trees.nil t h f = (f, tt)
 all_fit (Trees.cons a rest) t h f = (h.0, behind_fits rest t h.1 f)
 
+-- arguments that keep their levels are those of a call
 pub call_fits : (ts : Trees) → FitsAll ts → FitsCall ts
 call_fits Trees.nil h = absurd h
 call_fits (Trees.cons a rest) h = h
@@ -94,14 +98,17 @@ module _ {X : Type 0} (f : X → List Token) where
       ap (λ z. f x ++ z) (more_comma xs) ∙ sym (append_assoc (f x) (spell_more f xs) (Token.sign Sign.comma ∷ []))
 
 module _ {X : Type 0} (Fit : X → Type 0) where
+  -- each of them keeps what it has to with one more that does
   pub each_fits : (xs : List X) (x : X) → EachFits Fit xs → Fit x → EachFits Fit (xs ++ (x ∷ []))
   each_fits [] x h f = (f, tt)
   each_fits (y ∷ ys) x h f = (h.0, each_fits ys x h.1 f)
 
+  -- and there is one
   pub listed_fits : (xs : List X) (x : X) → EachFits Fit xs → Fit x → FitsListed Fit (xs ++ (x ∷ []))
   listed_fits [] x h f = (f, tt)
   listed_fits (y ∷ ys) x h f = (h.0, each_fits ys x h.1 f)
 
+  -- each of some that are there keeps what it has to
   pub listed_each : (xs : List X) → FitsListed Fit xs → EachFits Fit xs
   listed_each [] h = absurd h
   listed_each (x ∷ xs) h = h
@@ -117,6 +124,7 @@ flat_base (Base.variable_subscript done name) =
     spell_each spell_reference done ++ (Token.name name ∷ Token.sign Sign.open_parenthesis ∷ [])
 flat_base (Base.call_arguments name done) = Token.name name ∷ Token.sign Sign.open_parenthesis ∷ spell_before done
 
+-- the tokens before the operand on a stack
 abbrev pub flat_stack : Stack → List Token
 flat_stack (Stack.base b) = flat_base b
 flat_stack (Stack.prefix op s) = flat_stack s ++ (Token.sign (prefix_sign op) ∷ [])
@@ -126,6 +134,7 @@ flat_stack (Stack.subscript name s) = flat_stack s ++ (Token.name name ∷ Token
 flat_stack (Stack.arguments function done s) =
     flat_stack s ++ (Token.name (builtin_name function) ∷ Token.sign Sign.open_parenthesis ∷ spell_before done)
 
+-- the tokens before a name that stands in no expression
 abbrev pub flat_role : Role → List Token
 flat_role Role.target = []
 flat_role (Role.variables done) = spell_each spell_reference done
@@ -135,6 +144,7 @@ flat_role (Role.names done) = spell_each spell_name done
 flat_role Role.variable = []
 flat_role Role.procedure = []
 
+-- all tokens that were read in a state
 abbrev pub flat : State → List Token
 flat (State.wanted s) = flat_stack s
 flat (State.had s t) = flat_stack s ++ spell t
@@ -169,6 +179,7 @@ SoundBase (Base.target_subscript name) = Unit {0}
 SoundBase (Base.variable_subscript done name) = EachFits FitsReference done
 SoundBase (Base.call_arguments name done) = FitsBehind done
 
+-- what is open keeps its levels
 abbrev pub SoundStack : Stack → Type 0
 SoundStack (Stack.base b) = SoundBase b
 SoundStack (Stack.prefix op s) = SoundStack s
@@ -177,6 +188,7 @@ SoundStack (Stack.parenthesis s) = SoundStack s
 SoundStack (Stack.subscript name s) = IsTrue (not (is_builtin_name name)) × SoundStack s
 SoundStack (Stack.arguments function done s) = FitsBehind done × SoundStack s
 
+-- what stands before a name that stands in no expression keeps its levels
 abbrev pub SoundRole : Role → Type 0
 SoundRole Role.target = Unit {0}
 SoundRole (Role.variables done) = EachFits FitsReference done
@@ -186,6 +198,7 @@ SoundRole (Role.names done) = EachFits AnyName done
 SoundRole Role.variable = Unit {0}
 SoundRole Role.procedure = Unit {0}
 
+-- all that was read in a state keeps its levels
 abbrev pub Sound : State → Type 0
 Sound (State.wanted s) = SoundStack s
 Sound (State.had s t) = SoundStack s × ((level : ℕ) → Fits t level)
@@ -210,6 +223,7 @@ base_category (Base.target_subscript name) = Assignment
 base_category (Base.variable_subscript done name) = VariableList
 base_category (Base.call_arguments name done) = CallRef
 
+-- the same for a stack
 abbrev pub stack_category : Stack → Category
 stack_category (Stack.base b) = base_category b
 stack_category (Stack.prefix op s) = stack_category s
@@ -218,6 +232,7 @@ stack_category (Stack.parenthesis s) = stack_category s
 stack_category (Stack.subscript name s) = stack_category s
 stack_category (Stack.arguments function done s) = stack_category s
 
+-- the same for a name that stands in no expression
 abbrev pub role_category : Role → Category
 role_category Role.target = Assignment
 role_category (Role.variables done) = VariableList
@@ -227,6 +242,7 @@ role_category (Role.names done) = NameList
 role_category Role.variable = Variable
 role_category Role.procedure = ProcedureName
 
+-- the same for a state
 abbrev pub state_category : State → Category
 state_category (State.wanted s) = stack_category s
 state_category (State.had s t) = stack_category s

@@ -1,13 +1,13 @@
 -- What is so of the tokens of a text, the check finds.
-use Rattle.std.proofs.Common.{◌≡◌, refl, ℕ, Bool, true, false, cond, map, List, [], ◌∷◌, ◌++◌, Option, Some, None, ap, sym, subst, ◌∙◌, append-nil}
+use Rattle.std.proofs.Common.{◌≡◌, refl, ℕ, false, map, List, [], ◌∷◌, ◌++◌, Option, Some, None, ap, sym, ◌∙◌, append-nil}
 use Rattle.std.proofs.lemmas.Bool.{cond-true, cond-false, false_from_ne_true}
 use Rattle.plcs_grammar.specs.declared.category.Category.{Category}
 use Rattle.plcs_grammar.specs.Cuts.{Piece, tokens_of}
 use Rattle.plcs_grammar.specs.Reading.{Reading}
-use Rattle.plcs_grammar.specs.Form.{Form, Begins}
+use Rattle.plcs_grammar.specs.Form.{Form}
 use Rattle.plcs_grammar.specs.Syntax.{GoesWrong}
 use Rattle.plcs_grammar.specs.Limit.{OverLimit, IsWithinLimits, first_over, phrase_opened, over_at, or_else}
-use Rattle.phrase_parser.specs.Recognizer.{Shape, kind_of, next, next_if, follow, first_shape, may_end, level_of}
+use Rattle.phrase_parser.specs.Recognizer.{Shape, kind_of, next, next_if, first_shape, may_end, level_of}
 use Rattle.phrase_parser.specs.Findings.{Finding, finding_of, found_at, found_at_end, seen_of, seen_over, findings}
 use Rattle.phrase_parser.proofs.Limits.{within}
 use Rattle.phrase_parser.proofs.Recognized.{kinds_of, follow_none, taken_begins, whole_form, levels_over, begins_taken, form_taken}

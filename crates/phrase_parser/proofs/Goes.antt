@@ -1,5 +1,5 @@
 -- Runs of the machine that do not stop, with the levels that their tokens open.
-use Rattle.std.proofs.Common.{◌≡◌, refl, ℕ, suc, List, [], ◌∷◌, ◌++◌, length, Some, ap, ◌∙◌}
+use Rattle.std.proofs.Common.{◌≡◌, refl, ℕ, List, [], ◌∷◌, ◌++◌, Some, ap, ◌∙◌}
 use Rattle.plcs_grammar.specs.Token.{Token}
 use Rattle.phrase_parser.specs.Machine.{State, step, run}
 use Rattle.phrase_parser.specs.Trace.{opens, trace}

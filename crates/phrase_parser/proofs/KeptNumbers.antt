@@ -1,6 +1,5 @@
 -- A number as it is kept passes the tests that the number passes.
-use Rattle.std.proofs.Common.{◌≡◌, refl, ℕ, ◌<◌, ◌≤◌, min, Bool, true, false, leb, ltb, le-leb, lt-ltb, ltb-false, le-ltb, sym, ◌∙◌, ap, arith}
-use Rattle.std.proofs.lemmas.Bool.{false_from_ne_true, cases_lt}
+use Rattle.std.proofs.Common.{◌≡◌, ℕ, ◌<◌, ◌≤◌, min, leb, ltb, arith}
 use Rattle.std.proofs.lemmas.Bool.Decides.{nat_tests}
 use Rattle.phrase_parser.specs.Recognizer.{greatest_kept}
 

@@ -75,6 +75,7 @@ fine_none (piece ∷ pieces) [] h =
 fine_none (piece ∷ pieces) (level ∷ levels) h =
     none_both (over_at piece level) (first_over pieces levels) (none_at piece level h.0 h.1) (fine_none pieces levels h.2)
 
+-- where none is over a limit all are fine
 pub none_fine : (pieces : List Piece) (levels : List ℕ) → first_over pieces levels ≡ None → AllFine (tokens_of pieces) levels
 none_fine [] levels e = tt
 none_fine (piece ∷ pieces) [] e =
@@ -127,6 +128,7 @@ append_fine : {xs : List Token} {ls : List ℕ} (ys : List Token) (ms : List ℕ
 append_fine ys ms done h = (tt, h)
 append_fine ys ms (more p) h = let r = append_fine ys ms p h.2 in ((h.0, h.1, r.0), r.1)
 
+-- no number is above the greatest
 abbrev pub Small : List ℕ → Type 0
 Small ns = AllByRecursion (λ n. n ≤ greatest_number) ns
 
@@ -173,12 +175,14 @@ mutual
   tree_fine (Tree.parenthesized a) d h n =
       (tt, omega arith, fine_append _ _ (even_tree a (d + 1)) (tree_fine a (d + 1) h (omega arith)) fine_close)
 
+  -- the same for a variable
   pub reference_fine : (reference : Reference) (d : ℕ) → Small (reference_numbers reference)
       → reference_nesting reference + d ≤ greatest_nesting → AllFine (spell_reference reference) (reference_opened reference d)
   reference_fine (Reference.simple name) d h n = (tt, zero-le, tt)
   reference_fine (Reference.subscripted name index) d h n =
       (tt, zero-le, (tt, omega arith, fine_append _ _ (even_tree index (d + 1)) (tree_fine index (d + 1) h (omega arith)) fine_close))
 
+  -- the same for expressions joined by commas
   pub all_fine : (ts : Trees) (d : ℕ) → Small (numbers_of_all ts) → deepest ts + d ≤ greatest_nesting
       → AllFine (spell_all ts) (opened_by_all ts d)
   all_fine Trees.nil d h n = tt
@@ -218,6 +222,7 @@ mutual
       let r = fine_tree a (d + 1) h.1 p.0 in
       (r.0, omega (arith, r.1))
 
+  -- the same for a variable
   pub fine_reference : (reference : Reference) (d : ℕ) → d ≤ greatest_nesting
       → AllFine (spell_reference reference) (reference_opened reference d)
       → Small (reference_numbers reference) × (reference_nesting reference + d ≤ greatest_nesting)
@@ -227,6 +232,7 @@ mutual
       let r = fine_tree index (d + 1) h.2.1 p.0 in
       (r.0, omega (arith, r.1))
 
+  -- the same for expressions joined by commas
   pub fine_all : (ts : Trees) (d : ℕ) → d ≤ greatest_nesting → AllFine (spell_all ts) (opened_by_all ts d)
       → Small (numbers_of_all ts) × (deepest ts + d ≤ greatest_nesting)
   fine_all Trees.nil d le h = (tt, omega arith)

@@ -13,6 +13,7 @@ module _ {X : Type 0} (g : X → List ℕ) where
   levels_more [] = []
   levels_more (x ∷ xs) = 0 ∷ (g x ++ levels_more xs)
 
+  -- the levels that each opens, joined by commas
   abbrev pub levels_listed : List X → List ℕ
   levels_listed [] = []
   levels_listed (x ∷ xs) = g x ++ levels_more xs

@@ -59,9 +59,11 @@ module _ {X : Type 0} (Is : X → List Token → Type 0) (f : X → List Token) 
   listed_is [] h = absurd h
   listed_is (x ∷ xs) h = (f x, spell_more f xs, refl, makes x h.0, more_is xs h.1)
 
+-- the token of a name
 abbrev pub spell_name : List ℕ → List Token
 spell_name name = Token.name name ∷ []
 
+-- a name has nothing to keep
 abbrev pub AnyName : List ℕ → Type 0
 AnyName name = Unit {0}
 
@@ -70,13 +72,16 @@ abbrev pub spell_sized : List ℕ → Option ℕ → List Token
 spell_sized name None = spell_name name
 spell_sized name (Some size) = Token.name name ∷ in_parentheses (Token.number size ∷ [])
 
+-- the tokens of an item
 abbrev pub spell_item : Item → List Token
 spell_item item = spell_sized item.name item.size
 
+-- a size is at least 1
 abbrev pub FitsSize : Option ℕ → Type 0
 FitsSize None = Unit {0}
 FitsSize (Some size) = 1 ≤ size
 
+-- the size of an item is at least 1
 abbrev pub FitsItem : Item → Type 0
 FitsItem item = FitsSize item.size
 
@@ -85,6 +90,7 @@ abbrev pub spell_call : List ℕ → Trees → List Token
 spell_call name Trees.nil = spell_name name
 spell_call name (Trees.cons a rest) = Token.name name ∷ in_parentheses (spell_all (Trees.cons a rest))
 
+-- a call's arguments keep their levels
 abbrev pub FitsCall : Trees → Type 0
 FitsCall Trees.nil = Unit {0}
 FitsCall (Trees.cons a rest) = FitsAll (Trees.cons a rest)
@@ -181,6 +187,7 @@ pub form_spelled : (c : Category) (ks : List Token) (p : Reading) → Form c ks 
     → (category_of p ≡ c) × FitsPhrase p × (ks ≡ spell_phrase p)
 form_spelled c ks p h = let r = spelled_phrase p ks h.1 in (h.0, r.0, r.1)
 
+-- a phrase that keeps what it has to is the form of its category, with its tokens
 pub form_from : (c : Category) (ks : List Token) (p : Reading) → category_of p ≡ c → FitsPhrase p → ks ≡ spell_phrase p
     → Form c ks p
 form_from c ks p e f s = (e, subst (λ z. IsPhrase p z) (sym s) (phrase_is p f))

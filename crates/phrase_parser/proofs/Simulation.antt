@@ -21,7 +21,7 @@ use Rattle.phrase_parser.proofs.Arrival.{above_none, below_tightest}
 use Rattle.phrase_parser.proofs.Consumed.{hole, SoundStack, Sound}
 use Rattle.phrase_parser.proofs.Soundness.{Joins, reduced_joins}
 
--- the shape of a state: what is left of it without trees
+-- where an expression stands that stands in no other
 abbrev pub ground_of_base : Base → Ground
 ground_of_base Base.condition = Ground.whole
 ground_of_base Base.expression = Ground.whole
@@ -31,6 +31,7 @@ ground_of_base (Base.target_subscript name) = Ground.target_index
 ground_of_base (Base.variable_subscript done name) = Ground.variable_index
 ground_of_base (Base.call_arguments name done) = Ground.call_list
 
+-- where the phrase's own expression stands
 abbrev pub ground_of : Stack → Ground
 ground_of (Stack.base b) = ground_of_base b
 ground_of (Stack.prefix op s) = ground_of s
@@ -39,6 +40,7 @@ ground_of (Stack.parenthesis s) = ground_of s
 ground_of (Stack.subscript name s) = ground_of s
 ground_of (Stack.arguments function done s) = ground_of s
 
+-- the open parentheses of a stack, each with the level that it opened
 abbrev pub brackets_of : Stack → List Bracket
 brackets_of (Stack.base b) = []
 brackets_of (Stack.prefix op s) = brackets_of s
@@ -47,10 +49,12 @@ brackets_of (Stack.parenthesis s) = record { takes_commas = false; level = depth
 brackets_of (Stack.subscript name s) = record { takes_commas = false; level = depth s + 1 } ∷ brackets_of s
 brackets_of (Stack.arguments function done s) = record { takes_commas = true; level = depth s + 1 } ∷ brackets_of s
 
+-- what an operand shows of itself
 abbrev pub last_of : ℕ → Tree → Last
 last_of level (Tree.variable (Reference.simple name)) = Last.named (is_builtin_name name) level
 last_of level t = Last.operand
 
+-- what a name that stands in no expression is for
 abbrev pub use_of : Role → Use
 use_of Role.target = Use.target
 use_of (Role.variables done) = Use.listed_variable
@@ -60,6 +64,7 @@ use_of (Role.names done) = Use.listed_name
 use_of Role.variable = Use.single
 use_of Role.procedure = Use.single
 
+-- the shape of a state: what is left of it without trees
 abbrev pub shape_of : State → Shape
 shape_of (State.wanted s) = Shape.wanted (ground_of s) (brackets_of s) (depth s)
 shape_of (State.had s t) = Shape.had (last_of (depth s) t) (ground_of s) (brackets_of s)
@@ -74,6 +79,7 @@ shape_of (State.item_had done) = Shape.item_had
 shape_of State.length_wanted = Shape.length_wanted
 shape_of (State.length_had n) = Shape.length_had
 
+-- the same, where the machine has not stopped
 abbrev pub shape_if : Option State → Option Shape
 shape_if None = None
 shape_if (Some s) = Some (shape_of s)

@@ -410,6 +410,7 @@ pub record IsWhole (s : State) (p : Reading) : Type 0 where
   pub tokens : flat s ≡ spell_phrase p
   pub category : category_of p ≡ state_category s
 
+-- where a state ends as a phrase, it has read it whole
 abbrev pub IsWholeIf : State → Option Reading → Type 0
 IsWholeIf s None = Unit {0}
 IsWholeIf s (Some p) = IsWhole s p
@@ -472,10 +473,12 @@ pub record IsFresh (c : Category) (s : State) : Type 0 where
   pub tokens : flat s ≡ []
   pub category : state_category s ≡ c
 
+-- where there is a first state, it has read nothing
 abbrev pub IsFreshIf : Category → Option State → Type 0
 IsFreshIf c None = Unit {0}
 IsFreshIf c (Some s) = IsFresh c s
 
+-- the first state of each category has read nothing
 pub start_fresh : (c : Category) → IsFreshIf c (start c)
 start_fresh Assignment = record { sound = tt; tokens = refl; category = refl }
 start_fresh Condition = record { sound = tt; tokens = refl; category = refl }
@@ -503,5 +506,6 @@ has_read_if c (Some first) ks s f e =
     let b = run_behind ks first s f.sound e in
     record { sound = b.sound; tokens = b.tokens ∙ ap (λ z. z ++ ks) f.tokens; category = b.category ∙ f.category }
 
+-- the tokens from the start of a category are those that were read
 pub has_read : (c : Category) (ks : List Token) (s : State) → run ks (start c) ≡ Some s → HasRead c ks s
 has_read c ks s e = has_read_if c (start c) ks s (start_fresh c) e

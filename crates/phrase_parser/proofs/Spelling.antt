@@ -18,14 +18,17 @@ abbrev mutual
   spell (Tree.builtin function arguments) = Token.name (builtin_name function) ∷ in_parentheses (spell_all arguments)
   spell (Tree.parenthesized a) = in_parentheses (spell a)
 
+  -- the tokens of a variable
   pub spell_reference : Reference → List Token
   spell_reference (Reference.simple name) = Token.name name ∷ []
   spell_reference (Reference.subscripted name index) = Token.name name ∷ in_parentheses (spell index)
 
+  -- the tokens of expressions, joined by commas
   pub spell_all : Trees → List Token
   spell_all Trees.nil = []
   spell_all (Trees.cons a rest) = spell a ++ spell_behind rest
 
+  -- the tokens of expressions, each behind a comma
   pub spell_behind : Trees → List Token
   spell_behind Trees.nil = []
   spell_behind (Trees.cons a rest) = Token.sign Sign.comma ∷ (spell a ++ spell_behind rest)
@@ -43,14 +46,17 @@ abbrev mutual
   Fits (Tree.builtin function arguments) level = FitsAll arguments
   Fits (Tree.parenthesized a) level = Fits a 1
 
+  -- the same for a variable
   pub FitsReference : Reference → Type 0
   FitsReference (Reference.simple name) = Unit {0}
   FitsReference (Reference.subscripted name index) = Fits index 1
 
+  -- the same for expressions joined by commas, one or more
   pub FitsAll : Trees → Type 0
   FitsAll Trees.nil = ⊥
   FitsAll (Trees.cons a rest) = Fits a 1 × FitsBehind rest
 
+  -- the same for expressions, each behind a comma
   pub FitsBehind : Trees → Type 0
   FitsBehind Trees.nil = Unit {0}
   FitsBehind (Trees.cons a rest) = Fits a 1 × FitsBehind rest
@@ -95,6 +101,7 @@ mutual
       let q = spelled_behind rest h.1 h.4 in
       ((p.0, q.0), h.2 ∙ ap₂ (λ x y. x ++ y) p.1 q.1)
 
+  -- the same for expressions, each behind a comma
   pub spelled_behind : (ts : Trees) (ks : List Token) → Behind ts ks → FitsBehind ts × (ks ≡ spell_behind ts)
   spelled_behind Trees.nil ks h = (tt, h)
   spelled_behind (Trees.cons a rest) ks h =
@@ -127,6 +134,7 @@ mutual
   levelled_all Trees.nil f = absurd f
   levelled_all (Trees.cons a rest) f = (spell a, spell_behind rest, refl, levelled a 1 f.0, levelled_behind rest f.1)
 
+  -- the same for expressions, each behind a comma
   pub levelled_behind : (ts : Trees) → FitsBehind ts → Behind ts (spell_behind ts)
   levelled_behind Trees.nil f = refl
   levelled_behind (Trees.cons a rest) f = (spell a, spell_behind rest, refl, levelled a 1 f.0, levelled_behind rest f.1)

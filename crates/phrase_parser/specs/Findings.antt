@@ -30,9 +30,11 @@ pub record Seen : Type 0 where
   pub kind : Kind
   pub start : ℕ
 
+-- what is looked at of a piece
 abbrev pub seen_of : Piece → Seen
 seen_of piece = record { kind = kind_of piece.token; start = piece.start }
 
+-- whether it is a number above the greatest
 abbrev pub is_large : Kind → Bool
 is_large (Kind.number n) = nat_lt greatest_number n
 is_large (Kind.name is_builtin) = false

@@ -138,6 +138,7 @@ abbrev pub named_open : List ℕ → Option Builtin → Stack → Stack
 named_open name None s = subscript name s
 named_open name (Some function) s = arguments function Trees.nil s
 
+-- a parenthesis is opened behind an operand, which a name alone takes
 abbrev pub opened_behind : Stack → Tree → Option State
 opened_behind s (Tree.variable (Reference.simple name)) = Some (wanted (named_open name (builtin_of name) s))
 opened_behind s t = None
@@ -164,6 +165,7 @@ closed_base (variable_subscript done name) t = Some (variable_had (done ++ (Refe
 closed_base (call_arguments name done) t = Some (call_had name (tree_push done t))
 closed_base b t = None
 
+-- a parenthesis is closed behind an expression, the innermost that is open
 abbrev pub closed_at : Stack → Tree → Option State
 closed_at (base b) t = closed_base b t
 closed_at (prefix op s) t = None
@@ -184,6 +186,7 @@ separated_base (expressions done) t = Some (wanted (base (expressions (tree_push
 separated_base (call_arguments name done) t = Some (wanted (base (call_arguments name (tree_push done t))))
 separated_base b t = None
 
+-- a comma stands behind an expression, in the innermost parenthesis that is open
 abbrev pub separated_at : Stack → Tree → Option State
 separated_at (base b) t = separated_base b t
 separated_at (arguments function done s) t = Some (wanted (arguments function (tree_push done t) s))
@@ -216,10 +219,12 @@ equated (name_had role name) = assigned_by_role role name
 equated (target_had reference) = Some (wanted (base (assigned reference)))
 equated state = None
 
+-- a sign stands where an operand is wanted, with the operator that it is there
 abbrev pub with_prefix : Stack → Option PrefixOp → Option State
 with_prefix s None = None
 with_prefix s (Some op) = Some (wanted (prefix op s))
 
+-- a sign stands behind an operand, with the operator that it is there
 abbrev pub with_infix : Stack → Tree → Option InfixOp → Option State
 with_infix s t None = None
 with_infix s t (Some op) = Some (joined op (reduced s (priority op) t))
@@ -247,6 +252,7 @@ step state (Token.text value) = operand state (Tree.text value)
 step state (Token.bit value) = operand state (Tree.bit value)
 step state (Token.sign sign) = signed state sign
 
+-- the same, where the machine has not stopped
 abbrev pub step_if : Option State → Token → Option State
 step_if None token = None
 step_if (Some state) token = step state token
@@ -279,6 +285,7 @@ ended_base (expressions done) t = Some (Reading.expression_list (tree_push done 
 ended_base (assigned reference) t = Some (Reading.assignment reference t)
 ended_base b t = None
 
+-- the phrase, if nothing is open around its last expression
 abbrev pub ended_at : Stack → Tree → Option Reading
 ended_at (base b) t = ended_base b t
 ended_at s t = None
@@ -303,6 +310,7 @@ ended (item_had done) = Some (Reading.declared_list done)
 ended (length_had n) = Some (Reading.greatest_length n)
 ended state = None
 
+-- the same, where the machine has not stopped
 abbrev pub ended_if : Option State → Option Reading
 ended_if None = None
 ended_if (Some state) = ended state

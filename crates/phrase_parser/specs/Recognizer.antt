@@ -21,6 +21,7 @@ pub data Kind : Type 0 where
 abbrev pub greatest_kept : ℕ
 greatest_kept = 4294967295
 
+-- what is looked at of the token
 abbrev pub kind_of : Token → Kind
 kind_of (Token.name n) = name (is_builtin_name n)
 kind_of (Token.keyword word) = keyword
@@ -109,10 +110,12 @@ abbrev pub bracketed : Bool → Ground → List Bracket → ℕ → Shape
 bracketed takes_commas g brackets level =
     wanted g (record { takes_commas = takes_commas; level = level + 1 } ∷ brackets) (level + 1)
 
+-- a parenthesis is opened behind an operand, which a name alone takes
 abbrev pub next_open_behind : Last → Ground → List Bracket → Option Shape
 next_open_behind operand g brackets = None
 next_open_behind (named is_builtin level) g brackets = Some (bracketed is_builtin g brackets level)
 
+-- a parenthesis is opened behind a name that stands in no expression
 abbrev pub next_open_name : Use → Option Shape
 next_open_name target = Some (wanted target_index [] 1)
 next_open_name listed_variable = Some (wanted variable_index [] 1)
@@ -128,6 +131,7 @@ next_open (had last g brackets) = next_open_behind last g brackets
 next_open (name_had use_of) = next_open_name use_of
 next_open shape = None
 
+-- the parenthesis in which the phrase's own expression stands is closed
 abbrev pub next_close_ground : Ground → Option Shape
 next_close_ground whole = None
 next_close_ground listed = None
@@ -135,6 +139,7 @@ next_close_ground target_index = Some target_had
 next_close_ground variable_index = Some variable_had
 next_close_ground call_list = Some call_had
 
+-- the innermost open parenthesis is closed
 abbrev pub next_close_in : Ground → List Bracket → Option Shape
 next_close_in g [] = next_close_ground g
 next_close_in g (bracket ∷ brackets) = Some (had operand g brackets)
@@ -145,6 +150,7 @@ next_close (had last g brackets) = next_close_in g brackets
 next_close size_had = Some item_had
 next_close shape = None
 
+-- a comma stands behind the phrase's own expression
 abbrev pub next_comma_ground : Ground → Option Shape
 next_comma_ground whole = None
 next_comma_ground listed = Some (wanted listed [] 0)
@@ -152,11 +158,13 @@ next_comma_ground target_index = None
 next_comma_ground variable_index = None
 next_comma_ground call_list = Some (wanted call_list [] 1)
 
+-- a comma stands in the innermost open parenthesis
 abbrev pub next_comma_in : Ground → List Bracket → Option Shape
 next_comma_in g [] = next_comma_ground g
 next_comma_in g (bracket ∷ brackets) =
     if bracket.takes_commas then Some (wanted g (bracket ∷ brackets) bracket.level) else None
 
+-- a comma stands behind a name that stands in no expression
 abbrev pub next_comma_name : Use → Option Shape
 next_comma_name target = None
 next_comma_name listed_variable = Some (name_wanted listed_variable)
@@ -173,6 +181,7 @@ next_comma variable_had = Some (name_wanted listed_variable)
 next_comma item_had = Some (name_wanted item)
 next_comma shape = None
 
+-- `=` stands behind a name that stands in no expression
 abbrev pub next_equal_name : Use → Option Shape
 next_equal_name target = Some (wanted whole [] 0)
 next_equal_name use_of = None
@@ -184,10 +193,12 @@ next_equal (name_had use_of) = next_equal_name use_of
 next_equal target_had = Some (wanted whole [] 0)
 next_equal shape = None
 
+-- a sign stands where an operand is wanted, with the operator that it is there
 abbrev pub next_prefix : Ground → List Bracket → ℕ → Option PrefixOp → Option Shape
 next_prefix g brackets level None = None
 next_prefix g brackets level (Some op) = Some (wanted g brackets (level + 1))
 
+-- a sign stands behind an operand, with the operator that it is there: no prefix operator is open any more
 abbrev pub next_infix : Ground → List Bracket → Option InfixOp → Option Shape
 next_infix g brackets None = None
 next_infix g brackets (Some op) = Some (wanted g brackets (inside g brackets))
@@ -198,6 +209,7 @@ next_operator (wanted g brackets level) s = next_prefix g brackets level (prefix
 next_operator (had last g brackets) s = next_infix g brackets (infix_of s)
 next_operator shape s = None
 
+-- a sign is read
 abbrev pub next_sign : Shape → Sign → Option Shape
 next_sign shape Sign.open_parenthesis = next_open shape
 next_sign shape Sign.close_parenthesis = next_close shape
@@ -213,6 +225,7 @@ next shape (number n) = next_number shape n
 next shape constant = next_constant shape
 next shape (sign s) = next_sign shape s
 
+-- the same, where the machine has not stopped
 abbrev pub next_if : Option Shape → Kind → Option Shape
 next_if None kind = None
 next_if (Some shape) kind = next shape kind
@@ -237,11 +250,13 @@ first_shape NameList = Some (name_wanted listed_name)
 first_shape Length = Some length_wanted
 first_shape CommentText = None
 
+-- whether a phrase may end behind an expression in these open parentheses
 abbrev pub may_end_in : Ground → List Bracket → Bool
 may_end_in whole [] = true
 may_end_in listed [] = true
 may_end_in g brackets = false
 
+-- whether a phrase may end behind a name that stands in no expression
 abbrev pub may_end_name : Use → Bool
 may_end_name target = false
 may_end_name use_of = true
@@ -278,6 +293,7 @@ abbrev pub level_of : Shape → Kind → ℕ
 level_of shape (sign s) = sign_level shape s
 level_of shape kind = 0
 
+-- the same, where the machine has not stopped
 abbrev pub level_if : Option Shape → Kind → ℕ
 level_if None kind = 0
 level_if (Some shape) kind = level_of shape kind

@@ -45,6 +45,7 @@ opens (State.had s t) token = opens_behind (depth s) token
 opens (State.name_had role name) token = opens_by_role role token
 opens state token = 0
 
+-- the same, where the machine has not stopped
 abbrev pub opens_if : Option State → Token → ℕ
 opens_if None token = 0
 opens_if (Some state) token = opens state token
