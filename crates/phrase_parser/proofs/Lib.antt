@@ -31,3 +31,4 @@ pub mod Constants
 mod OpenBrackets
 mod Operators
 pub mod Fails
+mod ShapeLevels

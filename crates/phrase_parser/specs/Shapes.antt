@@ -1,5 +1,5 @@
 -- What the check keeps, as the machine without trees has it.
-use Rattle.std.specs.Prelude.{ℕ, ◌≤◌, List, [], ◌∷◌, map, reverse, slice_range, Option, Some, None}
+use Rattle.std.specs.Prelude.{ℕ, ◌≤◌, List, [], ◌∷◌, map, reverse, length, slice_range, Option, Some, None}
 use Rattle.std.specs.List.{AllByRecursion}
 use Rattle.plcs_grammar.specs.Builtin.{is_builtin_name}
 use Rattle.plcs_grammar.specs.Limit.{OverLimit}
@@ -20,6 +20,12 @@ use Rattle.phrase_parser.specs.declared.token.TokenKind.TheVariants as token
 use Rattle.phrase_parser.specs.declared.token.Placed.{Placed}
 use Rattle.phrase_parser.specs.TokenIn.{sign_of, bytes_in}
 use Rattle.phrase_parser.specs.Recognizer as model
+use Rattle.phrase_parser.specs.declared.check.finding.Over.{Over}
+use Rattle.phrase_parser.specs.declared.check.finding.Over.TheVariants.{NumberTooLarge, TooDeep}
+use Rattle.phrase_parser.specs.declared.check.finding.Finding.{Finding}
+use Rattle.phrase_parser.specs.declared.check.finding.Finding.TheVariants.{Fine, SyntaxAt}
+use Rattle.phrase_parser.specs.declared.check.finding.Finding.TheVariants as found
+use Rattle.phrase_parser.specs.Findings as findings
 use Rattle.phrase_parser.specs.Findings.{Seen}
 
 abbrev pub ground_of : Ground → model.Ground
@@ -106,3 +112,21 @@ Within limit model.Shape.size_had = Unit {0}
 Within limit model.Shape.item_had = Unit {0}
 Within limit model.Shape.length_wanted = Unit {0}
 Within limit model.Shape.length_had = Unit {0}
+
+abbrev pub over_of : Over → OverLimit
+over_of (NumberTooLarge place) = OverLimit.number_too_large place
+over_of (TooDeep place) = OverLimit.too_deep place
+
+abbrev pub over_if : Option Over → Option OverLimit
+over_if None = None
+over_if (Some over) = Some (over_of over)
+
+abbrev pub as_found : Finding → findings.Finding
+as_found Fine = findings.Finding.fine
+as_found (SyntaxAt place) = findings.Finding.syntax_at place
+as_found (found.Over over) = findings.Finding.over (over_of over)
+
+-- the token's bytes lie in the text
+pub record LiesIn (text : List ℕ) (placed : Placed) : Type 0 where
+  pub ordered : placed.start ≤ placed.end
+  pub within : placed.end ≤ length text
