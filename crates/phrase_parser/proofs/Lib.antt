@@ -32,3 +32,4 @@ mod OpenBrackets
 mod Operators
 pub mod Fails
 mod ShapeLevels
+mod FindingsGoOn
