@@ -33,3 +33,4 @@ mod Operators
 pub mod Fails
 mod ShapeLevels
 mod FindingsGoOn
+mod PlacedTokens
