@@ -55,7 +55,8 @@ placed_none start None h = refl
 placed_none start (Some front) h = absurd (none-some (record { kind = front.kind; start = start; end = start + front.length }) (sym h))
 
 -- a token that is found ends within the text, behind its start
-pub token_within : (x : List ℕ) (start : ℕ) (token : Placed) → start ≤ length x → placed_at start (front_of (drop start x)) ≡ Some token
+pub token_within : (x : List ℕ) (start : ℕ) (token : Placed) → start ≤ length x
+    → placed_at start (front_of (drop start x)) ≡ Some token
     → (start < token.end) × (token.end ≤ length x)
 token_within x start token within h =
     let (front, found, same) = placed_parts start (front_of (drop start x)) token h in
@@ -63,7 +64,8 @@ token_within x start token within h =
     let end = ap (λ (p : Placed). p.end) same in
     (omega (arith, size.0, end), omega (arith, size.1, end, within, length-drop start x))
 
-same_placed : (token : Token) (front : Front) (start end : ℕ) (placed : Placed) → kept_kind token ≡ front.kind → end ≡ start + front.length
+same_placed : (token : Token) (front : Front) (start end : ℕ) (placed : Placed) → kept_kind token ≡ front.kind
+    → end ≡ start + front.length
     → record { kind = front.kind; start = start; end = start + front.length } ≡ placed
     → placed ≡ kept (record { token = token; start = start; end = end })
 same_placed token front start end placed kind_is end_is same =
@@ -103,7 +105,8 @@ one_more_cut x items start token next so_far h after =
     }
 
 -- behind the last token stands nothing but blanks
-pub all_cut : (x : List ℕ) (items : List Placed) (start : ℕ) → CutSoFar x items start → length x ≤ start → AreTokens items None x
+pub all_cut : (x : List ℕ) (items : List Placed) (start : ℕ) → CutSoFar x items start → length x ≤ start
+    → AreTokens items None x
 all_cut x items start so_far past =
     let here : unblanked (drop so_far.place x) ≡ drop start x =
     drop-drop (blanks (drop so_far.place x)) so_far.place x ∙ ap (λ (n : ℕ). drop n x) (sym so_far.at_start) in (

@@ -31,7 +31,8 @@ pub record Tells (x : List ℕ) (front : Front) : Type 0 where
 
 -- words
 
-word_tells : (w behind : List ℕ) (front : Front) → is_word w ≡ true → nat_le (length w) 31 ≡ true → begins_with is_name_byte behind ≡ false
+word_tells : (w behind : List ℕ) (front : Front) → is_word w ≡ true → nat_le (length w) 31 ≡ true
+    → begins_with is_name_byte behind ≡ false
     → front.kind ≡ cond (is_name w) kind.Name kind.Keyword → front.length ≡ length w → Tells (w ++ behind) front
 word_tells w behind front word short ends kind_is length_is =
     let closed : not (begins_with is_name_byte behind) ≡ true = not_from_false _ ends in
@@ -104,9 +105,9 @@ bit_bytes_append : (bit : Bool) (behind : List ℕ) → 39 ∷ bit_byte bit ∷ 
 bit_bytes_append false behind = refl
 bit_bytes_append true behind = refl
 
-four : (bit : Bool) → length (bit_bytes bit) ≡ 4
-four false = refl
-four true = refl
+length_bit : (bit : Bool) → length (bit_bytes bit) ≡ 4
+length_bit false = refl
+length_bit true = refl
 
 -- a bit constant begins the text
 pub record BeginsBit (x : List ℕ) (bit : Bool) : Type 0 where
@@ -125,9 +126,11 @@ bit_value_tells digit bit h =
     (λ _ e. let one = cond_option (eqb digit 49) (Some true) bit e in eqb-true digit 49 one.0 ∙ ap bit_byte (same_Some true bit one.1))
     h
 
-four_bytes : (a b c d k : ℕ) (behind : List ℕ) → a ≡ 39 → b ≡ k → c ≡ 39 → d ≡ 66 → a ∷ b ∷ c ∷ d ∷ behind ≡ 39 ∷ k ∷ 39 ∷ 66 ∷ behind
+four_bytes : (a b c d k : ℕ) (behind : List ℕ) → a ≡ 39 → b ≡ k → c ≡ 39 → d ≡ 66
+    → a ∷ b ∷ c ∷ d ∷ behind ≡ 39 ∷ k ∷ 39 ∷ 66 ∷ behind
 four_bytes a b c d k behind p q r s = cc
 
+-- what is read as a bit constant is one
 pub bit_tells : (x : List ℕ) (bit : Bool) → bit_constant x ≡ Some bit → BeginsBit x bit
 bit_tells [] bit h = absurd (none-some bit h)
 bit_tells (a ∷ []) bit h = absurd (none-some bit h)
@@ -162,7 +165,7 @@ constant_tells rest front (Some bit) end is_bit read h =
       whole = begins.whole;
       is_token = (refl, not_from_false _ begins.ends);
       same_kind = ap (λ (f : Front). f.kind) found;
-      same_length = four bit ∙ ap (λ (f : Front). f.length) found;
+      same_length = length_bit bit ∙ ap (λ (f : Front). f.length) found;
     }
 constant_tells rest front None (Some end) is_bit read h =
     let closes = closing_tells 1 0 rest end read in
@@ -214,7 +217,8 @@ single_tells byte sign =
     (single_case byte 41 grammar.Sign.close_parenthesis sign _ refl
     (single_case byte 44 grammar.Sign.comma sign None refl (λ e. absurd (none-some sign e))))))))))))))
 
-double_case : (first second one two : ℕ) (which : grammar.Sign) (sign : Sign) (others : Option Sign) → sign_bytes which ≡ one ∷ two ∷ []
+double_case : (first second one two : ℕ) (which : grammar.Sign) (sign : Sign) (others : Option Sign)
+    → sign_bytes which ≡ one ∷ two ∷ []
     → (others ≡ Some sign → SignTells (first ∷ second ∷ []) sign)
     → cond (eqb first one && eqb second two) (Some (kept_sign which)) others ≡ Some sign → SignTells (first ∷ second ∷ []) sign
 double_case first second one two which sign others spelt else_ =

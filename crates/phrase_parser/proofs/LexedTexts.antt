@@ -22,7 +22,8 @@ use Rattle.phrase_parser.proofs.Numerals.{decimal_numeral}
 pub record Lexed (x : List ℕ) (tokens : List Token) (y : List ℕ) : Type 0 where
   pub pieces : ℕ → List Piece
   pub same : (place : ℕ) → tokens_of (pieces place) ≡ tokens
-  pub cuts : (place : ℕ) (rest : List Piece) (stop : Option ℕ) → Cuts rest (place + length x) y stop → Cuts (pieces place ++ rest) place (x ++ y) stop
+  pub cuts : (place : ℕ) (rest : List Piece) (stop : Option ℕ) → Cuts rest (place + length x) y stop
+      → Cuts (pieces place ++ rest) place (x ++ y) stop
 
 -- nothing is cut into nothing
 pub lexed_empty : (y : List ℕ) → Lexed [] [] y
@@ -33,7 +34,8 @@ lexed_empty y = record {
 }
 
 -- one text and then another
-pub lexed_append : (x z : List ℕ) (tokens more : List Token) (y : List ℕ) → Lexed x tokens (z ++ y) → Lexed z more y → Lexed (x ++ z) (tokens ++ more) y
+pub lexed_append : (x z : List ℕ) (tokens more : List Token) (y : List ℕ) → Lexed x tokens (z ++ y) → Lexed z more y
+    → Lexed (x ++ z) (tokens ++ more) y
 lexed_append x z tokens more y a b = record {
   pieces = λ place. a.pieces place ++ b.pieces (place + length x);
   same = λ place.
@@ -55,7 +57,8 @@ unblanked_more : (x : List ℕ) → unblanked (32 ∷ x) ≡ unblanked x
 unblanked_more x = let e : 1 + blanks x ≡ suc (blanks x) = omega arith in ap (λ (n : ℕ). drop n (32 ∷ x)) e
 
 -- a blank in front of a text only moves its pieces
-cuts_blank : (pieces : List Piece) (place : ℕ) (x : List ℕ) (stop : Option ℕ) → Cuts pieces (place + 1) x stop → Cuts pieces place (32 ∷ x) stop
+cuts_blank : (pieces : List Piece) (place : ℕ) (x : List ℕ) (stop : Option ℕ) → Cuts pieces (place + 1) x stop
+    → Cuts pieces place (32 ∷ x) stop
 cuts_blank [] place x None h = unblanked_more x ∙ h
 cuts_blank [] place x (Some stop) (more, none, at) =
     (λ e. more (sym (unblanked_more x) ∙ e), subst NoToken (sym (unblanked_more x)) none, omega (arith, at, blanks_more x))
@@ -116,7 +119,9 @@ sign_not_blank grammar.Sign.open_parenthesis behind = refl
 sign_not_blank grammar.Sign.close_parenthesis behind = refl
 sign_not_blank grammar.Sign.comma behind = refl
 
-pub token_not_blank : (token : Token) (bytes behind : List ℕ) → IsToken token bytes behind → begins_with is_blank (bytes ++ behind) ≡ false
+-- where a token stands, no blank does
+pub token_not_blank : (token : Token) (bytes behind : List ℕ) → IsToken token bytes behind
+    → begins_with is_blank (bytes ++ behind) ≡ false
 token_not_blank (Token.name n) bytes behind is = word_not_blank bytes behind (ap is_word is.0 ∙ name_word n is.1)
 token_not_blank (Token.keyword word) bytes behind is = word_not_blank bytes behind (ap is_word is.0 ∙ keyword_word word is.1)
 token_not_blank (Token.number n) bytes behind is = numeral_not_blank bytes behind is.0
@@ -125,7 +130,8 @@ token_not_blank (Token.bit bit) bytes behind is = ap (λ (b : List ℕ). begins_
 token_not_blank (Token.sign s) bytes behind is = ap (λ (b : List ℕ). begins_with is_blank (b ++ behind)) is ∙ sign_not_blank s behind
 
 -- the longest token of a text, alone
-pub lexed_first : (token : Token) (bytes behind : List ℕ) → First (bytes ++ behind) token bytes behind → Lexed bytes (token ∷ []) behind
+pub lexed_first : (token : Token) (bytes behind : List ℕ) → First (bytes ++ behind) token bytes behind
+    → Lexed bytes (token ∷ []) behind
 lexed_first token bytes behind first =
     let none : blanks (bytes ++ behind) ≡ 0 = run_none is_blank (bytes ++ behind) (token_not_blank token bytes behind first.is_token) in
     let here : unblanked (bytes ++ behind) ≡ bytes ++ behind = ap (λ (n : ℕ). drop n (bytes ++ behind)) none in
@@ -148,7 +154,8 @@ first_if_found token bytes behind is found =
     }
 
 -- a name, where no further byte of a name follows
-pub name_first : (n behind : List ℕ) → IsName n → begins_with is_name_byte behind ≡ false → First (n ++ behind) (Token.name n) n behind
+pub name_first : (n behind : List ℕ) → IsName n → begins_with is_name_byte behind ≡ false
+    → First (n ++ behind) (Token.name n) n behind
 name_first n behind named ends =
     first_if_found (Token.name n) n behind (refl, named, not_from_false _ ends) (name_found n behind named ends)
 
@@ -159,17 +166,20 @@ number_first digits behind numeral ends =
     first_if_found (Token.number (numeral_value digits)) digits behind (numeral, refl) (number_found digits behind numeral ends)
 
 -- a character constant, where neither a quote nor a byte of a name follows
-pub text_first : (value behind : List ℕ) → IsConstantText value → begins_with is_quote behind ≡ false → begins_with is_name_byte behind ≡ false
+pub text_first : (value behind : List ℕ) → IsConstantText value → begins_with is_quote behind ≡ false
+    → begins_with is_name_byte behind ≡ false
     → First (quoted value ++ behind) (Token.text value) (quoted value) behind
 text_first value behind fits closed ends =
     first_if_found (Token.text value) (quoted value) behind (refl, fits, not_from_false _ closed) (text_found value behind fits closed ends)
 
 -- a bit constant, where no byte of a name follows
-pub bit_first : (bit : Bool) (behind : List ℕ) → begins_with is_name_byte behind ≡ false → First (bit_bytes bit ++ behind) (Token.bit bit) (bit_bytes bit) behind
+pub bit_first : (bit : Bool) (behind : List ℕ) → begins_with is_name_byte behind ≡ false
+    → First (bit_bytes bit ++ behind) (Token.bit bit) (bit_bytes bit) behind
 bit_first bit behind ends = first_if_found (Token.bit bit) (bit_bytes bit) behind (refl, not_from_false _ ends) (bit_found bit behind ends)
 
 -- a sign, where neither `=` nor `|` follows
-pub sign_first : (s : grammar.Sign) (behind : List ℕ) → EndsSign behind → First (sign_bytes s ++ behind) (Token.sign s) (sign_bytes s) behind
+pub sign_first : (s : grammar.Sign) (behind : List ℕ) → EndsSign behind
+    → First (sign_bytes s ++ behind) (Token.sign s) (sign_bytes s) behind
 sign_first s behind ends = first_if_found (Token.sign s) (sign_bytes s) behind refl (sign_found s behind ends)
 
 -- the bytes that could make a token in front of them longer, or another one
@@ -180,20 +190,24 @@ can_prolong byte = is_name_byte byte || (is_quote byte || is_second byte)
 abbrev pub Safe : List ℕ → Type 0
 Safe behind = begins_with can_prolong behind ≡ false
 
+-- what is safe ends a word
 pub safe_word : (behind : List ℕ) → Safe behind → begins_with is_name_byte behind ≡ false
 safe_word [] safe = refl
 safe_word (byte ∷ rest) safe = (or_parts (is_name_byte byte) (is_quote byte || is_second byte) safe).0
 
+-- what is safe doubles no quote
 pub safe_quote : (behind : List ℕ) → Safe behind → begins_with is_quote behind ≡ false
 safe_quote [] safe = refl
 safe_quote (byte ∷ rest) safe =
     (or_parts (is_quote byte) (is_second byte) (or_parts (is_name_byte byte) (is_quote byte || is_second byte) safe).1).0
 
+-- what is safe ends a sign
 pub safe_sign : (behind : List ℕ) → Safe behind → EndsSign behind
 safe_sign [] safe = refl
 safe_sign (byte ∷ rest) safe =
     (or_parts (is_quote byte) (is_second byte) (or_parts (is_name_byte byte) (is_quote byte || is_second byte) safe).1).1
 
+-- what is safe ends a number
 pub safe_digit : (behind : List ℕ) → Safe behind → begins_with is_digit behind ≡ false
 safe_digit [] safe = refl
 safe_digit (byte ∷ rest) safe =
@@ -201,7 +215,8 @@ safe_digit (byte ∷ rest) safe =
     (or_parts (is_digit byte) (eqb byte 95) word.1).0
 
 -- a token is the longest, where what follows is safe
-pub safe_first : (token : Token) (bytes behind : List ℕ) → IsToken token bytes behind → Safe behind → First (bytes ++ behind) token bytes behind
+pub safe_first : (token : Token) (bytes behind : List ℕ) → IsToken token bytes behind → Safe behind
+    → First (bytes ++ behind) token bytes behind
 safe_first (Token.name n) bytes behind is safe =
     subst (λ (b : List ℕ). First (b ++ behind) (Token.name n) b behind) (sym is.0) (name_first n behind is.1 (safe_word behind safe))
 safe_first (Token.keyword word) bytes behind is safe =
@@ -217,20 +232,24 @@ safe_first (Token.bit bit) bytes behind is safe =
 safe_first (Token.sign s) bytes behind is safe =
     subst (λ (b : List ℕ). First (b ++ behind) (Token.sign s) b behind) (sym is) (sign_first s behind (safe_sign behind safe))
 
--- one name, number, constant or sign, where what follows is safe
+-- one name, where what follows is safe
 pub lexed_name : (n behind : List ℕ) → IsName n → Safe behind → Lexed n (Token.name n ∷ []) behind
 lexed_name n behind named safe = lexed_first (Token.name n) n behind (name_first n behind named (safe_word behind safe))
 
+-- one number in decimal, where what follows is safe
 pub lexed_number : (n : ℕ) (behind : List ℕ) → n < 2 ^ 64 → Safe behind → Lexed (decimal n) (Token.number n ∷ []) behind
 lexed_number n behind fits safe =
     let numeral = decimal_numeral n fits in
     subst (λ (m : ℕ). Lexed (decimal n) (Token.number m ∷ []) behind) numeral.1
     (lexed_first (Token.number (numeral_value (decimal n))) (decimal n) behind (number_first (decimal n) behind numeral.0 (safe_digit behind safe)))
 
-pub lexed_text : (value behind : List ℕ) → IsConstantText value → Safe behind → Lexed (quoted value) (Token.text value ∷ []) behind
+-- one character constant, where what follows is safe
+pub lexed_text : (value behind : List ℕ) → IsConstantText value → Safe behind
+    → Lexed (quoted value) (Token.text value ∷ []) behind
 lexed_text value behind fits safe =
     lexed_first (Token.text value) (quoted value) behind (text_first value behind fits (safe_quote behind safe) (safe_word behind safe))
 
+-- one bit constant, where what follows is safe
 pub lexed_bit : (bit : Bool) (behind : List ℕ) → Safe behind → Lexed (bit_bytes bit) (Token.bit bit ∷ []) behind
 lexed_bit bit behind safe = lexed_first (Token.bit bit) (bit_bytes bit) behind (bit_first bit behind (safe_word behind safe))
 
@@ -243,7 +262,8 @@ pub lexed_one_blank : (behind : List ℕ) → Lexed (32 ∷ []) [] behind
 lexed_one_blank behind = lexed_blank [] [] behind (lexed_empty behind)
 
 -- a whole text is cut into its tokens
-pub lexed_whole : (x : List ℕ) (tokens : List Token) → Lexed x tokens [] → (pieces : List Piece) × Cuts pieces 0 x None × (tokens_of pieces ≡ tokens)
+pub lexed_whole : (x : List ℕ) (tokens : List Token) → Lexed x tokens []
+    → (pieces : List Piece) × Cuts pieces 0 x None × (tokens_of pieces ≡ tokens)
 lexed_whole x tokens a = (
   a.pieces 0,
   subst (λ (y : List ℕ). Cuts (a.pieces 0) 0 y None) (append-nil x)
@@ -252,7 +272,8 @@ lexed_whole x tokens a = (
 )
 
 -- and into no other
-pub lexed_only : (x : List ℕ) (tokens : List Token) (pieces : List Piece) (stop : Option ℕ) → Lexed x tokens [] → Cuts pieces 0 x stop
+pub lexed_only : (x : List ℕ) (tokens : List Token) (pieces : List Piece) (stop : Option ℕ) → Lexed x tokens []
+    → Cuts pieces 0 x stop
     → (stop ≡ None) × (tokens_of pieces ≡ tokens)
 lexed_only x tokens pieces stop a cuts =
     let (others, whole, same) = lexed_whole x tokens a in

@@ -34,3 +34,4 @@ pub mod Fails
 mod ShapeLevels
 mod FindingsGoOn
 mod PlacedTokens
+pub mod ShownTokens

@@ -77,7 +77,9 @@ word_found (first ∷ rest) behind word short ends =
     ∙ cond-true (nat_le (length w) 31) (Some (front_with (cond (is_name (take (length w) x)) kind.Name kind.Keyword) (length w))) None (le-leb (length w) 31 short)
     ∙ ap (λ (u : List ℕ). Some (front_with (cond (is_name u) kind.Name kind.Keyword) (length w))) (take_at w behind (length w) refl)
 
-pub name_found : (n behind : List ℕ) → IsName n → begins_with is_name_byte behind ≡ false → Finds (n ++ behind) kind.Name (length n)
+-- a name is found, where no word goes on behind it
+pub name_found : (n behind : List ℕ) → IsName n → begins_with is_name_byte behind ≡ false
+    → Finds (n ++ behind) kind.Name (length n)
 name_found n behind named ends =
     word_found n behind (name_word n named) (name_short n named) ends
     ∙ ap (λ (k : TokenKind). Some (front_with k (length n))) (cond-true (is_name n) kind.Name kind.Keyword named)
@@ -87,13 +89,16 @@ keyword_no_name w h =
     and_right (is_word w) (nat_le (length w) 31 && not (is_keyword w))
     (and_right (nat_le (length w) 31) (not (is_keyword w)) (not_from_true (is_keyword w) h))
 
-pub keyword_found : (w behind : List ℕ) → IsTrue (is_keyword w) → begins_with is_name_byte behind ≡ false → Finds (w ++ behind) kind.Keyword (length w)
+-- and so is a keyword
+pub keyword_found : (w behind : List ℕ) → IsTrue (is_keyword w) → begins_with is_name_byte behind ≡ false
+    → Finds (w ++ behind) kind.Keyword (length w)
 keyword_found w behind listed ends =
     word_found w behind (keyword_word w listed) (keyword_short w listed) ends
     ∙ ap (λ (k : TokenKind). Some (front_with k (length w))) (cond-false (is_name w) kind.Name kind.Keyword (keyword_no_name w listed))
 
 -- numbers
 
+-- a number is found, where no digit follows
 pub number_found : (w behind : List ℕ) → IsNumeral w → begins_with is_digit behind ≡ false
     → Finds (w ++ behind) (kind.Number (min (numeral_value w) 4294967295)) (length w)
 number_found [] behind numeral ends = absurd (omega (arith, numeral.0))
@@ -106,11 +111,13 @@ number_found (first ∷ rest) behind numeral ends =
     at_digit first (rest ++ behind) digit ∙ ap (λ (n : ℕ). Some (number_of n x)) size
     ∙ ap (λ (u : List ℕ). Some (front_with (kind.Number (min (numeral_value u) 4294967295)) (length w))) (take_at w behind (length w) refl)
 
-longer_run : (xs ys : List ℕ) → list_all is_digit xs ≡ true → begins_with is_digit ys ≡ true → length xs < prefix_len is_digit (xs ++ ys)
+longer_run : (xs ys : List ℕ) → list_all is_digit xs ≡ true → begins_with is_digit ys ≡ true
+    → length xs < prefix_len is_digit (xs ++ ys)
 longer_run xs [] all more = absurd (false≢true more)
 longer_run xs (y ∷ ys) all more = omega (arith, run_append is_digit xs (y ∷ ys) all, run_begins is_digit y ys more)
 
-number_covered : (w behind : List ℕ) → IsNumeral w → Covers (kind.Number (min (numeral_value w) 4294967295)) (length w) (front_of (w ++ behind))
+number_covered : (w behind : List ℕ) → IsNumeral w
+    → Covers (kind.Number (min (numeral_value w) 4294967295)) (length w) (front_of (w ++ behind))
 number_covered [] behind numeral = absurd (omega (arith, numeral.0))
 number_covered (first ∷ rest) behind numeral =
     let w = first ∷ rest in
@@ -141,7 +148,8 @@ bit_not_text value behind bit fits closed begins =
     ap (λ (y : List ℕ). closing 1 0 (drop 1 y)) begins.whole ∙ bit_read bit begins.behind in
     same_Some (length (quoted value)) 3 (sym text ∙ as_bit)
 
-text_covered_by : (value behind : List ℕ) (bit : Option Bool) → bit_constant (quoted value ++ behind) ≡ bit → IsConstantText value
+text_covered_by : (value behind : List ℕ) (bit : Option Bool) → bit_constant (quoted value ++ behind) ≡ bit
+    → IsConstantText value
     → begins_with is_quote behind ≡ false → Covers kind.Text (length (quoted value)) (constant_of bit (Some (length (quoted value))))
 text_covered_by value behind (Some bit) is_bit fits closed =
     inl (omega (arith, bit_not_text value behind bit fits closed (bit_tells (quoted value ++ behind) bit is_bit)))
@@ -169,12 +177,15 @@ text_found_by value behind (Some bit) is_bit fits closed ends =
 text_found_by value behind None is_bit fits closed ends = refl
 
 -- a character constant is found, where neither a quote nor a word follows
-pub text_found : (value behind : List ℕ) → IsConstantText value → begins_with is_quote behind ≡ false → begins_with is_name_byte behind ≡ false
+pub text_found : (value behind : List ℕ) → IsConstantText value → begins_with is_quote behind ≡ false
+    → begins_with is_name_byte behind ≡ false
     → Finds (quoted value ++ behind) kind.Text (length (quoted value))
 text_found value behind fits closed ends =
     at_constant value behind fits closed ∙ text_found_by value behind (bit_constant (quoted value ++ behind)) refl fits closed ends
 
-pub bit_found : (bit : Bool) (behind : List ℕ) → begins_with is_name_byte behind ≡ false → Finds (bit_bytes bit ++ behind) (kind.Bit bit) (length (bit_bytes bit))
+-- a bit constant is found, where no word follows
+pub bit_found : (bit : Bool) (behind : List ℕ) → begins_with is_name_byte behind ≡ false
+    → Finds (bit_bytes bit ++ behind) (kind.Bit bit) (length (bit_bytes bit))
 bit_found false behind ends =
     ap (λ (b : Option Bool). constant_of b (closing 1 0 (48 ∷ 39 ∷ 66 ∷ behind))) (cond-true (ends_word behind) (Some false) None (not_from_false _ ends))
 bit_found true behind ends =
@@ -186,7 +197,8 @@ covered_single : (double : Option Sign) (sign : Sign) → Covers (kind.Sign sign
 covered_single (Some other) sign = inl (lit≤ tt)
 covered_single None sign = inr (refl, refl)
 
-sign_covered : (s : grammar.Sign) (behind : List ℕ) → Covers (kind.Sign (kept_sign s)) (length (sign_bytes s)) (front_of (sign_bytes s ++ behind))
+sign_covered : (s : grammar.Sign) (behind : List ℕ)
+    → Covers (kind.Sign (kept_sign s)) (length (sign_bytes s)) (front_of (sign_bytes s ++ behind))
 sign_covered grammar.Sign.plus behind = covered_single (double_at 43 behind) (kept_sign grammar.Sign.plus)
 sign_covered grammar.Sign.minus behind = covered_single (double_at 45 behind) (kept_sign grammar.Sign.minus)
 sign_covered grammar.Sign.times behind = covered_single (double_at 42 behind) (kept_sign grammar.Sign.times)
@@ -213,6 +225,7 @@ is_second byte = eqb byte 61 || eqb byte 124
 abbrev pub EndsSign : List ℕ → Type 0
 EndsSign behind = begins_with is_second behind ≡ false
 
+-- where a sign ends, no sign of two bytes stands
 pub double_none : (first : ℕ) (behind : List ℕ) → EndsSign behind → double_at first behind ≡ None
 double_none first [] ends = refl
 double_none first (second ∷ rest) ends =
@@ -228,7 +241,9 @@ found_single : (first : ℕ) (behind : List ℕ) (sign : Sign) → EndsSign behi
     → sign_of (double_at first behind) (Some sign) ≡ Some (front_with (kind.Sign sign) 1)
 found_single first behind sign ends = ap (λ (o : Option Sign). sign_of o (Some sign)) (double_none first behind ends)
 
-pub sign_found : (s : grammar.Sign) (behind : List ℕ) → EndsSign behind → Finds (sign_bytes s ++ behind) (kind.Sign (kept_sign s)) (length (sign_bytes s))
+-- a sign is found, where nothing makes it longer
+pub sign_found : (s : grammar.Sign) (behind : List ℕ) → EndsSign behind
+    → Finds (sign_bytes s ++ behind) (kind.Sign (kept_sign s)) (length (sign_bytes s))
 sign_found grammar.Sign.plus behind ends = found_single 43 behind (kept_sign grammar.Sign.plus) ends
 sign_found grammar.Sign.minus behind ends = found_single 45 behind (kept_sign grammar.Sign.minus) ends
 sign_found grammar.Sign.times behind ends = found_single 42 behind (kept_sign grammar.Sign.times) ends
@@ -248,7 +263,8 @@ sign_found grammar.Sign.close_parenthesis behind ends = found_single 41 behind (
 sign_found grammar.Sign.comma behind ends = found_single 44 behind (kept_sign grammar.Sign.comma) ends
 
 -- where a token stands, something at least as long is found
-pub token_covered : (token : Token) (bytes behind : List ℕ) → IsToken token bytes behind → Covers (kept_kind token) (length bytes) (front_of (bytes ++ behind))
+pub token_covered : (token : Token) (bytes behind : List ℕ) → IsToken token bytes behind
+    → Covers (kept_kind token) (length bytes) (front_of (bytes ++ behind))
 token_covered (Token.name n) bytes behind is =
     subst (λ (b : List ℕ). Covers kind.Name (length b) (front_of (b ++ behind))) (sym is.0)
     (covers_found (n ++ behind) kind.Name (length n) (name_found n behind is.1 (not-true _ is.2)))

@@ -25,7 +25,8 @@ numeral_more xs i h =
     ∙ ap (λ (d : ℕ). numeral_value (take i xs) * 10 + d) (get_or-map value_of_digit xs i 0 0 h)
 
 -- one digit more at the end
-pub numeral_push : (digits : List ℕ) (digit : ℕ) → numeral_value (digits ++ (digit ∷ [])) ≡ numeral_value digits * 10 + (digit - 48)
+pub numeral_push : (digits : List ℕ) (digit : ℕ)
+    → numeral_value (digits ++ (digit ∷ [])) ≡ numeral_value digits * 10 + (digit - 48)
 numeral_push digits digit =
     ap (λ (ds : List ℕ). number_from_digits 10 ds) (map-append value_of_digit digits (digit ∷ []))
     ∙ number_push 10 (map value_of_digit digits) (digit - 48)

@@ -9,11 +9,10 @@ use Rattle.plcs_grammar.specs.Sign.{sign_bytes}
 use Rattle.plcs_grammar.specs.Token.{Token, IsToken, First, NoToken, is_quote, quoted, with_quotes_doubled}
 use Rattle.plcs_grammar.specs.Cuts.{Piece, Cuts, unblanked}
 use Rattle.phrase_parser.specs.declared.front.Front.{Front}
-use Rattle.phrase_parser.specs.declared.token.Sign.{Sign}
-use Rattle.phrase_parser.specs.declared.token.Sign.TheVariants as sign
 use Rattle.phrase_parser.specs.declared.token.TokenKind.{TokenKind}
 use Rattle.phrase_parser.specs.Kept.{kept_sign, kept_kind}
 use Rattle.phrase_parser.specs.Front.{front_of}
+use Rattle.phrase_parser.specs.Shown.{shown_sign}
 use Rattle.phrase_parser.specs.Unquoted.{undoubled, undoubled_behind}
 use Rattle.phrase_parser.proofs.Runs.{name_word, keyword_word}
 use Rattle.phrase_parser.proofs.FoundTokens.{found_tells}
@@ -94,44 +93,25 @@ pub token_not_empty : (token : Token) (bytes behind : List ℕ) → IsToken toke
 token_not_empty token [] behind is = absurd (empty_no_token token behind is)
 token_not_empty token (byte ∷ rest) behind is = omega arith
 
--- the sign that is kept
-abbrev sign_again : Sign → grammar.Sign
-sign_again sign.Plus = grammar.Sign.plus
-sign_again sign.Minus = grammar.Sign.minus
-sign_again sign.Times = grammar.Sign.times
-sign_again sign.Divide = grammar.Sign.divide
-sign_again sign.Join = grammar.Sign.join
-sign_again sign.Equal = grammar.Sign.equal
-sign_again sign.NotEqual = grammar.Sign.not_equal
-sign_again sign.Less = grammar.Sign.less
-sign_again sign.LessEqual = grammar.Sign.less_equal
-sign_again sign.Greater = grammar.Sign.greater
-sign_again sign.GreaterEqual = grammar.Sign.greater_equal
-sign_again sign.Ampersand = grammar.Sign.ampersand
-sign_again sign.Bar = grammar.Sign.bar
-sign_again sign.Caret = grammar.Sign.caret
-sign_again sign.OpenParenthesis = grammar.Sign.open_parenthesis
-sign_again sign.CloseParenthesis = grammar.Sign.close_parenthesis
-sign_again sign.Comma = grammar.Sign.comma
-
-kept_sign_again : (s : grammar.Sign) → sign_again (kept_sign s) ≡ s
-kept_sign_again grammar.Sign.plus = refl
-kept_sign_again grammar.Sign.minus = refl
-kept_sign_again grammar.Sign.times = refl
-kept_sign_again grammar.Sign.divide = refl
-kept_sign_again grammar.Sign.join = refl
-kept_sign_again grammar.Sign.equal = refl
-kept_sign_again grammar.Sign.not_equal = refl
-kept_sign_again grammar.Sign.less = refl
-kept_sign_again grammar.Sign.less_equal = refl
-kept_sign_again grammar.Sign.greater = refl
-kept_sign_again grammar.Sign.greater_equal = refl
-kept_sign_again grammar.Sign.ampersand = refl
-kept_sign_again grammar.Sign.bar = refl
-kept_sign_again grammar.Sign.caret = refl
-kept_sign_again grammar.Sign.open_parenthesis = refl
-kept_sign_again grammar.Sign.close_parenthesis = refl
-kept_sign_again grammar.Sign.comma = refl
+-- a sign is read again from what is kept of it
+pub shown_kept_sign : (s : grammar.Sign) → shown_sign (kept_sign s) ≡ s
+shown_kept_sign grammar.Sign.plus = refl
+shown_kept_sign grammar.Sign.minus = refl
+shown_kept_sign grammar.Sign.times = refl
+shown_kept_sign grammar.Sign.divide = refl
+shown_kept_sign grammar.Sign.join = refl
+shown_kept_sign grammar.Sign.equal = refl
+shown_kept_sign grammar.Sign.not_equal = refl
+shown_kept_sign grammar.Sign.less = refl
+shown_kept_sign grammar.Sign.less_equal = refl
+shown_kept_sign grammar.Sign.greater = refl
+shown_kept_sign grammar.Sign.greater_equal = refl
+shown_kept_sign grammar.Sign.ampersand = refl
+shown_kept_sign grammar.Sign.bar = refl
+shown_kept_sign grammar.Sign.caret = refl
+shown_kept_sign grammar.Sign.open_parenthesis = refl
+shown_kept_sign grammar.Sign.close_parenthesis = refl
+shown_kept_sign grammar.Sign.comma = refl
 
 -- doubling quotes and taking one of each two changes nothing
 pub undoubled_doubled : (value : List ℕ) → undoubled (with_quotes_doubled value) ≡ value
@@ -142,13 +122,15 @@ undoubled_doubled (byte ∷ value) =
     (λ plain. ap (λ (rest : List ℕ). byte ∷ rest)
     (cond-false (is_quote byte) (undoubled_behind (with_quotes_doubled value)) (undoubled (with_quotes_doubled value)) plain ∙ undoubled_doubled value))
 
+-- a character constant has one value
 pub one_value : (v w : List ℕ) → quoted v ≡ quoted w → v ≡ w
 one_value v w h =
     let inner = same_from_push (with_quotes_doubled v) (with_quotes_doubled w) 39 39 (ap (λ (x : List ℕ). drop 1 x) h) in
     sym (undoubled_doubled v) ∙ ap undoubled inner.0 ∙ undoubled_doubled w
 
 -- bytes are one token of a kind
-pub one_token : (j k : Token) (bytes behind : List ℕ) → IsToken j bytes behind → IsToken k bytes behind → kept_kind j ≡ kept_kind k → j ≡ k
+pub one_token : (j k : Token) (bytes behind : List ℕ) → IsToken j bytes behind → IsToken k bytes behind
+    → kept_kind j ≡ kept_kind k → j ≡ k
 one_token (Token.name m) (Token.name n) bytes behind is so same = ap Token.name (sym is.0 ∙ so.0)
 one_token (Token.name m) k bytes behind is so same = absurd cc
 one_token (Token.keyword m) (Token.keyword n) bytes behind is so same = ap Token.keyword (sym is.0 ∙ so.0)
@@ -161,14 +143,16 @@ one_token (Token.bit b) (Token.bit c) bytes behind is so same = let e : b ≡ c 
 one_token (Token.bit b) k bytes behind is so same = absurd cc
 one_token (Token.sign s) (Token.sign t) bytes behind is so same =
     let e : kept_sign s ≡ kept_sign t = cc in
-    ap Token.sign (sym (kept_sign_again s) ∙ ap sign_again e ∙ kept_sign_again t)
+    ap Token.sign (sym (shown_kept_sign s) ∙ ap shown_sign e ∙ shown_kept_sign t)
 one_token (Token.sign s) k bytes behind is so same = absurd cc
 
-covers_exactly : (k : TokenKind) (n : ℕ) (front : Front) → Covers k n (Some front) → front.length ≤ n → (n ≡ front.length) × (k ≡ front.kind)
+covers_exactly : (k : TokenKind) (n : ℕ) (front : Front) → Covers k n (Some front) → front.length ≤ n
+    → (n ≡ front.length) × (k ≡ front.kind)
 covers_exactly k n front (inl less) at_most = absurd (omega (arith, less, at_most))
 covers_exactly k n front (inr same) at_most = same
 
-same_front : (k : TokenKind) (n : ℕ) (front : Front) → n ≡ front.length → k ≡ front.kind → front ≡ record { kind = k; length = n }
+same_front : (k : TokenKind) (n : ℕ) (front : Front) → n ≡ front.length → k ≡ front.kind
+    → front ≡ record { kind = k; length = n }
 same_front k n front size same =
     ap (λ (t : TokenKind). record { kind = t; length = front.length }) (sym same) ∙ ap (λ (m : ℕ). record { kind = k; length = m }) (sym size)
 
@@ -217,7 +201,8 @@ no_first_at_end x token bytes behind end first =
     omega (arith, token_not_empty token bytes behind first.is_token, ap length (sym end ∙ first.whole), length-append bytes behind)
 
 -- a text is cut in one way
-pub one_cut : (ps qs : List Piece) (place : ℕ) (x : List ℕ) (stop other : Option ℕ) → Cuts ps place x stop → Cuts qs place x other
+pub one_cut : (ps qs : List Piece) (place : ℕ) (x : List ℕ) (stop other : Option ℕ) → Cuts ps place x stop
+    → Cuts qs place x other
     → (ps ≡ qs) × (stop ≡ other)
 one_cut [] [] place x None None a b = (refl, refl)
 one_cut [] [] place x None (Some t) a b = absurd (b.0 a)

@@ -6,6 +6,7 @@ use Rattle.std.proofs.lemmas.List.Sums.{prefix_len-le-length}
 use Rattle.plcs_base.specs.Name.{IsName, is_keyword}
 use Rattle.plcs_grammar.specs.Token.{Token, IsToken, IsConstantText, with_quotes_doubled}
 use Rattle.plcs_grammar.specs.Cuts.{Piece, Cuts, blanks, unblanked, is_blank, tokens_of}
+use Rattle.phrase_parser.specs.Shown.{unquoted}
 use Rattle.phrase_parser.specs.Unquoted.{undoubled}
 use Rattle.phrase_parser.proofs.OneCut.{token_not_empty, undoubled_doubled}
 
@@ -18,10 +19,12 @@ IsSound (Token.text value) = IsConstantText value
 IsSound (Token.bit value) = Unit {0}
 IsSound (Token.sign s) = Unit {0}
 
+-- each token of a list is sound
 abbrev pub AllSound : List Token → Type 0
 AllSound [] = Unit {0}
 AllSound (token ∷ tokens) = IsSound token × AllSound tokens
 
+-- what bytes make is sound
 pub token_sound : (token : Token) (bytes behind : List ℕ) → IsToken token bytes behind → IsSound token
 token_sound (Token.name n) bytes behind is = is.1
 token_sound (Token.keyword word) bytes behind is = is.1
@@ -31,7 +34,8 @@ token_sound (Token.bit value) bytes behind is = tt
 token_sound (Token.sign s) bytes behind is = tt
 
 -- the names of a text are names, and its constants can be values
-pub cut_sound : (pieces : List Piece) (place : ℕ) (x : List ℕ) (stop : Option ℕ) → Cuts pieces place x stop → AllSound (tokens_of pieces)
+pub cut_sound : (pieces : List Piece) (place : ℕ) (x : List ℕ) (stop : Option ℕ) → Cuts pieces place x stop
+    → AllSound (tokens_of pieces)
 cut_sound [] place x stop cuts = tt
 cut_sound (piece ∷ pieces) place x stop (bytes, behind, first, start, end, rest) =
     (token_sound piece.token bytes behind first.is_token, cut_sound pieces piece.end behind stop rest)
@@ -45,7 +49,8 @@ length_unblanked : (x : List ℕ) → blanks x + length (unblanked x) ≡ length
 length_unblanked x = omega (arith, length-drop (blanks x) x, prefix_len-le-length is_blank x)
 
 -- the pieces of a text stand in order within it
-pub cut_in_order : (pieces : List Piece) (place : ℕ) (x : List ℕ) (stop : Option ℕ) → Cuts pieces place x stop → InOrder place pieces (place + length x)
+pub cut_in_order : (pieces : List Piece) (place : ℕ) (x : List ℕ) (stop : Option ℕ) → Cuts pieces place x stop
+    → InOrder place pieces (place + length x)
 cut_in_order [] place x stop cuts = omega arith
 cut_in_order (piece ∷ pieces) place x stop (bytes, behind, first, start, end, rest) =
     let some : 1 ≤ length bytes = token_not_empty piece.token bytes behind first.is_token in
@@ -61,7 +66,8 @@ not_empty [] h = absurd (h refl)
 not_empty (byte ∷ rest) h = omega arith
 
 -- the place where a text stops being tokens is within it
-pub stop_within : (pieces : List Piece) (place : ℕ) (x : List ℕ) (stop : ℕ) → Cuts pieces place x (Some stop) → (place ≤ stop) × (stop < place + length x)
+pub stop_within : (pieces : List Piece) (place : ℕ) (x : List ℕ) (stop : ℕ) → Cuts pieces place x (Some stop)
+    → (place ≤ stop) × (stop < place + length x)
 stop_within [] place x stop cuts =
     let more : 1 ≤ length (unblanked x) = not_empty (unblanked x) cuts.0 in
     (omega (arith, cuts.2), omega (arith, cuts.2, more, length_unblanked x))
@@ -78,7 +84,8 @@ StandIn text (piece ∷ pieces) =
     IsToken piece.token (slice_range text piece.start piece.end) (drop piece.end text) × StandIn text pieces
 
 -- so it is for the pieces of a text
-pub cut_stands : (text : List ℕ) (pieces : List Piece) (place : ℕ) (x : List ℕ) (stop : Option ℕ) → x ≡ drop place text → Cuts pieces place x stop → StandIn text pieces
+pub cut_stands : (text : List ℕ) (pieces : List Piece) (place : ℕ) (x : List ℕ) (stop : Option ℕ) → x ≡ drop place text
+    → Cuts pieces place x stop → StandIn text pieces
 cut_stands text [] place x stop at cuts = tt
 cut_stands text (piece ∷ pieces) place x stop at (bytes, behind, first, start, end, rest) =
     let from : drop piece.start text ≡ bytes ++ behind =
@@ -97,7 +104,7 @@ cut_stands text (piece ∷ pieces) place x stop at (bytes, behind, first, start,
 
 -- the value of a character constant is what stands between its quotes, with one quote for each two
 pub constant_value : (value bytes behind : List ℕ) → IsToken (Token.text value) bytes behind
-    → undoubled (slice_range bytes 1 (length bytes - 1)) ≡ value
+    → unquoted bytes ≡ value
 constant_value value bytes behind is =
     let inner = with_quotes_doubled value in
     let size : length bytes - 1 - 1 ≡ length inner = omega (arith, ap length is.0, length-append inner (39 ∷ [])) in

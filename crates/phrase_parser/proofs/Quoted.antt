@@ -70,7 +70,8 @@ closes_here read content x end behind h =
 
 -- what the reading of a constant tells of the text
 mutual
-  pub closing_tells : (read content : ℕ) (x : List ℕ) (end : ℕ) → closing read content x ≡ Some end → ClosesAt read content x end
+  pub closing_tells : (read content : ℕ) (x : List ℕ) (end : ℕ) → closing read content x ≡ Some end
+      → ClosesAt read content x end
   closing_tells read content [] end h = absurd (none-some end h)
   closing_tells read content (byte ∷ rest) end h =
       cond_both (is_quote byte) (closing_at_quote read content rest)
@@ -83,7 +84,8 @@ mutual
       (λ _ e. absurd (none-some end e)))
       h
 
-  pub at_quote_tells : (read content : ℕ) (x : List ℕ) (end : ℕ) → closing_at_quote read content x ≡ Some end → ClosesAt read content (39 ∷ x) end
+  pub at_quote_tells : (read content : ℕ) (x : List ℕ) (end : ℕ) → closing_at_quote read content x ≡ Some end
+      → ClosesAt read content (39 ∷ x) end
   at_quote_tells read content [] end h = closes_here read content [] end refl h
   at_quote_tells read content (byte ∷ rest) end h =
       cond_both (is_quote byte) (closing (read + 2) (content + 1) rest) (end_if_short (read + 1) content)
@@ -126,6 +128,7 @@ quote_closes read content (byte ∷ rest) short closed =
 pub quoted_append : (value behind : List ℕ) → quoted value ++ behind ≡ 39 ∷ (with_quotes_doubled value ++ (39 ∷ behind))
 quoted_append value behind = ap (λ (rest : List ℕ). 39 ∷ rest) (append_assoc (with_quotes_doubled value) (39 ∷ []) behind)
 
+-- two quotes stand round the value
 pub length_quoted : (value : List ℕ) → length (quoted value) ≡ length (with_quotes_doubled value) + 2
 length_quoted value = omega (arith, length-append (with_quotes_doubled value) (39 ∷ []))
 

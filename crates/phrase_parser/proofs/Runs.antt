@@ -53,9 +53,11 @@ pub run_first : (p : ℕ → Bool) (x : ℕ) (xs : List ℕ) → p x ≡ true
 run_first p x xs h =
     ap (λ (k : ℕ). take k (x ∷ xs)) (cond-true (p x) (1 + prefix_len p xs) 0 h) ∙ take_one_more x xs (prefix_len p xs)
 
+-- a letter may follow in a name
 pub letter_is_name_byte : (byte : ℕ) → is_letter byte ≡ true → is_name_byte byte ≡ true
 letter_is_name_byte byte h = or_left (is_letter byte) _ h
 
+-- a digit may follow in a name
 pub digit_is_name_byte : (byte : ℕ) → is_digit byte ≡ true → is_name_byte byte ≡ true
 digit_is_name_byte byte h = or_right (is_letter byte) _ (or_left (is_digit byte) _ h)
 
@@ -77,23 +79,26 @@ listed_word test w (u ∷ words) all found =
       | inr other ↦ listed_word test w words parts.1 other
     ]
 
--- a keyword is a word of at most 31 bytes
+-- a keyword is a word
 pub keyword_word : (w : List ℕ) → is_keyword w ≡ true → is_word w ≡ true
 unfolding is_keyword
 keyword_word w h = listed_word is_word w keywords refl h
 
+-- a keyword has at most 31 bytes
 pub keyword_short : (w : List ℕ) → is_keyword w ≡ true → length w ≤ 31
 unfolding is_keyword
 keyword_short w h = leb-true (length w) 31 (listed_word (λ u. nat_le (length u) 31) w keywords refl h)
 
--- a name is a word of at most 31 bytes, and no keyword
+-- a name is a word
 pub name_word : (w : List ℕ) → IsName w → is_word w ≡ true
 name_word w h = (and_parts (is_word w) _ h).0
 
+-- a name has at most 31 bytes
 pub name_short : (w : List ℕ) → IsName w → length w ≤ 31
 name_short w h =
     leb-true (length w) 31 (and_parts (nat_le (length w) 31) (not (is_keyword w)) (and_parts (is_word w) _ h).1).0
 
+-- a name is no keyword
 pub name_no_keyword : (w : List ℕ) → IsName w → not (is_keyword w) ≡ true
 name_no_keyword w h = (and_parts (nat_le (length w) 31) (not (is_keyword w)) (and_parts (is_word w) _ h).1).1
 

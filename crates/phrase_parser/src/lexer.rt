@@ -50,11 +50,14 @@ fn token_at(text: &[u8], start: usize) -> Option<Placed>
     ensures { result ≡ placed_at start (front_of (drop start text.now)) }
 {
     match front_of(&text[start..]) {
-        Some(front) => Some(Placed {
-            kind: front.kind,
-            start,
-            end: start + front.length,
-        }),
+        Some(front) => {
+            let end = start + front.length;
+            Some(Placed {
+                kind: front.kind,
+                start,
+                end,
+            })
+        }
         None => None,
     }
 }

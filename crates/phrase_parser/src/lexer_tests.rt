@@ -1,6 +1,7 @@
 use crate::lexer::tokens;
 use crate::token::{Sign, TokenKind};
 use std::alloc::{AllocError, Global};
+use std::process::Abort;
 use std::test::Fail;
 
 /// What a token is, its start and its end.
@@ -13,7 +14,7 @@ const TEXT: TokenKind = TokenKind::Text;
 const EQUAL: TokenKind = TokenKind::Sign(Sign::Equal);
 
 /// Texts, their tokens, and where they stop being tokens.
-const TEXTS: [(&[u8], &[Row], Option<usize>); 38] = [
+static TEXTS: [(&[u8], &[Row], Option<usize>); 38] = [
     (b"", &[], None),
     (b"   ", &[], None),
     (b" a ", &[(NAME, 1, 2)], None),
@@ -130,18 +131,28 @@ const TEXTS: [(&[u8], &[Row], Option<usize>); 38] = [
     (b"x\t", &[(NAME, 0, 1)], Some(1)),
 ];
 
-#[test]
-fn texts_are_cut_into_tokens(rt: HostRuntime) -> Result<(), Fail> {
-    for (text, wanted, stop) in TEXTS {
-        let found = tokens(rt.alloc(), text)?;
+/// Compares the tokens of each text with those wanted.
+fn compare(
+    rt: &impl Abort,
+    alloc: Global,
+    texts: &[(&[u8], &[Row], Option<usize>)],
+) -> Result<(), AllocError> {
+    for (text, wanted, stop) in texts {
+        let found = tokens(alloc, text)?;
         let rows: Vec<Row> = found
             .items
             .iter()
             .map(|token| (token.kind, token.start, token.end))
-            .collect(rt.alloc())?;
-        assert_eq!(rt; rows.as_slice(), wanted, "at {text:?}");
-        assert_eq!(rt; found.stop, stop, "at {text:?}");
+            .collect(alloc)?;
+        assert_eq!(rt; rows.as_slice(), *wanted, "at {text:?}");
+        assert_eq!(rt; found.stop, *stop, "at {text:?}");
     }
+    Ok(())
+}
+
+#[test]
+fn texts_are_cut_into_tokens(rt: HostRuntime) -> Result<(), Fail> {
+    compare(&rt, rt.alloc(), &TEXTS)?;
     Ok(())
 }
 
