@@ -1,4 +1,4 @@
-ghost use Rattle.std.specs.Prelude.{◌≡◌, ◌≤◌, length, All, IfOk, IfSome, IsTrue};
+ghost use Rattle.std.specs.Prelude.{◌≡◌, ◌≤◌, length, All, IfOk, IsTrue};
 ghost use Rattle.phrase_parser.specs.TokenIn.{IsConstant, IsOfKind, IsPlacedIn};
 
 use super::{BuildError, build};
@@ -9,23 +9,24 @@ use std::alloc::{AllocError, Global};
 use std::test::Fail;
 
 /// What kind of token a word of these tests is.
-fn kind_of(word: &[u8]) -> Option<TokenKind>
-    ensures { IfSome result (λ kind. IsOfKind kind word.now) }
+fn kind_of(word: &[u8]) -> TokenKind
+    ensures { IsOfKind result word.now }
 {
     match word {
-        [digit @ b'0'..=b'9'] => Some(TokenKind::Number(u32::from(*digit - b'0'))),
-        b"256" => Some(TokenKind::Number(256)),
-        b"257" => Some(TokenKind::Number(257)),
-        b"'0'B" => Some(TokenKind::Bit(false)),
-        b"'1'B" => Some(TokenKind::Bit(true)),
-        _ => sign_kind(word).or(word_kind(word)),
+        [digit @ b'0'..=b'9'] => TokenKind::Number(u32::from(*digit - b'0')),
+        b"256" => TokenKind::Number(256),
+        b"257" => TokenKind::Number(257),
+        b"'0'B" => TokenKind::Bit(false),
+        b"'1'B" => TokenKind::Bit(true),
+        _ => match sign_of(word) {
+            Some(sign) => TokenKind::Sign(sign),
+            None => word_kind(word),
+        },
     }
 }
 
-/// The kind of a sign.
-fn sign_kind(word: &[u8]) -> Option<TokenKind>
-    ensures { IfSome result (λ kind. IsOfKind kind word.now) }
-{
+/// The sign that the word is.
+fn sign_of(word: &[u8]) -> Option<Sign> {
     let sign = match word {
         b"+" => Sign::Plus,
         b"-" => Sign::Minus,
@@ -42,19 +43,19 @@ fn sign_kind(word: &[u8]) -> Option<TokenKind>
         b"," => Sign::Comma,
         _ => return None,
     };
-    Some(TokenKind::Sign(sign))
+    Some(sign)
 }
 
 /// The kind of a name, of a keyword, or of the one character constant of these tests.
-fn word_kind(word: &[u8]) -> Option<TokenKind>
-    ensures { IfSome result (λ kind. IsOfKind kind word.now) }
+fn word_kind(word: &[u8]) -> TokenKind
+    ensures { IsOfKind result word.now }
 {
     if is_constant(word) {
-        Some(TokenKind::Text)
+        TokenKind::Text
     } else if Name::read(word).is_some() {
-        Some(TokenKind::Name)
+        TokenKind::Name
     } else {
-        Some(TokenKind::Keyword)
+        TokenKind::Keyword
     }
 }
 
@@ -66,13 +67,13 @@ fn is_constant(word: &[u8]) -> bool
 }
 
 /// The word from one place to another as a token.
-fn token_at(text: &[u8], start: usize, end: usize) -> Option<Placed>
+fn token_at(text: &[u8], start: usize, end: usize) -> Placed
     requires ordered { start ≤ end }
     requires within { end ≤ length text.now }
-    ensures { IfSome result (λ token. IsPlacedIn text.now token) }
+    ensures { IsPlacedIn text.now result }
 {
-    let kind = kind_of(&text[start..end])?;
-    Some(Placed { kind, start, end })
+    let kind = kind_of(&text[start..end]);
+    Placed { kind, start, end }
 }
 
 /// The place of the first blank from this one on, or the end of the text.
@@ -96,13 +97,8 @@ fn tokens(alloc: Global, text: &[u8]) -> Result<Vec<Placed>, AllocError>
     let mut start = 0;
     while start < text.len() {
         let end = blank_from(text, start);
-        if let Some(token) = token_at(text, start, end) {
-            tokens.push(token)?;
-        }
-        if end == text.len() {
-            break;
-        }
-        start = end + 1;
+        tokens.push(token_at(text, start, end))?;
+        start = if end < text.len() { end + 1 } else { end };
     }
     Ok(tokens)
 }
