@@ -25,6 +25,7 @@ pub mod PieceFacts
 pub mod LexedTexts
 mod KeptNumbers
 mod Found
+mod PlacedTokens
 mod FindingSays
 pub mod Stacks
 pub mod Constants
@@ -33,5 +34,7 @@ mod Operators
 pub mod Fails
 mod ShapeLevels
 mod FindingsGoOn
-mod PlacedTokens
 pub mod ShownTokens
+mod FoundPlaces
+
+mod Told

@@ -4,6 +4,7 @@ use Rattle.std.specs.Prelude.{slice_range}
 use Rattle.std.specs.List.{AllByRecursion}
 use Rattle.std.proofs.lemmas.List.Elements.{All-from_recursion}
 use Rattle.plcs_grammar.specs.declared.category.Category.{Category}
+use Rattle.plcs_base.specs.Name.{IsName}
 use Rattle.plcs_grammar.specs.Sign as grammar
 use Rattle.plcs_grammar.specs.Token.{Token, IsToken}
 use Rattle.plcs_grammar.specs.Reading.{Reading}
@@ -95,7 +96,7 @@ token_as (Token.bit value) bytes behind is f = refl
 token_as (Token.sign s) bytes behind is f = ap Token.sign (sign_again s)
 
 kind_stands : (token : Token) (bytes behind : List ℕ) → IsToken token bytes behind → NumberFits token → IsOfKind (kept_kind token) bytes
-kind_stands (Token.name n) bytes behind is f = subst _ (sym is.0) is.1
+kind_stands (Token.name n) bytes behind is f = subst IsName (sym is.0) is.1
 kind_stands (Token.keyword word) bytes behind is f = tt
 kind_stands (Token.number n) bytes behind is f = omega (arith, f)
 kind_stands (Token.text value) bytes behind is f = record { value = value; whole = is.0; content = is.1 }

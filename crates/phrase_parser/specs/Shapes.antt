@@ -117,6 +117,10 @@ abbrev pub over_of : Over → OverLimit
 over_of (NumberTooLarge place) = OverLimit.number_too_large place
 over_of (TooDeep place) = OverLimit.too_deep place
 
+abbrev pub over_place : OverLimit → ℕ
+over_place (OverLimit.number_too_large place) = place
+over_place (OverLimit.too_deep place) = place
+
 abbrev pub over_if : Option Over → Option OverLimit
 over_if None = None
 over_if (Some over) = Some (over_of over)

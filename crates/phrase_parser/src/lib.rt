@@ -11,9 +11,11 @@ mod front;
 mod lexer;
 #[cfg(test)]
 mod lexer_tests;
+mod parser;
 mod sign;
 mod token;
 mod uniqueness;
 
 pub use fault::PhraseFault;
+pub use parser::parse;
 pub use uniqueness::one_reading;
