@@ -5,26 +5,72 @@ use std::test::Fail;
 fn a_name_is_read(rt: HostRuntime) -> Result<(), Fail> {
     let name = Name::read(b"larger_2").ok_or("a name")?;
     assert_eq!(rt; name.as_bytes(), b"larger_2".as_slice());
-    assert!(rt; Name::read(b"ABS").is_some(), "a built-in name is a name");
-    assert!(rt;
-        Name::read(b"abcdefghijklmnopqrstuvwxyz12345").is_some(),
-        "31 bytes"
-    );
+    let names: [&[u8]; 6] = [
+        b"a",
+        b"a_1",
+        b"Z9_",
+        b"ABS",
+        b"while",
+        b"abcdefghijklmnopqrstuvwxyzABCDE",
+    ];
+    for bytes in names {
+        let kept = Name::read(bytes).ok_or("a name")?;
+        assert_eq!(rt; kept.as_bytes(), bytes);
+    }
     Ok(())
 }
 
 #[test]
 fn other_bytes_are_no_name(rt: HostRuntime) {
-    assert!(rt; Name::read(b"").is_none());
-    assert!(rt; Name::read(b"2nd").is_none());
-    assert!(rt; Name::read(b"_x").is_none());
-    assert!(rt; Name::read(b"a b").is_none());
-    assert!(rt; Name::read(b"WHILE").is_none(), "a keyword");
-    assert!(rt; Name::read(b"while").is_some(), "keywords are in capitals");
-    assert!(rt;
-        Name::read(b"abcdefghijklmnopqrstuvwxyz123456").is_none(),
-        "32 bytes"
-    );
+    let others: [&[u8]; 8] = [
+        b"",
+        b"1a",
+        b"_a",
+        b"a b",
+        b"a-b",
+        b"a\xe9",
+        b"abcdefghijklmnopqrstuvwxyzABCDEF",
+        b" a",
+    ];
+    for bytes in others {
+        assert!(rt; Name::read(bytes).is_none());
+    }
+}
+
+#[test]
+fn no_keyword_is_a_name(rt: HostRuntime) {
+    let keywords: [&[u8]; 27] = [
+        b"BIT",
+        b"BY",
+        b"CALL",
+        b"CHARACTER",
+        b"DECLARE",
+        b"DO",
+        b"ELSE",
+        b"END",
+        b"FIXED",
+        b"FLOAT",
+        b"GET",
+        b"IF",
+        b"LIST",
+        b"MAIN",
+        b"OPTIONS",
+        b"OTHERWISE",
+        b"PROCEDURE",
+        b"PUT",
+        b"RETURN",
+        b"SELECT",
+        b"SKIP",
+        b"THEN",
+        b"TO",
+        b"UNTIL",
+        b"VARYING",
+        b"WHEN",
+        b"WHILE",
+    ];
+    for keyword in keywords {
+        assert!(rt; Name::read(keyword).is_none());
+    }
 }
 
 #[test]
@@ -34,4 +80,30 @@ fn a_text_is_kept(rt: HostRuntime) -> Result<(), Fail> {
     assert!(rt; TextValue::read(&[32; 256]).is_some());
     assert!(rt; TextValue::read(&[32; 257]).is_none());
     Ok(())
+}
+
+#[test]
+fn counts_rise(rt: HostRuntime) {
+    let mut counts = Counts::default();
+    counts.emitted();
+    counts.checked();
+    counts.checked();
+    counts.fetched();
+    counts.laid();
+    assert_eq!(rt;
+        (counts.emitted, counts.checked, counts.fetched, counts.laid),
+        (1, 2, 1, 1)
+    );
+    let mut full = Counts {
+        emitted: u64::MAX,
+        checked: u64::MAX,
+        fetched: u64::MAX,
+        laid: u64::MAX,
+    };
+    full.emitted();
+    full.checked();
+    full.fetched();
+    full.laid();
+    assert_eq!(rt; (full.emitted, full.checked), (u64::MAX, u64::MAX));
+    assert_eq!(rt; (full.fetched, full.laid), (u64::MAX, u64::MAX));
 }

@@ -12,3 +12,6 @@ pub mod Limit
 pub mod Reads
 pub mod Syntax
 pub mod Canon
+pub mod Chain
+pub mod Separator
+pub mod Link

@@ -4,18 +4,29 @@
 
 mod builtin;
 mod category;
+mod chain;
+mod copying;
 mod expr;
+mod expr_copy;
 mod item;
+mod length_out;
 mod operator;
 mod phrase;
+mod put_bytes;
+mod show_expr;
+mod show_joined;
+mod show_phrase;
 mod template;
 #[cfg(test)]
 mod tests;
 
 pub use builtin::Builtin;
 pub use category::Category;
+pub use copying::copy_phrase;
 pub use expr::{Expr, VarRef};
 pub use item::Item;
+pub use length_out::shown_len;
 pub use operator::{InfixOp, PrefixOp};
 pub use phrase::Phrase;
+pub use show_phrase::show;
 pub use template::Template;

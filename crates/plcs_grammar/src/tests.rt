@@ -1,23 +1,194 @@
 use super::*;
+use plcs_base::{ByteOut, Name, TextValue};
 use std::alloc::{AllocError, Global};
 use std::test::Fail;
+
+/// Compares what is put with what is awaited.
+#[derive(Drop)]
+struct Awaited<'a> {
+    left: &'a [u8],
+    same: bool,
+}
+
+impl ByteOut for Awaited<'_> {
+    ghost puts = { λ _ _ _. Unit {0} };
+
+    fn put(&mut self, byte: u8) {
+        match self.left {
+            [first, rest @ ..] if *first == byte => self.left = rest,
+            _ => self.same = false,
+        }
+    }
+}
+
+/// Whether the phrase has this canonical text.
+fn has_text(phrase: &Phrase, text: &[u8]) -> bool {
+    let mut out = Awaited {
+        left: text,
+        same: true,
+    };
+    show(phrase, &mut out);
+    out.same && out.left.is_empty() && shown_len(phrase) as usize == text.len()
+}
+
+/// Whether the phrase, and a copy of it, has this canonical text.
+fn is_shown(alloc: Global, phrase: Phrase, text: &[u8]) -> Result<bool, Fail> {
+    let copy = copy_phrase(alloc, &phrase).map_err(|_| "a copy")?;
+    Ok(has_text(&phrase, text) && has_text(&copy, text))
+}
+
+fn name(bytes: &[u8]) -> Result<Name, Fail> {
+    Ok(Name::read(bytes).ok_or("a name")?)
+}
+
+fn variable(bytes: &[u8]) -> Result<Expr, Fail> {
+    Ok(Expr::Var(VarRef {
+        name: name(bytes)?,
+        index: None,
+    }))
+}
+
+fn cell(alloc: Global, bytes: &[u8], index: Expr) -> Result<VarRef, Fail> {
+    Ok(VarRef {
+        name: name(bytes)?,
+        index: Some(Box::new(alloc, index)?),
+    })
+}
+
+fn text(alloc: Global, bytes: &[u8]) -> Result<Expr, Fail> {
+    let value = TextValue::read(bytes).ok_or("a text")?;
+    Ok(Expr::Text(Box::new(alloc, value)?))
+}
+
+fn infix(alloc: Global, left: Expr, op: InfixOp, right: Expr) -> Result<Expr, AllocError> {
+    Ok(Expr::Infix(op, Box::new(alloc, left)?, Box::new(alloc, right)?))
+}
+
+fn paren(alloc: Global, inside: Expr) -> Result<Expr, AllocError> {
+    Ok(Expr::Paren(Box::new(alloc, inside)?))
+}
 
 /// `1 + 1 + .. + 1`, with so many operators.
 fn chain(alloc: Global, operators: u32) -> Result<Expr, AllocError> {
     let mut sum = Expr::Number(1);
     for _ in 0..operators {
-        sum = Expr::Infix(
-            InfixOp::Plus,
-            Box::new(alloc, sum)?,
-            Box::new(alloc, Expr::Number(1))?,
-        );
+        sum = infix(alloc, sum, InfixOp::Plus, Expr::Number(1))?;
     }
     Ok(sum)
 }
 
 #[test]
-fn a_long_chain_is_let_go(rt: HostRuntime) -> Result<(), Fail> {
-    let sum = chain(rt.alloc(), 1_000_000)?;
-    assert!(rt; matches!(&sum, Expr::Infix(_, _, _)));
+fn constants_are_shown(rt: HostRuntime) -> Result<(), Fail> {
+    let alloc = rt.alloc();
+    assert!(rt; is_shown(alloc, Phrase::Expression(Expr::Number(7)), b"7")?);
+    assert!(rt;
+        is_shown(
+            alloc,
+            Phrase::Expression(Expr::Number(i32::MAX)),
+            b"2147483647"
+        )?
+    );
+    assert!(rt;
+        is_shown(
+            alloc,
+            Phrase::Expression(Expr::Number(i32::MIN)),
+            b"-2147483648"
+        )?
+    );
+    assert!(rt; is_shown(alloc, Phrase::Expression(text(alloc, b"'")?), b"''''")?);
+    assert!(rt; is_shown(alloc, Phrase::Expression(Expr::Bit(true)), b"'1'B")?);
+    assert!(rt; is_shown(alloc, Phrase::Expression(Expr::Bit(false)), b"'0'B")?);
+    Ok(())
+}
+
+#[test]
+fn operators_are_shown(rt: HostRuntime) -> Result<(), Fail> {
+    let alloc = rt.alloc();
+    let sum = infix(alloc, Expr::Number(1), InfixOp::Plus, Expr::Number(2))?;
+    let product = infix(alloc, paren(alloc, sum)?, InfixOp::Times, Expr::Number(3))?;
+    assert!(rt; is_shown(alloc, Phrase::Expression(product), b"( 1 + 2 ) * 3")?);
+    let first = infix(alloc, variable(b"a")?, InfixOp::Equal, variable(b"b")?)?;
+    let equal = infix(alloc, first, InfixOp::Equal, variable(b"c")?)?;
+    assert!(rt; is_shown(alloc, Phrase::Condition(equal), b"a = b = c")?);
+    let negative = Expr::Prefix(PrefixOp::Minus, Box::new(alloc, variable(b"x")?)?);
+    assert!(rt; is_shown(alloc, Phrase::Expression(negative), b"-x")?);
+    let both = infix(alloc, variable(b"a")?, InfixOp::And, variable(b"b")?)?;
+    let not_both = Expr::Prefix(PrefixOp::Not, Box::new(alloc, paren(alloc, both)?)?);
+    assert!(rt; is_shown(alloc, Phrase::Condition(not_both), b"^( a & b )")?);
+    Ok(())
+}
+
+#[test]
+fn calls_are_shown(rt: HostRuntime) -> Result<(), Fail> {
+    let alloc = rt.alloc();
+    let operands = vec![in alloc; variable(b"x")?, Expr::Number(2)]?;
+    let remainder = Expr::Builtin(Builtin::Mod, operands);
+    assert!(rt; is_shown(alloc, Phrase::Expression(remainder), b"MOD(x, 2)")?);
+    let arguments = vec![in alloc; Expr::Number(1), variable(b"x")?]?;
+    assert!(rt; is_shown(alloc, Phrase::CallRef(name(b"p")?, arguments), b"p(1, x)")?);
+    assert!(rt; is_shown(alloc, Phrase::CallRef(name(b"p")?, Vec::new(alloc)), b"p")?);
+    assert!(rt; is_shown(alloc, Phrase::ProcedureName(name(b"p")?), b"p")?);
+    Ok(())
+}
+
+#[test]
+fn variables_are_shown(rt: HostRuntime) -> Result<(), Fail> {
+    let alloc = rt.alloc();
+    let simple = VarRef {
+        name: name(b"x")?,
+        index: None,
+    };
+    assert!(rt; is_shown(alloc, Phrase::Assignment(simple, variable(b"y")?), b"x = y")?);
+    let target = cell(alloc, b"a", Expr::Number(10))?;
+    assert!(rt;
+        is_shown(
+            alloc,
+            Phrase::Assignment(target, variable(b"y")?),
+            b"a(10) = y"
+        )?
+    );
+    let first = cell(alloc, b"a", variable(b"i")?)?;
+    let targets = vec![in alloc; first, cell(alloc, b"b", Expr::Number(2))?]?;
+    assert!(rt; is_shown(alloc, Phrase::VariableList(targets), b"a(i), b(2)")?);
+    assert!(rt; is_shown(alloc, Phrase::Variable(name(b"i")?), b"i")?);
+    Ok(())
+}
+
+#[test]
+fn lists_and_texts_are_shown(rt: HostRuntime) -> Result<(), Fail> {
+    let alloc = rt.alloc();
+    let names = vec![in alloc; name(b"a")?, name(b"b")?]?;
+    assert!(rt; is_shown(alloc, Phrase::NameList(names), b"a, b")?);
+    let values = vec![in alloc; variable(b"x")?, text(alloc, b"it's")?]?;
+    assert!(rt; is_shown(alloc, Phrase::ExpressionList(values), b"x, 'it''s'")?);
+    let array = Item {
+        name: name(b"a")?,
+        size: Some(10),
+    };
+    let scalar = Item {
+        name: name(b"b")?,
+        size: None,
+    };
+    let items = vec![in alloc; array, scalar]?;
+    assert!(rt; is_shown(alloc, Phrase::DeclaredList(items), b"a(10), b")?);
+    assert!(rt; is_shown(alloc, Phrase::Length(256), b"256")?);
+    let comment = Vec::from_slice(alloc, b"sum it")?;
+    assert!(rt; is_shown(alloc, Phrase::CommentText(comment), b"sum it")?);
+    Ok(())
+}
+
+#[test]
+fn a_long_chain_is_shown(rt: HostRuntime) -> Result<(), Fail> {
+    let sum = Phrase::Expression(chain(rt.alloc(), 1_000_000)?);
+    assert_eq!(rt; shown_len(&sum), 4_000_001);
+    Ok(())
+}
+
+#[test]
+fn a_long_chain_is_copied(rt: HostRuntime) -> Result<(), Fail> {
+    let sum = Phrase::Expression(chain(rt.alloc(), 1_000_000)?);
+    let copy = copy_phrase(rt.alloc(), &sum).map_err(|_| "a copy")?;
+    drop(sum);
+    assert!(rt; matches!(&copy, Phrase::Expression(Expr::Infix(_, _, _))));
     Ok(())
 }

@@ -1,0 +1,6 @@
+use Rattle.std.proofs.Common.{lit≤, arith}
+use Rattle.plcs_grammar.proofs.Counting.{counted}
+use Rattle.plcs_grammar.proofs.length_out.shown_len.Goals as goal
+
+pub returns : goal.returns
+returns c = omega (arith, counted (λ out. out.count) (lit≤ tt) c.show.ensures)

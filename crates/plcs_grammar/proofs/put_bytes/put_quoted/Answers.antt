@@ -1,0 +1,5 @@
+use Rattle.plcs_grammar.proofs.Putting.{puts_before, puts_behind}
+use Rattle.plcs_grammar.proofs.put_bytes.put_quoted.Goals as goal
+
+pub returns : goal.returns
+returns g c = puts_before c.put.ensures (puts_behind c.put_with_quotes_doubled.ensures c.put-2.ensures)

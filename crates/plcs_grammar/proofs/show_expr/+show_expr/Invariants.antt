@@ -1,0 +1,24 @@
+use Rattle.std.proofs.Common.{◌+◌, ◌*◌, take}
+use Rattle.plcs_base.specs.Put.{PutsAll}
+use Rattle.plcs_grammar.specs.PlainForm.{tree_of}
+use Rattle.plcs_grammar.specs.Canon.{canon, joined}
+use Rattle.plcs_grammar.proofs.show_expr.+show_expr.Given as goal
+
+abbrev pub invariant-show_exprs-loop-i : goal.invariant-show_exprs-loop-i
+invariant-show_exprs-loop-i g l =
+    PutsAll g.O.ByteOut.puts l.fn.out (joined (λ e. canon (tree_of e)) (take l.i l.exprs)) l.out
+
+abbrev pub decreases-show_expr : goal.decreases-show_expr
+decreases-show_expr g l = goal.size-show_expr g l * 4294967296
+
+abbrev pub decreases-show_chain : goal.decreases-show_chain
+decreases-show_chain g l = goal.size-show_chain g l * 4294967296 + l.operators
+
+abbrev pub decreases-show_operator : goal.decreases-show_operator
+decreases-show_operator g l = goal.size-show_operator g l * 4294967296 + 1
+
+abbrev pub decreases-show_variable : goal.decreases-show_variable
+decreases-show_variable g l = goal.size-show_variable g l * 4294967296 + 1
+
+abbrev pub decreases-show_exprs : goal.decreases-show_exprs
+decreases-show_exprs g l = goal.size-show_exprs g l * 4294967296 + 1

@@ -1,0 +1,17 @@
+use Rattle.std.proofs.Common.{ap, ◌∙◌}
+use Rattle.plcs_grammar.specs.PlainForm.{reference_of}
+use Rattle.plcs_grammar.specs.Canon.{canon_reference, joined}
+use Rattle.plcs_grammar.proofs.Putting.{puts_same, puts_three}
+use Rattle.plcs_grammar.proofs.Joining.{joined_map}
+use Rattle.plcs_grammar.proofs.Shown.{shown_phrase}
+use Rattle.plcs_grammar.proofs.show_phrase.show.Goals as goal
+
+pub returns-in-Assignment : goal.returns-in-Assignment
+returns-in-Assignment g c =
+    shown_phrase _ _ c.in-Assignment.is (puts_three c.show_variable.ensures c.put_bytes.ensures c.show_expr.ensures)
+
+pub returns-in-VariableList : goal.returns-in-VariableList
+returns-in-VariableList g c =
+    let same = ap (joined (λ v. canon_reference (reference_of v))) c.deref-in-VariableList.ensures.value in
+    shown_phrase _ _ c.in-VariableList.is
+    (puts_same (same ∙ joined_map canon_reference reference_of c.in-VariableList.targets.items) c.show_joined.ensures)

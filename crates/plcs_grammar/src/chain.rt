@@ -1,0 +1,35 @@
+ghost use Rattle.std.specs.Prelude.{◌≡◌, ◌≤◌};
+ghost use Rattle.plcs_grammar.specs.declared.expr.Expr.{size-Expr};
+ghost use Rattle.plcs_grammar.specs.PlainForm.{tree_of};
+ghost use Rattle.plcs_grammar.specs.Chain.{leftmost};
+
+use crate::expr::Expr;
+
+/// How many operators the expression has along its left operands, or the greatest number where they
+/// are more.
+pub(crate) fn count_operators(expr: &Expr) -> u32 {
+    let mut count: u32 = 0;
+    let mut at = expr;
+    while let Expr::Infix(_, left, _) = at {
+        count = count.saturating_add(1);
+        at = left;
+    }
+    count
+}
+
+/// What is reached by going to the left operand so many times, or as far as there is one.
+pub(crate) fn leftmost(expr: &Expr, times: u32) -> &Expr
+    ensures tree { tree_of result.now ≡ leftmost (tree_of expr.now) times }
+    ensures size { size-Expr result.now ≤ size-Expr expr.now }
+{
+    let mut at = expr;
+    let mut left_over = times;
+    while left_over > 0 {
+        match at {
+            Expr::Infix(_, left, _) => at = left,
+            _ => return at,
+        }
+        left_over -= 1;
+    }
+    at
+}

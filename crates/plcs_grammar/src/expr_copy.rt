@@ -1,0 +1,115 @@
+ghost use Rattle.std.specs.Prelude.{◌≡◌, IfOk, map};
+ghost use Rattle.plcs_grammar.specs.PlainForm.{tree_of, reference_of};
+ghost use Rattle.plcs_grammar.specs.Link.{linked};
+
+use crate::expr::{Expr, VarRef};
+use crate::operator::InfixOp;
+use plcs_base::{Name, OutOfMemory, TextValue};
+use std::alloc::Global;
+
+/// An operator of a chain, with its right operand.
+#[derive(Drop)]
+pub(crate) struct Link {
+    /// The operator.
+    pub(crate) op: InfixOp,
+    /// Its right operand.
+    pub(crate) right: Expr,
+}
+
+/// A copy of an expression. A chain of operators is copied in a loop.
+#[cycle(copy_expr)]
+pub(crate) fn copy_expr(alloc: Global, expr: &Expr) -> Result<Expr, OutOfMemory>
+    ensures { IfOk result (λ copy. tree_of copy ≡ tree_of expr.now) }
+{
+    let mut links = Vec::new(alloc);
+    let mut at = expr;
+    loop {
+        match at {
+            Expr::Infix(op, left, right) => {
+                let right = copy_expr(alloc, right)?;
+                links.push(Link { op: *op, right })?;
+                at = left;
+            }
+            Expr::Number(number) => return chained(alloc, Expr::Number(*number), links),
+            Expr::Text(text) => {
+                let text = Box::new(alloc, copy_text(text)?)?;
+                return chained(alloc, Expr::Text(text), links);
+            }
+            Expr::Bit(bit) => return chained(alloc, Expr::Bit(*bit), links),
+            Expr::Var(variable) => {
+                let variable = copy_variable(alloc, variable)?;
+                return chained(alloc, Expr::Var(variable), links);
+            }
+            Expr::Prefix(op, operand) => {
+                let operand = Box::new(alloc, copy_expr(alloc, operand)?)?;
+                return chained(alloc, Expr::Prefix(*op, operand), links);
+            }
+            Expr::Builtin(function, arguments) => {
+                let arguments = copy_exprs(alloc, arguments)?;
+                return chained(alloc, Expr::Builtin(*function, arguments), links);
+            }
+            Expr::Paren(inside) => {
+                let inside = Box::new(alloc, copy_expr(alloc, inside)?)?;
+                return chained(alloc, Expr::Paren(inside), links);
+            }
+        }
+    }
+}
+
+/// A copy of a variable.
+#[cycle(copy_expr)]
+pub(crate) fn copy_variable(alloc: Global, variable: &VarRef) -> Result<VarRef, OutOfMemory>
+    ensures { IfOk result (λ copy. reference_of copy ≡ reference_of variable.now) }
+{
+    let name = copy_name(&variable.name)?;
+    match &variable.index {
+        None => Ok(VarRef { name, index: None }),
+        Some(index) => {
+            let index = Box::new(alloc, copy_expr(alloc, index)?)?;
+            Ok(VarRef {
+                name,
+                index: Some(index),
+            })
+        }
+    }
+}
+
+/// Copies of expressions.
+#[cycle(copy_expr)]
+pub(crate) fn copy_exprs(alloc: Global, exprs: &[Expr]) -> Result<Vec<Expr>, OutOfMemory>
+    ensures { IfOk result (λ copies. map tree_of copies.items ≡ map tree_of exprs.now) }
+{
+    let mut copies = Vec::new(alloc);
+    for expr in exprs {
+        copies.push(copy_expr(alloc, expr)?)?;
+    }
+    Ok(copies)
+}
+
+/// A copy of a name.
+pub(crate) fn copy_name(name: &Name) -> Result<Name, OutOfMemory>
+    ensures { IfOk result (λ copy. copy ≡ name.now) }
+{
+    Ok(name.clone()?)
+}
+
+/// A copy of a text.
+fn copy_text(text: &TextValue) -> Result<TextValue, OutOfMemory>
+    ensures { IfOk result (λ copy. copy ≡ text.now) }
+{
+    Ok(text.clone()?)
+}
+
+/// The chain of the operators, the last one first, to the right of the operand.
+fn chained(alloc: Global, operand: Expr, links: Vec<Link>) -> Result<Expr, OutOfMemory>
+    ensures { IfOk result (λ chain. tree_of chain ≡ linked (tree_of operand) links.items) }
+{
+    let mut chain = operand;
+    let mut links = links;
+    while let Some(last) = links.pop() {
+        let left = Box::new(alloc, chain)?;
+        let right = Box::new(alloc, last.right)?;
+        chain = Expr::Infix(last.op, left, right);
+    }
+    Ok(chain)
+}

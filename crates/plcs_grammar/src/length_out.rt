@@ -1,0 +1,30 @@
+ghost use Rattle.std.specs.Prelude.{◌≡◌, ◌+◌, min, length};
+ghost use Rattle.plcs_grammar.specs.PlainForm.{reading_of};
+ghost use Rattle.plcs_grammar.specs.Canon.{Canon};
+
+use crate::phrase::Phrase;
+use crate::show_phrase::show;
+use plcs_base::ByteOut;
+
+/// How many bytes were put; at its last value it stays.
+#[derive(Drop)]
+struct LengthOut {
+    count: u32,
+}
+
+impl ByteOut for LengthOut {
+    ghost puts = { λ before byte after. after.count ≡ min (before.count + 1) 4294967295 };
+
+    fn put(&mut self, _byte: u8) {
+        self.count = self.count.saturating_add(1);
+    }
+}
+
+/// The length of a phrase's canonical text in bytes, or 4294967295 where it is longer.
+pub fn shown_len(phrase: &Phrase) -> u32
+    ensures { result ≡ min (length (Canon (reading_of phrase.now))) 4294967295 }
+{
+    let mut out = LengthOut { count: 0 };
+    show(phrase, &mut out);
+    out.count
+}

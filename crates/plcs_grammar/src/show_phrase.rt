@@ -1,0 +1,48 @@
+ghost use Rattle.plcs_base.specs.Put.{PutsAll};
+ghost use Rattle.plcs_grammar.specs.PlainForm.{reading_of, trees_of};
+ghost use Rattle.plcs_grammar.specs.Canon.{Canon, canon_call};
+
+use crate::expr::Expr;
+use crate::phrase::Phrase;
+use crate::put_bytes::{put_bytes, put_decimal};
+use crate::show_expr::{show_expr, show_exprs, show_variable};
+use crate::show_joined::show_joined;
+use plcs_base::{ByteOut, Name};
+
+/// Puts the canonical text of a phrase, as `specs/Canon.antt` defines it.
+///
+/// It takes no memory, and little stack also where a chain of operators is long.
+pub fn show<O: ByteOut>(phrase: &Phrase, out: &mut O)
+    ensures { PutsAll O.puts out.old (Canon (reading_of phrase.now)) out.new }
+{
+    match phrase {
+        Phrase::Assignment(target, value) => {
+            show_variable(target, out);
+            put_bytes(b" = ", out);
+            show_expr(value, out);
+        }
+        Phrase::Condition(expr) => show_expr(expr, out),
+        Phrase::Expression(expr) => show_expr(expr, out),
+        Phrase::ExpressionList(exprs) => show_exprs(exprs, out),
+        Phrase::VariableList(targets) => show_joined(targets, out),
+        Phrase::Variable(name) => put_bytes(name.as_bytes(), out),
+        Phrase::CallRef(name, arguments) => show_call(name, arguments, out),
+        Phrase::DeclaredList(items) => show_joined(items, out),
+        Phrase::ProcedureName(name) => put_bytes(name.as_bytes(), out),
+        Phrase::NameList(names) => show_joined(names, out),
+        Phrase::Length(length) => put_decimal(u32::from(*length), out),
+        Phrase::CommentText(text) => put_bytes(text, out),
+    }
+}
+
+/// Puts the canonical text of a call.
+fn show_call<O: ByteOut>(name: &Name, arguments: &[Expr], out: &mut O)
+    ensures { PutsAll O.puts out.old (canon_call name.now (trees_of arguments.now)) out.new }
+{
+    put_bytes(name.as_bytes(), out);
+    if !arguments.is_empty() {
+        out.put(b'(');
+        show_exprs(arguments, out);
+        out.put(b')');
+    }
+}
