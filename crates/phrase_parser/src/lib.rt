@@ -12,6 +12,8 @@ mod lexer;
 #[cfg(test)]
 mod lexer_tests;
 mod parser;
+#[cfg(test)]
+mod parser_tests;
 mod sign;
 mod token;
 mod uniqueness;
