@@ -18,6 +18,7 @@ use Rattle.phrase_parser.proofs.OneCut.{one_cut}
 use Rattle.phrase_parser.proofs.Completeness.{complete}
 use Rattle.phrase_parser.proofs.Limits.{none_over}
 use Rattle.phrase_parser.proofs.Checked.{Means, found_means}
+use Rattle.phrase_parser.proofs.PlacedTokens.{AllFit, form_fit}
 use Rattle.phrase_parser.proofs.Found.{finds_fine, finds_over, finds_wrong}
 
 -- each category but that of comments has tokens
@@ -59,7 +60,7 @@ no_outline c x pieces stop shape place e cut h (p, inr k) =
 
 -- the fault of a finding
 abbrev pub Says : Category → List ℕ → List Piece → Finding → Type 0
-Says c x pieces Finding.fine = (p : Reading) × (ended_if (run (tokens_of pieces) (start c)) ≡ Some p) × (Reads c x p)
+Says c x pieces Finding.fine = (p : Reading) × (ended_if (run (tokens_of pieces) (start c)) ≡ Some p) × Reads c x p × AllFit pieces
 Says c x pieces (Finding.syntax_at place) = FaultSays c x (Syntax place)
 Says c x pieces (Finding.over o) = FaultSays c x (over_fault o)
 
@@ -71,7 +72,7 @@ says_if : (c : Category) (x : List ℕ) (pieces : List Piece) (stop : Option ℕ
     → first_shape c ≡ Some shape → Cuts pieces 0 x stop → Means c pieces stop (length x) found → Says c x pieces found
 says_if c x pieces stop shape Finding.fine e cut (none, p, form, fits) =
     let whole = subst (λ z. Cuts pieces 0 x z) none cut in
-    (p, complete c (tokens_of pieces) p form, (inl (pieces, record { cuts = whole; form = form }), fits))
+    (p, complete c (tokens_of pieces) p form, (inl (pieces, record { cuts = whole; form = form }), fits), form_fit c pieces p form fits)
 says_if c x pieces stop shape (Finding.syntax_at place) e cut h =
     (no_outline c x pieces stop shape place e cut h, inl (pieces, stop, cut, h))
 says_if c x pieces stop shape (Finding.over o) e cut (none, p, form, first) =

@@ -30,3 +30,16 @@ mod FindingSays
 mod CanonicalTokens
 mod TrimmedTexts
 mod CanonicalText
+mod PlacedTokens
+mod FindingSays
+pub mod Stacks
+pub mod Constants
+mod OpenBrackets
+mod Operators
+pub mod Fails
+mod ShapeLevels
+mod FindingsGoOn
+pub mod ShownTokens
+mod FoundPlaces
+
+mod Told

@@ -6,5 +6,10 @@ pub mod Unquoted
 pub mod Answers
 pub mod Recognizer
 pub mod Findings
+pub mod TokenIn
+pub mod Gives
+pub mod Views
+pub mod Reduction
+pub mod Shapes
 pub mod Shown
 pub mod Laws

@@ -1,7 +1,9 @@
 //! Texts read as phrases of PL/CS.
 #![tactic(auto)]
 
+mod builder;
 mod byte_class;
+mod check;
 mod comment;
 mod constant;
 mod fault;
@@ -10,10 +12,14 @@ mod law;
 mod lexer;
 #[cfg(test)]
 mod lexer_tests;
+mod parser;
+#[cfg(test)]
+mod parser_tests;
 mod sign;
 mod token;
 mod uniqueness;
 
 pub use fault::PhraseFault;
 pub use law::{canonical_text_reads, canonical_text_tells};
+pub use parser::parse;
 pub use uniqueness::one_reading;

@@ -1,0 +1,273 @@
+-- The levels of a shape are no more than the tokens before it.
+use Rattle.std.proofs.Common.{◌≡◌, refl, ℕ, ◌+◌, ◌≤◌, Bool, true, false, cond, List, [], ◌∷◌, Option, Some, None, arith, le_refl, le_trans, zero-le}
+use Rattle.std.specs.List.{AllByRecursion}
+use Rattle.std.proofs.lemmas.Bool.{cond_both}
+use Rattle.plcs_grammar.specs.declared.category.Category.{Category}
+use Rattle.plcs_grammar.specs.declared.category.Category.TheVariants.{Assignment, Condition, Expression, ExpressionList, VariableList, Variable, CallRef, DeclaredList, ProcedureName, NameList, Length, CommentText}
+use Rattle.plcs_grammar.specs.declared.operator.PrefixOp.{PrefixOp}
+use Rattle.plcs_grammar.specs.declared.operator.InfixOp.{InfixOp}
+use Rattle.plcs_grammar.specs.Sign.{Sign}
+use Rattle.phrase_parser.specs.Machine.{prefix_of, infix_of}
+use Rattle.phrase_parser.specs.Recognizer.{Kind, Ground, Bracket, Last, Use, Shape, ground_level, inside, next_name, next_constant, next_number, next_open_behind, next_open_name, next_open, next_close_ground, next_close_in, next_close, next_comma_ground, next_comma_in, next_comma_name, next_comma, next_equal_name, next_equal, next_prefix, next_infix, next_operator, next_sign, next, first_shape}
+use Rattle.phrase_parser.specs.Shapes.{LastWithin, NestingWithin, Within}
+
+abbrev pub WithinIf : ℕ → Option Shape → Type 0
+WithinIf limit None = Unit {0}
+WithinIf limit (Some shape) = Within limit shape
+
+brackets_more : (n m : ℕ) → n ≤ m → (brackets : List Bracket) → AllByRecursion (λ b. b.level ≤ n) brackets → AllByRecursion (λ b. b.level ≤ m) brackets
+brackets_more n m e [] h = h
+brackets_more n m e (b ∷ brackets) h = (omega (arith, e, h.0), brackets_more n m e brackets h.1)
+
+nesting_more : (n m : ℕ) → n ≤ m → (g : Ground) (brackets : List Bracket) → NestingWithin n g brackets → NestingWithin m g brackets
+nesting_more n m e g brackets h = (omega (arith, e, h.0), brackets_more n m e brackets h.1)
+
+last_more : (n m : ℕ) → n ≤ m → (last : Last) → LastWithin n last → LastWithin m last
+last_more n m e Last.operand h = tt
+last_more n m e (Last.named is_builtin level) h = omega (arith, e, h)
+
+pub within_more : (n m : ℕ) → n ≤ m → (s : Shape) → Within n s → Within m s
+within_more n m e (Shape.wanted g brackets level) h = (omega (arith, e, h.0), nesting_more n m e g brackets h.1)
+within_more n m e (Shape.had last g brackets) h = (last_more n m e last h.0, nesting_more n m e g brackets h.1)
+within_more n m e (Shape.name_wanted use_of) h = tt
+within_more n m e (Shape.name_had use_of) h = tt
+within_more n m e Shape.target_had h = tt
+within_more n m e Shape.variable_had h = tt
+within_more n m e Shape.call_had h = tt
+within_more n m e Shape.size_wanted h = tt
+within_more n m e Shape.size_had h = tt
+within_more n m e Shape.item_had h = tt
+within_more n m e Shape.length_wanted h = tt
+within_more n m e Shape.length_had h = tt
+
+next_name_within : (n : ℕ) (s : Shape) (b : Bool) → Within n s → WithinIf n (next_name s b)
+next_name_within n (Shape.wanted g brackets level) b h = (h.0, h.1)
+next_name_within n (Shape.had last g brackets) b h = tt
+next_name_within n (Shape.name_wanted use_of) b h = tt
+next_name_within n (Shape.name_had use_of) b h = tt
+next_name_within n Shape.target_had b h = tt
+next_name_within n Shape.variable_had b h = tt
+next_name_within n Shape.call_had b h = tt
+next_name_within n Shape.size_wanted b h = tt
+next_name_within n Shape.size_had b h = tt
+next_name_within n Shape.item_had b h = tt
+next_name_within n Shape.length_wanted b h = tt
+next_name_within n Shape.length_had b h = tt
+
+next_constant_within : (n : ℕ) (s : Shape) → Within n s → WithinIf n (next_constant s)
+next_constant_within n (Shape.wanted g brackets level) h = (tt, h.1)
+next_constant_within n (Shape.had last g brackets) h = tt
+next_constant_within n (Shape.name_wanted use_of) h = tt
+next_constant_within n (Shape.name_had use_of) h = tt
+next_constant_within n Shape.target_had h = tt
+next_constant_within n Shape.variable_had h = tt
+next_constant_within n Shape.call_had h = tt
+next_constant_within n Shape.size_wanted h = tt
+next_constant_within n Shape.size_had h = tt
+next_constant_within n Shape.item_had h = tt
+next_constant_within n Shape.length_wanted h = tt
+next_constant_within n Shape.length_had h = tt
+
+if_within : (n : ℕ) (b : Bool) (s : Shape) → Within n s → WithinIf n (cond b (Some s) None)
+if_within n true s h = h
+if_within n false s h = tt
+
+next_number_within : (n : ℕ) (s : Shape) (k : ℕ) → Within n s → WithinIf n (next_number s k)
+next_number_within n (Shape.wanted g brackets level) k h = (tt, h.1)
+next_number_within n (Shape.had last g brackets) k h = tt
+next_number_within n (Shape.name_wanted use_of) k h = tt
+next_number_within n (Shape.name_had use_of) k h = tt
+next_number_within n Shape.target_had k h = tt
+next_number_within n Shape.variable_had k h = tt
+next_number_within n Shape.call_had k h = tt
+next_number_within n Shape.size_wanted k h = if_within n _ Shape.size_had tt
+next_number_within n Shape.size_had k h = tt
+next_number_within n Shape.item_had k h = tt
+next_number_within n Shape.length_wanted k h = if_within n _ Shape.length_had tt
+next_number_within n Shape.length_had k h = tt
+
+-- an open parenthesis is one level more
+bracketed_within : (n : ℕ) (b : Bool) (g : Ground) (brackets : List Bracket) (level : ℕ) → level ≤ n → NestingWithin n g brackets
+    → WithinIf (n + 1) (Some (Shape.wanted g (record { takes_commas = b; level = level + 1 } ∷ brackets) (level + 1)))
+bracketed_within n b g brackets level e h =
+    let more : level + 1 ≤ n + 1 = omega (arith, e) in
+    let one : n ≤ n + 1 = omega arith in
+    let all = nesting_more n (n + 1) one g brackets h in
+    (more, (all.0, (more, all.1)))
+
+next_open_behind_within : (n : ℕ) (last : Last) (g : Ground) (brackets : List Bracket) → LastWithin n last → NestingWithin n g brackets
+    → WithinIf (n + 1) (next_open_behind last g brackets)
+next_open_behind_within n Last.operand g brackets e h = tt
+next_open_behind_within n (Last.named b level) g brackets e h = bracketed_within n b g brackets level e h
+
+next_open_name_within : (n : ℕ) (u : Use) → WithinIf (n + 1) (next_open_name u)
+next_open_name_within n Use.target = (omega arith, (omega arith, tt))
+next_open_name_within n Use.listed_variable = (omega arith, (omega arith, tt))
+next_open_name_within n Use.callee = (omega arith, (omega arith, tt))
+next_open_name_within n Use.item = tt
+next_open_name_within n Use.listed_name = tt
+next_open_name_within n Use.single = tt
+
+next_open_within : (n : ℕ) (s : Shape) → Within n s → WithinIf (n + 1) (next_open s)
+next_open_within n (Shape.wanted g brackets level) h = bracketed_within n false g brackets level h.0 h.1
+next_open_within n (Shape.had last g brackets) h = next_open_behind_within n last g brackets h.0 h.1
+next_open_within n (Shape.name_wanted use_of) h = tt
+next_open_within n (Shape.name_had use_of) h = next_open_name_within n use_of
+next_open_within n Shape.target_had h = tt
+next_open_within n Shape.variable_had h = tt
+next_open_within n Shape.call_had h = tt
+next_open_within n Shape.size_wanted h = tt
+next_open_within n Shape.size_had h = tt
+next_open_within n Shape.item_had h = tt
+next_open_within n Shape.length_wanted h = tt
+next_open_within n Shape.length_had h = tt
+
+next_close_in_within : (n : ℕ) (g : Ground) (brackets : List Bracket) → NestingWithin n g brackets → WithinIf n (next_close_in g brackets)
+next_close_in_within n Ground.whole [] h = tt
+next_close_in_within n Ground.listed [] h = tt
+next_close_in_within n Ground.target_index [] h = tt
+next_close_in_within n Ground.variable_index [] h = tt
+next_close_in_within n Ground.call_list [] h = tt
+next_close_in_within n g (b ∷ brackets) h = (tt, (h.0, h.1.1))
+
+next_close_within : (n : ℕ) (s : Shape) → Within n s → WithinIf n (next_close s)
+next_close_within n (Shape.wanted g brackets level) h = tt
+next_close_within n (Shape.had last g brackets) h = next_close_in_within n g brackets h.1
+next_close_within n (Shape.name_wanted use_of) h = tt
+next_close_within n (Shape.name_had use_of) h = tt
+next_close_within n Shape.target_had h = tt
+next_close_within n Shape.variable_had h = tt
+next_close_within n Shape.call_had h = tt
+next_close_within n Shape.size_wanted h = tt
+next_close_within n Shape.size_had h = tt
+next_close_within n Shape.item_had h = tt
+next_close_within n Shape.length_wanted h = tt
+next_close_within n Shape.length_had h = tt
+
+next_comma_in_within : (n : ℕ) (g : Ground) (brackets : List Bracket) → NestingWithin n g brackets → WithinIf n (next_comma_in g brackets)
+next_comma_in_within n Ground.whole [] h = tt
+next_comma_in_within n Ground.listed [] h = (zero-le, (zero-le, tt))
+next_comma_in_within n Ground.target_index [] h = tt
+next_comma_in_within n Ground.variable_index [] h = tt
+next_comma_in_within n Ground.call_list [] h = (h.0, (h.0, tt))
+next_comma_in_within n g (b ∷ brackets) h = if_within n b.takes_commas (Shape.wanted g (b ∷ brackets) b.level) (h.1.0, h)
+
+next_comma_name_within : (n : ℕ) (u : Use) → WithinIf n (next_comma_name u)
+next_comma_name_within n Use.target = tt
+next_comma_name_within n Use.listed_variable = tt
+next_comma_name_within n Use.callee = tt
+next_comma_name_within n Use.item = tt
+next_comma_name_within n Use.listed_name = tt
+next_comma_name_within n Use.single = tt
+
+next_comma_within : (n : ℕ) (s : Shape) → Within n s → WithinIf n (next_comma s)
+next_comma_within n (Shape.wanted g brackets level) h = tt
+next_comma_within n (Shape.had last g brackets) h = next_comma_in_within n g brackets h.1
+next_comma_within n (Shape.name_wanted use_of) h = tt
+next_comma_within n (Shape.name_had use_of) h = next_comma_name_within n use_of
+next_comma_within n Shape.target_had h = tt
+next_comma_within n Shape.variable_had h = tt
+next_comma_within n Shape.call_had h = tt
+next_comma_within n Shape.size_wanted h = tt
+next_comma_within n Shape.size_had h = tt
+next_comma_within n Shape.item_had h = tt
+next_comma_within n Shape.length_wanted h = tt
+next_comma_within n Shape.length_had h = tt
+
+inside_within : (n : ℕ) (g : Ground) (brackets : List Bracket) → NestingWithin n g brackets → inside g brackets ≤ n
+inside_within n g [] h = h.0
+inside_within n g (b ∷ brackets) h = h.1.0
+
+next_equal_name_within : (n : ℕ) (u : Use) → WithinIf n (next_equal_name u)
+next_equal_name_within n Use.target = (zero-le, (zero-le, tt))
+next_equal_name_within n Use.listed_variable = tt
+next_equal_name_within n Use.callee = tt
+next_equal_name_within n Use.item = tt
+next_equal_name_within n Use.listed_name = tt
+next_equal_name_within n Use.single = tt
+
+next_equal_within : (n : ℕ) (s : Shape) → Within n s → WithinIf n (next_equal s)
+next_equal_within n (Shape.wanted g brackets level) h = tt
+next_equal_within n (Shape.had last g brackets) h = (inside_within n g brackets h.1, h.1)
+next_equal_within n (Shape.name_wanted use_of) h = tt
+next_equal_within n (Shape.name_had use_of) h = next_equal_name_within n use_of
+next_equal_within n Shape.target_had h = (zero-le, (zero-le, tt))
+next_equal_within n Shape.variable_had h = tt
+next_equal_within n Shape.call_had h = tt
+next_equal_within n Shape.size_wanted h = tt
+next_equal_within n Shape.size_had h = tt
+next_equal_within n Shape.item_had h = tt
+next_equal_within n Shape.length_wanted h = tt
+next_equal_within n Shape.length_had h = tt
+
+next_prefix_within : (n : ℕ) (g : Ground) (brackets : List Bracket) (level : ℕ) (op : Option PrefixOp) → level ≤ n → NestingWithin n g brackets
+    → WithinIf (n + 1) (next_prefix g brackets level op)
+next_prefix_within n g brackets level None e h = tt
+next_prefix_within n g brackets level (Some op) e h =
+    let one : n ≤ n + 1 = omega arith in (omega (arith, e), nesting_more n (n + 1) one g brackets h)
+
+next_infix_within : (n : ℕ) (g : Ground) (brackets : List Bracket) (op : Option InfixOp) → NestingWithin n g brackets
+    → WithinIf n (next_infix g brackets op)
+next_infix_within n g brackets None h = tt
+next_infix_within n g brackets (Some op) h = (inside_within n g brackets h, h)
+
+if_more : (n : ℕ) (s : Option Shape) → WithinIf n s → WithinIf (n + 1) s
+if_more n None h = tt
+if_more n (Some s) h = let one : n ≤ n + 1 = omega arith in within_more n (n + 1) one s h
+
+next_operator_within : (n : ℕ) (s : Shape) (sign : Sign) → Within n s → WithinIf (n + 1) (next_operator s sign)
+next_operator_within n (Shape.wanted g brackets level) sign h = next_prefix_within n g brackets level (prefix_of sign) h.0 h.1
+next_operator_within n (Shape.had last g brackets) sign h =
+    if_more n (next_infix g brackets (infix_of sign)) (next_infix_within n g brackets (infix_of sign) h.1)
+next_operator_within n (Shape.name_wanted use_of) sign h = tt
+next_operator_within n (Shape.name_had use_of) sign h = tt
+next_operator_within n Shape.target_had sign h = tt
+next_operator_within n Shape.variable_had sign h = tt
+next_operator_within n Shape.call_had sign h = tt
+next_operator_within n Shape.size_wanted sign h = tt
+next_operator_within n Shape.size_had sign h = tt
+next_operator_within n Shape.item_had sign h = tt
+next_operator_within n Shape.length_wanted sign h = tt
+next_operator_within n Shape.length_had sign h = tt
+
+next_sign_within : (n : ℕ) (s : Shape) (sign : Sign) → Within n s → WithinIf (n + 1) (next_sign s sign)
+next_sign_within n s Sign.open_parenthesis h = next_open_within n s h
+next_sign_within n s Sign.close_parenthesis h = if_more n (next_close s) (next_close_within n s h)
+next_sign_within n s Sign.comma h = if_more n (next_comma s) (next_comma_within n s h)
+next_sign_within n s Sign.equal h = if_more n (next_equal s) (next_equal_within n s h)
+next_sign_within n s Sign.plus h = next_operator_within n s Sign.plus h
+next_sign_within n s Sign.minus h = next_operator_within n s Sign.minus h
+next_sign_within n s Sign.times h = next_operator_within n s Sign.times h
+next_sign_within n s Sign.divide h = next_operator_within n s Sign.divide h
+next_sign_within n s Sign.join h = next_operator_within n s Sign.join h
+next_sign_within n s Sign.not_equal h = next_operator_within n s Sign.not_equal h
+next_sign_within n s Sign.less h = next_operator_within n s Sign.less h
+next_sign_within n s Sign.less_equal h = next_operator_within n s Sign.less_equal h
+next_sign_within n s Sign.greater h = next_operator_within n s Sign.greater h
+next_sign_within n s Sign.greater_equal h = next_operator_within n s Sign.greater_equal h
+next_sign_within n s Sign.ampersand h = next_operator_within n s Sign.ampersand h
+next_sign_within n s Sign.bar h = next_operator_within n s Sign.bar h
+next_sign_within n s Sign.caret h = next_operator_within n s Sign.caret h
+
+-- one more token opens one level more at most
+pub next_within : (n : ℕ) (s : Shape) (k : Kind) → Within n s → WithinIf (n + 1) (next s k)
+next_within n s (Kind.name b) h = if_more n (next_name s b) (next_name_within n s b h)
+next_within n s Kind.keyword h = tt
+next_within n s (Kind.number k) h = if_more n (next_number s k) (next_number_within n s k h)
+next_within n s Kind.constant h = if_more n (next_constant s) (next_constant_within n s h)
+next_within n s (Kind.sign sign) h = next_sign_within n s sign h
+
+-- nothing is open before all tokens
+pub first_within : (c : Category) → WithinIf 0 (first_shape c)
+first_within Assignment = tt
+first_within Condition = (zero-le, (zero-le, tt))
+first_within Expression = (zero-le, (zero-le, tt))
+first_within ExpressionList = (zero-le, (zero-le, tt))
+first_within VariableList = tt
+first_within Variable = tt
+first_within CallRef = tt
+first_within DeclaredList = tt
+first_within ProcedureName = tt
+first_within NameList = tt
+first_within Length = tt
+first_within CommentText = tt

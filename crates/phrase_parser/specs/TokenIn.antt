@@ -1,0 +1,72 @@
+-- What a token with its place is in its text.
+use Rattle.std.specs.Prelude.{◌≡◌, ℕ, ◌-◌, ◌≤◌, List, length, slice_range}
+use Rattle.plcs_base.specs.Name.{IsName}
+use Rattle.plcs_grammar.specs.Sign as grammar
+use Rattle.plcs_grammar.specs.Token.{Token, quoted, IsConstantText}
+use Rattle.phrase_parser.specs.Unquoted.{undoubled}
+use Rattle.phrase_parser.specs.declared.token.Sign.{Sign}
+use Rattle.phrase_parser.specs.declared.token.Sign.TheVariants.{Plus, Minus, Times, Divide, Join, Equal, NotEqual, Less, LessEqual, Greater, GreaterEqual, Ampersand, Bar, Caret, OpenParenthesis, CloseParenthesis, Comma}
+use Rattle.phrase_parser.specs.declared.token.TokenKind.{TokenKind}
+use Rattle.phrase_parser.specs.declared.token.TokenKind.TheVariants as kind
+use Rattle.phrase_parser.specs.declared.token.Placed.{Placed}
+
+abbrev pub sign_of : Sign → grammar.Sign
+sign_of Plus = grammar.Sign.plus
+sign_of Minus = grammar.Sign.minus
+sign_of Times = grammar.Sign.times
+sign_of Divide = grammar.Sign.divide
+sign_of Join = grammar.Sign.join
+sign_of Equal = grammar.Sign.equal
+sign_of NotEqual = grammar.Sign.not_equal
+sign_of Less = grammar.Sign.less
+sign_of LessEqual = grammar.Sign.less_equal
+sign_of Greater = grammar.Sign.greater
+sign_of GreaterEqual = grammar.Sign.greater_equal
+sign_of Ampersand = grammar.Sign.ampersand
+sign_of Bar = grammar.Sign.bar
+sign_of Caret = grammar.Sign.caret
+sign_of OpenParenthesis = grammar.Sign.open_parenthesis
+sign_of CloseParenthesis = grammar.Sign.close_parenthesis
+sign_of Comma = grammar.Sign.comma
+
+-- what stands between the first byte and the last
+abbrev pub inside : List ℕ → List ℕ
+inside bytes = slice_range bytes 1 (length bytes - 1)
+
+-- the token of the kind that the bytes are
+abbrev pub token_from : TokenKind → List ℕ → Token
+token_from kind.Name bytes = Token.name bytes
+token_from kind.Keyword bytes = Token.keyword bytes
+token_from (kind.Number n) bytes = Token.number n
+token_from kind.Text bytes = Token.text (undoubled (inside bytes))
+token_from (kind.Bit value) bytes = Token.bit value
+token_from (kind.Sign s) bytes = Token.sign (sign_of s)
+
+-- the bytes of the token
+abbrev pub bytes_in : List ℕ → Placed → List ℕ
+bytes_in text placed = slice_range text placed.start placed.end
+
+-- the token that stands there
+abbrev pub token_in : List ℕ → Placed → Token
+token_in text placed = token_from placed.kind (bytes_in text placed)
+
+-- the bytes are a character constant
+pub record IsConstant (bytes : List ℕ) : Type 0 where
+  pub value : List ℕ
+  pub whole : bytes ≡ quoted value
+  pub content : IsConstantText value
+
+-- the bytes are a token of the kind, and a number is one that an expression can hold
+abbrev pub IsOfKind : TokenKind → List ℕ → Type 0
+IsOfKind kind.Name bytes = IsName bytes
+IsOfKind kind.Keyword bytes = Unit {0}
+IsOfKind (kind.Number n) bytes = n ≤ 2147483647
+IsOfKind kind.Text bytes = IsConstant bytes
+IsOfKind (kind.Bit value) bytes = Unit {0}
+IsOfKind (kind.Sign s) bytes = Unit {0}
+
+-- the token lies in the text, and is there what its kind says
+pub record IsPlacedIn (text : List ℕ) (placed : Placed) : Type 0 where
+  pub ordered : placed.start ≤ placed.end
+  pub within : placed.end ≤ length text
+  pub kind : IsOfKind placed.kind (bytes_in text placed)

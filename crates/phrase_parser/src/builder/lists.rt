@@ -1,0 +1,45 @@
+ghost use Rattle.std.specs.Prelude.{◌≡◌, [], ◌∷◌, ◌++◌, map, IfOk};
+ghost use Rattle.plcs_grammar.specs.PlainForm.{tree_of, trees_of, reference_of};
+ghost use Rattle.phrase_parser.specs.Machine.{tree_push};
+
+use plcs_base::Name;
+use plcs_grammar::{Expr, Item, VarRef};
+use std::alloc::AllocError;
+
+/// The expressions with one more.
+#[tactic(auto, using(crate::proofs::Stacks::trees_of_push))]
+pub fn with_expr(done: Vec<Expr>, expr: Expr) -> Result<Vec<Expr>, AllocError>
+    ensures { IfOk result (λ all. trees_of all.items ≡ tree_push (trees_of done.items) (tree_of expr)) }
+{
+    let mut all = done;
+    all.push(expr)?;
+    Ok(all)
+}
+
+/// The variables with one more.
+#[tactic(auto, using(crate::proofs::Stacks::references_of_push))]
+pub fn with_variable(done: Vec<VarRef>, variable: VarRef) -> Result<Vec<VarRef>, AllocError>
+    ensures { IfOk result (λ all. map reference_of all.items ≡ map reference_of done.items ++ (reference_of variable ∷ [])) }
+{
+    let mut all = done;
+    all.push(variable)?;
+    Ok(all)
+}
+
+/// The items with one more.
+pub fn with_item(done: Vec<Item>, name: Name, size: Option<u32>) -> Result<Vec<Item>, AllocError>
+    ensures { IfOk result (λ all. all.items ≡ done.items ++ (record { name = name; size = size } ∷ [])) }
+{
+    let mut all = done;
+    all.push(Item { name, size })?;
+    Ok(all)
+}
+
+/// The names with one more.
+pub fn with_name(done: Vec<Name>, name: Name) -> Result<Vec<Name>, AllocError>
+    ensures { IfOk result (λ all. all.items ≡ done.items ++ (name ∷ [])) }
+{
+    let mut all = done;
+    all.push(name)?;
+    Ok(all)
+}

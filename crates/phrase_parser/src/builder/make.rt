@@ -1,0 +1,98 @@
+ghost use Rattle.std.specs.Prelude.{◌≡◌, ◌≤◌, IfOk, pos};
+ghost use Rattle.plcs_grammar.specs.Reading.{Tree, Reference};
+ghost use Rattle.plcs_grammar.specs.PlainForm.{tree_of, trees_of, reference_of};
+ghost use Rattle.phrase_parser.specs.Views.{primary_of};
+
+use crate::builder::state::Primary;
+use plcs_base::{Name, TextValue};
+use plcs_grammar::{Builtin, Expr, InfixOp, PrefixOp, VarRef};
+use std::alloc::{AllocError, Global};
+
+/// The number as an operand.
+pub fn number(n: u32) -> Primary
+    requires { n ≤ 2147483647 }
+    ensures { primary_of result ≡ Tree.number (pos n) }
+{
+    Primary::Number(n as i32)
+}
+
+/// The character constant as an operand.
+pub fn constant(alloc: Global, value: TextValue) -> Result<Primary, AllocError>
+    ensures { IfOk result (λ made. primary_of made ≡ Tree.text value) }
+{
+    Ok(Primary::Text(Box::new(alloc, value)?))
+}
+
+/// The variable with the subscript as an operand.
+pub fn cell(alloc: Global, name: Name, index: Expr) -> Result<Primary, AllocError>
+    ensures { IfOk result (λ made. primary_of made ≡ Tree.variable (Reference.subscripted name (tree_of index))) }
+{
+    Ok(Primary::Subscripted(name, Box::new(alloc, index)?))
+}
+
+/// The expression in parentheses as an operand.
+pub fn parenthesized(alloc: Global, inside: Expr) -> Result<Primary, AllocError>
+    ensures { IfOk result (λ made. primary_of made ≡ Tree.parenthesized (tree_of inside)) }
+{
+    Ok(Primary::Parenthesized(Box::new(alloc, inside)?))
+}
+
+/// The variable without a subscript.
+pub fn simple(name: Name) -> VarRef
+    ensures { reference_of result ≡ Reference.simple name }
+{
+    VarRef { name, index: None }
+}
+
+/// The variable with the subscript.
+pub fn subscripted(alloc: Global, name: Name, index: Expr) -> Result<VarRef, AllocError>
+    ensures { IfOk result (λ made. reference_of made ≡ Reference.subscripted name (tree_of index)) }
+{
+    Ok(boxed_subscript(name, Box::new(alloc, index)?))
+}
+
+/// The variable with the subscript.
+fn boxed_subscript(name: Name, index: Box<Expr>) -> VarRef
+    ensures { reference_of result ≡ Reference.subscripted name (tree_of index.value) }
+{
+    let index = Some(index);
+    VarRef { name, index }
+}
+
+/// The variable as an expression.
+fn variable(reference: VarRef) -> Expr
+    ensures { tree_of result ≡ Tree.variable (reference_of reference) }
+{
+    Expr::Var(reference)
+}
+
+/// The operator with its operand.
+pub fn unary(alloc: Global, op: PrefixOp, operand: Expr) -> Result<Expr, AllocError>
+    ensures { IfOk result (λ made. tree_of made ≡ Tree.unary op (tree_of operand)) }
+{
+    Ok(Expr::Prefix(op, Box::new(alloc, operand)?))
+}
+
+/// The operator with its left and its right operand.
+pub fn binary(alloc: Global, op: InfixOp, left: Expr, right: Expr) -> Result<Expr, AllocError>
+    ensures { IfOk result (λ made. tree_of made ≡ Tree.binary op (tree_of left) (tree_of right)) }
+{
+    let left = Box::new(alloc, left)?;
+    let right = Box::new(alloc, right)?;
+    Ok(Expr::Infix(op, left, right))
+}
+
+/// The primary as an expression.
+pub fn expression(primary: Primary) -> Expr
+    ensures { tree_of result ≡ primary_of primary }
+{
+    match primary {
+        Primary::Number(n) => Expr::Number(n),
+        Primary::Text(value) => Expr::Text(value),
+        Primary::Bit(value) => Expr::Bit(value),
+        Primary::Name(name) => variable(simple(name)),
+        Primary::Subscripted(name, index) => variable(boxed_subscript(name, index)),
+        Primary::Call(function, arguments) => Expr::Builtin(function, arguments),
+        Primary::Parenthesized(inside) => Expr::Paren(inside),
+    }
+}

@@ -1,0 +1,116 @@
+ghost use Rattle.std.specs.Prelude.{◌≡◌, IfOk};
+ghost use Rattle.plcs_grammar.specs.Level.{priority};
+ghost use Rattle.plcs_grammar.specs.PlainForm.{tree_of};
+ghost use Rattle.phrase_parser.specs.Machine.{prefix_of, infix_of, reduced, Stack as OpenStack};
+ghost use Rattle.phrase_parser.specs.TokenIn.{sign_of};
+ghost use Rattle.phrase_parser.specs.Reduction.{rest_of};
+ghost use Rattle.phrase_parser.specs.Views.{stack_of, pair_of, pushed};
+
+use crate::builder::make::{binary, unary};
+use crate::builder::state::{Frame, Stack};
+use crate::token::Sign;
+use plcs_grammar::{Expr, InfixOp, PrefixOp};
+use std::alloc::{AllocError, Global};
+
+/// The operator that the sign is before an operand.
+pub fn prefix_of(sign: Sign) -> Option<PrefixOp>
+    ensures { result ≡ prefix_of (sign_of sign) }
+{
+    match sign {
+        Sign::Plus => Some(PrefixOp::Plus),
+        Sign::Minus => Some(PrefixOp::Minus),
+        Sign::Caret => Some(PrefixOp::Not),
+        _ => None,
+    }
+}
+
+/// The operator that the sign is behind an operand.
+pub fn infix_of(sign: Sign) -> Option<InfixOp>
+    ensures { result ≡ infix_of (sign_of sign) }
+{
+    match sign {
+        Sign::Bar => Some(InfixOp::Or),
+        Sign::Ampersand => Some(InfixOp::And),
+        Sign::Equal => Some(InfixOp::Equal),
+        Sign::NotEqual => Some(InfixOp::NotEqual),
+        Sign::Less => Some(InfixOp::Less),
+        Sign::LessEqual => Some(InfixOp::LessEqual),
+        Sign::Greater => Some(InfixOp::Greater),
+        Sign::GreaterEqual => Some(InfixOp::GreaterEqual),
+        Sign::Join => Some(InfixOp::Join),
+        Sign::Plus => Some(InfixOp::Plus),
+        Sign::Minus => Some(InfixOp::Minus),
+        Sign::Times => Some(InfixOp::Times),
+        Sign::Divide => Some(InfixOp::Divide),
+        Sign::Caret | Sign::OpenParenthesis | Sign::CloseParenthesis | Sign::Comma => None,
+    }
+}
+
+/// The level that the operator joins, from 1 for the one that joins last.
+pub fn priority(op: InfixOp) -> u8
+    ensures { result ≡ priority op }
+{
+    match op {
+        InfixOp::Or => 1,
+        InfixOp::And => 2,
+        InfixOp::Equal
+        | InfixOp::NotEqual
+        | InfixOp::Less
+        | InfixOp::LessEqual
+        | InfixOp::Greater
+        | InfixOp::GreaterEqual => 3,
+        InfixOp::Join => 4,
+        InfixOp::Plus | InfixOp::Minus => 5,
+        InfixOp::Times | InfixOp::Divide => 6,
+    }
+}
+
+/// What comes of an operand and the frame around it.
+#[derive(Drop)]
+pub enum Joined {
+    /// The two are an operand.
+    Operand(Expr),
+    /// The frame stays open.
+    Open(Frame, Expr),
+}
+
+/// The operand, joined with the frame if that is an operator of the level or a higher one.
+fn join(alloc: Global, frame: Frame, level: u8, operand: Expr) -> Result<Joined, AllocError>
+    ensures { IfOk result (λ j. (s : OpenStack) → reduced (pushed frame s) level (tree_of operand) ≡ rest_of j s level) }
+{
+    match frame {
+        Frame::Prefix(op) => Ok(Joined::Operand(unary(alloc, op, operand)?)),
+        Frame::Left(left, op) => {
+            if level <= priority(op) {
+                Ok(Joined::Operand(binary(alloc, op, left, operand)?))
+            } else {
+                Ok(Joined::Open(Frame::Left(left, op), operand))
+            }
+        }
+        frame => Ok(Joined::Open(frame, operand)),
+    }
+}
+
+/// The operand, joined with each open operator of the level or a higher one, and what is left open.
+#[tactic(auto, using(crate::proofs::Stacks::stack_on_push))]
+pub fn reduced(
+    alloc: Global,
+    stack: Stack,
+    level: u8,
+    operand: Expr,
+) -> Result<(Stack, Expr), AllocError>
+    ensures { IfOk result (λ o. pair_of o ≡ reduced (stack_of stack) level (tree_of operand)) }
+{
+    let Stack { base, mut frames } = stack;
+    let mut operand = operand;
+    while let Some(frame) = frames.pop() {
+        match join(alloc, frame, level, operand)? {
+            Joined::Operand(whole) => operand = whole,
+            Joined::Open(frame, left_over) => {
+                frames.push(frame)?;
+                return Ok((Stack { base, frames }, left_over));
+            }
+        }
+    }
+    Ok((Stack { base, frames }, operand))
+}

@@ -1,0 +1,51 @@
+ghost use Rattle.std.specs.Prelude.{◌≡◌, ◌<◌, ◌≤◌, length, map, All, IfOk, None};
+ghost use Rattle.phrase_parser.specs.Findings.{findings};
+ghost use Rattle.phrase_parser.specs.Shapes.{shape_of, seen_in, as_found, Within, LiesIn};
+
+mod finding;
+mod kind;
+mod level;
+mod nesting;
+mod operator;
+mod shape;
+mod step;
+
+pub use crate::check::finding::{Finding, Over};
+use crate::check::finding::{found_at_end, over_at};
+use crate::check::kind::kind_at;
+use crate::check::level::level_of;
+pub use crate::check::shape::Shape;
+pub use crate::check::step::first_shape;
+use crate::check::step::next;
+use crate::token::Placed;
+use std::alloc::{AllocError, Global};
+
+/// What is found in the tokens of the text, which is cut up to the place, or else up to its end.
+///
+/// It takes time in proportion to the tokens, some bytes of memory for each parenthesis that is open, and
+/// little stack.
+pub fn check(
+    alloc: Global,
+    first: Shape,
+    text: &[u8],
+    tokens: &[Placed],
+    stop: Option<usize>,
+) -> Result<Finding, AllocError>
+    requires first { Within 0 (shape_of first) }
+    requires within { All (LiesIn text.now) tokens.now }
+    requires few { length tokens.now ≤ 4294967295 }
+    ensures { IfOk result (λ f. as_found f ≡ findings (map (seen_in text.now) tokens.now) stop (length text.now) (shape_of first) None) }
+{
+    let mut shape = first;
+    let mut over = None;
+    for token in tokens {
+        let kind = kind_at(text, token);
+        let level = level_of(&shape, kind);
+        let Some(behind) = next(alloc, shape, kind)? else {
+            return Ok(Finding::SyntaxAt(token.start));
+        };
+        shape = behind;
+        over = over.or(over_at(kind, token.start, level));
+    }
+    Ok(found_at_end(stop, text.len(), &shape, over))
+}

@@ -1,0 +1,76 @@
+ghost use Rattle.std.specs.Prelude.{◌≡◌};
+ghost use Rattle.phrase_parser.specs.Recognizer.{may_end};
+ghost use Rattle.phrase_parser.specs.Findings.{is_large, seen_over, finding_of, found_at_end};
+ghost use Rattle.phrase_parser.specs.Shapes.{shape_of, kind_of, over_if, as_found};
+
+use crate::check::kind::Kind;
+use crate::check::shape::Shape;
+use crate::check::step::may_end;
+
+/// The greatest number that a phrase may have.
+const GREATEST_NUMBER: u32 = 2147483647;
+
+/// How many levels may be open.
+const GREATEST_NESTING: u32 = 32;
+
+/// What goes past its limit, and the place of it.
+#[derive(Clone, Copy)]
+pub enum Over {
+    NumberTooLarge(usize),
+    TooDeep(usize),
+}
+
+/// What is found in the tokens of a text.
+#[derive(Clone, Copy)]
+pub enum Finding {
+    /// They are a phrase within the limits.
+    Fine,
+    /// They are no phrase, and this is the first place that can't be right.
+    SyntaxAt(usize),
+    /// They are a phrase, and this goes past a limit first.
+    Over(Over),
+}
+
+/// Whether the token is a number that is too large.
+fn is_large(kind: Kind) -> bool
+    ensures { result ≡ is_large (kind_of kind) }
+{
+    match kind {
+        Kind::Number(n) => n > GREATEST_NUMBER,
+        Kind::Name(_) | Kind::Keyword | Kind::Constant | Kind::Sign(_) => false,
+    }
+}
+
+/// Whether the token with this place, which opens the level, goes past a limit.
+pub fn over_at(kind: Kind, start: usize, level: u32) -> Option<Over>
+    ensures { over_if result ≡ seen_over (record { kind = kind_of kind; start = start }) level }
+{
+    if is_large(kind) {
+        Some(Over::NumberTooLarge(start))
+    } else if level > GREATEST_NESTING {
+        Some(Over::TooDeep(start))
+    } else {
+        None
+    }
+}
+
+/// What is found in a phrase.
+fn finding_of(over: Option<Over>) -> Finding
+    ensures { as_found result ≡ finding_of (over_if over) }
+{
+    match over {
+        None => Finding::Fine,
+        Some(over) => Finding::Over(over),
+    }
+}
+
+/// What is found behind the last token: the text ends there, or no further token can be made.
+pub fn found_at_end(stop: Option<usize>, end: usize, shape: &Shape, over: Option<Over>) -> Finding
+    ensures { as_found result ≡ found_at_end stop end (shape_of shape.now) (over_if over) }
+{
+    match stop {
+        Some(place) => Finding::SyntaxAt(place),
+        None if may_end(shape) => finding_of(over),
+        None => Finding::SyntaxAt(end),
+    }
+}

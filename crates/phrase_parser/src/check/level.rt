@@ -1,0 +1,54 @@
+ghost use Rattle.std.specs.Prelude.{◌≡◌};
+ghost use Rattle.phrase_parser.specs.Recognizer.{level_behind, level_by_use, sign_level, level_of};
+ghost use Rattle.phrase_parser.specs.TokenIn.{sign_of};
+ghost use Rattle.phrase_parser.specs.Shapes.{last_of, use_of, shape_of, kind_of, LastWithin, Within};
+
+use crate::check::kind::Kind;
+use crate::check::shape::{Last, Role, Shape};
+use crate::token::Sign;
+
+/// The level that a parenthesis opens behind an operand, or 0.
+fn level_behind(last: Last) -> u32
+    requires { LastWithin 4294967294 (last_of last) }
+    ensures { result ≡ level_behind (last_of last) }
+{
+    match last {
+        Last::Operand => 0,
+        Last::Named(_, level) => level + 1,
+    }
+}
+
+/// The level that a parenthesis opens behind a name that stands in no expression, or 0: an array's size
+/// opens none.
+fn level_by_role(role: Role) -> u32
+    ensures { result ≡ level_by_use (use_of role) }
+{
+    match role {
+        Role::Item => 0,
+        Role::Target | Role::ListedVariable | Role::Callee | Role::ListedName | Role::Single => 1,
+    }
+}
+
+/// The level that the sign opens, or 0.
+fn sign_level(shape: &Shape, sign: Sign) -> u32
+    requires { Within 4294967294 (shape_of shape.now) }
+    ensures { result ≡ sign_level (shape_of shape.now) (sign_of sign) }
+{
+    match (shape, sign) {
+        (Shape::Wanted(_, level), _) => *level + 1,
+        (Shape::Had(last, _), Sign::OpenParenthesis) => level_behind(*last),
+        (Shape::NameHad(role), Sign::OpenParenthesis) => level_by_role(*role),
+        _ => 0,
+    }
+}
+
+/// The level that the token opens, or 0.
+pub fn level_of(shape: &Shape, kind: Kind) -> u32
+    requires { Within 4294967294 (shape_of shape.now) }
+    ensures { result ≡ level_of (shape_of shape.now) (kind_of kind) }
+{
+    match kind {
+        Kind::Sign(sign) => sign_level(shape, sign),
+        Kind::Name(_) | Kind::Keyword | Kind::Number(_) | Kind::Constant => 0,
+    }
+}

@@ -1,0 +1,96 @@
+ghost use Rattle.std.specs.Prelude.{◌≡◌, ◌<◌, ◌^◌, ℕ, length, map, All, Some, IsTrue, is_some};
+ghost use Rattle.plcs_grammar.specs.Limit.{OverLimit};
+ghost use Rattle.plcs_grammar.specs.Reading.{Reading};
+ghost use Rattle.plcs_grammar.specs.Reads.{Outline, Reads, IsOver};
+ghost use Rattle.plcs_grammar.specs.Syntax.{SyntaxAt};
+ghost use Rattle.phrase_parser.specs.declared.fault.PhraseFault.TheVariants.{Syntax};
+ghost use Rattle.phrase_parser.specs.Machine.{start, run, ended_if};
+ghost use Rattle.phrase_parser.specs.Recognizer.{first_shape};
+ghost use Rattle.phrase_parser.specs.TokenIn.{IsPlacedIn, token_in};
+ghost use Rattle.phrase_parser.specs.Shapes.{shape_of, over_of, over_place};
+ghost use Rattle.phrase_parser.specs.Answers.{Answers, Only, OnlyFault, IsBuilt, over_fault};
+
+use crate::builder::{BuildError, build};
+use crate::check::{Finding, Over, Shape, check, first_shape};
+use crate::comment::comment;
+use crate::fault::PhraseFault;
+use crate::lexer::tokens;
+use crate::token::Placed;
+use plcs_grammar::{Category, Phrase};
+use std::alloc::Global;
+
+/// What the text reads as in the category.
+///
+/// It takes time and memory in proportion to the text, and little stack.
+pub fn parse(alloc: Global, category: Category, text: &[u8]) -> Result<Phrase, PhraseFault>
+    requires { length text.now < 2 ^ 32 }
+    // What each answer says of the text.
+    ensures says { Answers category text.now result }
+    // What the text reads as is answered, unless memory runs out.
+    ensures only { (phrase : Reading) → Reads category text.now phrase → Only result phrase }
+    // So is what goes past a limit first.
+    ensures over { (over : OverLimit) → IsOver category text.now over → OnlyFault result (over_fault over) }
+    // And so is the place where a text without a reading goes wrong.
+    ensures syntax { (place : ℕ) → ¬ (Outline category text.now) → SyntaxAt category text.now place → OnlyFault result (Syntax place) }
+{
+    answer(alloc, category, text)
+}
+
+/// The answer, which says what the text is.
+fn answer(alloc: Global, category: Category, text: &[u8]) -> Result<Phrase, PhraseFault>
+    requires { length text.now < 2 ^ 32 }
+    ensures { Answers category text.now result }
+{
+    match first_shape(alloc, category) {
+        Some(first) => phrase(alloc, category, first, text),
+        None => comment(alloc, text),
+    }
+}
+
+/// The phrase that the tokens of the text are, where this is wanted first.
+fn phrase(
+    alloc: Global,
+    category: Category,
+    first: Shape,
+    text: &[u8],
+) -> Result<Phrase, PhraseFault>
+    requires short { length text.now < 2 ^ 32 }
+    requires first { first_shape category ≡ Some (shape_of first) }
+    ensures { Answers category text.now result }
+{
+    let tokens = tokens(alloc, text)?;
+    match check(alloc, first, text, &tokens.items, tokens.stop)? {
+        Finding::Fine => built(alloc, category, text, &tokens.items),
+        Finding::SyntaxAt(place) => Err(PhraseFault::Syntax(place as u32)),
+        Finding::Over(over) => Err(over_fault(over)),
+    }
+}
+
+/// The fault of what goes past its limit.
+fn over_fault(over: Over) -> PhraseFault
+    requires { over_place (over_of over) < 2 ^ 32 }
+    ensures { result ≡ over_fault (over_of over) }
+{
+    match over {
+        Over::NumberTooLarge(place) => PhraseFault::NumberTooLarge(place as u32),
+        Over::TooDeep(place) => PhraseFault::TooDeep(place as u32),
+    }
+}
+
+/// The phrase that the tokens are.
+fn built(
+    alloc: Global,
+    category: Category,
+    text: &[u8],
+    tokens: &[Placed],
+) -> Result<Phrase, PhraseFault>
+    requires placed { All (IsPlacedIn text.now) tokens.now }
+    requires whole { IsTrue (is_some (ended_if (run (map (token_in text.now) tokens.now) (start category)))) }
+    ensures { IsBuilt result (ended_if (run (map (token_in text.now) tokens.now) (start category))) }
+{
+    match build(alloc, category, text, tokens) {
+        Ok(phrase) => Ok(phrase),
+        Err(BuildError::OutOfMemory) => Err(PhraseFault::OutOfMemory),
+        Err(BuildError::Refused) => unreachable!(),
+    }
+}

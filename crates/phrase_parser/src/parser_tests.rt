@@ -1,0 +1,263 @@
+use crate::PhraseFault::{NumberTooLarge, Syntax, TooDeep};
+use crate::{PhraseFault, parse};
+use plcs_base::ByteOut;
+use plcs_grammar::Category::*;
+use plcs_grammar::{Category, Expr, InfixOp, Phrase, show};
+use std::alloc::{AllocError, Global};
+use std::process::Abort;
+use std::test::Fail;
+
+/// A category, a text, and the canonical text of what it reads as, or its fault.
+type Row = (Category, &'static [u8], Result<&'static [u8], PhraseFault>);
+
+/// Rows that show each rule of the language once.
+const RULES: [Row; 32] = [
+    (Expression, b"1 + 2147483648", Err(NumberTooLarge(4))),
+    (Expression, b"1 + 2147483647", Ok(b"1 + 2147483647")),
+    (Expression, b"2147483648 +", Err(Syntax(12))),
+    (DeclaredList, b"a(0)", Err(Syntax(2))),
+    (DeclaredList, b"a(000)", Err(Syntax(2))),
+    (DeclaredList, b"a(2147483648)", Err(NumberTooLarge(2))),
+    (DeclaredList, b"a(2147483648", Err(Syntax(12))),
+    (DeclaredList, b"a( 010 ),b", Ok(b"a(10), b")),
+    (Length, b"0", Err(Syntax(0))),
+    (Length, b"1", Ok(b"1")),
+    (Length, b"256", Ok(b"256")),
+    (Length, b"257", Err(Syntax(0))),
+    (Length, b"99999999999999999999", Err(Syntax(0))),
+    (CallRef, b"p( 1,x )", Ok(b"p(1, x)")),
+    (CallRef, b"MOD(x)", Ok(b"MOD(x)")),
+    (Expression, b"''''", Ok(b"''''")),
+    (Expression, b"'1'B", Ok(b"'1'B")),
+    (Expression, b"007", Ok(b"7")),
+    (Expression, b"a=b=c", Ok(b"a = b = c")),
+    (Expression, b"1.5", Err(Syntax(1))),
+    (Expression, b"a**b", Err(Syntax(2))),
+    (Expression, b"f(1,2)", Err(Syntax(3))),
+    (Expression, b"MOD(7)", Ok(b"MOD(7)")),
+    (Expression, b"1,2", Err(Syntax(1))),
+    (Expression, b"'0''B", Err(Syntax(0))),
+    (Expression, b"'1'Bx", Err(Syntax(3))),
+    (Assignment, b"x = 'ab", Err(Syntax(4))),
+    (Assignment, b"x = 'a''b", Err(Syntax(4))),
+    (Assignment, b"a = b = c", Ok(b"a = b = c")),
+    (CommentText, b"a*/b", Err(Syntax(1))),
+    (CommentText, b" {comment} ", Err(Syntax(0))),
+    (CommentText, b"a\tb*/", Err(Syntax(1))),
+];
+
+/// For each category its empty text, a keyword in it, one token too few and one too many.
+const CATEGORIES: [Row; 48] = [
+    (Assignment, b"", Err(Syntax(0))),
+    (Assignment, b"x = DO", Err(Syntax(4))),
+    (Assignment, b"x =", Err(Syntax(3))),
+    (Assignment, b"a(1) = 2 3", Err(Syntax(9))),
+    (Condition, b"", Err(Syntax(0))),
+    (Condition, b"IF", Err(Syntax(0))),
+    (Condition, b"a <", Err(Syntax(3))),
+    (Condition, b"a < b c", Err(Syntax(6))),
+    (Expression, b"", Err(Syntax(0))),
+    (Expression, b"a + TO", Err(Syntax(4))),
+    (Expression, b"( 1", Err(Syntax(3))),
+    (Expression, b"( 1 ) )", Err(Syntax(6))),
+    (ExpressionList, b"", Err(Syntax(0))),
+    (ExpressionList, b"1, END", Err(Syntax(3))),
+    (ExpressionList, b"1,", Err(Syntax(2))),
+    (ExpressionList, b"1, 2 3", Err(Syntax(5))),
+    (VariableList, b"", Err(Syntax(0))),
+    (VariableList, b"a, BY", Err(Syntax(3))),
+    (VariableList, b"a(1", Err(Syntax(3))),
+    (VariableList, b"a(1) b", Err(Syntax(5))),
+    (Variable, b"", Err(Syntax(0))),
+    (Variable, b"WHILE", Err(Syntax(0))),
+    (Variable, b"  ", Err(Syntax(2))),
+    (Variable, b"i(", Err(Syntax(1))),
+    (CallRef, b"", Err(Syntax(0))),
+    (CallRef, b"CALL", Err(Syntax(0))),
+    (CallRef, b"p(", Err(Syntax(2))),
+    (CallRef, b"p(1) 2", Err(Syntax(5))),
+    (DeclaredList, b"", Err(Syntax(0))),
+    (DeclaredList, b"a, FIXED", Err(Syntax(3))),
+    (DeclaredList, b"a(3", Err(Syntax(3))),
+    (DeclaredList, b"a(3) b", Err(Syntax(5))),
+    (ProcedureName, b"", Err(Syntax(0))),
+    (ProcedureName, b"PROCEDURE", Err(Syntax(0))),
+    (ProcedureName, b" ", Err(Syntax(1))),
+    (ProcedureName, b"p q", Err(Syntax(2))),
+    (NameList, b"", Err(Syntax(0))),
+    (NameList, b"a, RETURN", Err(Syntax(3))),
+    (NameList, b"a,", Err(Syntax(2))),
+    (NameList, b"a, b(", Err(Syntax(4))),
+    (Length, b"", Err(Syntax(0))),
+    (Length, b"PUT", Err(Syntax(0))),
+    (Length, b" ", Err(Syntax(1))),
+    (Length, b"1 2", Err(Syntax(2))),
+    (CommentText, b"", Err(Syntax(0))),
+    (CommentText, b"   ", Err(Syntax(3))),
+    (CommentText, b"DO", Ok(b"DO")),
+    (CommentText, b" a  b ", Ok(b"a  b")),
+];
+
+/// Each category read, with its canonical text.
+const READ: [Row; 11] = [
+    (Assignment, b"a ( 1 )=-x", Ok(b"a(1) = -x")),
+    (Condition, b"^(a|b)&c", Ok(b"^( a | b ) & c")),
+    (Expression, b"a||'b'<=c*3/4-+5", Ok(b"a || 'b' <= c * 3 / 4 - +5")),
+    (ExpressionList, b"1,'it''s',MAX(a,b)", Ok(b"1, 'it''s', MAX(a, b)")),
+    (VariableList, b"a,b(i+1),MOD(2)", Ok(b"a, b(i + 1), MOD(2)")),
+    (Variable, b" i ", Ok(b"i")),
+    (CallRef, b" p ", Ok(b"p")),
+    (DeclaredList, b"a,b(3)", Ok(b"a, b(3)")),
+    (ProcedureName, b"p_1", Ok(b"p_1")),
+    (NameList, b"a,b", Ok(b"a, b")),
+    (Length, b"010", Ok(b"10")),
+];
+
+/// Compares what is put with what is awaited.
+#[derive(Drop)]
+struct Awaited<'a> {
+    left: &'a [u8],
+    same: bool,
+}
+
+impl ByteOut for Awaited<'_> {
+    ghost puts = { λ _ _ _. Unit {0} };
+
+    fn put(&mut self, byte: u8) {
+        match self.left {
+            [first, rest @ ..] if *first == byte => self.left = rest,
+            _ => self.same = false,
+        }
+    }
+}
+
+/// Whether the phrase has this canonical text.
+fn has_text(phrase: &Phrase, text: &[u8]) -> bool {
+    let mut out = Awaited {
+        left: text,
+        same: true,
+    };
+    show(phrase, &mut out);
+    out.same && out.left.is_empty()
+}
+
+/// Whether the answer is the one that is wanted.
+fn is_answer(answer: &Result<Phrase, PhraseFault>, wanted: Result<&[u8], PhraseFault>) -> bool {
+    match (answer, wanted) {
+        (Ok(phrase), Ok(text)) => has_text(phrase, text),
+        (Err(fault), Err(other)) => *fault == other,
+        (Ok(_), Err(_)) | (Err(_), Ok(_)) => false,
+    }
+}
+
+/// Compares the answer on each row with the one that is wanted.
+fn compare(rt: &impl Abort, alloc: Global, rows: &[Row]) {
+    for (category, text, wanted) in rows {
+        assert!(rt; text.len() < 100);
+        let answer = parse(alloc, *category, text);
+        assert!(rt; is_answer(&answer, *wanted), "{category:?} at {text:?}");
+    }
+}
+
+#[test]
+fn each_text_has_its_answer(rt: HostRuntime) {
+    compare(&rt, rt.alloc(), &RULES);
+    compare(&rt, rt.alloc(), &CATEGORIES);
+    compare(&rt, rt.alloc(), &READ);
+}
+
+#[test]
+fn comparisons_lean_to_the_left(rt: HostRuntime) -> Result<(), Fail> {
+    let phrase = parse(rt.alloc(), Expression, b"a=b=c").map_err(|_| "a phrase")?;
+    let Phrase::Expression(Expr::Infix(InfixOp::Equal, left, right)) = &phrase else {
+        return Err(Fail::from("an operator"));
+    };
+    assert!(rt; matches!(&**left, Expr::Infix(InfixOp::Equal, _, _)));
+    assert!(rt; matches!(&**right, Expr::Var(_)));
+    Ok(())
+}
+
+/// So many openings, a middle, and so many closings.
+fn nested(
+    alloc: Global,
+    count: u32,
+    opening: &[u8],
+    middle: &[u8],
+    closing: &[u8],
+) -> Result<Vec<u8>, AllocError> {
+    let mut text = Vec::new(alloc);
+    for _ in 0..count {
+        text.extend_from_slice(opening)?;
+    }
+    text.extend_from_slice(middle)?;
+    for _ in 0..count {
+        text.extend_from_slice(closing)?;
+    }
+    Ok(text)
+}
+
+/// What the text is refused with as an expression, or `None` where it is read.
+fn fault_of(rt: &impl Abort, alloc: Global, text: &[u8]) -> Option<PhraseFault> {
+    assert!(rt; text.len() < 4_000_000);
+    parse(alloc, Expression, text).err()
+}
+
+/// What a nested text has in its middle, how many are nested, and the fault.
+type NestedRow = (
+    u32,
+    &'static [u8],
+    &'static [u8],
+    &'static [u8],
+    Option<PhraseFault>,
+);
+
+const NESTED: [NestedRow; 14] = [
+    (32, b"(", b"1", b")", None),
+    (33, b"(", b"1", b")", Some(TooDeep(32))),
+    (32, b"a(", b"1", b")", None),
+    (33, b"a(", b"1", b")", Some(TooDeep(65))),
+    (32, b"ABS(", b"1", b")", None),
+    (33, b"ABS(", b"1", b")", Some(TooDeep(131))),
+    (32, b"-", b"1", b"", None),
+    (33, b"-", b"1", b"", Some(TooDeep(32))),
+    (8, b"-(a(ABS(", b"1", b")))", None),
+    (8, b"-(a(ABS(", b"^a", b")))", Some(TooDeep(64))),
+    (32, b"( a + (", b"1", b"))", Some(TooDeep(112))),
+    (33, b"(", b"2147483648", b")", Some(TooDeep(32))),
+    (33, b"(2147483648+", b"1", b")", Some(NumberTooLarge(1))),
+    (33, b"(", b"1", b"", Some(Syntax(34))),
+];
+
+#[test]
+fn levels_are_counted(rt: HostRuntime) -> Result<(), Fail> {
+    for (count, opening, middle, closing, wanted) in NESTED {
+        let text = nested(rt.alloc(), count, opening, middle, closing)?;
+        let fault = fault_of(&rt, rt.alloc(), &text);
+        assert_eq!(rt; fault, wanted, "{count} times {opening:?} around {middle:?}");
+    }
+    Ok(())
+}
+
+const MILLION: u32 = 1_000_000;
+
+/// Texts of a million and more tokens or bytes.
+const LONG: [NestedRow; 6] = [
+    (MILLION, b"(", b"", b"", Some(Syntax(1_000_000))),
+    (MILLION, b"-", b"", b"", Some(Syntax(1_000_000))),
+    (MILLION, b"-", b"1", b"", Some(TooDeep(32))),
+    (MILLION, b"(", b"1", b")", Some(TooDeep(32))),
+    (MILLION, b"1+", b"1", b"", None),
+    (MILLION, b"a", b"", b"", Some(Syntax(0))),
+];
+
+#[test]
+fn long_texts_are_answered(rt: HostRuntime) -> Result<(), Fail> {
+    for (count, opening, middle, closing, wanted) in LONG {
+        let text = nested(rt.alloc(), count, opening, middle, closing)?;
+        let fault = fault_of(&rt, rt.alloc(), &text);
+        assert_eq!(rt; fault, wanted, "{opening:?} around {middle:?}");
+    }
+    let quoted = nested(rt.alloc(), 1, b"'", &vec![in rt.alloc(); b'a'; 1_000_000]?, b"'")?;
+    assert_eq!(rt; fault_of(&rt, rt.alloc(), &quoted), Some(Syntax(0)));
+    Ok(())
+}
