@@ -10,3 +10,4 @@ mod Soundness
 pub mod Stacks
 pub mod Constants
 pub mod Fails
+pub mod PlacedPieces
