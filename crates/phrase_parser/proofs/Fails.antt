@@ -1,5 +1,5 @@
 -- Where the machine stops, the tokens are no phrase.
-use Rattle.std.proofs.Common.{◌≡◌, ℕ, ◌<◌, ◌+◌, List, map, drop, length, get_or, Option, Some, None, sym, ap, ◌∙◌}
+use Rattle.std.proofs.Common.{◌≡◌, ℕ, ◌<◌, ◌+◌, List, map, drop, length, get_or, Option, Some, sym, ap, ◌∙◌}
 use Rattle.std.proofs.lemmas.List.{at_drop_more}
 use Rattle.plcs_grammar.specs.Token.{Token}
 use Rattle.phrase_parser.specs.declared.builder.fault.BuildError.{BuildError}

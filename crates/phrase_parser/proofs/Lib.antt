@@ -43,3 +43,4 @@ pub mod ShownTokens
 mod FoundPlaces
 
 mod Told
+pub mod PlacedPieces

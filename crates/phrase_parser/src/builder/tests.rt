@@ -302,25 +302,36 @@ fn each_category_is_built(rt: HostRuntime) -> Result<(), Fail> {
     Ok(())
 }
 
-#[test]
-fn a_long_chain_is_built_and_let_go(rt: HostRuntime) -> Result<(), Fail> {
-    let mut text = Vec::new(rt.alloc());
+/// `1 + 1 + .. + 1`, with so many operators.
+fn chain(alloc: Global, operators: u32) -> Result<Vec<u8>, AllocError> {
+    let mut text = Vec::new(alloc);
     text.push(b'1')?;
-    for _ in 0..1_000_000 {
+    for _ in 0..operators {
         text.extend_from_slice(b" + 1")?;
     }
-    let tokens = tokens(rt.alloc(), text.as_slice())?;
-    let phrase = build(
-        rt.alloc(),
-        Category::Expression,
-        text.as_slice(),
-        tokens.as_slice(),
-    );
+    Ok(text)
+}
+
+#[test]
+fn a_long_chain_is_built_and_let_go(rt: HostRuntime) -> Result<(), Fail> {
+    let text = chain(rt.alloc(), 1_000_000)?;
+    let text = text.as_slice();
+    let tokens = tokens(rt.alloc(), text)?;
+    let phrase = build(rt.alloc(), Category::Expression, text, tokens.as_slice());
     assert!(rt;
         matches!(
             &phrase,
             Ok(Phrase::Expression(Expr::Infix(InfixOp::Plus, _, _)))
         )
     );
+    Ok(())
+}
+
+#[test]
+fn a_long_chain_that_is_refused_is_let_go(rt: HostRuntime) -> Result<(), Fail> {
+    let mut text = chain(rt.alloc(), 100_000)?;
+    text.extend_from_slice(b" + + )")?;
+    let out = built(rt.alloc(), Category::Expression, text.as_slice())?;
+    assert_eq!(rt; out.as_slice(), b"refused".as_slice());
     Ok(())
 }
