@@ -3,6 +3,7 @@ pub mod Number
 pub mod Words
 pub mod Keys
 pub mod Session
+pub mod Status
 pub mod Screen
 pub mod Sized
 pub mod Paint

@@ -12,18 +12,21 @@ use Rattle.synth_top.specs.Session.{PlainSession}
 use Rattle.synth_top.specs.Run.{Told, after, quits, screens, written_by}
 
 -- all keys were pressed and all their screens were written
-pub record AllShown (before now : Option (List ℕ)) (s s1 : PlainSession) (keys : List Key) : Type 0 where
+pub record AllShown (before now : Option (List ℕ)) (s s1 : PlainSession) (keys : List Key)
+    : Type 0 where
   pub going : quits s keys ≡ false
   pub session : s1 ≡ after s keys
   pub wrote : Appends before now (screens s keys)
 
 -- one of the keys ended the session
-pub record OneQuit (before now : Option (List ℕ)) (s : PlainSession) (keys : List Key) : Type 0 where
+pub record OneQuit (before now : Option (List ℕ)) (s : PlainSession) (keys : List Key)
+    : Type 0 where
   pub quit : quits s keys ≡ true
   pub wrote : Appends before now (screens s keys)
 
 -- the screen of one of the keys was cut short
-pub record OneCut (before now : Option (List ℕ)) (s : PlainSession) (keys : List Key) : Type 0 where
+pub record OneCut (before now : Option (List ℕ)) (s : PlainSession) (keys : List Key)
+    : Type 0 where
   pub earlier : List Key
   pub last : Key
   pub rest : List Key
@@ -39,7 +42,8 @@ ended_as Next status = status
 ended_as (End ended) status = ended
 
 -- what pressing the keys did, from the session s to s1
-abbrev pub Turned : Turn → Option (List ℕ) → Option (List ℕ) → PlainSession → PlainSession → List Key → Type 0
+abbrev pub Turned : Turn → Option (List ℕ) → Option (List ℕ) → PlainSession → PlainSession →
+    List Key → Type 0
 Turned Next before now s s1 keys = AllShown before now s s1 keys
 Turned (End Done) before now s s1 keys = OneQuit before now s keys
 Turned (End WriteFault) before now s s1 keys = OneCut before now s keys
@@ -49,7 +53,8 @@ Turned (End BadWords) before now s s1 keys = ⊥
 Turned (End KeyLimit) before now s s1 keys = ⊥
 
 -- so many bytes were read, all keys that they complete were pressed, and all screens were written
-pub record SoFar (count : ℕ) (before now : Told) (s0 : PlainSession) (reader0 : KeyReader) (s : PlainSession) (reader : KeyReader) : Type 0 where
+pub record SoFar (count : ℕ) (before now : Told) (s0 : PlainSession) (reader0 : KeyReader)
+    (s : PlainSession) (reader : KeyReader) : Type 0 where
   pub bytes : List ℕ
   pub many : length bytes ≡ count
   pub read : Consumes before.left now.left bytes

@@ -116,8 +116,10 @@ fn put_row_piece(piece: &mut Piece, number: u16, cells: &[u16])
 /// Paints one row, whose number counts from 1, where it differs.
 fn paint_row<K: Sink>(number: u16, old: &[u16], new: &[u16], sink: &mut K) -> Result<(), SinkFault>
     requires { length new.now ≤ 160 }
-    ensures all { OnOk result (Appends (K.taken sink.old) (K.taken sink.new) (row_paint number old.now new.now)) }
-    ensures front { OnErr result (AppendsFront (K.taken sink.old) (K.taken sink.new) (row_paint number old.now new.now)) }
+    ensures all { OnOk result
+        (Appends (K.taken sink.old) (K.taken sink.new) (row_paint number old.now new.now)) }
+    ensures front { OnErr result
+        (AppendsFront (K.taken sink.old) (K.taken sink.new) (row_paint number old.now new.now)) }
     ensures cause { HasCause SinkFault.Failed (K.faults sink.old) (K.faults sink.new) result }
 {
     if old == new {
@@ -137,8 +139,12 @@ fn paint_rows<K: Sink>(
 ) -> Result<(), SinkFault>
     requires old { IsSized size (plain_grid old.now) }
     requires new { IsSized size (plain_grid new.now) }
-    ensures all { OnOk result (Appends (K.taken sink.old) (K.taken sink.new) (rows_paint 1 (plain_grid old.now).lines (plain_grid new.now).lines)) }
-    ensures front { OnErr result (AppendsFront (K.taken sink.old) (K.taken sink.new) (rows_paint 1 (plain_grid old.now).lines (plain_grid new.now).lines)) }
+    ensures all { OnOk result
+        (Appends (K.taken sink.old) (K.taken sink.new)
+            (rows_paint 1 (plain_grid old.now).lines (plain_grid new.now).lines)) }
+    ensures front { OnErr result
+        (AppendsFront (K.taken sink.old) (K.taken sink.new)
+            (rows_paint 1 (plain_grid old.now).lines (plain_grid new.now).lines)) }
     ensures cause { HasCause SinkFault.Failed (K.faults sink.old) (K.faults sink.new) result }
 {
     let _cols = size.cols();
@@ -150,8 +156,10 @@ fn paint_rows<K: Sink>(
 
 /// Paints the place of the cursor.
 fn paint_cursor<K: Sink>(grid: &Grid, sink: &mut K) -> Result<(), SinkFault>
-    ensures all { OnOk result (Appends (K.taken sink.old) (K.taken sink.new) (go_to grid.now.row grid.now.col)) }
-    ensures front { OnErr result (AppendsFront (K.taken sink.old) (K.taken sink.new) (go_to grid.now.row grid.now.col)) }
+    ensures all { OnOk result
+        (Appends (K.taken sink.old) (K.taken sink.new) (go_to grid.now.row grid.now.col)) }
+    ensures front { OnErr result
+        (AppendsFront (K.taken sink.old) (K.taken sink.new) (go_to grid.now.row grid.now.col)) }
     ensures cause { HasCause SinkFault.Failed (K.faults sink.old) (K.faults sink.new) result }
 {
     let mut piece = Piece::new();
@@ -159,8 +167,8 @@ fn paint_cursor<K: Sink>(grid: &Grid, sink: &mut K) -> Result<(), SinkFault>
     write_piece(sink, piece.as_slice())
 }
 
-/// Writes the bytes that turn a terminal which shows the old grid into one which shows the new: each
-/// row that differs as one piece, and then the cursor's place.
+/// Writes the bytes that turn a terminal which shows the old grid into one which shows the new:
+/// each row that differs as one piece, and then the cursor's place.
 #[tactic(auto, unfolding(crate::specs::Paint::paint))]
 pub fn paint<K: Sink>(
     size: ScreenSize,
@@ -170,8 +178,12 @@ pub fn paint<K: Sink>(
 ) -> Result<(), SinkFault>
     requires old { IsSized size (plain_grid old.now) }
     requires new { IsSized size (plain_grid new.now) }
-    ensures all { OnOk result (Appends (K.taken sink.old) (K.taken sink.new) (paint (plain_grid old.now) (plain_grid new.now))) }
-    ensures front { OnErr result (AppendsFront (K.taken sink.old) (K.taken sink.new) (paint (plain_grid old.now) (plain_grid new.now))) }
+    ensures all { OnOk result
+        (Appends (K.taken sink.old) (K.taken sink.new)
+            (paint (plain_grid old.now) (plain_grid new.now))) }
+    ensures front { OnErr result
+        (AppendsFront (K.taken sink.old) (K.taken sink.new)
+            (paint (plain_grid old.now) (plain_grid new.now))) }
     ensures cause { HasCause SinkFault.Failed (K.faults sink.old) (K.faults sink.new) result }
 {
     paint_rows(size, old, new, sink)?;

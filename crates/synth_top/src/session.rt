@@ -98,7 +98,8 @@ impl Session {
     /// Does what a key asks for.
     #[tactic(auto, unfolding(crate::specs::Session::press))]
     pub fn press(&mut self, key: Key) -> Answer
-        ensures pressed { record { after = plain_session self.new; answer = result } ≡ press (plain_session self.old) key }
+        ensures pressed { record { after = plain_session self.new; answer = result } ≡
+            press (plain_session self.old) key }
         ensures size { self.new.size ≡ self.old.size }
     {
         match key {
@@ -109,14 +110,16 @@ impl Session {
     }
 
     fn refused(&mut self, why: Refusal) -> Answer
-        ensures { record { after = plain_session self.new; answer = result } ≡ refused (plain_session self.old) why }
+        ensures { record { after = plain_session self.new; answer = result } ≡
+            refused (plain_session self.old) why }
     {
         self.message = Some(why);
         Answer::Refused(why)
     }
 
     fn done(&mut self, statement: Statement) -> Answer
-        ensures { record { after = plain_session self.new; answer = result } ≡ done (plain_session self.old) statement }
+        ensures { record { after = plain_session self.new; answer = result } ≡
+            done (plain_session self.old) statement }
     {
         self.statement = statement;
         self.typed.clear();
@@ -125,7 +128,8 @@ impl Session {
     }
 
     fn char_typed(&mut self, byte: u8) -> Answer
-        ensures { record { after = plain_session self.new; answer = result } ≡ char_typed (plain_session self.old) byte }
+        ensures { record { after = plain_session self.new; answer = result } ≡
+            char_typed (plain_session self.old) byte }
     {
         if self.typed.is_full() {
             return self.refused(Refusal::PhraseFull);
@@ -136,7 +140,8 @@ impl Session {
     }
 
     fn line_entered(&mut self) -> Answer
-        ensures { record { after = plain_session self.new; answer = result } ≡ line_entered (plain_session self.old) }
+        ensures { record { after = plain_session self.new; answer = result } ≡
+            line_entered (plain_session self.old) }
     {
         if self.typed.as_slice() == b".put".as_slice() {
             return self.put_filled();
@@ -149,7 +154,8 @@ impl Session {
     }
 
     fn put_filled(&mut self) -> Answer
-        ensures { record { after = plain_session self.new; answer = result } ≡ put_filled (plain_session self.old) self.old.statement }
+        ensures { record { after = plain_session self.new; answer = result } ≡
+            put_filled (plain_session self.old) self.old.statement }
     {
         match self.statement {
             Statement::Hole => self.done(Statement::Put(None)),
@@ -158,7 +164,8 @@ impl Session {
     }
 
     fn phrase_entered(&mut self, phrase: Option<u32>) -> Answer
-        ensures { record { after = plain_session self.new; answer = result } ≡ phrase_entered (plain_session self.old) self.old.statement phrase }
+        ensures { record { after = plain_session self.new; answer = result } ≡
+            phrase_entered (plain_session self.old) self.old.statement phrase }
     {
         match (self.statement, phrase) {
             (Statement::Put(_), Some(_)) => self.done(Statement::Put(phrase)),
