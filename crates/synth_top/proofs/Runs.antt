@@ -13,7 +13,8 @@ use Rattle.synth_top.specs.declared.run.Turn.TheVariants.{Next, End}
 use Rattle.synth_top.specs.Keys.{completed, keys, keys_of_byte, listed, reader_after, reader_behind, unfinished_key}
 use Rattle.synth_top.specs.Session.{PlainSession}
 use Rattle.synth_top.specs.Run.{Told, Moved, after, quits, screens, opening, written_by, written, QuitPressed, ReadCut, ScreenCut, Ended}
-use Rattle.synth_top.specs.Turn.{AllShown, OneQuit, OneCut, Turned, SoFar, ended_as}
+use Rattle.synth_top.specs.Turn.{AllShown, OneQuit, OneCut, Turned, ended_as}
+use Rattle.synth_top.proofs.Progress.{SoFar}
 use Rattle.synth_top.proofs.Pressing.{after-append, quits-going, written_by-nil, written_by-going, written_by-ended}
 
 true_false : true ≡ false → ⊥

@@ -7,7 +7,6 @@ pub mod Status
 pub mod Screen
 pub mod Sized
 pub mod Paint
-pub mod Owed
 pub mod View
 pub mod Run
 pub mod Turn

@@ -13,7 +13,7 @@ count_between least most word =
 abbrev pub extent_of : List ℕ → List ℕ → Option Extent
 extent_of rows cols =
     option_and_then (λ r.
-      option_and_then (λ c. Some (record { rows = r; cols = c })) (count_between 40 160 cols))
+    option_and_then (λ c. Some (record { rows = r; cols = c })) (count_between 40 160 cols))
     (count_between 12 100 rows)
 
 -- the size that the words ask for, or none where they aren't words of the command

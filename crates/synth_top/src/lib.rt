@@ -12,6 +12,7 @@ mod grid;
 mod key;
 mod number;
 mod painting;
+mod putting;
 mod run;
 mod session;
 mod size;
@@ -27,7 +28,7 @@ use std::alloc::Global;
 use synth_outside::{Files, Sink, Source};
 
 /// How many bytes of keys are taken at most.
-pub const KEY_LIMIT: u64 = 1_000_000_000;
+const KEY_LIMIT: u64 = 1_000_000_000;
 
 /// Edits a program: reads the words that follow the program's name, and then writes the opening
 /// screen and one screen after each key to the screen's sink, until a key ends the session or the

@@ -8,6 +8,7 @@ ghost use Rattle.synth_top.specs.Sized.{IsSized};
 ghost use Rattle.synth_top.specs.View.{plain_grid};
 
 use crate::grid::Grid;
+use crate::putting::put;
 use crate::size::ScreenSize;
 use arrayvec::ArrayVec;
 use synth_outside::{Sink, SinkFault};
@@ -26,14 +27,6 @@ pub fn write_piece<K: Sink>(sink: &mut K, piece: &[u8]) -> Result<(), SinkFault>
         at += sink.write(&piece[at..])?;
     }
     Ok(())
-}
-
-/// Appends bytes to a piece that has room for them.
-fn put(piece: &mut Piece, bytes: &[u8])
-    requires { array_vec_len piece.old + length bytes.now ≤ 1024 }
-    ensures { piece.new.items ≡ piece.old.items ++ bytes.now }
-{
-    let _ = piece.try_extend_from_slice(bytes);
 }
 
 /// Appends a number in decimal.
@@ -141,12 +134,13 @@ fn paint_rows<K: Sink>(
     requires new { IsSized size (plain_grid new.now) }
     ensures all { OnOk result
         (Appends (K.taken sink.old) (K.taken sink.new)
-            (rows_paint 1 (plain_grid old.now).lines (plain_grid new.now).lines)) }
+        (rows_paint 1 (plain_grid old.now).lines (plain_grid new.now).lines)) }
     ensures front { OnErr result
         (AppendsFront (K.taken sink.old) (K.taken sink.new)
-            (rows_paint 1 (plain_grid old.now).lines (plain_grid new.now).lines)) }
+        (rows_paint 1 (plain_grid old.now).lines (plain_grid new.now).lines)) }
     ensures cause { HasCause SinkFault.Failed (K.faults sink.old) (K.faults sink.new) result }
 {
+    // A row fits into a piece, since no screen is wider than this says.
     let _cols = size.cols();
     for row in 0..size.rows() {
         paint_row(row + 1, old.line(row), new.line(row), sink)?;
@@ -180,10 +174,10 @@ pub fn paint<K: Sink>(
     requires new { IsSized size (plain_grid new.now) }
     ensures all { OnOk result
         (Appends (K.taken sink.old) (K.taken sink.new)
-            (paint (plain_grid old.now) (plain_grid new.now))) }
+        (paint (plain_grid old.now) (plain_grid new.now))) }
     ensures front { OnErr result
         (AppendsFront (K.taken sink.old) (K.taken sink.new)
-            (paint (plain_grid old.now) (plain_grid new.now))) }
+        (paint (plain_grid old.now) (plain_grid new.now))) }
     ensures cause { HasCause SinkFault.Failed (K.faults sink.old) (K.faults sink.new) result }
 {
     paint_rows(size, old, new, sink)?;

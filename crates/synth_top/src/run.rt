@@ -1,12 +1,12 @@
-ghost use Rattle.std.specs.Prelude.{◌≡◌, ◌<◌, ◌≤◌, [], ◌∷◌, ◌++◌, false, Option, None, Some, option_to_list, IfOk, OnOk, OnErr, MatchResult, IfErr, IsErrOf};
-ghost use Rattle.std.specs.Io.KnownBytes.{Appends, Consumes, IsAtEnd};
+ghost use Rattle.std.specs.Prelude.{◌≡◌, ◌<◌, ◌≤◌, [], ◌∷◌, false, Option, None, Some, option_to_list, IfOk, OnOk, OnErr};
+ghost use Rattle.std.specs.Io.KnownBytes.{Appends};
 ghost use Rattle.plcs_base.specs.Count.{Rose};
 ghost use Rattle.synth_outside.specs.Cause.{HasCause};
 ghost use Rattle.synth_outside.specs.Reading.{LosesAtMost};
 ghost use Rattle.synth_outside.specs.Writing.{AppendsFront};
 ghost use Rattle.synth_top.specs.Keys.{listed, keys_of_byte, reader_behind, unfinished_key};
 ghost use Rattle.synth_top.specs.Paint.{paint};
-ghost use Rattle.synth_top.specs.Run.{Ended, clear_piece, opening, quits};
+ghost use Rattle.synth_top.specs.Run.{Ended, opening, quits};
 ghost use Rattle.synth_top.specs.Screen.{grid, blank};
 ghost use Rattle.synth_top.specs.Session.{opened};
 ghost use Rattle.synth_top.specs.Turn.{Turned};
@@ -89,10 +89,10 @@ impl Editor {
         requires { IsReady self.old }
         ensures all { OnOk result
             (Appends (K.taken screen.old) (K.taken screen.new)
-                (paint (plain_grid self.old.painted) (grid (plain_session self.old.session)))) }
+            (paint (plain_grid self.old.painted) (grid (plain_session self.old.session)))) }
         ensures front { OnErr result
             (AppendsFront (K.taken screen.old) (K.taken screen.new)
-                (paint (plain_grid self.old.painted) (grid (plain_session self.old.session)))) }
+            (paint (plain_grid self.old.painted) (grid (plain_session self.old.session)))) }
         ensures cause { HasCause SinkFault.Failed (K.faults screen.old)
             (K.faults screen.new) result }
         ensures ready { IsReady self.new }
@@ -113,10 +113,10 @@ impl Editor {
         requires painted { plain_grid self.old.painted ≡ blank self.old.session.size }
         ensures all { OnOk result
             (Appends (K.taken screen.old) (K.taken screen.new)
-                (opening (plain_session self.old.session))) }
+            (opening (plain_session self.old.session))) }
         ensures front { OnErr result
             (AppendsFront (K.taken screen.old) (K.taken screen.new)
-                (opening (plain_session self.old.session))) }
+            (opening (plain_session self.old.session))) }
         ensures cause { HasCause SinkFault.Failed (K.faults screen.old)
             (K.faults screen.new) result }
         ensures ready { IsReady self.new }
