@@ -4,9 +4,14 @@ use Rattle.std.proofs.Math.Seq.{drop-cons}
 use Rattle.std.proofs.KnownBytes.{Appends-trans}
 use Rattle.std.specs.Io.KnownBytes.{Appends}
 use Rattle.synth_outside.specs.Writing.{AppendsFront}
-use Rattle.synth_top.specs.Owed.{Owes}
 use Rattle.synth_top.specs.Paint.{row_paint, rows_paint}
 use Rattle.synth_top.proofs.Fronts.{AppendsFront-append, AppendsFront-first}
+
+-- the sink took some bytes, which are the whole together with the rest
+pub record Owes (before now : Option (List ℕ)) (rest whole : List ℕ) : Type 0 where
+  pub done : List ℕ
+  pub taken : Appends before now done
+  pub joined : done ++ rest ≡ whole
 
 -- one more piece was taken
 pub owes_more : (a b c : Option (List ℕ)) (piece rest whole : List ℕ) → Owes a b (piece ++ rest) whole → Appends b c piece → Owes a c rest whole

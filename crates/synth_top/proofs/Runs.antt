@@ -1,5 +1,5 @@
 -- A run, byte by byte.
-use Rattle.std.proofs.Common.{◌≡◌, ◌≤◌, ℕ, ◌+◌, true, false, List, [], ◌∷◌, ◌++◌, Option, length, take, refl, sym, ap, ◌∙◌, subst, append_assoc, append-nil, arith, length-append, inl, inr}
+use Rattle.std.proofs.Common.{◌≡◌, ◌<◌, ◌≤◌, ◌⊎◌, ℕ, ◌+◌, true, false, List, [], ◌∷◌, ◌++◌, Option, length, take, refl, sym, ap, ◌∙◌, subst, append_assoc, append-nil, arith, length-append, inl, inr}
 use Rattle.std.proofs.Math.Seq.{take-append-add}
 use Rattle.std.proofs.KnownBytes.{Appends-trans, Consumes-nil, Consumes-trans}
 use Rattle.std.specs.Io.KnownBytes.{Appends, Consumes, IsAtEnd}
@@ -12,12 +12,16 @@ use Rattle.synth_top.specs.declared.run.Turn.{Turn}
 use Rattle.synth_top.specs.declared.run.Turn.TheVariants.{Next, End}
 use Rattle.synth_top.specs.Keys.{completed, keys, keys_of_byte, listed, reader_after, reader_behind, unfinished_key}
 use Rattle.synth_top.specs.Session.{PlainSession}
-use Rattle.synth_top.specs.Run.{Told, Moved, after, quits, screens, opening, written_by, written, QuitPressed, ScreenCut, Ended}
-use Rattle.synth_top.specs.Turn.{AllShown, OneQuit, OneCut, Turned, SoFar, ended_as}
+use Rattle.synth_top.specs.Run.{Told, Moved, after, quits, screens, opening, written_by, written, QuitPressed, ReadCut, ScreenCut, Ended}
+use Rattle.synth_top.specs.Turn.{AllShown, OneQuit, OneCut, Turned, ended_as}
+use Rattle.synth_top.proofs.Progress.{SoFar}
 use Rattle.synth_top.proofs.Pressing.{after-append, quits-going, written_by-nil, written_by-going, written_by-ended}
 
 true_false : true ≡ false → ⊥
 true_false e = absurd (cc)
+
+one_byte : (byte : ℕ) → byte ∷ [] ≡ [] → ⊥
+one_byte byte e = absurd (cc)
 
 -- one more byte completes its keys
 pub completed-push : (reader : KeyReader) (bytes : List ℕ) (byte : ℕ)
@@ -63,10 +67,11 @@ module _ (count : ℕ) (before mid now : Told) (s0 : PlainSession) (reader0 : Ke
       completed-push reader0 so.bytes byte ∙ ap (λ r. completed reader0 so.bytes ++ listed (keys_of_byte r byte)) (sym so.reader_is)
 
   -- the screen of one of some more keys was cut short
-  screen_cut : (newest : List ℕ) (more tail : List Key) → length newest ≤ 1 → Consumes mid.left now.left newest
+  screen_cut : (limit : ℕ) (newest : List ℕ) (more tail : List Key) → length newest ≤ 1 → count + length newest ≤ limit
+      → (newest ≡ [] → IsAtEnd now.left ⊎ (count ≡ limit)) → Consumes mid.left now.left newest
       → keys reader0 (so.bytes ++ newest) ≡ (completed reader0 so.bytes ++ more) ++ tail → OneCut mid.taken now.taken s more
-      → ScreenCut before now s0 reader0
-  screen_cut newest more tail one read order cut =
+      → ScreenCut limit before now s0 reader0
+  screen_cut limit newest more tail one within alone read order cut =
       let ks = completed reader0 so.bytes in
       let tried = cut.earlier ++ cut.last ∷ [] in
       let joined : (ks ++ cut.earlier) ++ cut.last ∷ [] ≡ ks ++ tried = append_assoc ks cut.earlier (cut.last ∷ []) in
@@ -78,6 +83,8 @@ module _ (count : ℕ) (before mid now : Told) (s0 : PlainSession) (reader0 : Ke
         seen = so.bytes;
         newest = newest;
         one = one;
+        within = omega (arith, within, so.many, length-append so.bytes newest);
+        alone = λ none. subst (λ n. IsAtEnd now.left ⊎ (n ≡ limit)) (sym so.many) (alone none);
         read = Consumes-trans _ _ _ so.bytes newest so.read read;
         earlier = ks ++ cut.earlier;
         last = cut.last;
@@ -113,15 +120,16 @@ module _ (count : ℕ) (before mid now : Told) (s0 : PlainSession) (reader0 : Ke
       }
 
   -- a key of one more byte ended the session
-  quit_pressed : (byte : ℕ) → Consumes mid.left now.left (byte ∷ []) → OneQuit mid.taken now.taken s (listed (keys_of_byte reader byte))
-      → QuitPressed before now s0 reader0
-  quit_pressed byte read quit =
+  quit_pressed : (limit byte : ℕ) → count < limit → Consumes mid.left now.left (byte ∷ []) → OneQuit mid.taken now.taken s (listed (keys_of_byte reader byte))
+      → QuitPressed limit before now s0 reader0
+  quit_pressed limit byte below read quit =
       let more = listed (keys_of_byte reader byte) in
       let ks = completed reader0 so.bytes in
       let ended : quits s0 (completed reader0 (so.bytes ++ byte ∷ [])) ≡ true = ap (quits s0) (completed_more byte) ∙ quits_more more ∙ quit.quit in
       record {
         earlier = so.bytes;
         last = byte;
+        below = subst (λ n. n < limit) (sym so.many) below;
         moved = record {
           read = Consumes-trans _ _ _ so.bytes (byte ∷ []) so.read read;
           wrote = subst (Appends before.taken now.taken)
@@ -137,22 +145,35 @@ module _ (count : ℕ) (before mid now : Told) (s0 : PlainSession) (reader0 : Ke
   unfinished_behind byte = option_to_list (unfinished_key (reader_after reader0 (so.bytes ++ byte ∷ [])))
 
   -- the screen of one of the keys of one more byte was cut short
-  byte_cut : (byte : ℕ) → Consumes mid.left now.left (byte ∷ []) → OneCut mid.taken now.taken s (listed (keys_of_byte reader byte))
-      → ScreenCut before now s0 reader0
+  byte_cut : (limit byte : ℕ) → count < limit → Consumes mid.left now.left (byte ∷ []) → OneCut mid.taken now.taken s (listed (keys_of_byte reader byte))
+      → ScreenCut limit before now s0 reader0
   unfolding unfinished_behind
-  byte_cut byte read cut =
-      screen_cut (byte ∷ []) (listed (keys_of_byte reader byte)) (unfinished_behind byte) (omega arith) read
+  byte_cut limit byte below read cut =
+      screen_cut limit (byte ∷ []) (listed (keys_of_byte reader byte)) (unfinished_behind byte) (omega arith) (omega (arith, below)) (λ none. absurd (one_byte byte none)) read
       (ap (λ l. l ++ unfinished_behind byte) (completed_more byte)) cut
 
   -- one more byte was read, and one of its keys ended the run
-  pub ended_by_byte : (status : Status) (limit byte : ℕ) (s1 : PlainSession) → Consumes mid.left now.left (byte ∷ [])
+  pub ended_by_byte : (status : Status) (limit byte : ℕ) (s1 : PlainSession) → count < limit → Consumes mid.left now.left (byte ∷ [])
       → Turned (End status) mid.taken now.taken s s1 (listed (keys_of_byte reader byte)) → Ended status limit before now s0 reader0
-  ended_by_byte Done limit byte s1 read turned = inr (quit_pressed byte read turned)
-  ended_by_byte WriteFault limit byte s1 read turned = inr (byte_cut byte read turned)
-  ended_by_byte NoMemory limit byte s1 read turned = inr (inr (byte_cut byte read turned))
-  ended_by_byte ReadFault limit byte s1 read turned = absurd turned
-  ended_by_byte BadWords limit byte s1 read turned = absurd turned
-  ended_by_byte KeyLimit limit byte s1 read turned = absurd turned
+  ended_by_byte Done limit byte s1 below read turned = inr (quit_pressed limit byte below read turned)
+  ended_by_byte WriteFault limit byte s1 below read turned = inr (byte_cut limit byte below read turned)
+  ended_by_byte NoMemory limit byte s1 below read turned = inr (inr (byte_cut limit byte below read turned))
+  ended_by_byte ReadFault limit byte s1 below read turned = absurd turned
+  ended_by_byte BadWords limit byte s1 below read turned = absurd turned
+  ended_by_byte KeyLimit limit byte s1 below read turned = absurd turned
+
+  -- a read gave no answer
+  pub read_cut : (limit : ℕ) (lost : List ℕ) → count < limit → length lost ≤ 1 → Consumes mid.left now.left lost → now.taken ≡ mid.taken
+      → ReadCut limit before now s0 reader0
+  read_cut limit lost below one read same = record {
+    bytes = so.bytes;
+    below = subst (λ n. n < limit) (sym so.many) below;
+    lost = lost;
+    one = one;
+    read = Consumes-trans _ _ _ so.bytes lost so.read read;
+    wrote = subst (λ taken. Appends before.taken taken (written_by s0 (completed reader0 so.bytes))) (sym same) so.wrote;
+    going = so.going;
+  }
 
   -- ---- no byte comes any more
 
@@ -174,21 +195,23 @@ module _ (count : ℕ) (before mid now : Told) (s0 : PlainSession) (reader0 : Ke
   }
 
   -- the screen of what isn't complete was cut short
-  unfinished_cut : Consumes mid.left now.left [] → OneCut mid.taken now.taken s unfinished → ScreenCut before now s0 reader0
-  unfinished_cut read cut =
-      screen_cut [] unfinished [] (omega arith) read
+  unfinished_cut : (limit : ℕ) → count ≤ limit → IsAtEnd now.left ⊎ (count ≡ limit) → Consumes mid.left now.left [] → OneCut mid.taken now.taken s unfinished
+      → ScreenCut limit before now s0 reader0
+  unfinished_cut limit within alone read cut =
+      screen_cut limit [] unfinished [] (omega arith) (omega (arith, within)) (λ none. alone) read
       (ap (keys reader0) (append-nil so.bytes) ∙ all_keys ∙ sym (append-nil (completed reader0 so.bytes ++ unfinished))) cut
 
   -- the source ended
-  pub ended_at_end : (turn : Turn) (limit : ℕ) (s1 : PlainSession) → Consumes mid.left now.left [] → IsAtEnd now.left → quits s unfinished ≡ false
+  pub ended_at_end : (turn : Turn) (limit : ℕ) (s1 : PlainSession) → count < limit → Consumes mid.left now.left [] → IsAtEnd now.left → quits s unfinished ≡ false
       → Turned turn mid.taken now.taken s s1 unfinished → Ended (ended_as turn Done) limit before now s0 reader0
-  ended_at_end Next limit s1 read end going shown = inl (record { bytes = so.bytes; moved = all_moved s1 read shown; ended = end; going = so.going })
-  ended_at_end (End Done) limit s1 read end going quit = absurd (true_false (sym quit.quit ∙ going))
-  ended_at_end (End WriteFault) limit s1 read end going cut = inr (unfinished_cut read cut)
-  ended_at_end (End NoMemory) limit s1 read end going cut = inr (inr (unfinished_cut read cut))
-  ended_at_end (End ReadFault) limit s1 read end going turned = absurd turned
-  ended_at_end (End BadWords) limit s1 read end going turned = absurd turned
-  ended_at_end (End KeyLimit) limit s1 read end going turned = absurd turned
+  ended_at_end Next limit s1 below read end going shown =
+      inl (record { bytes = so.bytes; below = subst (λ n. n < limit) (sym so.many) below; moved = all_moved s1 read shown; ended = end; going = so.going })
+  ended_at_end (End Done) limit s1 below read end going quit = absurd (true_false (sym quit.quit ∙ going))
+  ended_at_end (End WriteFault) limit s1 below read end going cut = inr (unfinished_cut limit (omega (arith, below)) (inl end) read cut)
+  ended_at_end (End NoMemory) limit s1 below read end going cut = inr (inr (unfinished_cut limit (omega (arith, below)) (inl end) read cut))
+  ended_at_end (End ReadFault) limit s1 below read end going turned = absurd turned
+  ended_at_end (End BadWords) limit s1 below read end going turned = absurd turned
+  ended_at_end (End KeyLimit) limit s1 below read end going turned = absurd turned
 
   -- as many bytes were read as the limit allows
   pub ended_at_limit : (turn : Turn) (limit : ℕ) (s1 : PlainSession) → count ≡ limit → Consumes mid.left now.left [] → quits s unfinished ≡ false
@@ -200,8 +223,8 @@ module _ (count : ℕ) (before mid now : Told) (s0 : PlainSession) (reader0 : Ke
     going = ap (quits s0) all_keys ∙ quits_more unfinished ∙ going;
   }
   ended_at_limit (End Done) limit s1 all read going quit = absurd (true_false (sym quit.quit ∙ going))
-  ended_at_limit (End WriteFault) limit s1 all read going cut = inr (unfinished_cut read cut)
-  ended_at_limit (End NoMemory) limit s1 all read going cut = inr (inr (unfinished_cut read cut))
+  ended_at_limit (End WriteFault) limit s1 all read going cut = inr (unfinished_cut limit (omega (arith, all)) (inr all) read cut)
+  ended_at_limit (End NoMemory) limit s1 all read going cut = inr (inr (unfinished_cut limit (omega (arith, all)) (inr all) read cut))
   ended_at_limit (End ReadFault) limit s1 all read going turned = absurd turned
   ended_at_limit (End BadWords) limit s1 all read going turned = absurd turned
   ended_at_limit (End KeyLimit) limit s1 all read going turned = absurd turned

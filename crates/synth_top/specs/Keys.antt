@@ -39,8 +39,10 @@ reader_after reader (byte ∷ bytes) = reader_after (reader_behind reader byte) 
 -- the keys that some bytes complete
 abbrev pub completed : KeyReader → List ℕ → List Key
 completed reader [] = []
-completed reader (byte ∷ bytes) = listed (keys_of_byte reader byte) ++ completed (reader_behind reader byte) bytes
+completed reader (byte ∷ bytes) =
+    listed (keys_of_byte reader byte) ++ completed (reader_behind reader byte) bytes
 
 -- the keys of bytes behind which nothing comes
 abbrev pub keys : KeyReader → List ℕ → List Key
-keys reader bytes = completed reader bytes ++ option_to_list (unfinished_key (reader_after reader bytes))
+keys reader bytes =
+    completed reader bytes ++ option_to_list (unfinished_key (reader_after reader bytes))

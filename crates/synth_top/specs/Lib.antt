@@ -3,10 +3,10 @@ pub mod Number
 pub mod Words
 pub mod Keys
 pub mod Session
+pub mod Status
 pub mod Screen
 pub mod Sized
 pub mod Paint
-pub mod Owed
 pub mod View
 pub mod Run
 pub mod Turn

@@ -9,7 +9,9 @@ value_of digits = fold (λ value digit. 10 * value + (digit - 48)) 0 digits
 
 -- from 1 to 10 digits and nothing else, with a value of at most `most`
 abbrev pub is_number : ℕ → List ℕ → Bool
-is_number most text = nat_lt 0 (length text) && nat_le (length text) 10 && list_all is_ascii_digit text && nat_le (value_of text) most
+is_number most text =
+    nat_lt 0 (length text) && nat_le (length text) 10 && list_all is_ascii_digit text &&
+    nat_le (value_of text) most
 
 -- the number that a text is, if it is one
 unfoldable pub number_of : ℕ → List ℕ → Option ℕ

@@ -25,7 +25,8 @@ is_negative cell = nat_le 256 cell
 -- cells as bytes, each in its image; at the end the image is the default one
 abbrev pub spelled : Bool → List ℕ → List ℕ
 spelled image [] = image_change image false
-spelled image (cell ∷ cells) = image_change image (is_negative cell) ++ (cell % 256 ∷ spelled (is_negative cell) cells)
+spelled image (cell ∷ cells) =
+    image_change image (is_negative cell) ++ (cell % 256 ∷ spelled (is_negative cell) cells)
 
 -- a cell before others, where a blank before nothing falls away
 abbrev pub cut_before : ℕ → List ℕ → List ℕ
@@ -49,7 +50,8 @@ row_paint number old new = if pointwise nat_eq old new then [] else row_piece nu
 abbrev pub rows_paint : ℕ → List (List ℕ) → List (List ℕ) → List ℕ
 rows_paint number [] news = []
 rows_paint number (old ∷ olds) [] = []
-rows_paint number (old ∷ olds) (new ∷ news) = row_paint number old new ++ rows_paint (number + 1) olds news
+rows_paint number (old ∷ olds) (new ∷ news) =
+    row_paint number old new ++ rows_paint (number + 1) olds news
 
 -- the rows that differ, and then the cursor's place
 unfoldable pub paint : PlainGrid → PlainGrid → List ℕ

@@ -32,7 +32,8 @@ statement_line (Put part) = codes "  PUT LIST ( " ++ (part_text part ++ codes " 
 -- the lines of the program, without their ends
 abbrev pub program_lines : Statement → List (List ℕ)
 program_lines statement =
-    codes "main: PROCEDURE OPTIONS ( MAIN );" ∷ codes "  {declaration}" ∷ statement_line statement ∷ codes "END;" ∷ codes "{procedure}" ∷ []
+    codes "main: PROCEDURE OPTIONS ( MAIN );" ∷ codes "  {declaration}" ∷
+    statement_line statement ∷ codes "END;" ∷ codes "{procedure}" ∷ []
 
 -- ---- the rows of the screen
 
@@ -67,11 +68,14 @@ prompt statement = prompt_word statement ++ codes "> "
 abbrev pub last_of : ℕ → List ℕ → List ℕ
 last_of room text = drop (length text - room) text
 
--- the prompt and the end of the typed line, of which two columns less than the rest of the row is shown
+-- the prompt and the end of the typed line, of which two columns less than the rest of the row is
+-- shown
 unfoldable pub input_text : PlainSession → List ℕ
-input_text s = prompt s.statement ++ last_of (s.size.cols - 2 - length (prompt s.statement)) s.typed
+input_text s =
+    prompt s.statement ++ last_of (s.size.cols - 2 - length (prompt s.statement)) s.typed
 
--- the text of each row, which counts from 0: the window, a row of dashes, three rows for output (nothing was written), the message, the input
+-- the text of each row, which counts from 0: the window, a row of dashes, three rows for output
+-- (nothing was written), the message, the input
 unfoldable pub row_text : PlainSession → ℕ → List ℕ
 row_text s row =
     if nat_lt row (window_rows s.size) then window_text s row
@@ -80,7 +84,8 @@ row_text s row =
     else (if row == s.size.rows - 1 then input_text s
     else [])))
 
--- the cell of a row in a column, which counts from 0: the last column and what lies behind the text are blank
+-- the cell of a row in a column, which counts from 0: the last column and what lies behind the
+-- text are blank
 abbrev pub cell_of : ℕ → List ℕ → ℕ → ℕ
 cell_of cols text col = if nat_lt (col + 1) cols then slice_index_or text col 32 else 32
 
@@ -90,7 +95,8 @@ shown cols text = map (cell_of cols text) (range_with_len 0 cols)
 
 -- ---- the cursor
 
--- the column of the stop: the hole stands one level in behind the margin, the part of a PUT behind the words of its template
+-- the column of the stop: the hole stands one level in behind the margin, the part of a PUT behind
+-- the words of its template
 abbrev pub stop_col : Statement → ℕ
 stop_col Hole = 5
 stop_col (Put part) = 16

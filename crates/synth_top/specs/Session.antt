@@ -33,12 +33,19 @@ refused s why = record { after = record s { message = Some why }; answer = Refus
 
 -- a command or a phrase that is carried out empties the typed line and the message
 abbrev pub done : PlainSession → Statement → Outcome
-done s statement = record { after = record s { statement = statement; typed = []; message = None }; answer = Done }
+done s statement = record {
+  after = record s { statement = statement; typed = []; message = None };
+  answer = Done;
+}
 
 -- a printable byte is appended to the typed line, which holds 200
 abbrev pub char_typed : PlainSession → ℕ → Outcome
 char_typed s byte =
-    if nat_lt (length s.typed) 200 then record { after = record s { typed = s.typed ++ byte ∷ []; message = None }; answer = Done }
+    if nat_lt (length s.typed) 200
+    then record {
+      after = record s { typed = s.typed ++ byte ∷ []; message = None };
+      answer = Done;
+    }
     else refused s PhraseFull
 
 -- the template command of PUT fills the hole at the cursor
@@ -46,7 +53,8 @@ abbrev pub put_filled : PlainSession → Statement → Outcome
 put_filled s Hole = done s (Put None)
 put_filled s (Put part) = refused s NotHere
 
--- a number that is typed at the part of a PUT becomes its phrase; nothing else is a phrase that is built
+-- a number that is typed at the part of a PUT becomes its phrase; nothing else is a phrase that is
+-- built
 abbrev pub phrase_entered : PlainSession → Statement → Option ℕ → Outcome
 phrase_entered s (Put part) (Some n) = done s (Put (Some n))
 phrase_entered s (Put part) None = refused s NotBuilt

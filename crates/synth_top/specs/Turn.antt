@@ -1,29 +1,30 @@
 -- What pressing some keys does to the session and the screen.
 use Rattle.std.specs.Prelude.{◌≡◌, ℕ, ◌≤◌, true, false, List, [], ◌∷◌, ◌++◌, length, take, Option}
-use Rattle.std.specs.Io.KnownBytes.{Appends, Consumes}
+use Rattle.std.specs.Io.KnownBytes.{Appends}
 use Rattle.synth_top.specs.declared.key.Key.{Key}
-use Rattle.synth_top.specs.declared.key.KeyReader.{KeyReader}
 use Rattle.synth_top.specs.declared.status.Status.{Status}
 use Rattle.synth_top.specs.declared.status.Status.TheVariants.{Done, ReadFault, WriteFault, NoMemory, BadWords, KeyLimit}
 use Rattle.synth_top.specs.declared.run.Turn.{Turn}
 use Rattle.synth_top.specs.declared.run.Turn.TheVariants.{Next, End}
-use Rattle.synth_top.specs.Keys.{completed, reader_after}
 use Rattle.synth_top.specs.Session.{PlainSession}
-use Rattle.synth_top.specs.Run.{Told, after, quits, screens, written_by}
+use Rattle.synth_top.specs.Run.{after, quits, screens}
 
 -- all keys were pressed and all their screens were written
-pub record AllShown (before now : Option (List ℕ)) (s s1 : PlainSession) (keys : List Key) : Type 0 where
+pub record AllShown (before now : Option (List ℕ)) (s s1 : PlainSession) (keys : List Key)
+    : Type 0 where
   pub going : quits s keys ≡ false
   pub session : s1 ≡ after s keys
   pub wrote : Appends before now (screens s keys)
 
 -- one of the keys ended the session
-pub record OneQuit (before now : Option (List ℕ)) (s : PlainSession) (keys : List Key) : Type 0 where
+pub record OneQuit (before now : Option (List ℕ)) (s : PlainSession) (keys : List Key)
+    : Type 0 where
   pub quit : quits s keys ≡ true
   pub wrote : Appends before now (screens s keys)
 
 -- the screen of one of the keys was cut short
-pub record OneCut (before now : Option (List ℕ)) (s : PlainSession) (keys : List Key) : Type 0 where
+pub record OneCut (before now : Option (List ℕ)) (s : PlainSession) (keys : List Key)
+    : Type 0 where
   pub earlier : List Key
   pub last : Key
   pub rest : List Key
@@ -39,7 +40,8 @@ ended_as Next status = status
 ended_as (End ended) status = ended
 
 -- what pressing the keys did, from the session s to s1
-abbrev pub Turned : Turn → Option (List ℕ) → Option (List ℕ) → PlainSession → PlainSession → List Key → Type 0
+abbrev pub Turned : Turn → Option (List ℕ) → Option (List ℕ) → PlainSession → PlainSession →
+    List Key → Type 0
 Turned Next before now s s1 keys = AllShown before now s s1 keys
 Turned (End Done) before now s s1 keys = OneQuit before now s keys
 Turned (End WriteFault) before now s s1 keys = OneCut before now s keys
@@ -47,13 +49,3 @@ Turned (End NoMemory) before now s s1 keys = OneCut before now s keys
 Turned (End ReadFault) before now s s1 keys = ⊥
 Turned (End BadWords) before now s s1 keys = ⊥
 Turned (End KeyLimit) before now s s1 keys = ⊥
-
--- so many bytes were read, all keys that they complete were pressed, and all screens were written
-pub record SoFar (count : ℕ) (before now : Told) (s0 : PlainSession) (reader0 : KeyReader) (s : PlainSession) (reader : KeyReader) : Type 0 where
-  pub bytes : List ℕ
-  pub many : length bytes ≡ count
-  pub read : Consumes before.left now.left bytes
-  pub wrote : Appends before.taken now.taken (written_by s0 (completed reader0 bytes))
-  pub going : quits s0 (completed reader0 bytes) ≡ false
-  pub session_is : s ≡ after s0 (completed reader0 bytes)
-  pub reader_is : reader ≡ reader_after reader0 bytes

@@ -7,7 +7,12 @@ use Rattle.synth_top.specs.Screen.{PlainGrid}
 
 -- a session as plain data
 abbrev pub plain_session : Session → PlainSession
-plain_session s = record { size = s.size; statement = s.statement; typed = s.typed.items; message = s.message }
+plain_session s = record {
+  size = s.size;
+  statement = s.statement;
+  typed = s.typed.items;
+  message = s.message;
+}
 
 -- a grid as plain data
 abbrev pub plain_grid : Grid → PlainGrid

@@ -4,6 +4,7 @@ ghost use Rattle.synth_top.specs.Screen.{cursor_col, cursor_row, grid, blank, in
 ghost use Rattle.synth_top.specs.View.{plain_session, plain_grid};
 ghost use Rattle.synth_top.specs.Sized.{IsSized};
 
+use crate::putting::put;
 use crate::session::{Refusal, Session, Statement};
 use crate::size::ScreenSize;
 use arrayvec::ArrayVec;
@@ -91,14 +92,6 @@ fn set_row(row: &mut Vec<u16>, text: &[u8])
             BLANK
         };
     }
-}
-
-/// Appends bytes to a text that has room for them.
-fn put(text: &mut RowText, bytes: &[u8])
-    requires { array_vec_len text.old + length bytes.now ≤ 160 }
-    ensures { text.new.items ≡ text.old.items ++ bytes.now }
-{
-    let _ = text.try_extend_from_slice(bytes);
 }
 
 /// Puts the text of one row, counted from 0, into an empty text.

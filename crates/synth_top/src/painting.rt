@@ -8,6 +8,7 @@ ghost use Rattle.synth_top.specs.Sized.{IsSized};
 ghost use Rattle.synth_top.specs.View.{plain_grid};
 
 use crate::grid::Grid;
+use crate::putting::put;
 use crate::size::ScreenSize;
 use arrayvec::ArrayVec;
 use synth_outside::{Sink, SinkFault};
@@ -26,14 +27,6 @@ pub fn write_piece<K: Sink>(sink: &mut K, piece: &[u8]) -> Result<(), SinkFault>
         at += sink.write(&piece[at..])?;
     }
     Ok(())
-}
-
-/// Appends bytes to a piece that has room for them.
-fn put(piece: &mut Piece, bytes: &[u8])
-    requires { array_vec_len piece.old + length bytes.now ≤ 1024 }
-    ensures { piece.new.items ≡ piece.old.items ++ bytes.now }
-{
-    let _ = piece.try_extend_from_slice(bytes);
 }
 
 /// Appends a number in decimal.
@@ -116,8 +109,10 @@ fn put_row_piece(piece: &mut Piece, number: u16, cells: &[u16])
 /// Paints one row, whose number counts from 1, where it differs.
 fn paint_row<K: Sink>(number: u16, old: &[u16], new: &[u16], sink: &mut K) -> Result<(), SinkFault>
     requires { length new.now ≤ 160 }
-    ensures all { OnOk result (Appends (K.taken sink.old) (K.taken sink.new) (row_paint number old.now new.now)) }
-    ensures front { OnErr result (AppendsFront (K.taken sink.old) (K.taken sink.new) (row_paint number old.now new.now)) }
+    ensures all { OnOk result
+        (Appends (K.taken sink.old) (K.taken sink.new) (row_paint number old.now new.now)) }
+    ensures front { OnErr result
+        (AppendsFront (K.taken sink.old) (K.taken sink.new) (row_paint number old.now new.now)) }
     ensures cause { HasCause SinkFault.Failed (K.faults sink.old) (K.faults sink.new) result }
 {
     if old == new {
@@ -137,10 +132,15 @@ fn paint_rows<K: Sink>(
 ) -> Result<(), SinkFault>
     requires old { IsSized size (plain_grid old.now) }
     requires new { IsSized size (plain_grid new.now) }
-    ensures all { OnOk result (Appends (K.taken sink.old) (K.taken sink.new) (rows_paint 1 (plain_grid old.now).lines (plain_grid new.now).lines)) }
-    ensures front { OnErr result (AppendsFront (K.taken sink.old) (K.taken sink.new) (rows_paint 1 (plain_grid old.now).lines (plain_grid new.now).lines)) }
+    ensures all { OnOk result
+        (Appends (K.taken sink.old) (K.taken sink.new)
+        (rows_paint 1 (plain_grid old.now).lines (plain_grid new.now).lines)) }
+    ensures front { OnErr result
+        (AppendsFront (K.taken sink.old) (K.taken sink.new)
+        (rows_paint 1 (plain_grid old.now).lines (plain_grid new.now).lines)) }
     ensures cause { HasCause SinkFault.Failed (K.faults sink.old) (K.faults sink.new) result }
 {
+    // A row fits into a piece, since no screen is wider than this says.
     let _cols = size.cols();
     for row in 0..size.rows() {
         paint_row(row + 1, old.line(row), new.line(row), sink)?;
@@ -150,8 +150,10 @@ fn paint_rows<K: Sink>(
 
 /// Paints the place of the cursor.
 fn paint_cursor<K: Sink>(grid: &Grid, sink: &mut K) -> Result<(), SinkFault>
-    ensures all { OnOk result (Appends (K.taken sink.old) (K.taken sink.new) (go_to grid.now.row grid.now.col)) }
-    ensures front { OnErr result (AppendsFront (K.taken sink.old) (K.taken sink.new) (go_to grid.now.row grid.now.col)) }
+    ensures all { OnOk result
+        (Appends (K.taken sink.old) (K.taken sink.new) (go_to grid.now.row grid.now.col)) }
+    ensures front { OnErr result
+        (AppendsFront (K.taken sink.old) (K.taken sink.new) (go_to grid.now.row grid.now.col)) }
     ensures cause { HasCause SinkFault.Failed (K.faults sink.old) (K.faults sink.new) result }
 {
     let mut piece = Piece::new();
@@ -159,8 +161,8 @@ fn paint_cursor<K: Sink>(grid: &Grid, sink: &mut K) -> Result<(), SinkFault>
     write_piece(sink, piece.as_slice())
 }
 
-/// Writes the bytes that turn a terminal which shows the old grid into one which shows the new: each
-/// row that differs as one piece, and then the cursor's place.
+/// Writes the bytes that turn a terminal which shows the old grid into one which shows the new:
+/// each row that differs as one piece, and then the cursor's place.
 #[tactic(auto, unfolding(crate::specs::Paint::paint))]
 pub fn paint<K: Sink>(
     size: ScreenSize,
@@ -170,8 +172,12 @@ pub fn paint<K: Sink>(
 ) -> Result<(), SinkFault>
     requires old { IsSized size (plain_grid old.now) }
     requires new { IsSized size (plain_grid new.now) }
-    ensures all { OnOk result (Appends (K.taken sink.old) (K.taken sink.new) (paint (plain_grid old.now) (plain_grid new.now))) }
-    ensures front { OnErr result (AppendsFront (K.taken sink.old) (K.taken sink.new) (paint (plain_grid old.now) (plain_grid new.now))) }
+    ensures all { OnOk result
+        (Appends (K.taken sink.old) (K.taken sink.new)
+        (paint (plain_grid old.now) (plain_grid new.now))) }
+    ensures front { OnErr result
+        (AppendsFront (K.taken sink.old) (K.taken sink.new)
+        (paint (plain_grid old.now) (plain_grid new.now))) }
     ensures cause { HasCause SinkFault.Failed (K.faults sink.old) (K.faults sink.new) result }
 {
     paint_rows(size, old, new, sink)?;

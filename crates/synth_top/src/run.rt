@@ -1,12 +1,12 @@
-ghost use Rattle.std.specs.Prelude.{◌≡◌, ◌<◌, ◌≤◌, [], ◌∷◌, ◌++◌, false, Option, None, Some, option_to_list, IfOk, OnOk, OnErr, MatchResult, IfErr, IsErrOf};
-ghost use Rattle.std.specs.Io.KnownBytes.{Appends, Consumes, IsAtEnd};
+ghost use Rattle.std.specs.Prelude.{◌≡◌, ◌<◌, ◌≤◌, [], ◌∷◌, false, Option, None, Some, option_to_list, IfOk, OnOk, OnErr};
+ghost use Rattle.std.specs.Io.KnownBytes.{Appends};
 ghost use Rattle.plcs_base.specs.Count.{Rose};
 ghost use Rattle.synth_outside.specs.Cause.{HasCause};
 ghost use Rattle.synth_outside.specs.Reading.{LosesAtMost};
 ghost use Rattle.synth_outside.specs.Writing.{AppendsFront};
 ghost use Rattle.synth_top.specs.Keys.{listed, keys_of_byte, reader_behind, unfinished_key};
 ghost use Rattle.synth_top.specs.Paint.{paint};
-ghost use Rattle.synth_top.specs.Run.{Ended, clear_piece, opening, quits};
+ghost use Rattle.synth_top.specs.Run.{Ended, opening, quits};
 ghost use Rattle.synth_top.specs.Screen.{grid, blank};
 ghost use Rattle.synth_top.specs.Session.{opened};
 ghost use Rattle.synth_top.specs.Turn.{Turned};
@@ -87,9 +87,14 @@ impl Editor {
     /// Draws the session and paints the new screen over the one that is shown.
     fn show<K: Sink>(&mut self, screen: &mut K) -> Result<(), SinkFault>
         requires { IsReady self.old }
-        ensures all { OnOk result (Appends (K.taken screen.old) (K.taken screen.new) (paint (plain_grid self.old.painted) (grid (plain_session self.old.session)))) }
-        ensures front { OnErr result (AppendsFront (K.taken screen.old) (K.taken screen.new) (paint (plain_grid self.old.painted) (grid (plain_session self.old.session)))) }
-        ensures cause { HasCause SinkFault.Failed (K.faults screen.old) (K.faults screen.new) result }
+        ensures all { OnOk result
+            (Appends (K.taken screen.old) (K.taken screen.new)
+            (paint (plain_grid self.old.painted) (grid (plain_session self.old.session)))) }
+        ensures front { OnErr result
+            (AppendsFront (K.taken screen.old) (K.taken screen.new)
+            (paint (plain_grid self.old.painted) (grid (plain_session self.old.session)))) }
+        ensures cause { HasCause SinkFault.Failed (K.faults screen.old)
+            (K.faults screen.new) result }
         ensures ready { IsReady self.new }
         ensures shown { OnOk result (IsShown self.new) }
         ensures session { self.new.session ≡ self.old.session }
@@ -106,9 +111,14 @@ impl Editor {
     fn start<K: Sink>(&mut self, screen: &mut K) -> Result<(), SinkFault>
         requires ready { IsReady self.old }
         requires painted { plain_grid self.old.painted ≡ blank self.old.session.size }
-        ensures all { OnOk result (Appends (K.taken screen.old) (K.taken screen.new) (opening (plain_session self.old.session))) }
-        ensures front { OnErr result (AppendsFront (K.taken screen.old) (K.taken screen.new) (opening (plain_session self.old.session))) }
-        ensures cause { HasCause SinkFault.Failed (K.faults screen.old) (K.faults screen.new) result }
+        ensures all { OnOk result
+            (Appends (K.taken screen.old) (K.taken screen.new)
+            (opening (plain_session self.old.session))) }
+        ensures front { OnErr result
+            (AppendsFront (K.taken screen.old) (K.taken screen.new)
+            (opening (plain_session self.old.session))) }
+        ensures cause { HasCause SinkFault.Failed (K.faults screen.old)
+            (K.faults screen.new) result }
         ensures ready { IsReady self.new }
         ensures shown { OnOk result (IsShown self.new) }
         ensures session { self.new.session ≡ self.old.session }
@@ -123,12 +133,14 @@ impl Editor {
     fn press<K: Sink>(&mut self, key: Key, screen: &mut K) -> Turn
         requires ready { IsReady self.old }
         requires shown { IsShown self.old }
-        ensures turned { Turned result (K.taken screen.old) (K.taken screen.new) (plain_session self.old.session) (plain_session self.new.session) (key ∷ []) }
+        ensures turned { Turned result (K.taken screen.old) (K.taken screen.new)
+            (plain_session self.old.session) (plain_session self.new.session) (key ∷ []) }
         ensures ready { IsReady self.new }
         ensures shown { result ≡ Turn.Next → IsShown self.new }
         ensures reader { self.new.reader ≡ self.old.reader }
         ensures later { K.faults screen.old ≤ K.faults screen.new }
-        ensures cause { result ≡ Turn.End Status.WriteFault → Rose (K.faults screen.old) (K.faults screen.new) }
+        ensures cause { result ≡ Turn.End Status.WriteFault →
+            Rose (K.faults screen.old) (K.faults screen.new) }
     {
         if let Answer::Quit = self.session.press(key) {
             return Turn::End(Status::Done);
@@ -144,12 +156,14 @@ impl Editor {
     fn press_if<K: Sink>(&mut self, key: Option<Key>, screen: &mut K) -> Turn
         requires ready { IsReady self.old }
         requires shown { IsShown self.old }
-        ensures turned { Turned result (K.taken screen.old) (K.taken screen.new) (plain_session self.old.session) (plain_session self.new.session) (option_to_list key) }
+        ensures turned { Turned result (K.taken screen.old) (K.taken screen.new)
+            (plain_session self.old.session) (plain_session self.new.session) (option_to_list key) }
         ensures ready { IsReady self.new }
         ensures shown { result ≡ Turn.Next → IsShown self.new }
         ensures reader { self.new.reader ≡ self.old.reader }
         ensures later { K.faults screen.old ≤ K.faults screen.new }
-        ensures cause { result ≡ Turn.End Status.WriteFault → Rose (K.faults screen.old) (K.faults screen.new) }
+        ensures cause { result ≡ Turn.End Status.WriteFault →
+            Rose (K.faults screen.old) (K.faults screen.new) }
     {
         match key {
             Some(key) => self.press(key, screen),
@@ -161,12 +175,14 @@ impl Editor {
     fn press_keys<K: Sink>(&mut self, keys: Keys, screen: &mut K) -> Turn
         requires ready { IsReady self.old }
         requires shown { IsShown self.old }
-        ensures turned { Turned result (K.taken screen.old) (K.taken screen.new) (plain_session self.old.session) (plain_session self.new.session) (listed keys) }
+        ensures turned { Turned result (K.taken screen.old) (K.taken screen.new)
+            (plain_session self.old.session) (plain_session self.new.session) (listed keys) }
         ensures ready { IsReady self.new }
         ensures shown { result ≡ Turn.Next → IsShown self.new }
         ensures reader { self.new.reader ≡ self.old.reader }
         ensures later { K.faults screen.old ≤ K.faults screen.new }
-        ensures cause { result ≡ Turn.End Status.WriteFault → Rose (K.faults screen.old) (K.faults screen.new) }
+        ensures cause { result ≡ Turn.End Status.WriteFault →
+            Rose (K.faults screen.old) (K.faults screen.new) }
     {
         if let Turn::End(status) = self.press_if(keys.first, screen) {
             return Turn::End(status);
@@ -178,12 +194,15 @@ impl Editor {
     fn take<K: Sink>(&mut self, byte: u8, screen: &mut K) -> Turn
         requires ready { IsReady self.old }
         requires shown { IsShown self.old }
-        ensures turned { Turned result (K.taken screen.old) (K.taken screen.new) (plain_session self.old.session) (plain_session self.new.session) (listed (keys_of_byte self.old.reader byte)) }
+        ensures turned { Turned result (K.taken screen.old) (K.taken screen.new)
+            (plain_session self.old.session) (plain_session self.new.session)
+            (listed (keys_of_byte self.old.reader byte)) }
         ensures ready { IsReady self.new }
         ensures shown { result ≡ Turn.Next → IsShown self.new }
         ensures reader { self.new.reader ≡ reader_behind self.old.reader byte }
         ensures later { K.faults screen.old ≤ K.faults screen.new }
-        ensures cause { result ≡ Turn.End Status.WriteFault → Rose (K.faults screen.old) (K.faults screen.new) }
+        ensures cause { result ≡ Turn.End Status.WriteFault →
+            Rose (K.faults screen.old) (K.faults screen.new) }
     {
         let keys = self.reader.feed(byte);
         self.press_keys(keys, screen)
@@ -194,23 +213,31 @@ impl Editor {
     fn finish<K: Sink>(&mut self, screen: &mut K) -> Turn
         requires ready { IsReady self.old }
         requires shown { IsShown self.old }
-        ensures turned { Turned result (K.taken screen.old) (K.taken screen.new) (plain_session self.old.session) (plain_session self.new.session) (option_to_list (unfinished_key self.old.reader)) }
-        ensures going { quits (plain_session self.old.session) (option_to_list (unfinished_key self.old.reader)) ≡ false }
+        ensures turned { Turned result (K.taken screen.old) (K.taken screen.new)
+            (plain_session self.old.session) (plain_session self.new.session)
+            (option_to_list (unfinished_key self.old.reader)) }
+        ensures going { quits (plain_session self.old.session)
+            (option_to_list (unfinished_key self.old.reader)) ≡ false }
         ensures later { K.faults screen.old ≤ K.faults screen.new }
-        ensures cause { result ≡ Turn.End Status.WriteFault → Rose (K.faults screen.old) (K.faults screen.new) }
+        ensures cause { result ≡ Turn.End Status.WriteFault →
+            Rose (K.faults screen.old) (K.faults screen.new) }
     {
         let key = self.reader.end();
         self.press_if(key, screen)
     }
 
-    /// Runs the session to its end: the opening screen, and then one byte of keys after the other, at
-    /// most as many as the limit.
+    /// Runs the session to its end: the opening screen, and then one byte of keys after the other,
+    /// at most as many as the limit.
     pub fn run<S: Source, K: Sink>(&mut self, limit: u64, keys: &mut S, screen: &mut K) -> Status
         requires ready { IsReady self.old }
         requires painted { plain_grid self.old.painted ≡ blank self.old.session.size }
-        ensures ended { Ended result limit (record { left = S.left keys.old; taken = K.taken screen.old }) (record { left = S.left keys.new; taken = K.taken screen.new }) (plain_session self.old.session) self.old.reader }
+        ensures ended { Ended result limit
+            (record { left = S.left keys.old; taken = K.taken screen.old })
+            (record { left = S.left keys.new; taken = K.taken screen.new })
+            (plain_session self.old.session) self.old.reader }
         ensures read { result ≡ Status.ReadFault → Rose (S.faults keys.old) (S.faults keys.new) }
-        ensures write { result ≡ Status.WriteFault → Rose (K.faults screen.old) (K.faults screen.new) }
+        ensures write { result ≡ Status.WriteFault →
+            Rose (K.faults screen.old) (K.faults screen.new) }
     {
         match self.start(screen) {
             Ok(()) => {}

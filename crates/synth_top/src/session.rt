@@ -98,25 +98,30 @@ impl Session {
     /// Does what a key asks for.
     #[tactic(auto, unfolding(crate::specs::Session::press))]
     pub fn press(&mut self, key: Key) -> Answer
-        ensures pressed { record { after = plain_session self.new; answer = result } ≡ press (plain_session self.old) key }
+        ensures pressed { record { after = plain_session self.new; answer = result } ≡
+            press (plain_session self.old) key }
         ensures size { self.new.size ≡ self.old.size }
     {
         match key {
-            Key::Char(byte) => self.char_typed(byte),
-            Key::Enter => self.line_entered(),
-            _ => self.refused(Refusal::NotBuilt),
+            Key::Char(byte) => self.type_char(byte),
+            Key::Enter => self.enter_line(),
+            _ => self.refuse(Refusal::NotBuilt),
         }
     }
 
-    fn refused(&mut self, why: Refusal) -> Answer
-        ensures { record { after = plain_session self.new; answer = result } ≡ refused (plain_session self.old) why }
+    /// Refuses a key, which changes the message alone.
+    fn refuse(&mut self, why: Refusal) -> Answer
+        ensures { record { after = plain_session self.new; answer = result } ≡
+            refused (plain_session self.old) why }
     {
         self.message = Some(why);
         Answer::Refused(why)
     }
 
-    fn done(&mut self, statement: Statement) -> Answer
-        ensures { record { after = plain_session self.new; answer = result } ≡ done (plain_session self.old) statement }
+    /// Sets the statement, and empties the typed line and the message.
+    fn carry_out(&mut self, statement: Statement) -> Answer
+        ensures { record { after = plain_session self.new; answer = result } ≡
+            done (plain_session self.old) statement }
     {
         self.statement = statement;
         self.typed.clear();
@@ -124,45 +129,53 @@ impl Session {
         Answer::Done
     }
 
-    fn char_typed(&mut self, byte: u8) -> Answer
-        ensures { record { after = plain_session self.new; answer = result } ≡ char_typed (plain_session self.old) byte }
+    /// Appends a byte to the typed line.
+    fn type_char(&mut self, byte: u8) -> Answer
+        ensures { record { after = plain_session self.new; answer = result } ≡
+            char_typed (plain_session self.old) byte }
     {
         if self.typed.is_full() {
-            return self.refused(Refusal::PhraseFull);
+            return self.refuse(Refusal::PhraseFull);
         }
         self.typed.push(byte);
         self.message = None;
         Answer::Done
     }
 
-    fn line_entered(&mut self) -> Answer
-        ensures { record { after = plain_session self.new; answer = result } ≡ line_entered (plain_session self.old) }
+    /// Does what the whole typed line asks for.
+    fn enter_line(&mut self) -> Answer
+        ensures { record { after = plain_session self.new; answer = result } ≡
+            line_entered (plain_session self.old) }
     {
         if self.typed.as_slice() == b".put".as_slice() {
-            return self.put_filled();
+            return self.fill_put();
         }
         if self.typed.as_slice() == b".quit".as_slice() {
             return Answer::Quit;
         }
         let phrase = number_of(GREATEST_NUMBER, self.typed.as_slice());
-        self.phrase_entered(phrase)
+        self.enter_phrase(phrase)
     }
 
-    fn put_filled(&mut self) -> Answer
-        ensures { record { after = plain_session self.new; answer = result } ≡ put_filled (plain_session self.old) self.old.statement }
+    /// Fills the hole with a PUT LIST.
+    fn fill_put(&mut self) -> Answer
+        ensures { record { after = plain_session self.new; answer = result } ≡
+            put_filled (plain_session self.old) self.old.statement }
     {
         match self.statement {
-            Statement::Hole => self.done(Statement::Put(None)),
-            Statement::Put(_) => self.refused(Refusal::NotHere),
+            Statement::Hole => self.carry_out(Statement::Put(None)),
+            Statement::Put(_) => self.refuse(Refusal::NotHere),
         }
     }
 
-    fn phrase_entered(&mut self, phrase: Option<u32>) -> Answer
-        ensures { record { after = plain_session self.new; answer = result } ≡ phrase_entered (plain_session self.old) self.old.statement phrase }
+    /// Sets the part of the PUT to a number.
+    fn enter_phrase(&mut self, phrase: Option<u32>) -> Answer
+        ensures { record { after = plain_session self.new; answer = result } ≡
+            phrase_entered (plain_session self.old) self.old.statement phrase }
     {
         match (self.statement, phrase) {
-            (Statement::Put(_), Some(_)) => self.done(Statement::Put(phrase)),
-            _ => self.refused(Refusal::NotBuilt),
+            (Statement::Put(_), Some(_)) => self.carry_out(Statement::Put(phrase)),
+            _ => self.refuse(Refusal::NotBuilt),
         }
     }
 }

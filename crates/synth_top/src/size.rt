@@ -17,7 +17,8 @@ impl Model for ScreenSize {
 
     ghost view = { λ size. record { rows = size.rows; cols = size.cols } };
 
-    ghost invariant = { λ size. (12 ≤ size.rows) × (size.rows ≤ 100) × (40 ≤ size.cols) × (size.cols ≤ 160) };
+    ghost invariant = { λ size. (12 ≤ size.rows) × (size.rows ≤ 100) ×
+        (40 ≤ size.cols) × (size.cols ≤ 160) };
 
     ghost inverse = { λ extent. record { rows = extent.rows; cols = extent.cols } };
 }

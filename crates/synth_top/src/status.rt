@@ -1,3 +1,5 @@
+ghost use Rattle.std.specs.Prelude.{◌≡◌};
+
 /// How the editor ended. A program ends with the status's number.
 #[derive(Clone, Copy, Debug, PartialEq, Eq)]
 pub enum Status {
@@ -16,8 +18,12 @@ pub enum Status {
 }
 
 impl Status {
+    ghost use Rattle.synth_top.specs.Status.{status_number};
+
     /// The number that a program ends with.
-    pub fn code(self) -> u8 {
+    pub fn code(self) -> u8
+        ensures { result ≡ status_number self }
+    {
         self as u8
     }
 }

@@ -1,7 +1,7 @@
 use Rattle.std.proofs.Common.{◌≤◌, ◌+◌, drop}
-use Rattle.synth_top.specs.Owed.{Owes}
 use Rattle.synth_top.specs.Paint.{rows_paint}
 use Rattle.synth_top.specs.View.{plain_grid}
+use Rattle.synth_top.proofs.Owing.{Owes}
 use Rattle.synth_top.proofs.painting.paint_rows.Given as goal
 
 -- the rows from this one on are still to be painted

@@ -15,14 +15,14 @@ loop-init g c = record {
 
 pub returns-in-End-clause-ended : goal.returns-in-End-clause-ended
 returns-in-End-clause-ended g c =
-    ended_by_byte _ _ _ _ _ _ _ _ c.loop.invariant.so_far c.in-End.status c.args.limit c.in-Ok-Some.byte (plain_session c.take.new.self.session)
+    ended_by_byte _ _ _ _ _ _ _ _ c.loop.invariant.so_far c.in-End.status c.args.limit c.in-Ok-Some.byte (plain_session c.take.new.self.session) (omega arith)
     (rw c.in-Ok-Some.field-0-is at c.in-Ok-Some.ensures.byte) c.in-End.ensures.turned
 
 pub returns-in-Ok-None-clause-ended : goal.returns-in-Ok-None-clause-ended
 returns-in-Ok-None-clause-ended g c =
     let read = rw c.in-Ok-None.field-0-is at c.in-Ok-None.ensures.byte in
     rw c.or.ensures
-    (ended_at_end _ _ _ _ _ _ _ _ c.loop.invariant.so_far c.finish.result c.args.limit (plain_session c.finish.new.self.session) read.0 read.1
+    (ended_at_end _ _ _ _ _ _ _ _ c.loop.invariant.so_far c.finish.result c.args.limit (plain_session c.finish.new.self.session) (omega arith) read.0 read.1
     c.finish.ensures.going c.finish.ensures.turned)
 
 pub loop-preserved : goal.loop-preserved

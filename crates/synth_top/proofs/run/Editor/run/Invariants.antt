@@ -1,7 +1,7 @@
 use Rattle.std.proofs.Common.{◌≤◌}
 use Rattle.synth_top.specs.Editing.{IsReady, IsShown}
-use Rattle.synth_top.specs.Turn.{SoFar}
 use Rattle.synth_top.specs.View.{plain_session}
+use Rattle.synth_top.proofs.Progress.{SoFar}
 use Rattle.synth_top.proofs.run.Editor.run.Given as goal
 
 -- as many bytes were read as turns were made, and the screen shows the session
