@@ -31,7 +31,6 @@ mod CanonicalTokens
 mod TrimmedTexts
 mod CanonicalText
 mod PlacedTokens
-mod FindingSays
 pub mod Stacks
 pub mod Constants
 mod OpenBrackets
@@ -39,7 +38,6 @@ mod Operators
 pub mod Fails
 mod ShapeLevels
 mod FindingsGoOn
-pub mod ShownTokens
 mod FoundPlaces
 
 mod Told
