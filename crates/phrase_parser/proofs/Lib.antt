@@ -36,5 +36,4 @@ mod ShapeLevels
 mod FindingsGoOn
 pub mod ShownTokens
 mod FoundPlaces
-
 mod Told
