@@ -29,13 +29,13 @@ module _ (text : List ℕ) (stop : Option ℕ) (end : ℕ) where
       let seen = seen_in text (get_or tokens i d) in
       let one : i + 1 ≡ suc i = omega arith in
       let later_is : later ≡ seen_over seen (level_of shape seen.kind) =
-          o ∙ ap (seen_over (record { kind = kind; start = seen.start })) l
-          ∙ ap (λ z. seen_over (record { kind = z; start = seen.start }) (level_of shape z)) k in
+      o ∙ ap (seen_over (record { kind = kind; start = seen.start })) l
+      ∙ ap (λ z. seen_over (record { kind = z; start = seen.start }) (level_of shape z)) k in
       sym (ap (λ z. findings (map (seen_in text) z) stop end shape over) (drop-cons tokens i d inside)
-        ∙ go_on_behind seen (map (seen_in text) (drop (suc i) tokens)) shape behind over (ap (next shape) (sym k) ∙ n)
-        ∙ ap (λ z. findings (map (seen_in text) (drop (suc i) tokens)) stop end behind (or_else over z)) (sym later_is)
-        ∙ ap (λ z. findings (map (seen_in text) (drop (suc i) tokens)) stop end behind z) (sym b)
-        ∙ ap (λ j. findings (map (seen_in text) (drop j tokens)) stop end behind both) (sym one))
+      ∙ go_on_behind seen (map (seen_in text) (drop (suc i) tokens)) shape behind over (ap (next shape) (sym k) ∙ n)
+      ∙ ap (λ z. findings (map (seen_in text) (drop (suc i) tokens)) stop end behind (or_else over z)) (sym later_is)
+      ∙ ap (λ z. findings (map (seen_in text) (drop (suc i) tokens)) stop end behind z) (sym b)
+      ∙ ap (λ j. findings (map (seen_in text) (drop j tokens)) stop end behind both) (sym one))
 
 pub still_within : (n : ℕ) (shape behind : Shape) (kind : Kind) → next shape kind ≡ Some behind → Within n shape → Within (n + 1) behind
 still_within n shape behind kind e h = subst (WithinIf (n + 1)) e (next_within n shape kind h)

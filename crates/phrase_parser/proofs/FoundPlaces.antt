@@ -39,8 +39,8 @@ module _ (limit : ℕ) where
   over_within : (seen : Seen) (level : ℕ) → seen.start ≤ limit → OverIf (seen_over seen level)
   over_within seen level h =
       cond_both (is_large seen.kind) (Some (OverLimit.number_too_large seen.start))
-        (cond (ltb greatest_nesting level) (Some (OverLimit.too_deep seen.start)) None) OverIf (λ t. h)
-        (λ t. cond_both (ltb greatest_nesting level) (Some (OverLimit.too_deep seen.start)) None OverIf (λ u. h) (λ u. tt))
+      (cond (ltb greatest_nesting level) (Some (OverLimit.too_deep seen.start)) None) OverIf (λ t. h)
+      (λ t. cond_both (ltb greatest_nesting level) (Some (OverLimit.too_deep seen.start)) None OverIf (λ u. h) (λ u. tt))
 
   or_within : (a b : Option OverLimit) → OverIf a → OverIf b → OverIf (or_else a b)
   or_within None b h k = k
@@ -57,9 +57,9 @@ module _ (limit : ℕ) where
   findings_within [] stop end shape found all s e h = end_within stop end shape found s e h
   findings_within (seen ∷ rest) stop end shape found all s e h =
       next_within (next shape seen.kind) seen.start
-        (λ z. findings rest stop end z (or_else found (seen_over seen (level_of shape seen.kind)))) all.0
-        (λ z. findings_within rest stop end z (or_else found (seen_over seen (level_of shape seen.kind))) all.1 s e
-          (or_within found (seen_over seen (level_of shape seen.kind)) h (over_within seen (level_of shape seen.kind) all.0)))
+      (λ z. findings rest stop end z (or_else found (seen_over seen (level_of shape seen.kind)))) all.0
+      (λ z. findings_within rest stop end z (or_else found (seen_over seen (level_of shape seen.kind))) all.1 s e
+      (or_within found (seen_over seen (level_of shape seen.kind)) h (over_within seen (level_of shape seen.kind) all.0)))
 
 order_last : (pieces : List Piece) (place last : ℕ) → InOrder place pieces last → place ≤ last
 order_last [] place last h = h
@@ -79,4 +79,4 @@ pub found_within : (x : List ℕ) (pieces : List Piece) (stop : Option ℕ) (sha
 found_within x pieces stop shape cut =
     let order : InOrder 0 pieces (length x) = subst (λ n. InOrder 0 pieces n) (omega arith) (cut_in_order pieces 0 x stop cut) in
     findings_within (length x) (map seen_of pieces) stop (length x) shape None (starts_within pieces 0 (length x) order)
-      (stop_if pieces x stop cut) (omega arith) tt
+    (stop_if pieces x stop cut) (omega arith) tt

@@ -39,6 +39,5 @@ pub mod Fails
 mod ShapeLevels
 mod FindingsGoOn
 mod FoundPlaces
-
 mod Told
 pub mod PlacedPieces

@@ -52,7 +52,7 @@ seen_as_kept : (text : List ℕ) (pieces : List Piece) → StandIn text pieces �
 seen_as_kept text [] h = refl
 seen_as_kept text (piece ∷ pieces) h =
     ap (λ k. record { kind = k; start = piece.start } ∷ map (seen_in text) (map kept pieces))
-      (kind_as piece.token (slice_range text piece.start piece.end) (drop piece.end text) h.0)
+    (kind_as piece.token (slice_range text piece.start piece.end) (drop piece.end text) h.0)
     ∙ ap (λ z. seen_of piece ∷ z) (seen_as_kept text pieces h.1)
 
 pub cut_seen : (text : List ℕ) (pieces : List Piece) (stop : Option ℕ) → Cuts pieces 0 text stop
@@ -64,9 +64,10 @@ in_order_lie : (text : List ℕ) (pieces : List Piece) (place : ℕ) → InOrder
     → AllByRecursion (LiesIn text) (map kept pieces) × (place + length pieces ≤ length text)
 in_order_lie text [] place h = (tt, omega (arith, h))
 in_order_lie text (piece ∷ pieces) place h =
-    let r = in_order_lie text pieces piece.end h.2 in
-    ( (record { ordered = omega (arith, h.1); within = omega (arith, r.1) }, r.0)
-    , omega (arith, h.0, h.1, r.1) )
+    let r = in_order_lie text pieces piece.end h.2 in (
+      (record { ordered = omega (arith, h.1); within = omega (arith, r.1) }, r.0),
+      omega (arith, h.0, h.1, r.1),
+    )
 
 pub cut_lies : (text : List ℕ) (pieces : List Piece) (stop : Option ℕ) → Cuts pieces 0 text stop → All (LiesIn text) (map kept pieces)
 cut_lies text pieces stop cut =
@@ -107,7 +108,7 @@ tokens_as : (text : List ℕ) (pieces : List Piece) → StandIn text pieces → 
 tokens_as text [] h f = refl
 tokens_as text (piece ∷ pieces) h f =
     ap (λ k. k ∷ map (token_in text) (map kept pieces))
-      (token_as piece.token (slice_range text piece.start piece.end) (drop piece.end text) h.0 f.0)
+    (token_as piece.token (slice_range text piece.start piece.end) (drop piece.end text) h.0 f.0)
     ∙ ap (λ z. piece.token ∷ z) (tokens_as text pieces h.1 f.1)
 
 pub cut_tokens : (text : List ℕ) (pieces : List Piece) (stop : Option ℕ) → Cuts pieces 0 text stop → AllFit pieces
@@ -117,20 +118,21 @@ cut_tokens text pieces stop cut f = tokens_as text pieces (cut_stands text piece
 placed_in : (text : List ℕ) (pieces : List Piece) → StandIn text pieces → AllByRecursion (LiesIn text) (map kept pieces) → AllFit pieces
     → AllByRecursion (IsPlacedIn text) (map kept pieces)
 placed_in text [] h l f = tt
-placed_in text (piece ∷ pieces) h l f =
-    ( record {
-        ordered = l.0.ordered;
-        within = l.0.within;
-        kind = kind_stands piece.token (slice_range text piece.start piece.end) (drop piece.end text) h.0 f.0;
-      }
-    , placed_in text pieces h.1 l.1 f.1 )
+placed_in text (piece ∷ pieces) h l f = (
+  record {
+    ordered = l.0.ordered;
+    within = l.0.within;
+    kind = kind_stands piece.token (slice_range text piece.start piece.end) (drop piece.end text) h.0 f.0;
+  },
+  placed_in text pieces h.1 l.1 f.1,
+)
 
 pub cut_placed : (text : List ℕ) (pieces : List Piece) (stop : Option ℕ) → Cuts pieces 0 text stop → AllFit pieces
     → All (IsPlacedIn text) (map kept pieces)
 cut_placed text pieces stop cut f =
     All-from_recursion _ (map kept pieces)
-      (placed_in text pieces (cut_stands text pieces 0 text stop refl cut)
-        (in_order_lie text pieces 0 (subst (λ n. InOrder 0 pieces n) (omega arith) (cut_in_order pieces 0 text stop cut))).0 f)
+    (placed_in text pieces (cut_stands text pieces 0 text stop refl cut)
+    (in_order_lie text pieces 0 (subst (λ n. InOrder 0 pieces n) (omega arith) (cut_in_order pieces 0 text stop cut))).0 f)
 
 -- the numbers of a phrase within the limits fit
 fine_fit : (pieces : List Piece) (levels : List ℕ) → AllFine (tokens_of pieces) levels → AllFit pieces

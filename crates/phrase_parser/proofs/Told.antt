@@ -58,11 +58,11 @@ pub told : (c : Category) (x : List ℕ) (items : List Placed) (stop : Option �
     → AreTokens items stop x → as_found found ≡ findings (map (seen_in x) items) stop (length x) shape None → Told c x items found
 told c x items stop shape found e (pieces, cut, same) f =
     let g : findings (map seen_of pieces) stop (length x) shape None ≡ as_found found =
-        ap (λ z. findings z stop (length x) shape None) (sym (cut_seen x pieces stop cut))
-        ∙ ap (λ z. findings (map (seen_in x) z) stop (length x) shape None) (sym same) ∙ sym f in
+    ap (λ z. findings z stop (length x) shape None) (sym (cut_seen x pieces stop cut))
+    ∙ ap (λ z. findings (map (seen_in x) z) stop (length x) shape None) (sym same) ∙ sym f in
     subst (λ z. Told c x z found) (sym same)
-      (told_if c x pieces stop found cut (subst (Says c x pieces) g (finding_says c x pieces stop shape e cut))
-        (subst (FindingWithin (length x)) g (found_within x pieces stop shape cut)))
+    (told_if c x pieces stop found cut (subst (Says c x pieces) g (finding_says c x pieces stop shape e cut))
+    (subst (FindingWithin (length x)) g (found_within x pieces stop shape cut)))
 
 -- the phrase is built
 pub read_whole : (c : Category) (x : List ℕ) (items : List Placed) → IsRead c x items
@@ -90,4 +90,4 @@ pub told_known : (c : Category) (x : List ℕ) (items lent : List Placed) (stop 
     → as_found found ≡ findings (map (seen_in x) lent) stop (length x) shape None → found ≡ known → Told c x items known
 told_known c x items lent stop shape found known same e are f is =
     subst (Told c x items) is
-      (told c x items stop shape found e are (f ∙ ap (λ z. findings (map (seen_in x) z) stop (length x) shape None) same))
+    (told c x items stop shape found e are (f ∙ ap (λ z. findings (map (seen_in x) z) stop (length x) shape None) same))

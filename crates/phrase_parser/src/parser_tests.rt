@@ -102,8 +102,16 @@ const CATEGORIES: [Row; 48] = [
 const READ: [Row; 11] = [
     (Assignment, b"a ( 1 )=-x", Ok(b"a(1) = -x")),
     (Condition, b"^(a|b)&c", Ok(b"^( a | b ) & c")),
-    (Expression, b"a||'b'<=c*3/4-+5", Ok(b"a || 'b' <= c * 3 / 4 - +5")),
-    (ExpressionList, b"1,'it''s',MAX(a,b)", Ok(b"1, 'it''s', MAX(a, b)")),
+    (
+        Expression,
+        b"a||'b'<=c*3/4-+5",
+        Ok(b"a || 'b' <= c * 3 / 4 - +5"),
+    ),
+    (
+        ExpressionList,
+        b"1,'it''s',MAX(a,b)",
+        Ok(b"1, 'it''s', MAX(a, b)"),
+    ),
     (VariableList, b"a,b(i+1),MOD(2)", Ok(b"a, b(i + 1), MOD(2)")),
     (Variable, b" i ", Ok(b"i")),
     (CallRef, b" p ", Ok(b"p")),
@@ -230,34 +238,57 @@ const NESTED: [NestedRow; 14] = [
 
 #[test]
 fn levels_are_counted(rt: HostRuntime) -> Result<(), Fail> {
-    for (count, opening, middle, closing, wanted) in NESTED {
-        let text = nested(rt.alloc(), count, opening, middle, closing)?;
-        let fault = fault_of(&rt, rt.alloc(), &text);
-        assert_eq!(rt; fault, wanted, "{count} times {opening:?} around {middle:?}");
+    for row in NESTED {
+        compare_nested(&rt, rt.alloc(), row)?;
     }
     Ok(())
 }
 
 const MILLION: u32 = 1_000_000;
 
-/// Texts of a million and more tokens or bytes.
-const LONG: [NestedRow; 6] = [
-    (MILLION, b"(", b"", b"", Some(Syntax(1_000_000))),
-    (MILLION, b"-", b"", b"", Some(Syntax(1_000_000))),
-    (MILLION, b"-", b"1", b"", Some(TooDeep(32))),
-    (MILLION, b"(", b"1", b")", Some(TooDeep(32))),
-    (MILLION, b"1+", b"1", b"", None),
-    (MILLION, b"a", b"", b"", Some(Syntax(0))),
-];
+/// Compares the fault of a nested text with the one that is wanted.
+fn compare_nested(rt: &impl Abort, alloc: Global, row: NestedRow) -> Result<(), AllocError> {
+    let (count, opening, middle, closing, wanted) = row;
+    let text = nested(alloc, count, opening, middle, closing)?;
+    let fault = fault_of(rt, alloc, &text);
+    assert_eq!(rt;
+        fault,
+        wanted,
+        "{count} times {opening:?} around {middle:?}"
+    );
+    Ok(())
+}
 
 #[test]
-fn long_texts_are_answered(rt: HostRuntime) -> Result<(), Fail> {
-    for (count, opening, middle, closing, wanted) in LONG {
-        let text = nested(rt.alloc(), count, opening, middle, closing)?;
-        let fault = fault_of(&rt, rt.alloc(), &text);
-        assert_eq!(rt; fault, wanted, "{opening:?} around {middle:?}");
-    }
-    let quoted = nested(rt.alloc(), 1, b"'", &vec![in rt.alloc(); b'a'; 1_000_000]?, b"'")?;
+fn a_million_open_parentheses_are_answered(rt: HostRuntime) -> Result<(), Fail> {
+    let wanted = Some(Syntax(1_000_000));
+    compare_nested(&rt, rt.alloc(), (MILLION, b"(", b"", b"", wanted))?;
+    Ok(())
+}
+
+#[test]
+fn a_million_minus_signs_are_answered(rt: HostRuntime) -> Result<(), Fail> {
+    let wanted = Some(TooDeep(32));
+    compare_nested(&rt, rt.alloc(), (MILLION, b"-", b"1", b"", wanted))?;
+    Ok(())
+}
+
+#[test]
+fn a_million_operators_are_answered(rt: HostRuntime) -> Result<(), Fail> {
+    compare_nested(&rt, rt.alloc(), (MILLION, b"1+", b"1", b"", None))?;
+    Ok(())
+}
+
+#[test]
+fn a_million_bytes_of_one_token_are_answered(rt: HostRuntime) -> Result<(), Fail> {
+    compare_nested(&rt, rt.alloc(), (MILLION, b"a", b"", b"", Some(Syntax(0))))?;
+    let quoted = nested(
+        rt.alloc(),
+        1,
+        b"'",
+        &vec![in rt.alloc(); b'a'; 1_000_000]?,
+        b"'",
+    )?;
     assert_eq!(rt; fault_of(&rt, rt.alloc(), &quoted), Some(Syntax(0)));
     Ok(())
 }

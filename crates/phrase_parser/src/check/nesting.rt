@@ -109,10 +109,7 @@ pub fn comma(alloc: Global, nesting: Nesting) -> Result<Option<Shape>, AllocErro
         return Ok(None);
     }
     brackets.push(bracket)?;
-    Ok(Some(Shape::Wanted(
-        Nesting { place, brackets },
-        bracket.level,
-    )))
+    Ok(Some(Shape::Wanted(Nesting { place, brackets }, bracket.level)))
 }
 
 /// Whether a phrase may end where all that is open is this.

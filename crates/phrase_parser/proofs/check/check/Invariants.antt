@@ -7,7 +7,7 @@ abbrev pub invariant-loop-token : goal.invariant-loop-token
 invariant-loop-token l =
     record {
       found :
-        findings (map (seen_in l.text) (drop l.token-index l.tokens)) l.stop (length l.text) (shape_of l.shape) (over_if l.over)
-        ≡ findings (map (seen_in l.text) l.tokens) l.stop (length l.text) (shape_of l.fn.first) None;
+          findings (map (seen_in l.text) (drop l.token-index l.tokens)) l.stop (length l.text) (shape_of l.shape) (over_if l.over)
+          ≡ findings (map (seen_in l.text) l.tokens) l.stop (length l.text) (shape_of l.fn.first) None;
       within : Within l.token-index (shape_of l.shape);
     }
