@@ -7,7 +7,7 @@ ghost use Rattle.phrase_parser.specs.Views.{base_of, stack_of, state_of};
 use crate::builder::fault::BuildError;
 use crate::builder::lists::{with_expr, with_item, with_variable};
 use crate::builder::make::{cell, expression, parenthesized, subscripted};
-use crate::builder::operators::reduced;
+use crate::builder::operators::{EVERY_LEVEL, reduced};
 use crate::builder::state::{Base, Frame, Primary, Stack, State};
 use plcs_grammar::Expr;
 use std::alloc::Global;
@@ -53,7 +53,7 @@ pub fn closed(alloc: Global, state: State) -> Result<State, BuildError>
 {
     match state {
         State::Had(stack, primary) => {
-            let (stack, expr) = reduced(alloc, stack, 1, expression(primary))?;
+            let (stack, expr) = reduced(alloc, stack, EVERY_LEVEL, expression(primary))?;
             closed_at(alloc, stack, expr)
         }
         State::SizeHad(done, name, size) => {

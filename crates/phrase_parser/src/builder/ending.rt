@@ -7,7 +7,7 @@ ghost use Rattle.phrase_parser.specs.Views.{base_of, stack_of, role_of, state_of
 use crate::builder::fault::BuildError;
 use crate::builder::lists::{with_expr, with_item, with_name, with_variable};
 use crate::builder::make::{expression, simple};
-use crate::builder::operators::reduced;
+use crate::builder::operators::{EVERY_LEVEL, reduced};
 use crate::builder::state::{Base, Role, Stack, State};
 use plcs_base::Name;
 use plcs_grammar::{Expr, Phrase};
@@ -61,7 +61,7 @@ pub fn ended(alloc: Global, state: State) -> Result<Phrase, BuildError>
 {
     match state {
         State::Had(stack, primary) => {
-            let (stack, expr) = reduced(alloc, stack, 1, expression(primary))?;
+            let (stack, expr) = reduced(alloc, stack, EVERY_LEVEL, expression(primary))?;
             ended_at(stack, expr)
         }
         State::NameHad(role, name) => ended_by_role(alloc, role, name),

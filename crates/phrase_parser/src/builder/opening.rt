@@ -1,50 +1,14 @@
 ghost use Rattle.std.specs.Prelude.{◌≡◌, IfOk};
-ghost use Rattle.plcs_grammar.specs.Builtin.{builtin_name};
-ghost use Rattle.phrase_parser.specs.Machine.{builtin_of, named_open, opened_behind, opened_by_role, opened, Stack as OpenStack, State as MachineState};
+ghost use Rattle.phrase_parser.specs.Machine.{named_open, opened_behind, opened_by_role, opened, Stack as OpenStack, State as MachineState};
 ghost use Rattle.phrase_parser.specs.Gives.{Gives};
 ghost use Rattle.phrase_parser.specs.Views.{base_of, stack_of, primary_of, role_of, state_of, pushed};
 
+use crate::builder::builtins::builtin_of;
 use crate::builder::fault::BuildError;
 use crate::builder::state::{Base, Frame, Primary, Role, Stack, State};
 use plcs_base::Name;
 use plcs_grammar::Builtin;
 use std::alloc::{AllocError, Global};
-
-/// The functions that the language has.
-const BUILTINS: [Builtin; 7] = [
-    Builtin::Abs,
-    Builtin::Mod,
-    Builtin::Min,
-    Builtin::Max,
-    Builtin::Length,
-    Builtin::Substr,
-    Builtin::Index,
-];
-
-/// The name of the function.
-fn builtin_name(function: Builtin) -> &'static [u8]
-    ensures { result.now ≡ builtin_name function }
-{
-    match function {
-        Builtin::Abs => b"ABS",
-        Builtin::Mod => b"MOD",
-        Builtin::Min => b"MIN",
-        Builtin::Max => b"MAX",
-        Builtin::Length => b"LENGTH",
-        Builtin::Substr => b"SUBSTR",
-        Builtin::Index => b"INDEX",
-    }
-}
-
-/// The built-in function of the name.
-fn builtin_of(name: &[u8]) -> Option<Builtin>
-    ensures { result ≡ builtin_of name.now }
-{
-    BUILTINS
-        .iter()
-        .copied()
-        .find(|function| name == builtin_name(*function))
-}
 
 /// The stack with one frame more.
 #[tactic(auto, using(crate::proofs::Stacks::stack_on_push))]

@@ -8,6 +8,9 @@ use crate::builder::make::number;
 use crate::builder::state::{Primary, State};
 use plcs_base::Name;
 
+/// The greatest length that a text can be declared with.
+const GREATEST_LENGTH: u32 = 256;
+
 /// A whole operand is read.
 pub fn operand(state: State, primary: Primary) -> Result<State, BuildError>
     ensures { Gives state_of result (operand (state_of state) (primary_of primary)) }
@@ -37,7 +40,7 @@ pub fn numbered(state: State, n: u32) -> Result<State, BuildError>
     match state {
         State::Wanted(stack) => Ok(State::Had(stack, number(n))),
         State::SizeWanted(done, name) if 1 <= n => Ok(State::SizeHad(done, name, n)),
-        State::LengthWanted if 1 <= n && n <= 256 => Ok(State::LengthHad(n as u16)),
+        State::LengthWanted if 1 <= n && n <= GREATEST_LENGTH => Ok(State::LengthHad(n as u16)),
         _ => Err(BuildError::Refused),
     }
 }

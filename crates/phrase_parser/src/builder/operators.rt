@@ -12,6 +12,9 @@ use crate::token::Sign;
 use plcs_grammar::{Expr, InfixOp, PrefixOp};
 use std::alloc::{AllocError, Global};
 
+/// The level at which every operator is joined.
+pub const EVERY_LEVEL: u8 = 1;
+
 /// The operator that the sign is before an operand.
 pub fn prefix_of(sign: Sign) -> Option<PrefixOp>
     ensures { result ≡ prefix_of (sign_of sign) }

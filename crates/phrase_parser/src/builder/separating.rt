@@ -8,7 +8,7 @@ use crate::builder::fault::BuildError;
 use crate::builder::lists::{with_expr, with_item, with_name, with_variable};
 use crate::builder::make::{expression, simple};
 use crate::builder::opening::{wanted_on, with_frame};
-use crate::builder::operators::reduced;
+use crate::builder::operators::{EVERY_LEVEL, reduced};
 use crate::builder::state::{Base, Frame, Role, Stack, State};
 use plcs_base::Name;
 use plcs_grammar::Expr;
@@ -81,7 +81,7 @@ pub fn separated(alloc: Global, state: State) -> Result<State, BuildError>
 {
     match state {
         State::Had(stack, primary) => {
-            let (stack, expr) = reduced(alloc, stack, 1, expression(primary))?;
+            let (stack, expr) = reduced(alloc, stack, EVERY_LEVEL, expression(primary))?;
             separated_at(alloc, stack, expr)
         }
         State::NameHad(role, name) => separated_by_role(role, name),
