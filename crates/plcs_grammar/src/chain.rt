@@ -7,6 +7,8 @@ use crate::expr::Expr;
 
 /// How many operators the expression has along its left operands, or the greatest number where they
 /// are more.
+///
+/// What is shown doesn't depend on it: a smaller number would only cost more stack.
 pub(crate) fn count_operators(expr: &Expr) -> u32 {
     let mut count: u32 = 0;
     let mut at = expr;
