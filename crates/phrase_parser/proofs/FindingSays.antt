@@ -1,18 +1,16 @@
 -- What the check finds in the tokens of a text says what the text is.
-use Rattle.std.proofs.Common.{◌≡◌, ◌⊎◌, inl, inr, refl, ℕ, List, map, Option, Some, None, ap, sym, subst, ◌∙◌, length}
+use Rattle.std.proofs.Common.{◌≡◌, inl, inr, refl, ℕ, List, map, Option, Some, None, ap, sym, subst, ◌∙◌, length}
 use Rattle.plcs_grammar.specs.declared.category.Category.{Category}
-use Rattle.plcs_grammar.specs.declared.category.Category.TheVariants.{Assignment, Condition, Expression, ExpressionList, VariableList, Variable, CallRef, DeclaredList, ProcedureName, NameList, Length, CommentText}
 use Rattle.plcs_grammar.specs.Reading.{Reading}
 use Rattle.plcs_grammar.specs.Cuts.{Piece, Cuts, tokens_of}
 use Rattle.plcs_grammar.specs.Form.{Form}
-use Rattle.plcs_grammar.specs.Limit.{OverLimit, IsWithinLimits, first_over, phrase_opened}
-use Rattle.plcs_grammar.specs.Reads.{IsCutAs, Outline, Reads, IsOver}
-use Rattle.plcs_grammar.specs.Syntax.{GoesWrong, SyntaxAt}
-use Rattle.phrase_parser.specs.declared.fault.PhraseFault.{PhraseFault}
-use Rattle.phrase_parser.specs.declared.fault.PhraseFault.TheVariants.{Syntax, NumberTooLarge, TooDeep, OutOfMemory}
+use Rattle.plcs_grammar.specs.Limit.{OverLimit, first_over, phrase_opened}
+use Rattle.plcs_grammar.specs.Reads.{Outline, Reads, IsOver}
+use Rattle.plcs_grammar.specs.Syntax.{GoesWrong}
+use Rattle.phrase_parser.specs.declared.fault.PhraseFault.TheVariants.{Syntax}
 use Rattle.phrase_parser.specs.Machine.{run, start, ended_if}
 use Rattle.phrase_parser.specs.Recognizer.{Shape, first_shape}
-use Rattle.phrase_parser.specs.Findings.{Finding, finding_of, seen_of, findings}
+use Rattle.phrase_parser.specs.Findings.{Finding, seen_of, findings}
 use Rattle.phrase_parser.specs.Answers.{FaultSays, over_fault}
 use Rattle.phrase_parser.proofs.OneCut.{one_cut}
 use Rattle.phrase_parser.proofs.Completeness.{complete}
@@ -20,21 +18,6 @@ use Rattle.phrase_parser.proofs.Limits.{none_over}
 use Rattle.phrase_parser.proofs.Checked.{Means, found_means}
 use Rattle.phrase_parser.proofs.PlacedTokens.{AllFit, form_fit}
 use Rattle.phrase_parser.proofs.Found.{finds_fine, finds_over, finds_wrong}
-
--- each category but that of comments has tokens
-pub some_shape : (c : Category) → (c ≡ CommentText → ⊥) → (shape : Shape) × (first_shape c ≡ Some shape)
-some_shape Assignment h = (_, refl)
-some_shape Condition h = (_, refl)
-some_shape Expression h = (_, refl)
-some_shape ExpressionList h = (_, refl)
-some_shape VariableList h = (_, refl)
-some_shape Variable h = (_, refl)
-some_shape CallRef h = (_, refl)
-some_shape DeclaredList h = (_, refl)
-some_shape ProcedureName h = (_, refl)
-some_shape NameList h = (_, refl)
-some_shape Length h = (_, refl)
-some_shape CommentText h = absurd (h refl)
 
 -- what is found in a phrase is no place of wrong syntax
 form_found : (c : Category) (pieces : List Piece) (end place : ℕ) (shape : Shape) (p : Reading) (over : Option OverLimit)

@@ -1,5 +1,5 @@
 -- One more token that can stand there leaves the rest to be found in the tokens behind it.
-use Rattle.std.proofs.Common.{◌≡◌, refl, ℕ, suc, ◌+◌, ◌<◌, length, map, drop, List, [], ◌∷◌, Option, Some, None, ap, sym, subst, ◌∙◌, arith}
+use Rattle.std.proofs.Common.{◌≡◌, refl, ℕ, suc, ◌+◌, ◌<◌, length, map, drop, List, ◌∷◌, Option, Some, None, ap, sym, subst, ◌∙◌, arith}
 use Rattle.std.specs.Prelude.{get_or}
 use Rattle.std.specs.Option.{option_or}
 use Rattle.std.proofs.Math.Seq.{drop-cons}
@@ -7,7 +7,7 @@ use Rattle.plcs_grammar.specs.Limit.{OverLimit, or_else}
 use Rattle.phrase_parser.specs.declared.check.finding.Over.{Over}
 use Rattle.phrase_parser.specs.declared.token.Placed.{Placed}
 use Rattle.phrase_parser.specs.Recognizer.{Kind, Shape, next, level_of}
-use Rattle.phrase_parser.specs.Findings.{Finding, Seen, found_at, seen_over, findings}
+use Rattle.phrase_parser.specs.Findings.{Seen, found_at, seen_over, findings}
 use Rattle.phrase_parser.specs.Shapes.{seen_in, over_if, Within}
 use Rattle.phrase_parser.proofs.ShapeLevels.{WithinIf, next_within}
 

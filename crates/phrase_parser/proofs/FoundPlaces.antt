@@ -1,5 +1,5 @@
 -- The places that the check finds lie in the text, or at its end.
-use Rattle.std.proofs.Common.{◌≡◌, refl, ℕ, ◌≤◌, Bool, true, false, cond, ltb, map, List, [], ◌∷◌, Option, Some, None, arith, length, subst, ◌+◌, ◌<◌}
+use Rattle.std.proofs.Common.{ℕ, ◌≤◌, cond, ltb, map, List, [], ◌∷◌, Option, Some, None, arith, length, subst}
 use Rattle.std.specs.List.{AllByRecursion}
 use Rattle.std.proofs.lemmas.Bool.{cond_both}
 use Rattle.plcs_grammar.specs.Cuts.{Piece, Cuts}

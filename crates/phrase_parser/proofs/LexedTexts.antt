@@ -14,8 +14,8 @@ use Rattle.plcs_grammar.specs.Cuts.{Piece, Cuts, blanks, unblanked, is_blank, to
 use Rattle.phrase_parser.specs.Kept.{kept_kind}
 use Rattle.phrase_parser.specs.Front.{front_of}
 use Rattle.phrase_parser.proofs.Runs.{run_none, name_word, keyword_word}
-use Rattle.phrase_parser.proofs.Longest.{EndsSign, is_second, name_found, keyword_found, number_found, text_found, bit_found, sign_found}
-use Rattle.phrase_parser.proofs.OneCut.{found_first, one_cut}
+use Rattle.phrase_parser.proofs.Longest.{EndsSign, is_second, name_found, number_found, text_found, bit_found, sign_found}
+use Rattle.phrase_parser.proofs.OneCut.{found_first}
 use Rattle.phrase_parser.proofs.Numerals.{decimal_numeral}
 
 -- with y behind it, x is cut into the tokens, wherever it stands and whatever follows
@@ -214,24 +214,6 @@ safe_digit (byte ∷ rest) safe =
     let word = or_parts (is_letter byte) (is_digit byte || eqb byte 95) (safe_word (byte ∷ rest) safe) in
     (or_parts (is_digit byte) (eqb byte 95) word.1).0
 
--- a token is the longest, where what follows is safe
-pub safe_first : (token : Token) (bytes behind : List ℕ) → IsToken token bytes behind → Safe behind
-    → First (bytes ++ behind) token bytes behind
-safe_first (Token.name n) bytes behind is safe =
-    subst (λ (b : List ℕ). First (b ++ behind) (Token.name n) b behind) (sym is.0) (name_first n behind is.1 (safe_word behind safe))
-safe_first (Token.keyword word) bytes behind is safe =
-    subst (λ (b : List ℕ). First (b ++ behind) (Token.keyword word) b behind) (sym is.0)
-    (first_if_found (Token.keyword word) word behind (refl, is.1, is.2) (keyword_found word behind is.1 (safe_word behind safe)))
-safe_first (Token.number n) bytes behind is safe =
-    subst (λ (m : ℕ). First (bytes ++ behind) (Token.number m) bytes behind) is.1 (number_first bytes behind is.0 (safe_digit behind safe))
-safe_first (Token.text value) bytes behind is safe =
-    subst (λ (b : List ℕ). First (b ++ behind) (Token.text value) b behind) (sym is.0)
-    (text_first value behind is.1 (safe_quote behind safe) (safe_word behind safe))
-safe_first (Token.bit bit) bytes behind is safe =
-    subst (λ (b : List ℕ). First (b ++ behind) (Token.bit bit) b behind) (sym is.0) (bit_first bit behind (safe_word behind safe))
-safe_first (Token.sign s) bytes behind is safe =
-    subst (λ (b : List ℕ). First (b ++ behind) (Token.sign s) b behind) (sym is) (sign_first s behind (safe_sign behind safe))
-
 -- one name, where what follows is safe
 pub lexed_name : (n behind : List ℕ) → IsName n → Safe behind → Lexed n (Token.name n ∷ []) behind
 lexed_name n behind named safe = lexed_first (Token.name n) n behind (name_first n behind named (safe_word behind safe))
@@ -257,10 +239,6 @@ lexed_bit bit behind safe = lexed_first (Token.bit bit) (bit_bytes bit) behind (
 pub lexed_sign : (s : grammar.Sign) (behind : List ℕ) → EndsSign behind → Lexed (sign_bytes s) (Token.sign s ∷ []) behind
 lexed_sign s behind ends = lexed_first (Token.sign s) (sign_bytes s) behind (sign_first s behind ends)
 
--- one blank alone
-pub lexed_one_blank : (behind : List ℕ) → Lexed (32 ∷ []) [] behind
-lexed_one_blank behind = lexed_blank [] [] behind (lexed_empty behind)
-
 -- a whole text is cut into its tokens
 pub lexed_whole : (x : List ℕ) (tokens : List Token) → Lexed x tokens []
     → (pieces : List Piece) × Cuts pieces 0 x None × (tokens_of pieces ≡ tokens)
@@ -270,12 +248,3 @@ lexed_whole x tokens a = (
       (subst (λ (ps : List Piece). Cuts ps 0 (x ++ []) None) (append-nil (a.pieces 0)) (a.cuts 0 [] None refl)),
   a.same 0,
 )
-
--- and into no other
-pub lexed_only : (x : List ℕ) (tokens : List Token) (pieces : List Piece) (stop : Option ℕ) → Lexed x tokens []
-    → Cuts pieces 0 x stop
-    → (stop ≡ None) × (tokens_of pieces ≡ tokens)
-lexed_only x tokens pieces stop a cuts =
-    let (others, whole, same) = lexed_whole x tokens a in
-    let one = one_cut pieces others 0 x stop None cuts whole in
-    (one.1, ap tokens_of one.0 ∙ same)

@@ -25,7 +25,6 @@ pub mod PieceFacts
 pub mod LexedTexts
 mod KeptNumbers
 mod Found
-pub mod ShownTokens
 mod FindingSays
 mod CanonicalTokens
 mod TrimmedTexts
@@ -40,4 +39,3 @@ mod ShapeLevels
 mod FindingsGoOn
 mod FoundPlaces
 mod Told
-pub mod PlacedPieces

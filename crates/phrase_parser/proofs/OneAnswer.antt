@@ -1,25 +1,24 @@
 -- What the answers say of a text excludes each other.
-use Rattle.std.proofs.Common.{◌≡◌, ◌⊎◌, inl, inr, refl, ℕ, List, [], ◌∷◌, ◌++◌, Option, Some, None, Result, Ok, Err, ap, sym, subst, ◌∙◌, length, map}
+use Rattle.std.proofs.Common.{◌≡◌, inl, inr, refl, ℕ, List, ◌++◌, Option, Some, None, Result, Ok, Err, ap, sym, subst, ◌∙◌, length, map}
 use Rattle.plcs_grammar.specs.declared.category.Category.{Category}
 use Rattle.plcs_grammar.specs.declared.category.Category.TheVariants.{Assignment, Condition, Expression, ExpressionList, VariableList, Variable, CallRef, DeclaredList, ProcedureName, NameList, Length, CommentText}
 use Rattle.plcs_grammar.specs.declared.phrase.Phrase.{Phrase}
 use Rattle.plcs_grammar.specs.Token.{Token}
 use Rattle.plcs_grammar.specs.Reading.{Reading}
 use Rattle.plcs_grammar.specs.PlainForm.{reading_of}
-use Rattle.plcs_grammar.specs.Cuts.{Piece, Cuts, tokens_of}
+use Rattle.plcs_grammar.specs.Cuts.{Piece, tokens_of}
 use Rattle.plcs_grammar.specs.Form.{Form, Begins}
 use Rattle.plcs_grammar.specs.Limit.{OverLimit, IsWithinLimits, first_over, phrase_opened}
-use Rattle.plcs_grammar.specs.Comment.{comment_syntax}
-use Rattle.plcs_grammar.specs.Reads.{IsCutAs, IsCommentAs, HasReading, Outline, Reads, IsOver}
+use Rattle.plcs_grammar.specs.Reads.{IsCutAs, HasReading, Outline, Reads, IsOver}
 use Rattle.plcs_grammar.specs.Syntax.{GoesWrong, SyntaxAt}
 use Rattle.phrase_parser.specs.declared.fault.PhraseFault.{PhraseFault}
 use Rattle.phrase_parser.specs.declared.fault.PhraseFault.TheVariants.{Syntax, NumberTooLarge, TooDeep, OutOfMemory}
 use Rattle.phrase_parser.specs.Machine.{run, start, ended_if}
 use Rattle.phrase_parser.specs.Recognizer.{Shape, first_shape}
 use Rattle.phrase_parser.specs.Findings.{Finding, seen_of, findings}
-use Rattle.phrase_parser.specs.Answers.{FaultSays, Answers, Only, OnlyFault, over_fault}
+use Rattle.phrase_parser.specs.Answers.{Answers, Only, OnlyFault, over_fault}
 use Rattle.phrase_parser.proofs.OneCut.{one_cut}
-use Rattle.phrase_parser.proofs.Completeness.{complete, unique, run_none, alive}
+use Rattle.phrase_parser.proofs.Completeness.{complete, unique, run_none}
 use Rattle.phrase_parser.proofs.Limits.{within}
 use Rattle.phrase_parser.proofs.Found.{finds_wrong}
 

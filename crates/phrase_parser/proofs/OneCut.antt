@@ -12,7 +12,7 @@ use Rattle.phrase_parser.specs.declared.front.Front.{Front}
 use Rattle.phrase_parser.specs.declared.token.TokenKind.{TokenKind}
 use Rattle.phrase_parser.specs.Kept.{kept_sign, kept_kind}
 use Rattle.phrase_parser.specs.Front.{front_of}
-use Rattle.phrase_parser.specs.Shown.{shown_sign}
+use Rattle.phrase_parser.specs.TokenIn.{sign_of}
 use Rattle.phrase_parser.specs.Unquoted.{undoubled, undoubled_behind}
 use Rattle.phrase_parser.proofs.Runs.{name_word, keyword_word}
 use Rattle.phrase_parser.proofs.FoundTokens.{found_tells}
@@ -94,24 +94,24 @@ token_not_empty token [] behind is = absurd (empty_no_token token behind is)
 token_not_empty token (byte ∷ rest) behind is = omega arith
 
 -- a sign is read again from what is kept of it
-pub shown_kept_sign : (s : grammar.Sign) → shown_sign (kept_sign s) ≡ s
-shown_kept_sign grammar.Sign.plus = refl
-shown_kept_sign grammar.Sign.minus = refl
-shown_kept_sign grammar.Sign.times = refl
-shown_kept_sign grammar.Sign.divide = refl
-shown_kept_sign grammar.Sign.join = refl
-shown_kept_sign grammar.Sign.equal = refl
-shown_kept_sign grammar.Sign.not_equal = refl
-shown_kept_sign grammar.Sign.less = refl
-shown_kept_sign grammar.Sign.less_equal = refl
-shown_kept_sign grammar.Sign.greater = refl
-shown_kept_sign grammar.Sign.greater_equal = refl
-shown_kept_sign grammar.Sign.ampersand = refl
-shown_kept_sign grammar.Sign.bar = refl
-shown_kept_sign grammar.Sign.caret = refl
-shown_kept_sign grammar.Sign.open_parenthesis = refl
-shown_kept_sign grammar.Sign.close_parenthesis = refl
-shown_kept_sign grammar.Sign.comma = refl
+pub sign_of-kept : (s : grammar.Sign) → sign_of (kept_sign s) ≡ s
+sign_of-kept grammar.Sign.plus = refl
+sign_of-kept grammar.Sign.minus = refl
+sign_of-kept grammar.Sign.times = refl
+sign_of-kept grammar.Sign.divide = refl
+sign_of-kept grammar.Sign.join = refl
+sign_of-kept grammar.Sign.equal = refl
+sign_of-kept grammar.Sign.not_equal = refl
+sign_of-kept grammar.Sign.less = refl
+sign_of-kept grammar.Sign.less_equal = refl
+sign_of-kept grammar.Sign.greater = refl
+sign_of-kept grammar.Sign.greater_equal = refl
+sign_of-kept grammar.Sign.ampersand = refl
+sign_of-kept grammar.Sign.bar = refl
+sign_of-kept grammar.Sign.caret = refl
+sign_of-kept grammar.Sign.open_parenthesis = refl
+sign_of-kept grammar.Sign.close_parenthesis = refl
+sign_of-kept grammar.Sign.comma = refl
 
 -- doubling quotes and taking one of each two changes nothing
 pub undoubled_doubled : (value : List ℕ) → undoubled (with_quotes_doubled value) ≡ value
@@ -143,7 +143,7 @@ one_token (Token.bit b) (Token.bit c) bytes behind is so same = let e : b ≡ c 
 one_token (Token.bit b) k bytes behind is so same = absurd cc
 one_token (Token.sign s) (Token.sign t) bytes behind is so same =
     let e : kept_sign s ≡ kept_sign t = cc in
-    ap Token.sign (sym (shown_kept_sign s) ∙ ap shown_sign e ∙ shown_kept_sign t)
+    ap Token.sign (sym (sign_of-kept s) ∙ ap sign_of e ∙ sign_of-kept t)
 one_token (Token.sign s) k bytes behind is so same = absurd cc
 
 covers_exactly : (k : TokenKind) (n : ℕ) (front : Front) → Covers k n (Some front) → front.length ≤ n

@@ -1,5 +1,5 @@
 -- The open parentheses of the check, of which the innermost is the last.
-use Rattle.std.proofs.Common.{◌≡◌, refl, ℕ, List, [], ◌∷◌, ◌++◌, map, reverse, ap, sym, subst, ◌∙◌}
+use Rattle.std.proofs.Common.{◌≡◌, List, [], ◌∷◌, ◌++◌, map, reverse, ap, ◌∙◌}
 use Rattle.std.proofs.lemmas.List.{reverse-append, map-append}
 use Rattle.phrase_parser.specs.declared.check.shape.Bracket.{Bracket}
 use Rattle.phrase_parser.specs.Shapes.{bracket_of, brackets_of}

@@ -4,11 +4,12 @@ use Rattle.std.specs.Prelude.{IsTrue, slice_range}
 use Rattle.std.proofs.lemmas.List.{take_at, drop_at, drop-drop, length-append, length-drop}
 use Rattle.std.proofs.lemmas.List.Sums.{prefix_len-le-length}
 use Rattle.plcs_base.specs.Name.{IsName, is_keyword}
-use Rattle.plcs_grammar.specs.Token.{Token, IsToken, IsConstantText, with_quotes_doubled}
+use Rattle.plcs_grammar.specs.Token.{Token, IsToken, IsConstantText}
 use Rattle.plcs_grammar.specs.Cuts.{Piece, Cuts, blanks, unblanked, is_blank, tokens_of}
-use Rattle.phrase_parser.specs.Shown.{unquoted}
+use Rattle.phrase_parser.specs.TokenIn.{inside}
+use Rattle.phrase_parser.proofs.Constants.{undoubled_inside}
 use Rattle.phrase_parser.specs.Unquoted.{undoubled}
-use Rattle.phrase_parser.proofs.OneCut.{token_not_empty, undoubled_doubled}
+use Rattle.phrase_parser.proofs.OneCut.{token_not_empty}
 
 -- what a token of a text is, whatever stands round it: a name is a name, and a constant can be a value
 abbrev pub IsSound : Token → Type 0
@@ -104,11 +105,5 @@ cut_stands text (piece ∷ pieces) place x stop at (bytes, behind, first, start,
 
 -- the value of a character constant is what stands between its quotes, with one quote for each two
 pub constant_value : (value bytes behind : List ℕ) → IsToken (Token.text value) bytes behind
-    → unquoted bytes ≡ value
-constant_value value bytes behind is =
-    let inner = with_quotes_doubled value in
-    let size : length bytes - 1 - 1 ≡ length inner = omega (arith, ap length is.0, length-append inner (39 ∷ [])) in
-    let between_quotes : slice_range bytes 1 (length bytes - 1) ≡ inner =
-    ap (λ (n : ℕ). take n (drop 1 bytes)) size ∙ ap (λ (b : List ℕ). take (length inner) (drop 1 b)) is.0
-    ∙ take_at inner (39 ∷ []) (length inner) refl in
-    ap undoubled between_quotes ∙ undoubled_doubled value
+    → undoubled (inside bytes) ≡ value
+constant_value value bytes behind is = ap (λ (b : List ℕ). undoubled (inside b)) is.0 ∙ undoubled_inside value

@@ -1,5 +1,5 @@
 -- The tokens of a text stand in it where they are kept.
-use Rattle.std.proofs.Common.{◌≡◌, refl, ℕ, ◌+◌, ◌<◌, ◌≤◌, ◌-◌, min, length, map, drop, List, [], ◌∷◌, Option, Some, None, ap, sym, subst, ◌∙◌, arith, All, lit≤, le_trans}
+use Rattle.std.proofs.Common.{◌≡◌, refl, ℕ, ◌+◌, ◌≤◌, min, length, map, drop, List, [], ◌∷◌, Option, ap, sym, subst, ◌∙◌, arith, All}
 use Rattle.std.specs.Prelude.{slice_range}
 use Rattle.std.specs.List.{AllByRecursion}
 use Rattle.std.proofs.lemmas.List.Elements.{All-from_recursion}
@@ -11,12 +11,11 @@ use Rattle.plcs_grammar.specs.Reading.{Reading}
 use Rattle.plcs_grammar.specs.Cuts.{Piece, Cuts, tokens_of}
 use Rattle.plcs_grammar.specs.Form.{Form}
 use Rattle.plcs_grammar.specs.Limit.{IsWithinLimits, greatest_number, phrase_opened}
-use Rattle.phrase_parser.specs.declared.token.Placed.{Placed}
 use Rattle.phrase_parser.specs.Kept.{kept_sign, kept_kind, kept}
 use Rattle.phrase_parser.specs.Recognizer as model
-use Rattle.phrase_parser.specs.Findings.{Seen, seen_of}
+use Rattle.phrase_parser.specs.Findings.{seen_of}
 use Rattle.phrase_parser.specs.Shapes.{kind_from, seen_in, LiesIn}
-use Rattle.phrase_parser.specs.TokenIn.{sign_of, token_from, token_in, bytes_in, IsConstant, IsOfKind, IsPlacedIn}
+use Rattle.phrase_parser.specs.TokenIn.{sign_of, token_from, token_in, IsOfKind, IsPlacedIn}
 use Rattle.phrase_parser.proofs.Limits.{NumberFits, AllFine, within, none_fine}
 use Rattle.phrase_parser.proofs.PieceFacts.{InOrder, cut_in_order, StandIn, cut_stands, constant_value}
 

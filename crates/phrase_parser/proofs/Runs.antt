@@ -2,9 +2,9 @@
 use Rattle.std.proofs.Common.{◌≡◌, ℕ, suc, ◌+◌, ◌≤◌, Bool, true, false, not, List, [], ◌∷◌, ◌++◌, length, take, drop, refl, ap, ◌∙◌, inl, inr, arith}
 use Rattle.std.specs.Prelude.{nat_le, bytes_eq}
 use Rattle.std.specs.List.{list_all, list_any, prefix_len}
-use Rattle.std.proofs.lemmas.Bool.{and_parts, and_from, or_left, or_right, or_cases, cond-true, cond-false, cond_both, leb-true}
+use Rattle.std.proofs.lemmas.Bool.{and_parts, and_from, or_left, or_cases, cond-true, cond-false, cond_both, leb-true}
 use Rattle.std.proofs.lemmas.Slice.Eq.{bytes_eq-Decides}
-use Rattle.plcs_base.specs.Byte.{is_letter, is_digit, is_name_byte}
+use Rattle.plcs_base.specs.Byte.{is_letter, is_name_byte}
 use Rattle.plcs_base.specs.Name.{keywords, is_keyword, is_word, is_name, IsName}
 use Rattle.plcs_grammar.specs.Token.{begins_with}
 
@@ -57,10 +57,6 @@ run_first p x xs h =
 pub letter_is_name_byte : (byte : ℕ) → is_letter byte ≡ true → is_name_byte byte ≡ true
 letter_is_name_byte byte h = or_left (is_letter byte) _ h
 
--- a digit may follow in a name
-pub digit_is_name_byte : (byte : ℕ) → is_digit byte ≡ true → is_name_byte byte ≡ true
-digit_is_name_byte byte h = or_right (is_letter byte) _ (or_left (is_digit byte) _ h)
-
 -- each byte of a word may follow in a name
 pub word_bytes : (w : List ℕ) → is_word w ≡ true → list_all is_name_byte w ≡ true
 word_bytes [] h = refl
@@ -97,10 +93,6 @@ name_word w h = (and_parts (is_word w) _ h).0
 pub name_short : (w : List ℕ) → IsName w → length w ≤ 31
 name_short w h =
     leb-true (length w) 31 (and_parts (nat_le (length w) 31) (not (is_keyword w)) (and_parts (is_word w) _ h).1).0
-
--- a name is no keyword
-pub name_no_keyword : (w : List ℕ) → IsName w → not (is_keyword w) ≡ true
-name_no_keyword w h = (and_parts (nat_le (length w) 31) (not (is_keyword w)) (and_parts (is_word w) _ h).1).1
 
 -- a short word that is no name is a keyword
 pub word_no_name : (w : List ℕ) → is_word w ≡ true → nat_le (length w) 31 ≡ true → is_name w ≡ false → is_keyword w ≡ true

@@ -1,14 +1,11 @@
 -- The levels of a shape are no more than the tokens before it.
-use Rattle.std.proofs.Common.{◌≡◌, refl, ℕ, ◌+◌, ◌≤◌, Bool, true, false, cond, List, [], ◌∷◌, Option, Some, None, arith, le_refl, le_trans, zero-le}
+use Rattle.std.proofs.Common.{ℕ, ◌+◌, ◌≤◌, Bool, true, false, cond, List, [], ◌∷◌, Option, Some, None, arith, zero-le}
 use Rattle.std.specs.List.{AllByRecursion}
-use Rattle.std.proofs.lemmas.Bool.{cond_both}
-use Rattle.plcs_grammar.specs.declared.category.Category.{Category}
-use Rattle.plcs_grammar.specs.declared.category.Category.TheVariants.{Assignment, Condition, Expression, ExpressionList, VariableList, Variable, CallRef, DeclaredList, ProcedureName, NameList, Length, CommentText}
 use Rattle.plcs_grammar.specs.declared.operator.PrefixOp.{PrefixOp}
 use Rattle.plcs_grammar.specs.declared.operator.InfixOp.{InfixOp}
 use Rattle.plcs_grammar.specs.Sign.{Sign}
 use Rattle.phrase_parser.specs.Machine.{prefix_of, infix_of}
-use Rattle.phrase_parser.specs.Recognizer.{Kind, Ground, Bracket, Last, Use, Shape, ground_level, inside, next_name, next_constant, next_number, next_open_behind, next_open_name, next_open, next_close_ground, next_close_in, next_close, next_comma_ground, next_comma_in, next_comma_name, next_comma, next_equal_name, next_equal, next_prefix, next_infix, next_operator, next_sign, next, first_shape}
+use Rattle.phrase_parser.specs.Recognizer.{Kind, Ground, Bracket, Last, Use, Shape, inside, next_name, next_constant, next_number, next_open_behind, next_open_name, next_open, next_close_in, next_close, next_comma_in, next_comma_name, next_comma, next_equal_name, next_equal, next_prefix, next_infix, next_operator, next_sign, next}
 use Rattle.phrase_parser.specs.Shapes.{LastWithin, NestingWithin, Within}
 
 abbrev pub WithinIf : ℕ → Option Shape → Type 0
@@ -256,18 +253,3 @@ next_within n s Kind.keyword h = tt
 next_within n s (Kind.number k) h = if_more n (next_number s k) (next_number_within n s k h)
 next_within n s Kind.constant h = if_more n (next_constant s) (next_constant_within n s h)
 next_within n s (Kind.sign sign) h = next_sign_within n s sign h
-
--- nothing is open before all tokens
-pub first_within : (c : Category) → WithinIf 0 (first_shape c)
-first_within Assignment = tt
-first_within Condition = (zero-le, (zero-le, tt))
-first_within Expression = (zero-le, (zero-le, tt))
-first_within ExpressionList = (zero-le, (zero-le, tt))
-first_within VariableList = tt
-first_within Variable = tt
-first_within CallRef = tt
-first_within DeclaredList = tt
-first_within ProcedureName = tt
-first_within NameList = tt
-first_within Length = tt
-first_within CommentText = tt

@@ -1,11 +1,11 @@
 -- What the check of the tokens of a text answers says what the text is.
-use Rattle.std.proofs.Common.{◌≡◌, refl, ℕ, ◌≤◌, ◌<◌, List, map, length, Option, Some, None, Result, Ok, Err, All, ap, sym, subst, ◌∙◌}
+use Rattle.std.proofs.Common.{◌≡◌, ℕ, ◌≤◌, List, map, length, Option, Some, None, Result, Ok, Err, All, ap, sym, subst, ◌∙◌}
 use Rattle.std.specs.Prelude.{is_some, IsTrue}
 use Rattle.plcs_grammar.specs.declared.category.Category.{Category}
 use Rattle.plcs_grammar.specs.declared.phrase.Phrase.{Phrase}
 use Rattle.plcs_grammar.specs.Reading.{Reading}
 use Rattle.plcs_grammar.specs.PlainForm.{reading_of}
-use Rattle.plcs_grammar.specs.Cuts.{Piece, Cuts, tokens_of}
+use Rattle.plcs_grammar.specs.Cuts.{Piece, Cuts}
 use Rattle.plcs_grammar.specs.Reads.{Reads}
 use Rattle.phrase_parser.specs.declared.check.finding.Finding.{Finding}
 use Rattle.phrase_parser.specs.declared.check.finding.Finding.TheVariants.{Fine, SyntaxAt, Over}
@@ -19,7 +19,7 @@ use Rattle.phrase_parser.specs.Findings.{seen_of, findings}
 use Rattle.phrase_parser.specs.Shapes.{seen_in, as_found, over_of, over_place, LiesIn}
 use Rattle.phrase_parser.specs.TokenIn.{token_in, IsPlacedIn}
 use Rattle.phrase_parser.specs.Answers.{FaultSays, Answers, IsBuilt, over_fault}
-use Rattle.phrase_parser.proofs.PlacedTokens.{AllFit, cut_seen, cut_lies, cut_few, cut_tokens, cut_placed}
+use Rattle.phrase_parser.proofs.PlacedTokens.{cut_seen, cut_lies, cut_few, cut_tokens, cut_placed}
 use Rattle.phrase_parser.proofs.FoundPlaces.{FindingWithin, found_within}
 use Rattle.phrase_parser.proofs.FindingSays.{Says, finding_says}
 
@@ -79,10 +79,6 @@ pub built_answers : (c : Category) (x : List ℕ) (items : List Placed) (answer 
     → IsBuilt answer (ended_if (run (map (token_in x) items) (start c))) → Answers c x answer
 built_answers c x items answer h b =
     built_if c x answer (ended_if (run (map (token_in x) items) (start c))) h.phrase b h.built h.reads
-
--- want of memory is answered as such
-pub memory_answers : (c : Category) (x : List ℕ) (answer : Result Phrase PhraseFault) → answer ≡ Err fault.OutOfMemory → Answers c x answer
-memory_answers c x answer e = subst (Answers c x) (sym e) tt
 
 -- what an answer says, of the tokens as they were lent
 pub told_known : (c : Category) (x : List ℕ) (items lent : List Placed) (stop : Option ℕ) (shape : Shape) (found known : Finding)

@@ -1,8 +1,8 @@
 -- A comment's text is refused exactly where it isn't one.
-use Rattle.std.proofs.Common.{◌≡◌, ◌≢◌, ◌⊎◌, inl, inr, refl, ℕ, suc, ◌+◌, ◌≤◌, Bool, true, false, cond, ◌||◌, not, List, [], ◌∷◌, ◌++◌, take, drop, reverse, length, Option, Some, None, ap, sym, subst, ◌∙◌, append_assoc, append-nil, zero-le, arith}
-use Rattle.std.specs.Prelude.{nat_eq, bytes_eq, All}
+use Rattle.std.proofs.Common.{◌≡◌, inl, inr, refl, ℕ, suc, ◌+◌, ◌≤◌, Bool, true, false, cond, ◌||◌, not, List, [], ◌∷◌, ◌++◌, take, drop, reverse, length, Some, None, ap, sym, ◌∙◌, append_assoc, zero-le, arith}
+use Rattle.std.specs.Prelude.{nat_eq, bytes_eq}
 use Rattle.std.specs.List.{list_all, starts_with, prefix_len}
-use Rattle.std.proofs.lemmas.Bool.{and_parts, and_from, or_left, or_right, or_parts, or_from, cond-true, cond-false, cond_both, false_from_ne_true, not_from_true}
+use Rattle.std.proofs.lemmas.Bool.{and_parts, and_from, or_right, or_parts, or_from, cond-true, cond-false, cond_both, false_from_ne_true, not_from_true}
 use Rattle.std.proofs.lemmas.Bool.Decides.{Decides-eqb}
 use Rattle.std.proofs.lemmas.Slice.Eq.{bytes_eq-Decides, starts_is}
 use Rattle.std.proofs.lemmas.List.{reverse-append, reverse-reverse, take-append-drop}

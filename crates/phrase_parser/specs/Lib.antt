@@ -11,5 +11,4 @@ pub mod Gives
 pub mod Views
 pub mod Reduction
 pub mod Shapes
-pub mod Shown
 pub mod Laws

@@ -1,5 +1,5 @@
 -- What the check keeps, as the machine without trees has it.
-use Rattle.std.specs.Prelude.{ℕ, ◌≤◌, List, [], ◌∷◌, map, reverse, length, slice_range, Option, Some, None}
+use Rattle.std.specs.Prelude.{ℕ, ◌≤◌, List, map, reverse, length, Option, Some, None}
 use Rattle.std.specs.List.{AllByRecursion}
 use Rattle.plcs_grammar.specs.Builtin.{is_builtin_name}
 use Rattle.plcs_grammar.specs.Limit.{OverLimit}
@@ -8,7 +8,6 @@ use Rattle.phrase_parser.specs.declared.check.kind.Kind.TheVariants as kept
 use Rattle.phrase_parser.specs.declared.check.shape.Ground.{Ground}
 use Rattle.phrase_parser.specs.declared.check.shape.Ground.TheVariants.{Whole, Listed, TargetIndex, VariableIndex, CallList}
 use Rattle.phrase_parser.specs.declared.check.shape.Bracket.{Bracket}
-use Rattle.phrase_parser.specs.declared.check.shape.Nesting.{Nesting}
 use Rattle.phrase_parser.specs.declared.check.shape.Last.{Last}
 use Rattle.phrase_parser.specs.declared.check.shape.Last.TheVariants.{Operand, Named}
 use Rattle.phrase_parser.specs.declared.check.shape.Role.{Role}

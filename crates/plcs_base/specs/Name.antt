@@ -24,5 +24,6 @@ is_word (first ∷ rest) = is_letter first && list_all is_name_byte rest
 abbrev pub is_name : List ℕ → Bool
 is_name bytes = is_word bytes && (nat_le (length bytes) 31 && not (is_keyword bytes))
 
+-- the bytes are a name
 abbrev pub IsName : List ℕ → Type 0
 IsName bytes = IsTrue (is_name bytes)

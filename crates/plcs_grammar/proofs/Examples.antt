@@ -1,4 +1,4 @@
--- Rows that the definitions give by computing.
+-- Small cases, as the definitions give them by computing.
 use Rattle.std.proofs.Common.{◌≡◌, refl, ℕ, zero, suc, ◌≤◌, pos, negsuc, Bool, true, false, List, [], ◌∷◌, ◌++◌, codes, length, Some, None, sym, ap, subst, arith, lit≤, length-append, inl}
 use Rattle.std.specs.Fmt.{digits}
 use Rattle.std.specs.Prelude.{IsTrue}

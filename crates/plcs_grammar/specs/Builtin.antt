@@ -5,6 +5,7 @@ use Rattle.std.specs.List.{list_any}
 use Rattle.plcs_grammar.specs.declared.builtin.Builtin.{Builtin}
 use Rattle.plcs_grammar.specs.declared.builtin.Builtin.TheVariants.{Abs, Mod, Min, Max, Length, Substr, Index}
 
+-- how a built-in function is written
 abbrev pub builtin_name : Builtin → List ℕ
 builtin_name Abs = codes "ABS"
 builtin_name Mod = codes "MOD"
@@ -14,6 +15,7 @@ builtin_name Length = codes "LENGTH"
 builtin_name Substr = codes "SUBSTR"
 builtin_name Index = codes "INDEX"
 
+-- all built-in functions
 abbrev pub builtins : List Builtin
 builtins = Abs ∷ Mod ∷ Min ∷ Max ∷ Length ∷ Substr ∷ Index ∷ []
 

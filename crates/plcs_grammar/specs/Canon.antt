@@ -25,20 +25,23 @@ abbrev mutual
   canon (Tree.builtin function arguments) = builtin_name function ++ parenthesized_bytes (canon_list arguments)
   canon (Tree.parenthesized a) = codes "( " ++ (canon a ++ codes " )")
 
+  -- the canonical text of a variable
   pub canon_reference : Reference → List ℕ
   canon_reference (Reference.simple name) = name
   canon_reference (Reference.subscripted name index) = name ++ parenthesized_bytes (canon index)
 
-  -- a comma is followed by one blank
+  -- the canonical texts of expressions, joined by a comma and a blank
   pub canon_list : Trees → List ℕ
   canon_list Trees.nil = []
   canon_list (Trees.cons a rest) = canon a ++ canon_behind rest
 
+  -- the same for those behind the first, each behind its comma
   pub canon_behind : Trees → List ℕ
   canon_behind Trees.nil = []
   canon_behind (Trees.cons a rest) = codes ", " ++ (canon a ++ canon_behind rest)
 
 module _ {X : Type 0} (bytes_of : X → List ℕ) where
+  -- their texts, each behind a comma and a blank
   abbrev pub more_joined : List X → List ℕ
   more_joined [] = []
   more_joined (x ∷ xs) = codes ", " ++ (bytes_of x ++ more_joined xs)
@@ -53,6 +56,7 @@ abbrev pub canon_sized : List ℕ → Option ℕ → List ℕ
 canon_sized name None = name
 canon_sized name (Some size) = name ++ parenthesized_bytes (decimal size)
 
+-- the canonical text of a declared item
 abbrev pub canon_item : Item → List ℕ
 canon_item item = canon_sized item.name item.size
 

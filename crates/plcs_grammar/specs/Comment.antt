@@ -3,18 +3,21 @@ use Rattle.std.specs.Prelude.{◌≢◌, ℕ, ◌+◌, ◌||◌, not, nat_eq, if
 use Rattle.std.specs.Str.{bytes_eq}
 use Rattle.std.specs.List.{list_all, starts_with}
 use Rattle.plcs_base.specs.Byte.{is_printable}
+use Rattle.plcs_grammar.specs.declared.category.Category.TheVariants.{CommentText}
+use Rattle.plcs_grammar.specs.Placeholder.{placeholder, placeholder_word}
 use Rattle.plcs_grammar.specs.Cuts.{unblanked}
 
 -- the text without the blanks at both its ends
 abbrev pub trimmed : List ℕ → List ℕ
 trimmed x = reverse (unblanked (reverse (unblanked x)))
 
--- what would end the comment, and what stands for one that isn't there yet
+-- what would end the comment
 abbrev pub comment_end : List ℕ
 comment_end = codes "*/"
 
+-- what stands for a comment that isn't there yet
 abbrev pub comment_placeholder : List ℕ
-comment_placeholder = codes "{comment}"
+comment_placeholder = placeholder (placeholder_word CommentText)
 
 -- the text can stand in a comment
 pub record IsCommentText (x : List ℕ) : Type 0 where

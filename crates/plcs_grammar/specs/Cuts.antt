@@ -9,9 +9,11 @@ pub record Piece : Type 0 where
   pub start : ℕ
   pub end : ℕ
 
+-- the tokens of the pieces
 abbrev pub tokens_of : List Piece → List Token
 tokens_of pieces = map (λ piece. piece.token) pieces
 
+-- whether the byte is a blank
 abbrev pub is_blank : ℕ → Bool
 is_blank byte = byte == 32
 

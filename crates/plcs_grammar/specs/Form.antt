@@ -11,11 +11,12 @@ use Rattle.plcs_grammar.specs.Level.{Level, IsReference, Joined, in_parentheses}
 abbrev pub IsNameToken : List ℕ → List Token → Type 0
 IsNameToken name tokens = tokens ≡ Token.name name ∷ []
 
--- the tokens are a declared name, with the size of an array or without one
+-- the tokens are a declared name, with the size of an array, which is at least 1, or without one
 abbrev pub IsSizedName : List ℕ → Option ℕ → List Token → Type 0
 IsSizedName name None tokens = IsNameToken name tokens
 IsSizedName name (Some size) tokens = (1 ≤ size) × (tokens ≡ Token.name name ∷ in_parentheses (Token.number size ∷ []))
 
+-- the tokens are the declared item
 abbrev pub IsItem : Item → List Token → Type 0
 IsItem item tokens = IsSizedName item.name item.size tokens
 
@@ -57,6 +58,7 @@ IsPhrase (Reading.comment bytes) tokens = ⊥
 abbrev pub Form : Category → List Token → Reading → Type 0
 Form category tokens phrase = (category_of phrase ≡ category) × IsPhrase phrase tokens
 
--- the tokens, followed by some further ones, are a phrase of the category
+-- the tokens, followed by some further ones, are a phrase of the category; the further names and texts may be of any
+-- bytes, since wherever such a one can stand a real one can
 abbrev pub Begins : Category → List Token → Type 0
 Begins category tokens = (more : List Token) × (phrase : Reading) × Form category (tokens ++ more) phrase

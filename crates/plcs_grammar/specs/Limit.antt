@@ -4,9 +4,11 @@ use Rattle.plcs_grammar.specs.Token.{Token}
 use Rattle.plcs_grammar.specs.Cuts.{Piece}
 use Rattle.plcs_grammar.specs.Reading.{Tree, Trees, Reference, Reading}
 
+-- the greatest number that a phrase may have
 abbrev pub greatest_number : ℕ
 greatest_number = 2147483647
 
+-- how deep a phrase may be nested
 abbrev pub greatest_nesting : ℕ
 greatest_nesting = 32
 
@@ -31,6 +33,7 @@ abbrev mutual
   deepest Trees.nil = 0
   deepest (Trees.cons a rest) = max (nesting a) (deepest rest)
 
+-- how deep the deepest variable is
 abbrev pub deepest_reference : List Reference → ℕ
 deepest_reference [] = 0
 deepest_reference (reference ∷ rest) = max (reference_nesting reference) (deepest_reference rest)
@@ -67,10 +70,12 @@ abbrev mutual
   numbers (Tree.builtin function arguments) = numbers_of_all arguments
   numbers (Tree.parenthesized a) = numbers a
 
+  -- the numbers in a variable
   pub reference_numbers : Reference → List ℕ
   reference_numbers (Reference.simple name) = []
   reference_numbers (Reference.subscripted name index) = numbers index
 
+  -- the numbers in expressions
   pub numbers_of_all : Trees → List ℕ
   numbers_of_all Trees.nil = []
   numbers_of_all (Trees.cons a rest) = numbers a ++ numbers_of_all rest
@@ -133,10 +138,12 @@ abbrev pub references_behind : List Reference → List ℕ
 references_behind [] = []
 references_behind (reference ∷ rest) = 0 ∷ (reference_opened reference 0 ++ references_behind rest)
 
+-- the same for one or more variables
 abbrev pub opened_by_references : List Reference → List ℕ
 opened_by_references [] = []
 opened_by_references (reference ∷ rest) = reference_opened reference 0 ++ references_behind rest
 
+-- the same for a call, whose arguments stand one level in
 abbrev pub opened_by_call : Trees → List ℕ
 opened_by_call Trees.nil = 0 ∷ []
 opened_by_call (Trees.cons a rest) = 0 ∷ 1 ∷ (opened_by_all (Trees.cons a rest) 1 ++ (0 ∷ []))
@@ -161,6 +168,7 @@ pub data OverLimit : Type 0 where
   number_too_large : ℕ → OverLimit
   too_deep : ℕ → OverLimit
 
+-- whether the token is a number over the limit
 abbrev pub is_too_large : Token → Bool
 is_too_large (Token.number n) = nat_lt greatest_number n
 is_too_large (Token.name n) = false
@@ -175,6 +183,7 @@ over_at piece level =
     if is_too_large piece.token then Some (OverLimit.number_too_large piece.start)
     else (if nat_lt greatest_nesting level then Some (OverLimit.too_deep piece.start) else None)
 
+-- the first of them, if it is there, else the other
 abbrev pub or_else : Option OverLimit → Option OverLimit → Option OverLimit
 or_else (Some o) later = Some o
 or_else None later = later

@@ -8,6 +8,7 @@ use Rattle.plcs_grammar.specs.declared.phrase.Phrase.{Phrase}
 use Rattle.plcs_grammar.specs.declared.phrase.Phrase.TheVariants.{Assignment, Condition, Expression, ExpressionList, VariableList, Variable, CallRef, DeclaredList, ProcedureName, NameList, Length, CommentText}
 use Rattle.plcs_grammar.specs.Reading.{Tree, Trees, Reference, Reading}
 
+-- a list of expressions as expressions in order
 abbrev pub trees_from : List Tree → Trees
 trees_from [] = Trees.nil
 trees_from (t ∷ ts) = Trees.cons t (trees_from ts)
@@ -28,6 +29,7 @@ tree_step (Expr-F.Infix op a b) = Tree.binary op a.value b.value
 tree_step (Expr-F.Builtin function arguments) = Tree.builtin function (trees_from arguments.items)
 tree_step (Expr-F.Paren a) = Tree.parenthesized a.value
 
+-- one level of a variable
 abbrev pub reference_step : VarRef-F Tree Reference → Reference
 reference_step r = reference_with r.name r.index
 

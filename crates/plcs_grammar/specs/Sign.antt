@@ -5,6 +5,7 @@ use Rattle.plcs_grammar.specs.declared.operator.PrefixOp.TheVariants as before
 use Rattle.plcs_grammar.specs.declared.operator.InfixOp.{InfixOp}
 use Rattle.plcs_grammar.specs.declared.operator.InfixOp.TheVariants as between
 
+-- the signs of phrases
 pub data Sign : Type 0 where
   plus : Sign
   minus : Sign
@@ -24,6 +25,7 @@ pub data Sign : Type 0 where
   close_parenthesis : Sign
   comma : Sign
 
+-- how a sign is written
 abbrev pub sign_bytes : Sign → List ℕ
 sign_bytes plus = codes "+"
 sign_bytes minus = codes "-"

@@ -22,7 +22,7 @@ pub data GoesWrong (category : Category) (pieces : List Piece) (end : ℕ) : Opt
   at_end : Begins category (tokens_of pieces) → ((phrase : Reading) → ¬ (Form category (tokens_of pieces) phrase))
       → GoesWrong category pieces end None end
 
--- the text has no reading in the category, and this is its first place that can't be right
+-- the first place of the text that can't be right; only a text without a reading has one
 abbrev pub SyntaxAt : Category → List ℕ → ℕ → Type 0
 SyntaxAt category x place =
     ((pieces : List Piece) × (stop : Option ℕ) × Cuts pieces 0 x stop × GoesWrong category pieces (length x) stop place)

@@ -21,6 +21,7 @@ abbrev pub begins_with : (ℕ → Bool) → List ℕ → Bool
 begins_with test [] = false
 begins_with test (byte ∷ rest) = test byte
 
+-- whether the byte is a quote
 abbrev pub is_quote : ℕ → Bool
 is_quote byte = byte == 39
 

@@ -1,4 +1,4 @@
-use Rattle.std.proofs.Common.{◌≡◌, ◌≤◌, drop, map, length, None}
+use Rattle.std.proofs.Common.{◌≡◌, drop, map, length, None}
 use Rattle.phrase_parser.specs.Findings.{findings}
 use Rattle.phrase_parser.specs.Shapes.{shape_of, seen_in, over_if, Within}
 use Rattle.phrase_parser.proofs.check.check.Given as goal

@@ -1,4 +1,4 @@
-use Rattle.std.proofs.Common.{◌≡◌, ◌∙◌, sym, ap, take, length, ◌-◌, ◌++◌, refl, ℕ, List, [], ◌∷◌, reverse}
+use Rattle.std.proofs.Common.{◌∙◌, sym, ap, take, length, ◌-◌, [], ◌∷◌, reverse}
 use Rattle.std.proofs.lemmas.Bool.Decides.{Decides-eqb}
 use Rattle.std.proofs.lemmas.Slice.Eq.{ends_is}
 use Rattle.plcs_grammar.specs.Cuts.{unblanked}

@@ -1,4 +1,4 @@
-use Rattle.std.proofs.Common.{length, ◌∙◌, sym, ap, subst, arith, map, All}
+use Rattle.std.proofs.Common.{length, sym, ap, subst, arith, map, All}
 use Rattle.phrase_parser.specs.Machine.{start, run, ended_if}
 use Rattle.phrase_parser.specs.Shapes.{shape_of, LiesIn}
 use Rattle.phrase_parser.specs.TokenIn.{token_in, IsPlacedIn}
