@@ -1,5 +1,8 @@
+ghost use Rattle.std.specs.Prelude.{◌<◌, length};
+
 use crate::PhraseFault::{NumberTooLarge, Syntax, TooDeep};
 use crate::{PhraseFault, parse};
+use arrayvec::ArrayVec;
 use plcs_base::ByteOut;
 use plcs_grammar::Category::*;
 use plcs_grammar::{Category, Expr, InfixOp, Phrase, show};
@@ -120,6 +123,252 @@ const READ: [Row; 11] = [
     (NameList, b"a,b", Ok(b"a, b")),
     (Length, b"010", Ok(b"10")),
 ];
+
+/// A category, a text of it, and the text's canonical text.
+type Text = (Category, &'static [u8], &'static [u8]);
+
+/// Assignments and conditions.
+const ASSIGNMENTS: [Text; 21] = [
+    (Assignment, b"x=1", b"x = 1"),
+    (Assignment, b" x = 'a' ", b"x = 'a'"),
+    (Assignment, b"a(i)=a(i-1)+1", b"a(i) = a(i - 1) + 1"),
+    (Assignment, b"b='1'B", b"b = '1'B"),
+    (Assignment, b"a=b=c", b"a = b = c"),
+    (Assignment, b"x=(1)", b"x = ( 1 )"),
+    (Assignment, b"MOD=MOD(1,2)", b"MOD = MOD(1, 2)"),
+    (Assignment, b"LENGTH(1)=2", b"LENGTH(1) = 2"),
+    (Assignment, b"x=+y", b"x = +y"),
+    (Assignment, b"a(b(c(1)))=d", b"a(b(c(1))) = d"),
+    (Condition, b"a<b", b"a < b"),
+    (Condition, b"a<=b", b"a <= b"),
+    (Condition, b"a>b", b"a > b"),
+    (Condition, b"a>=b", b"a >= b"),
+    (Condition, b"a^=b", b"a ^= b"),
+    (Condition, b"^a", b"^a"),
+    (Condition, b"^(a=b)", b"^( a = b )"),
+    (Condition, b"a&b|c", b"a & b | c"),
+    (Condition, b"a&(b|c)", b"a & ( b | c )"),
+    (Condition, b"'0'B", b"'0'B"),
+    (Condition, b"(((a)))", b"( ( ( a ) ) )"),
+];
+
+/// Operators and parentheses.
+const OPERATORS: [Text; 19] = [
+    (Expression, b"1+2+3", b"1 + 2 + 3"),
+    (Expression, b"1+(2+3)", b"1 + ( 2 + 3 )"),
+    (Expression, b"1*2+3", b"1 * 2 + 3"),
+    (Expression, b"1+2*3", b"1 + 2 * 3"),
+    (Expression, b"(1+2)*3", b"( 1 + 2 ) * 3"),
+    (Expression, b"1-2-3", b"1 - 2 - 3"),
+    (Expression, b"8/4/2", b"8 / 4 / 2"),
+    (Expression, b"--x", b"--x"),
+    (Expression, b"-+^x", b"-+^x"),
+    (Expression, b"-(x)", b"-( x )"),
+    (Expression, b"- 1 - - 1", b"-1 - -1"),
+    (Expression, b"a||b||c", b"a || b || c"),
+    (Expression, b"''", b"''"),
+    (Expression, b"''''", b"''''"),
+    (Expression, b"'it''s'", b"'it''s'"),
+    (Expression, b"' '", b"' '"),
+    (Expression, b"'0'", b"'0'"),
+    (Expression, b"'1'B", b"'1'B"),
+    (Expression, b"0", b"0"),
+];
+
+/// Operands.
+const OPERANDS: [Text; 22] = [
+    (Expression, b"000", b"0"),
+    (Expression, b"2147483647", b"2147483647"),
+    (Expression, b"00000000000002147483647", b"2147483647"),
+    (Expression, b"a_1", b"a_1"),
+    (Expression, b"Abs", b"Abs"),
+    (Expression, b"Abs(1)", b"Abs(1)"),
+    (Expression, b"ABS(-1)", b"ABS(-1)"),
+    (Expression, b"MIN(1,2)", b"MIN(1, 2)"),
+    (Expression, b"MAX( 1 , 2 )", b"MAX(1, 2)"),
+    (Expression, b"LENGTH('abc')", b"LENGTH('abc')"),
+    (Expression, b"SUBSTR(s,1,2)", b"SUBSTR(s, 1, 2)"),
+    (Expression, b"INDEX(s,'a')", b"INDEX(s, 'a')"),
+    (Expression, b"INDEX", b"INDEX"),
+    (Expression, b"a(1)", b"a(1)"),
+    (Expression, b"a( a( a( 1 ) ) )", b"a(a(a(1)))"),
+    (Expression, b"a(1)+b(2)", b"a(1) + b(2)"),
+    (Expression, b"a=b=c=d", b"a = b = c = d"),
+    (Expression, b"a|b&c=d||e+f*g", b"a | b & c = d || e + f * g"),
+    (Expression, b"a*b+c||d=e&f|g", b"a * b + c || d = e & f | g"),
+    (Expression, b"   x   ", b"x"),
+    (Expression, b"x1_y2_z3", b"x1_y2_z3"),
+    (
+        Expression,
+        b"abcdefghijklmnopqrstuvwxyzabcde",
+        b"abcdefghijklmnopqrstuvwxyzabcde",
+    ),
+];
+
+/// Lists of expressions and of variables.
+const LISTS: [Text; 14] = [
+    (ExpressionList, b"1", b"1"),
+    (ExpressionList, b"1,2", b"1, 2"),
+    (ExpressionList, b"a , b , c", b"a, b, c"),
+    (ExpressionList, b"(1),((2))", b"( 1 ), ( ( 2 ) )"),
+    (ExpressionList, b"MOD(1,2),3", b"MOD(1, 2), 3"),
+    (ExpressionList, b"'a,b',c", b"'a,b', c"),
+    (ExpressionList, b"-1,+1", b"-1, +1"),
+    (ExpressionList, b"a=b,c", b"a = b, c"),
+    (VariableList, b"x", b"x"),
+    (VariableList, b"x,y", b"x, y"),
+    (VariableList, b"a(1),b(2)", b"a(1), b(2)"),
+    (VariableList, b"a(i+1),x", b"a(i + 1), x"),
+    (VariableList, b"ABS(1)", b"ABS(1)"),
+    (VariableList, b" x , x ", b"x, x"),
+];
+
+/// Variables, calls, declared names, lengths and comments.
+const NAMES: [Text; 28] = [
+    (Variable, b"i", b"i"),
+    (Variable, b"ABS", b"ABS"),
+    (Variable, b" k9 ", b"k9"),
+    (CallRef, b"p", b"p"),
+    (CallRef, b"p(1)", b"p(1)"),
+    (CallRef, b"p(a,b(1),'c')", b"p(a, b(1), 'c')"),
+    (CallRef, b"p((a))", b"p(( a ))"),
+    (CallRef, b"MIN(1,2,3)", b"MIN(1, 2, 3)"),
+    (CallRef, b"p (-a)", b"p(-a)"),
+    (DeclaredList, b"x", b"x"),
+    (DeclaredList, b"x,y", b"x, y"),
+    (DeclaredList, b"a(10)", b"a(10)"),
+    (DeclaredList, b"a(010),b", b"a(10), b"),
+    (DeclaredList, b"a(2147483647)", b"a(2147483647)"),
+    (DeclaredList, b"ABS,x(1)", b"ABS, x(1)"),
+    (ProcedureName, b"main", b"main"),
+    (ProcedureName, b"P", b"P"),
+    (NameList, b"a", b"a"),
+    (NameList, b"a,b,a", b"a, b, a"),
+    (NameList, b"MOD , x", b"MOD, x"),
+    (Length, b"1", b"1"),
+    (Length, b"0256", b"256"),
+    (Length, b" 17 ", b"17"),
+    (CommentText, b"sum", b"sum"),
+    (CommentText, b"  a  b  ", b"a  b"),
+    (CommentText, b"* /", b"* /"),
+    (CommentText, b"{comment", b"{comment"),
+    (CommentText, b"DO 'x", b"DO 'x"),
+];
+
+/// The canonical text of a phrase, where it is short.
+#[derive(Drop)]
+struct Kept {
+    text: ArrayVec<u8, 100>,
+    whole: bool,
+}
+
+impl ByteOut for Kept {
+    ghost puts = { λ _ _ _. Unit {0} };
+
+    fn put(&mut self, byte: u8) {
+        if self.text.try_push(byte).is_err() {
+            self.whole = false;
+        }
+    }
+}
+
+/// Whether the text reads as a phrase with this canonical text, and that text as one with the same.
+/// Two phrases with one canonical text are equal.
+fn is_read_again(alloc: Global, category: Category, text: &[u8], canonical: &[u8]) -> bool
+    requires { length text.now < 1000 }
+{
+    let Ok(phrase) = parse(alloc, category, text) else {
+        return false
+    };
+    let mut kept = Kept {
+        text: ArrayVec::new(),
+        whole: true,
+    };
+    show(&phrase, &mut kept);
+    let Ok(again) = parse(alloc, category, kept.text.as_slice()) else {
+        return false
+    };
+    kept.whole && kept.text.as_slice() == canonical && has_text(&again, canonical)
+}
+
+fn compare_again(rt: &impl Abort, alloc: Global, texts: &[Text]) {
+    for (category, text, canonical) in texts {
+        assert!(rt; text.len() < 100);
+        let same = is_read_again(alloc, *category, text, canonical);
+        assert!(rt; same, "{category:?} at {text:?}");
+    }
+}
+
+#[test]
+fn canonical_texts_are_read_again(rt: HostRuntime) {
+    compare_again(&rt, rt.alloc(), &ASSIGNMENTS);
+    compare_again(&rt, rt.alloc(), &OPERATORS);
+    compare_again(&rt, rt.alloc(), &OPERANDS);
+    compare_again(&rt, rt.alloc(), &LISTS);
+    compare_again(&rt, rt.alloc(), &NAMES);
+}
+
+/// All keywords.
+const KEYWORDS: [&[u8]; 27] = [
+    b"BIT",
+    b"BY",
+    b"CALL",
+    b"CHARACTER",
+    b"DECLARE",
+    b"DO",
+    b"ELSE",
+    b"END",
+    b"FIXED",
+    b"FLOAT",
+    b"GET",
+    b"IF",
+    b"LIST",
+    b"MAIN",
+    b"OPTIONS",
+    b"OTHERWISE",
+    b"PROCEDURE",
+    b"PUT",
+    b"RETURN",
+    b"SELECT",
+    b"SKIP",
+    b"THEN",
+    b"TO",
+    b"UNTIL",
+    b"VARYING",
+    b"WHEN",
+    b"WHILE",
+];
+
+/// The categories whose phrases are tokens.
+const OF_TOKENS: [Category; 11] = [
+    Assignment,
+    Condition,
+    Expression,
+    ExpressionList,
+    VariableList,
+    Variable,
+    CallRef,
+    DeclaredList,
+    ProcedureName,
+    NameList,
+    Length,
+];
+
+#[test]
+fn no_phrase_but_a_comment_has_a_keyword(rt: HostRuntime) {
+    for keyword in &KEYWORDS {
+        assert!(rt; keyword.len() < 100);
+        for category in OF_TOKENS {
+            let answer = parse(rt.alloc(), category, keyword);
+            assert!(rt;
+                is_answer(&answer, Err(Syntax(0))),
+                "{category:?} at {keyword:?}"
+            );
+        }
+        let comment = parse(rt.alloc(), CommentText, keyword);
+        assert!(rt; is_answer(&comment, Ok(keyword)), "{keyword:?}");
+    }
+}
 
 /// Compares what is put with what is awaited.
 #[derive(Drop)]
