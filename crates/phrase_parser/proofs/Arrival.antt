@@ -5,12 +5,13 @@ use Rattle.plcs_grammar.specs.declared.operator.PrefixOp.{PrefixOp}
 use Rattle.plcs_grammar.specs.declared.operator.PrefixOp.TheVariants as before
 use Rattle.plcs_grammar.specs.declared.operator.InfixOp.{InfixOp}
 use Rattle.plcs_grammar.specs.declared.operator.InfixOp.TheVariants.{Or, And, Equal, NotEqual, Less, LessEqual, Greater, GreaterEqual, Join, Plus, Minus, Times, Divide}
-use Rattle.plcs_grammar.specs.Sign.{Sign, prefix_sign, infix_sign}
+use Rattle.plcs_grammar.specs.declared.sign.Sign.TheVariants as Sign
+use Rattle.plcs_grammar.specs.Sign.{prefix_sign, infix_sign}
 use Rattle.plcs_grammar.specs.Token.{Token}
 use Rattle.plcs_grammar.specs.Reading.{Tree, Trees, Reference}
 use Rattle.plcs_grammar.specs.Builtin.{builtin_name}
 use Rattle.plcs_grammar.specs.Level.{IsNoCall, priority, tightest}
-use Rattle.plcs_grammar.specs.Limit.{opened as levels, opened_by_all as levels_of_all, opened_behind as levels_behind}
+use Rattle.plcs_grammar.specs.Opened.{opened as levels, opened_by_all as levels_of_all, opened_behind as levels_behind}
 use Rattle.phrase_parser.specs.Machine.{Stack, State, Operand, tree_push, reduced, joined, step, closed_at, separated_at, named_open}
 use Rattle.phrase_parser.specs.Trace.{depth, opens}
 use Rattle.phrase_parser.proofs.Spelling.{spell, spell_all, spell_behind, Fits, FitsReference, FitsAll, FitsBehind}
@@ -168,7 +169,7 @@ holds_arguments s function = record { ends = λ done t. refl; comma = λ done t.
 -- a comma behind an expression in such a place
 comma_step : (h : Trees → Stack) (outside : ℕ) → Holds h outside → (done : Trees) (stack : Stack) (top t : Tree)
     → reduced stack 1 top ≡ (h done, t)
-    → step (State.had stack top) (Token.sign Sign.comma) ≡ Some (State.wanted (h (tree_push done t)))
+    → step (State.had stack top) (Token.sign Sign.Comma) ≡ Some (State.wanted (h (tree_push done t)))
 comma_step h outside holds done stack top t e = ap (λ (o : Operand). separated_at o.0 o.1) e ∙ holds.comma done t
 
 mutual

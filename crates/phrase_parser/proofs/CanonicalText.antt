@@ -2,11 +2,12 @@
 use Rattle.std.proofs.Common.{◌≡◌, inl, inr, ℕ, List, [], ◌∷◌, ◌++◌, Option, Some, None, refl, sym, ap, subst}
 use Rattle.std.specs.Prelude.{decimal}
 use Rattle.plcs_grammar.specs.declared.category.Category.{Category}
-use Rattle.plcs_grammar.specs.Sign.{Sign}
+use Rattle.plcs_grammar.specs.declared.sign.Sign.TheVariants as Sign
 use Rattle.plcs_grammar.specs.Token.{Token}
 use Rattle.plcs_grammar.specs.Reading.{Trees, Reading}
 use Rattle.plcs_grammar.specs.Cuts.{Piece, tokens_of}
-use Rattle.plcs_grammar.specs.Limit.{IsWithinLimits, phrase_opened}
+use Rattle.plcs_grammar.specs.Limit.{IsWithinLimits}
+use Rattle.plcs_grammar.specs.Opened.{phrase_opened}
 use Rattle.plcs_grammar.specs.Reads.{IsCutAs, IsCommentAs, Reads}
 use Rattle.plcs_grammar.specs.Canon.{canon, canon_reference, canon_list, more_joined, joined, canon_sized, canon_item, canon_call, Canon}
 use Rattle.phrase_parser.proofs.PieceFacts.{AllSound, cut_sound}
@@ -74,11 +75,11 @@ call_lexed name (Trees.cons a rest) fits writable behind safe =
 phrase_lexed : (p : Reading) → FitsPhrase p → AllWritable (spell_phrase p) → (behind : List ℕ) → Safe behind
     → Lexed (Canon p) (spell_phrase p) behind
 phrase_lexed (Reading.assignment target value) fits writable behind safe =
-    let parts = writable_split (spell_reference target) (Token.sign Sign.equal ∷ spell value) writable in
+    let parts = writable_split (spell_reference target) (Token.sign Sign.Equal ∷ spell value) writable in
     let right = 32 ∷ 61 ∷ 32 ∷ canon value in
-    lexed_append (canon_reference target) right (spell_reference target) (Token.sign Sign.equal ∷ spell value) behind
+    lexed_append (canon_reference target) right (spell_reference target) (Token.sign Sign.Equal ∷ spell value) behind
     (reference_lexed target fits.0 parts.0 (right ++ behind) refl)
-    (lexed_behind_sign Sign.equal (canon value) (spell value) behind (canon_lexed value 1 fits.1 parts.1.2 behind safe))
+    (lexed_behind_sign Sign.Equal (canon value) (spell value) behind (canon_lexed value 1 fits.1 parts.1.2 behind safe))
 phrase_lexed (Reading.condition e) fits writable behind safe = canon_lexed e 1 fits writable behind safe
 phrase_lexed (Reading.expression e) fits writable behind safe = canon_lexed e 1 fits writable behind safe
 phrase_lexed (Reading.expression_list es) fits writable behind safe = list_lexed es fits writable behind safe

@@ -8,7 +8,9 @@ use Rattle.plcs_base.specs.Byte.{is_letter, is_digit, is_name_byte}
 use Rattle.plcs_base.specs.Name.{is_word, IsName}
 use Rattle.plcs_grammar.specs.declared.operator.PrefixOp.{PrefixOp}
 use Rattle.plcs_grammar.specs.declared.operator.PrefixOp.TheVariants as before
-use Rattle.plcs_grammar.specs.Sign.{Sign, sign_bytes, prefix_sign, infix_sign}
+use Rattle.plcs_grammar.specs.declared.sign.Sign.{Sign}
+use Rattle.plcs_grammar.specs.declared.sign.Sign.TheVariants as Sign
+use Rattle.plcs_grammar.specs.Sign.{sign_bytes, prefix_sign, infix_sign}
 use Rattle.plcs_grammar.specs.Token.{Token, IsNumeral, bit_bytes}
 use Rattle.plcs_grammar.specs.Reading.{Tree, Trees, Reference}
 use Rattle.plcs_grammar.specs.Builtin.{builtin_name}
@@ -116,16 +118,16 @@ pub lexed_called : (name x : List ℕ) (tokens : List Token) (behind : List ℕ)
 lexed_called name x tokens behind named ends inner safe =
     lexed_append name (parenthesized_bytes x) (Token.name name ∷ []) (in_parentheses tokens) behind
     (lexed_name name (parenthesized_bytes x ++ behind) named refl)
-    (lexed_append (40 ∷ []) (x ++ (41 ∷ [])) (Token.sign Sign.open_parenthesis ∷ []) (tokens ++ (Token.sign Sign.close_parenthesis ∷ [])) behind
-    (lexed_sign Sign.open_parenthesis ((x ++ (41 ∷ [])) ++ behind) (ends_sign_more x (41 ∷ []) behind ends))
-    (lexed_append x (41 ∷ []) tokens (Token.sign Sign.close_parenthesis ∷ []) behind inner
-    (lexed_sign Sign.close_parenthesis behind (safe_sign behind safe))))
+    (lexed_append (40 ∷ []) (x ++ (41 ∷ [])) (Token.sign Sign.OpenParenthesis ∷ []) (tokens ++ (Token.sign Sign.CloseParenthesis ∷ [])) behind
+    (lexed_sign Sign.OpenParenthesis ((x ++ (41 ∷ [])) ++ behind) (ends_sign_more x (41 ∷ []) behind ends))
+    (lexed_append x (41 ∷ []) tokens (Token.sign Sign.CloseParenthesis ∷ []) behind inner
+    (lexed_sign Sign.CloseParenthesis behind (safe_sign behind safe))))
 
 -- a text behind a comma and a blank
 pub lexed_behind_comma : (x : List ℕ) (tokens : List Token) (behind : List ℕ) → Lexed x tokens behind
-    → Lexed (44 ∷ 32 ∷ x) (Token.sign Sign.comma ∷ tokens) behind
+    → Lexed (44 ∷ 32 ∷ x) (Token.sign Sign.Comma ∷ tokens) behind
 lexed_behind_comma x tokens behind a =
-    lexed_append (44 ∷ []) (32 ∷ x) (Token.sign Sign.comma ∷ []) tokens behind (lexed_sign Sign.comma ((32 ∷ x) ++ behind) refl)
+    lexed_append (44 ∷ []) (32 ∷ x) (Token.sign Sign.Comma ∷ []) tokens behind (lexed_sign Sign.Comma ((32 ∷ x) ++ behind) refl)
     (lexed_blank x tokens behind a)
 
 -- a text behind a sign between blanks
@@ -143,7 +145,7 @@ behind_safe (Trees.cons a rest) behind safe = refl
 
 -- what is in parentheses can be written where the whole can
 pub inner_writable : (tokens : List Token) → AllWritable (in_parentheses tokens) → AllWritable tokens
-inner_writable tokens h = (writable_split tokens (Token.sign Sign.close_parenthesis ∷ []) h.2).0
+inner_writable tokens h = (writable_split tokens (Token.sign Sign.CloseParenthesis ∷ []) h.2).0
 
 mutual
   -- an expression's canonical text, where what follows is safe
@@ -170,14 +172,14 @@ mutual
       (list_lexed arguments fits inner (41 ∷ behind) refl) safe
   canon_lexed (Tree.parenthesized a) level fits writable behind safe =
       let right = 32 ∷ 41 ∷ [] in
-      lexed_append (40 ∷ []) (32 ∷ (canon a ++ right)) (Token.sign Sign.open_parenthesis ∷ [])
-      (spell a ++ (Token.sign Sign.close_parenthesis ∷ [])) behind
-      (lexed_sign Sign.open_parenthesis ((32 ∷ (canon a ++ right)) ++ behind) refl)
-      (lexed_blank (canon a ++ right) (spell a ++ (Token.sign Sign.close_parenthesis ∷ [])) behind
-      (lexed_append (canon a) right (spell a) (Token.sign Sign.close_parenthesis ∷ []) behind
+      lexed_append (40 ∷ []) (32 ∷ (canon a ++ right)) (Token.sign Sign.OpenParenthesis ∷ [])
+      (spell a ++ (Token.sign Sign.CloseParenthesis ∷ [])) behind
+      (lexed_sign Sign.OpenParenthesis ((32 ∷ (canon a ++ right)) ++ behind) refl)
+      (lexed_blank (canon a ++ right) (spell a ++ (Token.sign Sign.CloseParenthesis ∷ [])) behind
+      (lexed_append (canon a) right (spell a) (Token.sign Sign.CloseParenthesis ∷ []) behind
       (canon_lexed a 1 fits (inner_writable (spell a) writable) (right ++ behind) refl)
-      (lexed_blank (41 ∷ []) (Token.sign Sign.close_parenthesis ∷ []) behind
-      (lexed_sign Sign.close_parenthesis behind (safe_sign behind safe)))))
+      (lexed_blank (41 ∷ []) (Token.sign Sign.CloseParenthesis ∷ []) behind
+      (lexed_sign Sign.CloseParenthesis behind (safe_sign behind safe)))))
 
   -- a variable's
   pub reference_lexed : (reference : Reference) → FitsReference reference → AllWritable (spell_reference reference) → (behind : List ℕ)

@@ -1,5 +1,6 @@
 -- What the check finds is so.
 use Rattle.std.proofs.Common.{◌≡◌, refl, ℕ, true, cond, ltb, lit≤, map, List, [], ◌∷◌, ◌++◌, Option, Some, None, ap, sym, subst, ◌∙◌, append_assoc, append-nil}
+use Rattle.std.specs.Option.{option_or}
 use Rattle.std.proofs.lemmas.Bool.{cond_both}
 use Rattle.plcs_grammar.specs.declared.category.Category.{Category}
 use Rattle.plcs_grammar.specs.Token.{Token}
@@ -7,7 +8,9 @@ use Rattle.plcs_grammar.specs.Cuts.{Piece, tokens_of}
 use Rattle.plcs_grammar.specs.Reading.{Reading}
 use Rattle.plcs_grammar.specs.Form.{Form, Begins}
 use Rattle.plcs_grammar.specs.Syntax.{GoesWrong}
-use Rattle.plcs_grammar.specs.Limit.{greatest_number, greatest_nesting, OverLimit, IsWithinLimits, is_too_large, first_over, phrase_opened, over_at, or_else}
+use Rattle.plcs_grammar.specs.Limit.{greatest_number, greatest_nesting, IsWithinLimits}
+use Rattle.plcs_grammar.specs.Opened.{phrase_opened}
+use Rattle.plcs_grammar.specs.Over.{OverLimit, is_too_large, first_over, over_at}
 use Rattle.phrase_parser.specs.Recognizer.{Shape, kind_of, next, next_if, follow, first_shape, may_end, level_of, follow_levels}
 use Rattle.phrase_parser.specs.Findings.{Finding, finding_of, found_at, found_at_end, seen_of, is_large, seen_over, findings}
 use Rattle.phrase_parser.proofs.KeptNumbers.{kept_above}
@@ -29,9 +32,9 @@ follow_last [] piece s = refl
 follow_last (x ∷ xs) piece s = follow_last xs piece (next_if s (kind_of x.token))
 
 -- the first of three
-pub or_else_assoc : (a b c : Option OverLimit) → or_else (or_else a b) c ≡ or_else a (or_else b c)
-or_else_assoc None b c = refl
-or_else_assoc (Some o) b c = refl
+pub option_or_assoc : (a b c : Option OverLimit) → option_or (option_or a b) c ≡ option_or a (option_or b c)
+option_or_assoc None b c = refl
+option_or_assoc (Some o) b c = refl
 
 -- a token as it is kept goes past the same limit
 seen_large : (k : Token) → is_large (kind_of k) ≡ is_too_large k
@@ -54,7 +57,7 @@ pub record Ends (pieces : List Piece) (stop : Option ℕ) (shape : Shape) (found
   pub stops : stop ≡ None
   pub leads : follow_pieces pieces (Some shape) ≡ Some end
   pub may : may_end end ≡ true
-  pub over : or_else found (over_pieces pieces (Some shape)) ≡ first
+  pub over : option_or found (over_pieces pieces (Some shape)) ≡ first
 
 module _ (c : Category) (stop : Option ℕ) (end : ℕ) where
   -- what a finding says of the pieces that follow a shape
@@ -84,23 +87,23 @@ says_end c None end front shape found e =
 
 ends_more : (piece : Piece) (pieces : List Piece) (stop : Option ℕ) (shape z : Shape) (found first : Option OverLimit)
     → next shape (kind_of piece.token) ≡ Some z
-    → Ends pieces stop z (or_else found (seen_over (seen_of piece) (level_of shape (kind_of piece.token)))) first
+    → Ends pieces stop z (option_or found (seen_over (seen_of piece) (level_of shape (kind_of piece.token)))) first
     → Ends (piece ∷ pieces) stop shape found first
 ends_more piece pieces stop shape z found first e h = record {
   end = h.end;
   stops = h.stops;
   leads = ap (follow_pieces pieces) e ∙ h.leads;
   may = h.may;
-  over = ap (λ o. or_else found (or_else o (over_pieces pieces (next shape (kind_of piece.token)))))
+  over = ap (λ o. option_or found (option_or o (over_pieces pieces (next shape (kind_of piece.token)))))
       (sym (seen_as piece (level_of shape (kind_of piece.token))))
-      ∙ ap (λ o. or_else found (or_else (seen_over (seen_of piece) (level_of shape (kind_of piece.token))) (over_pieces pieces o))) e
-      ∙ sym (or_else_assoc found (seen_over (seen_of piece) (level_of shape (kind_of piece.token))) (over_pieces pieces (Some z)))
+      ∙ ap (λ o. option_or found (option_or (seen_over (seen_of piece) (level_of shape (kind_of piece.token))) (over_pieces pieces o))) e
+      ∙ sym (option_or_assoc found (seen_over (seen_of piece) (level_of shape (kind_of piece.token))) (over_pieces pieces (Some z)))
       ∙ h.over;
 }
 
 says_more : (c : Category) (stop : Option ℕ) (end : ℕ) (front : List Piece) (piece : Piece) (pieces : List Piece)
     (shape z : Shape) (found : Option OverLimit) (r : Finding) → next shape (kind_of piece.token) ≡ Some z
-    → Says c stop end (front ++ (piece ∷ [])) pieces z (or_else found (seen_over (seen_of piece) (level_of shape (kind_of piece.token)))) r
+    → Says c stop end (front ++ (piece ∷ [])) pieces z (option_or found (seen_over (seen_of piece) (level_of shape (kind_of piece.token)))) r
     → Says c stop end front (piece ∷ pieces) shape found r
 says_more c stop end front piece pieces shape z found Finding.fine e h = ends_more piece pieces stop shape z found None e h
 says_more c stop end front piece pieces shape z found (Finding.syntax_at place) e h =
@@ -111,7 +114,7 @@ says_next : (c : Category) (stop : Option ℕ) (end : ℕ) (front : List Piece) 
     (shape : Shape) (found : Option OverLimit) (r : Option Shape) (behind : Shape → Finding)
     → next shape (kind_of piece.token) ≡ r → follow_pieces front (first_shape c) ≡ Some shape
     → ((z : Shape) → follow_pieces (front ++ (piece ∷ [])) (first_shape c) ≡ Some z
-    → Says c stop end (front ++ (piece ∷ [])) pieces z (or_else found (seen_over (seen_of piece) (level_of shape (kind_of piece.token)))) (behind z))
+    → Says c stop end (front ++ (piece ∷ [])) pieces z (option_or found (seen_over (seen_of piece) (level_of shape (kind_of piece.token)))) (behind z))
     → Says c stop end front (piece ∷ pieces) shape found (found_at r piece.start behind)
 says_next c stop end front piece pieces shape found None behind n e go =
     GoesWrong.at_token front piece pieces refl (taken_begins c (tokens_of front) shape e)
@@ -128,10 +131,10 @@ pub says : (c : Category) (stop : Option ℕ) (end : ℕ) (pieces front : List P
 says c stop end [] front shape found e = says_end c stop end front shape found e
 says c stop end (piece ∷ pieces) front shape found e =
     says_next c stop end front piece pieces shape found (next shape (kind_of piece.token))
-    (λ z. findings (map seen_of pieces) stop end z (or_else found (seen_over (seen_of piece) (level_of shape (kind_of piece.token)))))
+    (λ z. findings (map seen_of pieces) stop end z (option_or found (seen_over (seen_of piece) (level_of shape (kind_of piece.token)))))
     refl e
     (λ z f. says c stop end pieces (front ++ (piece ∷ [])) z
-    (or_else found (seen_over (seen_of piece) (level_of shape (kind_of piece.token)))) f)
+    (option_or found (seen_over (seen_of piece) (level_of shape (kind_of piece.token)))) f)
 
 -- what a finding says of all pieces of a text
 abbrev pub Means : Category → List Piece → Option ℕ → ℕ → Finding → Type 0

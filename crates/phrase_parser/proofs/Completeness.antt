@@ -1,14 +1,16 @@
 -- The tokens of each phrase are read as the phrase, which is the only one.
 use Rattle.std.proofs.Common.{◌≡◌, refl, ℕ, ◌&&◌, leb, le-leb, List, [], ◌∷◌, ◌++◌, Option, Some, None, ap, sym, subst, ◌∙◌, le_refl, lit≤}
+use Rattle.std.specs.Option.{option_or}
 use Rattle.std.proofs.lemmas.Bool.{cond-true, and_from}
 use Rattle.plcs_grammar.specs.declared.category.Category.{Category}
 use Rattle.plcs_grammar.specs.declared.item.Item.{Item}
-use Rattle.plcs_grammar.specs.Sign.{Sign}
+use Rattle.plcs_grammar.specs.declared.sign.Sign.TheVariants as Sign
 use Rattle.plcs_grammar.specs.Token.{Token}
 use Rattle.plcs_grammar.specs.Cuts.{Piece, tokens_of}
 use Rattle.plcs_grammar.specs.Reading.{Tree, Trees, Reference, Reading, category_of}
 use Rattle.plcs_grammar.specs.Form.{Form, Begins}
-use Rattle.plcs_grammar.specs.Limit.{opened as levels, reference_opened as reference_levels, opened_by_all as levels_of_all, references_behind, phrase_opened, first_over, or_else, over_at}
+use Rattle.plcs_grammar.specs.Opened.{opened as levels, reference_opened as reference_levels, opened_by_all as levels_of_all, references_behind, phrase_opened}
+use Rattle.plcs_grammar.specs.Over.{first_over, over_at}
 use Rattle.phrase_parser.specs.Machine.{Base, Stack, State, Role, Operand, step, step_if, run, start, closed_at, ended_at, ended, ended_if}
 use Rattle.phrase_parser.specs.Trace.{depth, opens, trace}
 use Rattle.phrase_parser.proofs.Spelling.{spell, spell_reference, Fits, FitsReference, FitsAll}
@@ -31,8 +33,8 @@ pub over_none : (pieces : List Piece) (ls : List ℕ) → NoLevels ls → first_
 over_none [] ls h = refl
 over_none (piece ∷ pieces) [] h = refl
 over_none (piece ∷ pieces) (l ∷ ls) h =
-    ap (λ n. or_else (over_at piece n) (first_over pieces ls)) h.0
-    ∙ ap (λ r. or_else (over_at piece 0) r) (over_none pieces ls h.1)
+    ap (λ n. option_or (over_at piece n) (first_over pieces ls)) h.0
+    ∙ ap (λ r. option_or (over_at piece 0) r) (over_none pieces ls h.1)
 
 -- the tokens lead from the first state of the phrase's category to one that ends as the phrase
 pub record Reaches (p : Reading) : Type 0 where
@@ -47,8 +49,8 @@ pub record Reaches (p : Reading) : Type 0 where
 -- an expression that stands in no other is read
 at_base : (b : Base) (t : Tree) → Fits t 1
     → (z : State) × Goes (State.wanted (Stack.base b)) (spell t) (levels t (depth (Stack.base b))) z
-    × (ended z ≡ ended_at (Stack.base b) t) × (step z (Token.sign Sign.close_parenthesis) ≡ closed_at (Stack.base b) t)
-    × (opens z (Token.sign Sign.close_parenthesis) ≡ 0)
+    × (ended z ≡ ended_at (Stack.base b) t) × (step z (Token.sign Sign.CloseParenthesis) ≡ closed_at (Stack.base b) t)
+    × (opens z (Token.sign Sign.CloseParenthesis) ≡ 0)
 at_base b t f =
     let r = arrives t 1 (Stack.base b) (lit≤ tt) f tt in (
       State.had r.stack r.top,
@@ -61,7 +63,7 @@ at_base b t f =
 -- a target is read, and `=` and what follows behind it
 behind_target : (reference : Reference) (ks : List Token) (ls : List ℕ) (z : State) → FitsReference reference
     → Goes (State.wanted (Stack.base (Base.assigned reference))) ks ls z
-    → Goes (State.name_wanted Role.target) (spell_reference reference ++ (Token.sign Sign.equal ∷ ks))
+    → Goes (State.name_wanted Role.target) (spell_reference reference ++ (Token.sign Sign.Equal ∷ ks))
     (reference_levels reference 0 ++ (0 ∷ ls)) z
 behind_target (Reference.simple name) ks ls z f q = by refl refl (by refl refl q)
 behind_target (Reference.subscripted name index) ks ls z f q =
@@ -85,13 +87,13 @@ variable_reads done (Reference.subscripted name index) f =
     by refl refl (by refl refl (joins r.1 (by r.3 r.4 there)))
 
 variable_comma : (done : List Reference) (reference : Reference)
-    → step (variable_has done reference) (Token.sign Sign.comma)
+    → step (variable_has done reference) (Token.sign Sign.Comma)
     ≡ Some (State.name_wanted (Role.variables (done ++ (reference ∷ []))))
 variable_comma done (Reference.simple name) = refl
 variable_comma done (Reference.subscripted name index) = refl
 
 variable_opens : (done : List Reference) (reference : Reference)
-    → opens (variable_has done reference) (Token.sign Sign.comma) ≡ 0
+    → opens (variable_has done reference) (Token.sign Sign.Comma) ≡ 0
 variable_opens done (Reference.simple name) = refl
 variable_opens done (Reference.subscripted name index) = refl
 
@@ -135,13 +137,13 @@ sized_reads done name (Some size) f =
     by refl refl (by refl refl (by (cond-true (leb 1 size) _ _ (le-leb 1 size f)) refl (by refl refl there)))
 
 sized_comma : (done : List Item) (name : List ℕ) (size : Option ℕ)
-    → step (item_has_sized done name size) (Token.sign Sign.comma)
+    → step (item_has_sized done name size) (Token.sign Sign.Comma)
     ≡ Some (State.name_wanted (Role.items (done ++ (record { name = name; size = size } ∷ []))))
 sized_comma done name None = refl
 sized_comma done name (Some size) = refl
 
 sized_opens : (done : List Item) (name : List ℕ) (size : Option ℕ)
-    → opens (item_has_sized done name size) (Token.sign Sign.comma) ≡ 0
+    → opens (item_has_sized done name size) (Token.sign Sign.Comma) ≡ 0
 sized_opens done name None = refl
 sized_opens done name (Some size) = refl
 

@@ -2,7 +2,8 @@
 use Rattle.std.proofs.Common.{◌≡◌, refl, ℕ, ◌+◌, ◌≤◌, not, IsTrue, List, [], ◌∷◌, ◌++◌, ap, sym, ◌∙◌, append_assoc, append-nil}
 use Rattle.plcs_grammar.specs.declared.category.Category.{Category}
 use Rattle.plcs_grammar.specs.declared.category.Category.TheVariants.{Assignment, Condition, Expression, ExpressionList, VariableList, Variable, CallRef, DeclaredList, ProcedureName, NameList, Length}
-use Rattle.plcs_grammar.specs.Sign.{Sign, prefix_sign, infix_sign}
+use Rattle.plcs_grammar.specs.declared.sign.Sign.TheVariants as Sign
+use Rattle.plcs_grammar.specs.Sign.{prefix_sign, infix_sign}
 use Rattle.plcs_grammar.specs.Token.{Token}
 use Rattle.plcs_grammar.specs.Reading.{Tree, Trees}
 use Rattle.plcs_grammar.specs.Builtin.{builtin_name, is_builtin_name}
@@ -14,28 +15,28 @@ use Rattle.phrase_parser.proofs.Phrases.{spell_name, spell_item, spell_call, spe
 -- expressions, each with the comma behind it
 abbrev pub spell_before : Trees → List Token
 spell_before Trees.nil = []
-spell_before (Trees.cons a rest) = spell a ++ (Token.sign Sign.comma ∷ spell_before rest)
+spell_before (Trees.cons a rest) = spell a ++ (Token.sign Sign.Comma ∷ spell_before rest)
 
-behind_push : (done : Trees) (t : Tree) → spell_behind (tree_push done t) ≡ Token.sign Sign.comma ∷ (spell_before done ++ spell t)
-behind_push Trees.nil t = ap (λ z. Token.sign Sign.comma ∷ z) (append-nil (spell t))
+behind_push : (done : Trees) (t : Tree) → spell_behind (tree_push done t) ≡ Token.sign Sign.Comma ∷ (spell_before done ++ spell t)
+behind_push Trees.nil t = ap (λ z. Token.sign Sign.Comma ∷ z) (append-nil (spell t))
 behind_push (Trees.cons a rest) t =
-    ap (λ z. Token.sign Sign.comma ∷ (spell a ++ z)) (behind_push rest t)
-    ∙ ap (λ z. Token.sign Sign.comma ∷ z) (sym (append_assoc (spell a) (Token.sign Sign.comma ∷ spell_before rest) (spell t)))
+    ap (λ z. Token.sign Sign.Comma ∷ (spell a ++ z)) (behind_push rest t)
+    ∙ ap (λ z. Token.sign Sign.Comma ∷ z) (sym (append_assoc (spell a) (Token.sign Sign.Comma ∷ spell_before rest) (spell t)))
 
 -- one more at the end stands behind the comma of the others
 pub all_push : (done : Trees) (t : Tree) → spell_all (tree_push done t) ≡ spell_before done ++ spell t
 all_push Trees.nil t = append-nil (spell t)
 all_push (Trees.cons a rest) t =
     ap (λ z. spell a ++ z) (behind_push rest t)
-    ∙ sym (append_assoc (spell a) (Token.sign Sign.comma ∷ spell_before rest) (spell t))
+    ∙ sym (append_assoc (spell a) (Token.sign Sign.Comma ∷ spell_before rest) (spell t))
 
 -- and with a comma behind it, it is one of them
 pub before_push : (done : Trees) (t : Tree)
-    → spell_before (tree_push done t) ≡ spell_before done ++ (spell t ++ (Token.sign Sign.comma ∷ []))
+    → spell_before (tree_push done t) ≡ spell_before done ++ (spell t ++ (Token.sign Sign.Comma ∷ []))
 before_push Trees.nil t = refl
 before_push (Trees.cons a rest) t =
-    ap (λ z. spell a ++ (Token.sign Sign.comma ∷ z)) (before_push rest t)
-    ∙ sym (append_assoc (spell a) (Token.sign Sign.comma ∷ spell_before rest) (spell t ++ (Token.sign Sign.comma ∷ [])))
+    ap (λ z. spell a ++ (Token.sign Sign.Comma ∷ z)) (before_push rest t)
+    ∙ sym (append_assoc (spell a) (Token.sign Sign.Comma ∷ spell_before rest) (spell t ++ (Token.sign Sign.Comma ∷ [])))
 
 -- a call with an argument has its parentheses
 pub call_push : (name : List ℕ) (done : Trees) (t : Tree)
@@ -62,40 +63,40 @@ module _ {X : Type 0} (f : X → List Token) where
   -- items, each with the comma behind it
   abbrev pub spell_each : List X → List Token
   spell_each [] = []
-  spell_each (x ∷ xs) = f x ++ (Token.sign Sign.comma ∷ spell_each xs)
+  spell_each (x ∷ xs) = f x ++ (Token.sign Sign.Comma ∷ spell_each xs)
 
-  more_last : (xs : List X) (x : X) → spell_more f (xs ++ (x ∷ [])) ≡ Token.sign Sign.comma ∷ (spell_each xs ++ f x)
-  more_last [] x = ap (λ z. Token.sign Sign.comma ∷ z) (append-nil (f x))
+  more_last : (xs : List X) (x : X) → spell_more f (xs ++ (x ∷ [])) ≡ Token.sign Sign.Comma ∷ (spell_each xs ++ f x)
+  more_last [] x = ap (λ z. Token.sign Sign.Comma ∷ z) (append-nil (f x))
   more_last (y ∷ ys) x =
-      ap (λ z. Token.sign Sign.comma ∷ (f y ++ z)) (more_last ys x)
-      ∙ ap (λ z. Token.sign Sign.comma ∷ z) (sym (append_assoc (f y) (Token.sign Sign.comma ∷ spell_each ys) (f x)))
+      ap (λ z. Token.sign Sign.Comma ∷ (f y ++ z)) (more_last ys x)
+      ∙ ap (λ z. Token.sign Sign.Comma ∷ z) (sym (append_assoc (f y) (Token.sign Sign.Comma ∷ spell_each ys) (f x)))
 
   -- one more at the end stands behind the comma of the others
   pub listed_last : (xs : List X) (x : X) → spell_listed f (xs ++ (x ∷ [])) ≡ spell_each xs ++ f x
   listed_last [] x = append-nil (f x)
   listed_last (y ∷ ys) x =
       ap (λ z. f y ++ z) (more_last ys x)
-      ∙ sym (append_assoc (f y) (Token.sign Sign.comma ∷ spell_each ys) (f x))
+      ∙ sym (append_assoc (f y) (Token.sign Sign.Comma ∷ spell_each ys) (f x))
 
   -- and with a comma behind it, it is one of them
-  pub each_last : (xs : List X) (x : X) → spell_each (xs ++ (x ∷ [])) ≡ spell_each xs ++ (f x ++ (Token.sign Sign.comma ∷ []))
+  pub each_last : (xs : List X) (x : X) → spell_each (xs ++ (x ∷ [])) ≡ spell_each xs ++ (f x ++ (Token.sign Sign.Comma ∷ []))
   each_last [] x = refl
   each_last (y ∷ ys) x =
-      ap (λ z. f y ++ (Token.sign Sign.comma ∷ z)) (each_last ys x)
-      ∙ sym (append_assoc (f y) (Token.sign Sign.comma ∷ spell_each ys) (f x ++ (Token.sign Sign.comma ∷ [])))
+      ap (λ z. f y ++ (Token.sign Sign.Comma ∷ z)) (each_last ys x)
+      ∙ sym (append_assoc (f y) (Token.sign Sign.Comma ∷ spell_each ys) (f x ++ (Token.sign Sign.Comma ∷ [])))
 
-  more_comma : (xs : List X) → Token.sign Sign.comma ∷ spell_each xs ≡ spell_more f xs ++ (Token.sign Sign.comma ∷ [])
+  more_comma : (xs : List X) → Token.sign Sign.Comma ∷ spell_each xs ≡ spell_more f xs ++ (Token.sign Sign.Comma ∷ [])
   more_comma [] = refl
   more_comma (y ∷ ys) =
-      ap (λ z. Token.sign Sign.comma ∷ (f y ++ z)) (more_comma ys)
-      ∙ ap (λ z. Token.sign Sign.comma ∷ z) (sym (append_assoc (f y) (spell_more f ys) (Token.sign Sign.comma ∷ [])))
+      ap (λ z. Token.sign Sign.Comma ∷ (f y ++ z)) (more_comma ys)
+      ∙ ap (λ z. Token.sign Sign.Comma ∷ z) (sym (append_assoc (f y) (spell_more f ys) (Token.sign Sign.Comma ∷ [])))
 
   -- a comma behind all items
   pub listed_comma : (Fit : X → Type 0) (xs : List X) → FitsListed Fit xs
-      → spell_each xs ≡ spell_listed f xs ++ (Token.sign Sign.comma ∷ [])
+      → spell_each xs ≡ spell_listed f xs ++ (Token.sign Sign.Comma ∷ [])
   listed_comma Fit [] h = absurd h
   listed_comma Fit (x ∷ xs) h =
-      ap (λ z. f x ++ z) (more_comma xs) ∙ sym (append_assoc (f x) (spell_more f xs) (Token.sign Sign.comma ∷ []))
+      ap (λ z. f x ++ z) (more_comma xs) ∙ sym (append_assoc (f x) (spell_more f xs) (Token.sign Sign.Comma ∷ []))
 
 module _ {X : Type 0} (Fit : X → Type 0) where
   -- each of them keeps what it has to with one more that does
@@ -118,21 +119,21 @@ abbrev pub flat_base : Base → List Token
 flat_base Base.condition = []
 flat_base Base.expression = []
 flat_base (Base.expressions done) = spell_before done
-flat_base (Base.assigned reference) = spell_reference reference ++ (Token.sign Sign.equal ∷ [])
-flat_base (Base.target_subscript name) = Token.name name ∷ Token.sign Sign.open_parenthesis ∷ []
+flat_base (Base.assigned reference) = spell_reference reference ++ (Token.sign Sign.Equal ∷ [])
+flat_base (Base.target_subscript name) = Token.name name ∷ Token.sign Sign.OpenParenthesis ∷ []
 flat_base (Base.variable_subscript done name) =
-    spell_each spell_reference done ++ (Token.name name ∷ Token.sign Sign.open_parenthesis ∷ [])
-flat_base (Base.call_arguments name done) = Token.name name ∷ Token.sign Sign.open_parenthesis ∷ spell_before done
+    spell_each spell_reference done ++ (Token.name name ∷ Token.sign Sign.OpenParenthesis ∷ [])
+flat_base (Base.call_arguments name done) = Token.name name ∷ Token.sign Sign.OpenParenthesis ∷ spell_before done
 
 -- the tokens before the operand on a stack
 abbrev pub flat_stack : Stack → List Token
 flat_stack (Stack.base b) = flat_base b
 flat_stack (Stack.prefix op s) = flat_stack s ++ (Token.sign (prefix_sign op) ∷ [])
 flat_stack (Stack.left a op s) = flat_stack s ++ (spell a ++ (Token.sign (infix_sign op) ∷ []))
-flat_stack (Stack.parenthesis s) = flat_stack s ++ (Token.sign Sign.open_parenthesis ∷ [])
-flat_stack (Stack.subscript name s) = flat_stack s ++ (Token.name name ∷ Token.sign Sign.open_parenthesis ∷ [])
+flat_stack (Stack.parenthesis s) = flat_stack s ++ (Token.sign Sign.OpenParenthesis ∷ [])
+flat_stack (Stack.subscript name s) = flat_stack s ++ (Token.name name ∷ Token.sign Sign.OpenParenthesis ∷ [])
 flat_stack (Stack.arguments function done s) =
-    flat_stack s ++ (Token.name (builtin_name function) ∷ Token.sign Sign.open_parenthesis ∷ spell_before done)
+    flat_stack s ++ (Token.name (builtin_name function) ∷ Token.sign Sign.OpenParenthesis ∷ spell_before done)
 
 -- the tokens before a name that stands in no expression
 abbrev pub flat_role : Role → List Token
@@ -153,9 +154,9 @@ flat (State.name_had role name) = flat_role role ++ (Token.name name ∷ [])
 flat (State.target_had reference) = spell_reference reference
 flat (State.variable_had done) = spell_listed spell_reference done
 flat (State.call_had name passed) = spell_call name passed
-flat (State.size_wanted done name) = spell_each spell_item done ++ (Token.name name ∷ Token.sign Sign.open_parenthesis ∷ [])
+flat (State.size_wanted done name) = spell_each spell_item done ++ (Token.name name ∷ Token.sign Sign.OpenParenthesis ∷ [])
 flat (State.size_had done name n) =
-    spell_each spell_item done ++ (Token.name name ∷ Token.sign Sign.open_parenthesis ∷ Token.number n ∷ [])
+    spell_each spell_item done ++ (Token.name name ∷ Token.sign Sign.OpenParenthesis ∷ Token.number n ∷ [])
 flat (State.item_had done) = spell_listed spell_item done
 flat State.length_wanted = []
 flat (State.length_had n) = Token.number n ∷ []

@@ -4,7 +4,8 @@ use Rattle.plcs_grammar.specs.declared.category.Category.{Category}
 use Rattle.plcs_grammar.specs.Reading.{Reading}
 use Rattle.plcs_grammar.specs.Cuts.{Piece, Cuts, tokens_of}
 use Rattle.plcs_grammar.specs.Form.{Form}
-use Rattle.plcs_grammar.specs.Limit.{OverLimit, first_over, phrase_opened}
+use Rattle.plcs_grammar.specs.Opened.{phrase_opened}
+use Rattle.plcs_grammar.specs.Over.{OverLimit, first_over}
 use Rattle.plcs_grammar.specs.Reads.{Outline, Reads, IsOver}
 use Rattle.plcs_grammar.specs.Syntax.{GoesWrong}
 use Rattle.phrase_parser.specs.declared.fault.PhraseFault.TheVariants.{Syntax}

@@ -3,7 +3,7 @@ use Rattle.std.proofs.Common.{◌≡◌, refl, ℕ, suc, ◌+◌, ◌<◌, lengt
 use Rattle.std.specs.Prelude.{get_or}
 use Rattle.std.specs.Option.{option_or}
 use Rattle.std.proofs.Math.Seq.{drop-cons}
-use Rattle.plcs_grammar.specs.Limit.{OverLimit, or_else}
+use Rattle.plcs_grammar.specs.Over.{OverLimit}
 use Rattle.phrase_parser.specs.declared.check.finding.Over.{Over}
 use Rattle.phrase_parser.specs.declared.token.Placed.{Placed}
 use Rattle.phrase_parser.specs.Recognizer.{Kind, Shape, next, level_of}
@@ -11,19 +11,19 @@ use Rattle.phrase_parser.specs.Findings.{Seen, found_at, seen_over, findings}
 use Rattle.phrase_parser.specs.Shapes.{seen_in, over_if, Within}
 use Rattle.phrase_parser.proofs.ShapeLevels.{WithinIf, next_within}
 
-pub or_as : (a b : Option Over) → over_if (option_or a b) ≡ or_else (over_if a) (over_if b)
+pub or_as : (a b : Option Over) → over_if (option_or a b) ≡ option_or (over_if a) (over_if b)
 or_as None b = refl
 or_as (Some a) b = refl
 
 module _ (text : List ℕ) (stop : Option ℕ) (end : ℕ) where
   go_on_behind : (seen : Seen) (rest : List Seen) (shape behind : Shape) (over : Option OverLimit) → next shape seen.kind ≡ Some behind
-      → findings (seen ∷ rest) stop end shape over ≡ findings rest stop end behind (or_else over (seen_over seen (level_of shape seen.kind)))
+      → findings (seen ∷ rest) stop end shape over ≡ findings rest stop end behind (option_or over (seen_over seen (level_of shape seen.kind)))
   go_on_behind seen rest shape behind over n =
-      ap (λ z. found_at z seen.start (λ y. findings rest stop end y (or_else over (seen_over seen (level_of shape seen.kind))))) n
+      ap (λ z. found_at z seen.start (λ y. findings rest stop end y (option_or over (seen_over seen (level_of shape seen.kind))))) n
 
   pub go_on : (tokens : List Placed) (i : ℕ) (d : Placed) (shape behind : Shape) (kind : Kind) (level : ℕ) (over later both : Option OverLimit)
       → i < length tokens → kind ≡ (seen_in text (get_or tokens i d)).kind → next shape kind ≡ Some behind → level ≡ level_of shape kind
-      → later ≡ seen_over (record { kind = kind; start = (get_or tokens i d).start }) level → both ≡ or_else over later
+      → later ≡ seen_over (record { kind = kind; start = (get_or tokens i d).start }) level → both ≡ option_or over later
       → findings (map (seen_in text) (drop (i + 1) tokens)) stop end behind both ≡ findings (map (seen_in text) (drop i tokens)) stop end shape over
   go_on tokens i d shape behind kind level over later both inside k n l o b =
       let seen = seen_in text (get_or tokens i d) in
@@ -33,7 +33,7 @@ module _ (text : List ℕ) (stop : Option ℕ) (end : ℕ) where
       ∙ ap (λ z. seen_over (record { kind = z; start = seen.start }) (level_of shape z)) k in
       sym (ap (λ z. findings (map (seen_in text) z) stop end shape over) (drop-cons tokens i d inside)
       ∙ go_on_behind seen (map (seen_in text) (drop (suc i) tokens)) shape behind over (ap (next shape) (sym k) ∙ n)
-      ∙ ap (λ z. findings (map (seen_in text) (drop (suc i) tokens)) stop end behind (or_else over z)) (sym later_is)
+      ∙ ap (λ z. findings (map (seen_in text) (drop (suc i) tokens)) stop end behind (option_or over z)) (sym later_is)
       ∙ ap (λ z. findings (map (seen_in text) (drop (suc i) tokens)) stop end behind z) (sym b)
       ∙ ap (λ j. findings (map (seen_in text) (drop j tokens)) stop end behind both) (sym one))
 

@@ -1,25 +1,28 @@
 -- What is so of the tokens of a text, the check finds.
 use Rattle.std.proofs.Common.{◌≡◌, refl, ℕ, false, map, List, [], ◌∷◌, ◌++◌, Option, Some, None, ap, sym, ◌∙◌, append-nil}
+use Rattle.std.specs.Option.{option_or}
 use Rattle.std.proofs.lemmas.Bool.{cond-true, cond-false, false_from_ne_true}
 use Rattle.plcs_grammar.specs.declared.category.Category.{Category}
 use Rattle.plcs_grammar.specs.Cuts.{Piece, tokens_of}
 use Rattle.plcs_grammar.specs.Reading.{Reading}
 use Rattle.plcs_grammar.specs.Form.{Form}
 use Rattle.plcs_grammar.specs.Syntax.{GoesWrong}
-use Rattle.plcs_grammar.specs.Limit.{OverLimit, IsWithinLimits, first_over, phrase_opened, over_at, or_else}
+use Rattle.plcs_grammar.specs.Limit.{IsWithinLimits}
+use Rattle.plcs_grammar.specs.Opened.{phrase_opened}
+use Rattle.plcs_grammar.specs.Over.{OverLimit, first_over, over_at}
 use Rattle.phrase_parser.specs.Recognizer.{Shape, kind_of, next, next_if, first_shape, may_end, level_of}
 use Rattle.phrase_parser.specs.Findings.{Finding, finding_of, found_at, found_at_end, seen_of, seen_over, findings}
 use Rattle.phrase_parser.proofs.Limits.{within}
 use Rattle.phrase_parser.proofs.Recognized.{kinds_of, follow_none, taken_begins, whole_form, levels_over, begins_taken, form_taken}
-use Rattle.phrase_parser.proofs.Checked.{follow_pieces, over_pieces, follow_last, or_else_assoc, seen_as}
+use Rattle.phrase_parser.proofs.Checked.{follow_pieces, over_pieces, follow_last, option_or_assoc, seen_as}
 
 -- the check has come to a shape behind pieces, with what went past a limit first in them
 abbrev Comes : List Piece → List Piece → Option ℕ → ℕ → Shape → Shape → Option OverLimit → Type 0
 Comes front rest stop end shape z found =
     findings (map seen_of (front ++ rest)) stop end shape found
-    ≡ findings (map seen_of rest) stop end z (or_else found (over_pieces front (Some shape)))
+    ≡ findings (map seen_of rest) stop end z (option_or found (over_pieces front (Some shape)))
 
-none_behind : (found : Option OverLimit) → found ≡ or_else found None
+none_behind : (found : Option OverLimit) → found ≡ option_or found None
 none_behind None = refl
 none_behind (Some o) = refl
 
@@ -31,12 +34,12 @@ comes_next piece front rest stop end shape z found None n e go =
     let d = follow_none (kinds_of (tokens_of front)) in absurd (cc)
 comes_next piece front rest stop end shape z found (Some y) n e go =
     let level = level_of shape (kind_of piece.token) in
-    ap (λ w. found_at w piece.start (λ x. findings (map seen_of (front ++ rest)) stop end x (or_else found (seen_over (seen_of piece) level)))) n
-    ∙ go y (or_else found (seen_over (seen_of piece) level)) e
+    ap (λ w. found_at w piece.start (λ x. findings (map seen_of (front ++ rest)) stop end x (option_or found (seen_over (seen_of piece) level)))) n
+    ∙ go y (option_or found (seen_over (seen_of piece) level)) e
     ∙ ap (λ o. findings (map seen_of rest) stop end z o)
-    (or_else_assoc found (seen_over (seen_of piece) level) (over_pieces front (Some y))
-    ∙ ap (λ o. or_else found (or_else o (over_pieces front (Some y)))) (seen_as piece level)
-    ∙ sym (ap (λ w. or_else found (or_else (over_at piece level) (over_pieces front w))) n))
+    (option_or_assoc found (seen_over (seen_of piece) level) (over_pieces front (Some y))
+    ∙ ap (λ o. option_or found (option_or o (over_pieces front (Some y)))) (seen_as piece level)
+    ∙ sym (ap (λ w. option_or found (option_or (over_at piece level) (over_pieces front w))) n))
 
 comes : (front rest : List Piece) (stop : Option ℕ) (end : ℕ) (shape z : Shape) (found : Option OverLimit)
     → follow_pieces front (Some shape) ≡ Some z → Comes front rest stop end shape z found
@@ -77,7 +80,7 @@ finds_token : (piece : Piece) (back : List Piece) (stop : Option ℕ) (end : ℕ
     (r : Option Shape) → next shape (kind_of piece.token) ≡ r → ((y : Shape) → r ≡ Some y → ⊥)
     → findings (map seen_of (piece ∷ back)) stop end shape found ≡ Finding.syntax_at piece.start
 finds_token piece back stop end shape found None n no_next =
-    ap (λ w. found_at w piece.start (λ x. findings (map seen_of back) stop end x (or_else found (seen_over (seen_of piece) (level_of shape (kind_of piece.token)))))) n
+    ap (λ w. found_at w piece.start (λ x. findings (map seen_of back) stop end x (option_or found (seen_over (seen_of piece) (level_of shape (kind_of piece.token)))))) n
 finds_token piece back stop end shape found (Some y) n no_next = absurd (no_next y refl)
 
 -- the place where the text goes wrong is found

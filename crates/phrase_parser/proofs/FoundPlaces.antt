@@ -1,9 +1,11 @@
 -- The places that the check finds lie in the text, or at its end.
 use Rattle.std.proofs.Common.{ℕ, ◌≤◌, cond, ltb, map, List, [], ◌∷◌, Option, Some, None, arith, length, subst}
+use Rattle.std.specs.Option.{option_or}
 use Rattle.std.specs.List.{AllByRecursion}
 use Rattle.std.proofs.lemmas.Bool.{cond_both}
 use Rattle.plcs_grammar.specs.Cuts.{Piece, Cuts}
-use Rattle.plcs_grammar.specs.Limit.{greatest_nesting, OverLimit, or_else}
+use Rattle.plcs_grammar.specs.Limit.{greatest_nesting}
+use Rattle.plcs_grammar.specs.Over.{OverLimit}
 use Rattle.phrase_parser.specs.Recognizer.{Shape, next, may_end, level_of}
 use Rattle.phrase_parser.specs.Findings.{Finding, finding_of, found_at, found_at_end, Seen, seen_of, is_large, seen_over, findings}
 use Rattle.phrase_parser.specs.Shapes.{over_place}
@@ -42,7 +44,7 @@ module _ (limit : ℕ) where
       (cond (ltb greatest_nesting level) (Some (OverLimit.too_deep seen.start)) None) OverIf (λ t. h)
       (λ t. cond_both (ltb greatest_nesting level) (Some (OverLimit.too_deep seen.start)) None OverIf (λ u. h) (λ u. tt))
 
-  or_within : (a b : Option OverLimit) → OverIf a → OverIf b → OverIf (or_else a b)
+  or_within : (a b : Option OverLimit) → OverIf a → OverIf b → OverIf (option_or a b)
   or_within None b h k = k
   or_within (Some a) b h k = h
 
@@ -57,8 +59,8 @@ module _ (limit : ℕ) where
   findings_within [] stop end shape found all s e h = end_within stop end shape found s e h
   findings_within (seen ∷ rest) stop end shape found all s e h =
       next_within (next shape seen.kind) seen.start
-      (λ z. findings rest stop end z (or_else found (seen_over seen (level_of shape seen.kind)))) all.0
-      (λ z. findings_within rest stop end z (or_else found (seen_over seen (level_of shape seen.kind))) all.1 s e
+      (λ z. findings rest stop end z (option_or found (seen_over seen (level_of shape seen.kind)))) all.0
+      (λ z. findings_within rest stop end z (option_or found (seen_over seen (level_of shape seen.kind))) all.1 s e
       (or_within found (seen_over seen (level_of shape seen.kind)) h (over_within seen (level_of shape seen.kind) all.0)))
 
 order_last : (pieces : List Piece) (place last : ℕ) → InOrder place pieces last → place ≤ last

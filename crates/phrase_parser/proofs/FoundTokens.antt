@@ -8,13 +8,13 @@ use Rattle.std.proofs.lemmas.List.{take-append-drop}
 use Rattle.std.proofs.lemmas.List.Folds.{length-prefix_len}
 use Rattle.plcs_base.specs.Byte.{is_letter, is_digit, is_name_byte}
 use Rattle.plcs_base.specs.Name.{is_word, is_name}
-use Rattle.plcs_grammar.specs.Sign as grammar
+use Rattle.plcs_grammar.specs.declared.sign.Sign.{Sign}
+use Rattle.plcs_grammar.specs.declared.sign.Sign.TheVariants as Sign
 use Rattle.plcs_grammar.specs.Sign.{sign_bytes}
 use Rattle.plcs_grammar.specs.Token.{Token, IsToken, begins_with, is_quote, numeral_value, quoted, bit_bytes}
 use Rattle.phrase_parser.specs.declared.front.Front.{Front}
-use Rattle.phrase_parser.specs.declared.token.Sign.{Sign}
 use Rattle.phrase_parser.specs.declared.token.TokenKind.TheVariants as kind
-use Rattle.phrase_parser.specs.Kept.{kept_sign, kept_kind}
+use Rattle.phrase_parser.specs.Kept.{kept_kind}
 use Rattle.phrase_parser.specs.Front.{front_of, word_front, number_front, constant_of, constant_front, bit_constant, bit_value, closing, sign_of, sign_kept, sign_front, single_sign, double_sign, double_at, ends_word}
 use Rattle.phrase_parser.proofs.Runs.{run_all, run_ends, run_begins, run_first, letter_is_name_byte, word_no_name}
 use Rattle.phrase_parser.proofs.Quoted.{closing_tells, quoted_append, length_quoted}
@@ -183,70 +183,59 @@ constant_tells rest front None None is_bit read h = absurd (none-some front h)
 
 -- signs
 
--- the bytes are the sign
-pub record SignTells (bytes : List ℕ) (sign : Sign) : Type 0 where
-  pub which : grammar.Sign
-  pub is : bytes ≡ sign_bytes which
-  pub same : kept_sign which ≡ sign
-
-single_case : (byte code : ℕ) (which : grammar.Sign) (sign : Sign) (others : Option Sign) → sign_bytes which ≡ code ∷ []
-    → (others ≡ Some sign → SignTells (byte ∷ []) sign) → cond (eqb byte code) (Some (kept_sign which)) others ≡ Some sign
-    → SignTells (byte ∷ []) sign
+single_case : (byte code : ℕ) (which sign : Sign) (others : Option Sign) → sign_bytes which ≡ code ∷ []
+    → (others ≡ Some sign → byte ∷ [] ≡ sign_bytes sign) → cond (eqb byte code) (Some which) others ≡ Some sign
+    → byte ∷ [] ≡ sign_bytes sign
 single_case byte code which sign others spelt else_ =
-    cond_both (eqb byte code) (Some (kept_sign which)) others (λ (o : Option Sign). o ≡ Some sign → SignTells (byte ∷ []) sign)
-    (λ same e. record {
-      which = which;
-      is = ap (λ (b : ℕ). b ∷ []) (eqb-true byte code same) ∙ sym spelt;
-      same = same_Some (kept_sign which) sign e;
-    })
+    cond_both (eqb byte code) (Some which) others (λ (o : Option Sign). o ≡ Some sign → byte ∷ [] ≡ sign_bytes sign)
+    (λ same e. ap (λ (b : ℕ). b ∷ []) (eqb-true byte code same) ∙ sym spelt ∙ ap sign_bytes (same_Some which sign e))
     (λ _ e. else_ e)
 
-single_tells : (byte : ℕ) (sign : Sign) → single_sign byte ≡ Some sign → SignTells (byte ∷ []) sign
+-- the byte is the sign of one byte
+single_tells : (byte : ℕ) (sign : Sign) → single_sign byte ≡ Some sign → byte ∷ [] ≡ sign_bytes sign
 single_tells byte sign =
-    single_case byte 43 grammar.Sign.plus sign _ refl
-    (single_case byte 45 grammar.Sign.minus sign _ refl
-    (single_case byte 42 grammar.Sign.times sign _ refl
-    (single_case byte 47 grammar.Sign.divide sign _ refl
-    (single_case byte 61 grammar.Sign.equal sign _ refl
-    (single_case byte 60 grammar.Sign.less sign _ refl
-    (single_case byte 62 grammar.Sign.greater sign _ refl
-    (single_case byte 38 grammar.Sign.ampersand sign _ refl
-    (single_case byte 124 grammar.Sign.bar sign _ refl
-    (single_case byte 94 grammar.Sign.caret sign _ refl
-    (single_case byte 40 grammar.Sign.open_parenthesis sign _ refl
-    (single_case byte 41 grammar.Sign.close_parenthesis sign _ refl
-    (single_case byte 44 grammar.Sign.comma sign None refl (λ e. absurd (none-some sign e))))))))))))))
+    single_case byte 43 Sign.Plus sign _ refl
+    (single_case byte 45 Sign.Minus sign _ refl
+    (single_case byte 42 Sign.Times sign _ refl
+    (single_case byte 47 Sign.Divide sign _ refl
+    (single_case byte 61 Sign.Equal sign _ refl
+    (single_case byte 60 Sign.Less sign _ refl
+    (single_case byte 62 Sign.Greater sign _ refl
+    (single_case byte 38 Sign.Ampersand sign _ refl
+    (single_case byte 124 Sign.Bar sign _ refl
+    (single_case byte 94 Sign.Caret sign _ refl
+    (single_case byte 40 Sign.OpenParenthesis sign _ refl
+    (single_case byte 41 Sign.CloseParenthesis sign _ refl
+    (single_case byte 44 Sign.Comma sign None refl (λ e. absurd (none-some sign e))))))))))))))
 
-double_case : (first second one two : ℕ) (which : grammar.Sign) (sign : Sign) (others : Option Sign)
-    → sign_bytes which ≡ one ∷ two ∷ []
-    → (others ≡ Some sign → SignTells (first ∷ second ∷ []) sign)
-    → cond (eqb first one && eqb second two) (Some (kept_sign which)) others ≡ Some sign → SignTells (first ∷ second ∷ []) sign
+double_case : (first second one two : ℕ) (which sign : Sign) (others : Option Sign) → sign_bytes which ≡ one ∷ two ∷ []
+    → (others ≡ Some sign → first ∷ second ∷ [] ≡ sign_bytes sign)
+    → cond (eqb first one && eqb second two) (Some which) others ≡ Some sign → first ∷ second ∷ [] ≡ sign_bytes sign
 double_case first second one two which sign others spelt else_ =
-    cond_both (eqb first one && eqb second two) (Some (kept_sign which)) others
-    (λ (o : Option Sign). o ≡ Some sign → SignTells (first ∷ second ∷ []) sign)
-    (λ same e. let both = and_parts (eqb first one) (eqb second two) same in record {
-      which = which;
-      is = ap (λ (b : ℕ). b ∷ second ∷ []) (eqb-true first one both.0) ∙ ap (λ (b : ℕ). one ∷ b ∷ []) (eqb-true second two both.1) ∙ sym spelt;
-      same = same_Some (kept_sign which) sign e;
-    })
+    cond_both (eqb first one && eqb second two) (Some which) others
+    (λ (o : Option Sign). o ≡ Some sign → first ∷ second ∷ [] ≡ sign_bytes sign)
+    (λ same e. let both = and_parts (eqb first one) (eqb second two) same in
+    ap (λ (b : ℕ). b ∷ second ∷ []) (eqb-true first one both.0) ∙ ap (λ (b : ℕ). one ∷ b ∷ []) (eqb-true second two both.1)
+    ∙ sym spelt ∙ ap sign_bytes (same_Some which sign e))
     (λ _ e. else_ e)
 
-double_tells : (first second : ℕ) (sign : Sign) → double_sign first second ≡ Some sign → SignTells (first ∷ second ∷ []) sign
+-- the bytes are the sign of two bytes
+double_tells : (first second : ℕ) (sign : Sign) → double_sign first second ≡ Some sign → first ∷ second ∷ [] ≡ sign_bytes sign
 double_tells first second sign =
-    double_case first second 124 124 grammar.Sign.join sign _ refl
-    (double_case first second 94 61 grammar.Sign.not_equal sign _ refl
-    (double_case first second 60 61 grammar.Sign.less_equal sign _ refl
-    (double_case first second 62 61 grammar.Sign.greater_equal sign None refl (λ e. absurd (none-some sign e)))))
+    double_case first second 124 124 Sign.Join sign _ refl
+    (double_case first second 94 61 Sign.NotEqual sign _ refl
+    (double_case first second 60 61 Sign.LessEqual sign _ refl
+    (double_case first second 62 61 Sign.GreaterEqual sign None refl (λ e. absurd (none-some sign e)))))
 
-tells_sign : (bytes behind : List ℕ) (sign : Sign) (n : ℕ) (front : Front) → SignTells bytes sign → length bytes ≡ n
+tells_sign : (bytes behind : List ℕ) (sign : Sign) (n : ℕ) (front : Front) → bytes ≡ sign_bytes sign → length bytes ≡ n
     → sign_kept sign n ≡ front → Tells (bytes ++ behind) front
-tells_sign bytes behind sign n front s size h = record {
-  token = Token.sign s.which;
+tells_sign bytes behind sign n front spelt size h = record {
+  token = Token.sign sign;
   bytes = bytes;
   behind = behind;
   whole = refl;
-  is_token = s.is;
-  same_kind = ap (λ (t : Sign). kind.Sign t) s.same ∙ ap (λ (f : Front). f.kind) h;
+  is_token = spelt;
+  same_kind = ap (λ (f : Front). f.kind) h;
   same_length = size ∙ ap (λ (f : Front). f.length) h;
 }
 

@@ -7,7 +7,8 @@ use Rattle.std.proofs.lemmas.Bool.Decides.{nat_tests}
 use Rattle.std.proofs.lemmas.List.{append_assoc, append-nil, length-append, map-append}
 use Rattle.plcs_base.specs.Byte.{is_letter, is_digit, is_name_byte}
 use Rattle.plcs_base.specs.Name.{is_word, IsName}
-use Rattle.plcs_grammar.specs.Sign as grammar
+use Rattle.plcs_grammar.specs.declared.sign.Sign.{Sign}
+use Rattle.plcs_grammar.specs.declared.sign.Sign.TheVariants as Sign
 use Rattle.plcs_grammar.specs.Sign.{sign_bytes}
 use Rattle.plcs_grammar.specs.Token.{Token, IsToken, First, NoToken, IsNumeral, IsConstantText, begins_with, is_quote, numeral_value, quoted, bit_bytes}
 use Rattle.plcs_grammar.specs.Cuts.{Piece, Cuts, blanks, unblanked, is_blank, tokens_of}
@@ -100,24 +101,24 @@ bit_not_blank : (bit : Bool) (behind : List ℕ) → begins_with is_blank (bit_b
 bit_not_blank false behind = refl
 bit_not_blank true behind = refl
 
-sign_not_blank : (s : grammar.Sign) (behind : List ℕ) → begins_with is_blank (sign_bytes s ++ behind) ≡ false
-sign_not_blank grammar.Sign.plus behind = refl
-sign_not_blank grammar.Sign.minus behind = refl
-sign_not_blank grammar.Sign.times behind = refl
-sign_not_blank grammar.Sign.divide behind = refl
-sign_not_blank grammar.Sign.join behind = refl
-sign_not_blank grammar.Sign.equal behind = refl
-sign_not_blank grammar.Sign.not_equal behind = refl
-sign_not_blank grammar.Sign.less behind = refl
-sign_not_blank grammar.Sign.less_equal behind = refl
-sign_not_blank grammar.Sign.greater behind = refl
-sign_not_blank grammar.Sign.greater_equal behind = refl
-sign_not_blank grammar.Sign.ampersand behind = refl
-sign_not_blank grammar.Sign.bar behind = refl
-sign_not_blank grammar.Sign.caret behind = refl
-sign_not_blank grammar.Sign.open_parenthesis behind = refl
-sign_not_blank grammar.Sign.close_parenthesis behind = refl
-sign_not_blank grammar.Sign.comma behind = refl
+sign_not_blank : (s : Sign) (behind : List ℕ) → begins_with is_blank (sign_bytes s ++ behind) ≡ false
+sign_not_blank Sign.Plus behind = refl
+sign_not_blank Sign.Minus behind = refl
+sign_not_blank Sign.Times behind = refl
+sign_not_blank Sign.Divide behind = refl
+sign_not_blank Sign.Join behind = refl
+sign_not_blank Sign.Equal behind = refl
+sign_not_blank Sign.NotEqual behind = refl
+sign_not_blank Sign.Less behind = refl
+sign_not_blank Sign.LessEqual behind = refl
+sign_not_blank Sign.Greater behind = refl
+sign_not_blank Sign.GreaterEqual behind = refl
+sign_not_blank Sign.Ampersand behind = refl
+sign_not_blank Sign.Bar behind = refl
+sign_not_blank Sign.Caret behind = refl
+sign_not_blank Sign.OpenParenthesis behind = refl
+sign_not_blank Sign.CloseParenthesis behind = refl
+sign_not_blank Sign.Comma behind = refl
 
 -- where a token stands, no blank does
 pub token_not_blank : (token : Token) (bytes behind : List ℕ) → IsToken token bytes behind
@@ -178,7 +179,7 @@ pub bit_first : (bit : Bool) (behind : List ℕ) → begins_with is_name_byte be
 bit_first bit behind ends = first_if_found (Token.bit bit) (bit_bytes bit) behind (refl, not_from_false _ ends) (bit_found bit behind ends)
 
 -- a sign, where neither `=` nor `|` follows
-pub sign_first : (s : grammar.Sign) (behind : List ℕ) → EndsSign behind
+pub sign_first : (s : Sign) (behind : List ℕ) → EndsSign behind
     → First (sign_bytes s ++ behind) (Token.sign s) (sign_bytes s) behind
 sign_first s behind ends = first_if_found (Token.sign s) (sign_bytes s) behind refl (sign_found s behind ends)
 
@@ -236,7 +237,7 @@ pub lexed_bit : (bit : Bool) (behind : List ℕ) → Safe behind → Lexed (bit_
 lexed_bit bit behind safe = lexed_first (Token.bit bit) (bit_bytes bit) behind (bit_first bit behind (safe_word behind safe))
 
 -- a sign also before an operand or another sign, if that doesn't begin with `=` or `|`
-pub lexed_sign : (s : grammar.Sign) (behind : List ℕ) → EndsSign behind → Lexed (sign_bytes s) (Token.sign s ∷ []) behind
+pub lexed_sign : (s : Sign) (behind : List ℕ) → EndsSign behind → Lexed (sign_bytes s) (Token.sign s ∷ []) behind
 lexed_sign s behind ends = lexed_first (Token.sign s) (sign_bytes s) behind (sign_first s behind ends)
 
 -- a whole text is cut into its tokens

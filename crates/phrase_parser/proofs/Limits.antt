@@ -1,15 +1,18 @@
 -- A phrase keeps both limits exactly where none of its tokens goes past one.
 use Rattle.std.proofs.Common.{◌≡◌, refl, ℕ, ◌+◌, ◌-◌, ◌≤◌, max, Bool, true, false, cond, ltb, ltb-false, le-ltb, List, [], ◌∷◌, ◌++◌, Option, Some, None, ap, sym, subst, ◌∙◌, arith, lit≤, zero-le, flat_map}
+use Rattle.std.specs.Option.{option_or}
 use Rattle.std.specs.List.{AllByRecursion}
 use Rattle.std.proofs.Math.Nat.{le-max_left, le-max_right, max-le}
 use Rattle.std.proofs.lemmas.List.Elements.{All-from_recursion, recursion_from_All}
 use Rattle.plcs_grammar.specs.declared.category.Category.{Category}
-use Rattle.plcs_grammar.specs.Sign.{Sign}
+use Rattle.plcs_grammar.specs.declared.sign.Sign.TheVariants as Sign
 use Rattle.plcs_grammar.specs.Token.{Token}
 use Rattle.plcs_grammar.specs.Cuts.{Piece, tokens_of}
 use Rattle.plcs_grammar.specs.Reading.{Tree, Trees, Reference, Reading}
 use Rattle.plcs_grammar.specs.Form.{Form}
-use Rattle.plcs_grammar.specs.Limit.{greatest_number, greatest_nesting, nesting, reference_nesting, deepest, deepest_reference, arguments_nesting, phrase_nesting, numbers, reference_numbers, numbers_of_all, size_numbers, phrase_numbers, IsWithinLimits, opened, reference_opened, opened_by_all, opened_behind, references_behind, opened_by_references, opened_by_call, phrase_opened, OverLimit, is_too_large, over_at, or_else, first_over}
+use Rattle.plcs_grammar.specs.Limit.{greatest_number, greatest_nesting, nesting, reference_nesting, deepest, deepest_reference, arguments_nesting, phrase_nesting, numbers, reference_numbers, numbers_of_all, size_numbers, phrase_numbers, IsWithinLimits}
+use Rattle.plcs_grammar.specs.Opened.{opened, reference_opened, opened_by_all, opened_behind, references_behind, opened_by_references, opened_by_call, phrase_opened}
+use Rattle.plcs_grammar.specs.Over.{OverLimit, is_too_large, over_at, first_over}
 use Rattle.phrase_parser.proofs.Spelling.{spell, spell_reference, spell_all, spell_behind}
 use Rattle.phrase_parser.proofs.Phrases.{spell_name, spell_item, spell_sized, spell_call, spell_more, spell_listed, spell_phrase, form_spelled}
 
@@ -60,12 +63,12 @@ none_at piece level f le =
     (fits_large piece.token f)
     ∙ ap (λ b. cond b (Some (OverLimit.too_deep piece.start)) None) (le-ltb greatest_nesting level le)
 
-both_none : (a b : Option OverLimit) → or_else a b ≡ None → (a ≡ None) × (b ≡ None)
+both_none : (a b : Option OverLimit) → option_or a b ≡ None → (a ≡ None) × (b ≡ None)
 both_none None b e = (refl, e)
 both_none (Some o) b e = absurd (cc)
 
-none_both : (a b : Option OverLimit) → a ≡ None → b ≡ None → or_else a b ≡ None
-none_both a b e f = ap (λ z. or_else z b) e ∙ f
+none_both : (a b : Option OverLimit) → a ≡ None → b ≡ None → option_or a b ≡ None
+none_both a b e f = ap (λ z. option_or z b) e ∙ f
 
 -- none is over a limit where all are fine
 pub fine_none : (pieces : List Piece) (levels : List ℕ) → AllFine (tokens_of pieces) levels → first_over pieces levels ≡ None
@@ -155,7 +158,7 @@ outside n k h = omega arith
 from_outside : (n k : ℕ) → n + 0 ≤ k → n ≤ k
 from_outside n k h = omega arith
 
-abbrev fine_close : AllFine (Token.sign Sign.close_parenthesis ∷ []) (0 ∷ [])
+abbrev fine_close : AllFine (Token.sign Sign.CloseParenthesis ∷ []) (0 ∷ [])
 fine_close = (tt, zero-le, tt)
 
 mutual

@@ -1,6 +1,6 @@
 -- Lists that stand in no expression are read item by item.
 use Rattle.std.proofs.Common.{◌≡◌, refl, ℕ, List, [], ◌∷◌, ◌++◌, Some, ◌∙◌, append_assoc}
-use Rattle.plcs_grammar.specs.Sign.{Sign}
+use Rattle.plcs_grammar.specs.declared.sign.Sign.TheVariants as Sign
 use Rattle.plcs_grammar.specs.Token.{Token}
 use Rattle.phrase_parser.specs.Machine.{State, step}
 use Rattle.phrase_parser.specs.Trace.{opens}
@@ -23,8 +23,8 @@ pub record Listing (X : Type 0) (f : X → List Token) (g : X → List ℕ) (Fit
   pub wants : List X → State
   pub has : List X → X → State
   pub reads : (done : List X) (x : X) → Fit x → Goes (wants done) (f x) (g x) (has done x)
-  pub comma : (done : List X) (x : X) → step (has done x) (Token.sign Sign.comma) ≡ Some (wants (done ++ (x ∷ [])))
-  pub none : (done : List X) (x : X) → opens (has done x) (Token.sign Sign.comma) ≡ 0
+  pub comma : (done : List X) (x : X) → step (has done x) (Token.sign Sign.Comma) ≡ Some (wants (done ++ (x ∷ [])))
+  pub none : (done : List X) (x : X) → opens (has done x) (Token.sign Sign.Comma) ≡ 0
 
 module _ {X : Type 0} (f : X → List Token) (g : X → List ℕ) (Fit : X → Type 0) (m : Listing X f g Fit) where
   -- the tokens lead behind the last of all items

@@ -8,14 +8,14 @@ use Rattle.std.proofs.lemmas.Option.{same_Some}
 use Rattle.std.proofs.lemmas.List.{take_at, drop_at}
 use Rattle.plcs_base.specs.Byte.{is_letter, is_digit, is_name_byte}
 use Rattle.plcs_base.specs.Name.{is_keyword, is_word, is_name, IsName}
-use Rattle.plcs_grammar.specs.Sign as grammar
+use Rattle.plcs_grammar.specs.declared.sign.Sign.{Sign}
+use Rattle.plcs_grammar.specs.declared.sign.Sign.TheVariants as Sign
 use Rattle.plcs_grammar.specs.Sign.{sign_bytes}
 use Rattle.plcs_grammar.specs.Token.{Token, IsToken, IsNumeral, IsConstantText, begins_with, is_quote, numeral_value, quoted, bit_bytes}
 use Rattle.phrase_parser.specs.declared.front.Front.{Front}
-use Rattle.phrase_parser.specs.declared.token.Sign.{Sign}
 use Rattle.phrase_parser.specs.declared.token.TokenKind.{TokenKind}
 use Rattle.phrase_parser.specs.declared.token.TokenKind.TheVariants as kind
-use Rattle.phrase_parser.specs.Kept.{kept_sign, kept_kind}
+use Rattle.phrase_parser.specs.Kept.{kept_kind}
 use Rattle.phrase_parser.specs.Front.{front_of, word_of, word_front, number_of, number_front, constant_of, constant_front, bit_constant, closing, sign_of, sign_front, double_at, ends_word}
 use Rattle.phrase_parser.proofs.Runs.{run_append, run_none, run_begins, word_bytes, keyword_word, keyword_short, name_word, name_short}
 use Rattle.phrase_parser.proofs.Quoted.{quoted_read, quoted_append}
@@ -197,25 +197,25 @@ covered_single : (double : Option Sign) (sign : Sign) → Covers (kind.Sign sign
 covered_single (Some other) sign = inl (lit≤ tt)
 covered_single None sign = inr (refl, refl)
 
-sign_covered : (s : grammar.Sign) (behind : List ℕ)
-    → Covers (kind.Sign (kept_sign s)) (length (sign_bytes s)) (front_of (sign_bytes s ++ behind))
-sign_covered grammar.Sign.plus behind = covered_single (double_at 43 behind) (kept_sign grammar.Sign.plus)
-sign_covered grammar.Sign.minus behind = covered_single (double_at 45 behind) (kept_sign grammar.Sign.minus)
-sign_covered grammar.Sign.times behind = covered_single (double_at 42 behind) (kept_sign grammar.Sign.times)
-sign_covered grammar.Sign.divide behind = covered_single (double_at 47 behind) (kept_sign grammar.Sign.divide)
-sign_covered grammar.Sign.join behind = inr (refl, refl)
-sign_covered grammar.Sign.equal behind = covered_single (double_at 61 behind) (kept_sign grammar.Sign.equal)
-sign_covered grammar.Sign.not_equal behind = inr (refl, refl)
-sign_covered grammar.Sign.less behind = covered_single (double_at 60 behind) (kept_sign grammar.Sign.less)
-sign_covered grammar.Sign.less_equal behind = inr (refl, refl)
-sign_covered grammar.Sign.greater behind = covered_single (double_at 62 behind) (kept_sign grammar.Sign.greater)
-sign_covered grammar.Sign.greater_equal behind = inr (refl, refl)
-sign_covered grammar.Sign.ampersand behind = covered_single (double_at 38 behind) (kept_sign grammar.Sign.ampersand)
-sign_covered grammar.Sign.bar behind = covered_single (double_at 124 behind) (kept_sign grammar.Sign.bar)
-sign_covered grammar.Sign.caret behind = covered_single (double_at 94 behind) (kept_sign grammar.Sign.caret)
-sign_covered grammar.Sign.open_parenthesis behind = covered_single (double_at 40 behind) (kept_sign grammar.Sign.open_parenthesis)
-sign_covered grammar.Sign.close_parenthesis behind = covered_single (double_at 41 behind) (kept_sign grammar.Sign.close_parenthesis)
-sign_covered grammar.Sign.comma behind = covered_single (double_at 44 behind) (kept_sign grammar.Sign.comma)
+sign_covered : (s : Sign) (behind : List ℕ)
+    → Covers (kind.Sign s) (length (sign_bytes s)) (front_of (sign_bytes s ++ behind))
+sign_covered Sign.Plus behind = covered_single (double_at 43 behind) Sign.Plus
+sign_covered Sign.Minus behind = covered_single (double_at 45 behind) Sign.Minus
+sign_covered Sign.Times behind = covered_single (double_at 42 behind) Sign.Times
+sign_covered Sign.Divide behind = covered_single (double_at 47 behind) Sign.Divide
+sign_covered Sign.Join behind = inr (refl, refl)
+sign_covered Sign.Equal behind = covered_single (double_at 61 behind) Sign.Equal
+sign_covered Sign.NotEqual behind = inr (refl, refl)
+sign_covered Sign.Less behind = covered_single (double_at 60 behind) Sign.Less
+sign_covered Sign.LessEqual behind = inr (refl, refl)
+sign_covered Sign.Greater behind = covered_single (double_at 62 behind) Sign.Greater
+sign_covered Sign.GreaterEqual behind = inr (refl, refl)
+sign_covered Sign.Ampersand behind = covered_single (double_at 38 behind) Sign.Ampersand
+sign_covered Sign.Bar behind = covered_single (double_at 124 behind) Sign.Bar
+sign_covered Sign.Caret behind = covered_single (double_at 94 behind) Sign.Caret
+sign_covered Sign.OpenParenthesis behind = covered_single (double_at 40 behind) Sign.OpenParenthesis
+sign_covered Sign.CloseParenthesis behind = covered_single (double_at 41 behind) Sign.CloseParenthesis
+sign_covered Sign.Comma behind = covered_single (double_at 44 behind) Sign.Comma
 
 -- `=` and `|`, the bytes that may be the second of a sign
 abbrev pub is_second : ℕ → Bool
@@ -242,25 +242,25 @@ found_single : (first : ℕ) (behind : List ℕ) (sign : Sign) → EndsSign behi
 found_single first behind sign ends = ap (λ (o : Option Sign). sign_of o (Some sign)) (double_none first behind ends)
 
 -- a sign is found, where nothing makes it longer
-pub sign_found : (s : grammar.Sign) (behind : List ℕ) → EndsSign behind
-    → Finds (sign_bytes s ++ behind) (kind.Sign (kept_sign s)) (length (sign_bytes s))
-sign_found grammar.Sign.plus behind ends = found_single 43 behind (kept_sign grammar.Sign.plus) ends
-sign_found grammar.Sign.minus behind ends = found_single 45 behind (kept_sign grammar.Sign.minus) ends
-sign_found grammar.Sign.times behind ends = found_single 42 behind (kept_sign grammar.Sign.times) ends
-sign_found grammar.Sign.divide behind ends = found_single 47 behind (kept_sign grammar.Sign.divide) ends
-sign_found grammar.Sign.join behind ends = refl
-sign_found grammar.Sign.equal behind ends = found_single 61 behind (kept_sign grammar.Sign.equal) ends
-sign_found grammar.Sign.not_equal behind ends = refl
-sign_found grammar.Sign.less behind ends = found_single 60 behind (kept_sign grammar.Sign.less) ends
-sign_found grammar.Sign.less_equal behind ends = refl
-sign_found grammar.Sign.greater behind ends = found_single 62 behind (kept_sign grammar.Sign.greater) ends
-sign_found grammar.Sign.greater_equal behind ends = refl
-sign_found grammar.Sign.ampersand behind ends = found_single 38 behind (kept_sign grammar.Sign.ampersand) ends
-sign_found grammar.Sign.bar behind ends = found_single 124 behind (kept_sign grammar.Sign.bar) ends
-sign_found grammar.Sign.caret behind ends = found_single 94 behind (kept_sign grammar.Sign.caret) ends
-sign_found grammar.Sign.open_parenthesis behind ends = found_single 40 behind (kept_sign grammar.Sign.open_parenthesis) ends
-sign_found grammar.Sign.close_parenthesis behind ends = found_single 41 behind (kept_sign grammar.Sign.close_parenthesis) ends
-sign_found grammar.Sign.comma behind ends = found_single 44 behind (kept_sign grammar.Sign.comma) ends
+pub sign_found : (s : Sign) (behind : List ℕ) → EndsSign behind
+    → Finds (sign_bytes s ++ behind) (kind.Sign s) (length (sign_bytes s))
+sign_found Sign.Plus behind ends = found_single 43 behind Sign.Plus ends
+sign_found Sign.Minus behind ends = found_single 45 behind Sign.Minus ends
+sign_found Sign.Times behind ends = found_single 42 behind Sign.Times ends
+sign_found Sign.Divide behind ends = found_single 47 behind Sign.Divide ends
+sign_found Sign.Join behind ends = refl
+sign_found Sign.Equal behind ends = found_single 61 behind Sign.Equal ends
+sign_found Sign.NotEqual behind ends = refl
+sign_found Sign.Less behind ends = found_single 60 behind Sign.Less ends
+sign_found Sign.LessEqual behind ends = refl
+sign_found Sign.Greater behind ends = found_single 62 behind Sign.Greater ends
+sign_found Sign.GreaterEqual behind ends = refl
+sign_found Sign.Ampersand behind ends = found_single 38 behind Sign.Ampersand ends
+sign_found Sign.Bar behind ends = found_single 124 behind Sign.Bar ends
+sign_found Sign.Caret behind ends = found_single 94 behind Sign.Caret ends
+sign_found Sign.OpenParenthesis behind ends = found_single 40 behind Sign.OpenParenthesis ends
+sign_found Sign.CloseParenthesis behind ends = found_single 41 behind Sign.CloseParenthesis ends
+sign_found Sign.Comma behind ends = found_single 44 behind Sign.Comma ends
 
 -- where a token stands, something at least as long is found
 pub token_covered : (token : Token) (bytes behind : List ℕ) → IsToken token bytes behind
@@ -279,4 +279,4 @@ token_covered (Token.bit bit) bytes behind is =
     subst (λ (b : List ℕ). Covers (kind.Bit bit) (length b) (front_of (b ++ behind))) (sym is.0)
     (covers_found (bit_bytes bit ++ behind) (kind.Bit bit) (length (bit_bytes bit)) (bit_found bit behind (not-true _ is.1)))
 token_covered (Token.sign s) bytes behind is =
-    subst (λ (b : List ℕ). Covers (kind.Sign (kept_sign s)) (length b) (front_of (b ++ behind))) (sym is) (sign_covered s behind)
+    subst (λ (b : List ℕ). Covers (kind.Sign s) (length b) (front_of (b ++ behind))) (sym is) (sign_covered s behind)

@@ -8,7 +8,9 @@ use Rattle.plcs_grammar.specs.Reading.{Reading}
 use Rattle.plcs_grammar.specs.PlainForm.{reading_of}
 use Rattle.plcs_grammar.specs.Cuts.{Piece, tokens_of}
 use Rattle.plcs_grammar.specs.Form.{Form, Begins}
-use Rattle.plcs_grammar.specs.Limit.{OverLimit, IsWithinLimits, first_over, phrase_opened}
+use Rattle.plcs_grammar.specs.Limit.{IsWithinLimits}
+use Rattle.plcs_grammar.specs.Opened.{phrase_opened}
+use Rattle.plcs_grammar.specs.Over.{OverLimit, first_over}
 use Rattle.plcs_grammar.specs.Reads.{IsCutAs, HasReading, Outline, Reads, IsOver}
 use Rattle.plcs_grammar.specs.Syntax.{GoesWrong, SyntaxAt}
 use Rattle.phrase_parser.specs.declared.fault.PhraseFault.{PhraseFault}

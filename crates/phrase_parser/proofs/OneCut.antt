@@ -4,15 +4,15 @@ use Rattle.std.proofs.lemmas.Bool.{cond_both, cond-false, eqb-true, false≢true
 use Rattle.std.proofs.lemmas.Option.{same_Some}
 use Rattle.std.proofs.lemmas.List.{take_at, drop_at, length-append, same_from_push}
 use Rattle.plcs_base.specs.Name.{is_word, IsName}
-use Rattle.plcs_grammar.specs.Sign as grammar
+use Rattle.plcs_grammar.specs.declared.sign.Sign.{Sign}
+use Rattle.plcs_grammar.specs.declared.sign.Sign.TheVariants as Sign
 use Rattle.plcs_grammar.specs.Sign.{sign_bytes}
 use Rattle.plcs_grammar.specs.Token.{Token, IsToken, First, NoToken, is_quote, quoted, with_quotes_doubled}
 use Rattle.plcs_grammar.specs.Cuts.{Piece, Cuts, unblanked}
 use Rattle.phrase_parser.specs.declared.front.Front.{Front}
 use Rattle.phrase_parser.specs.declared.token.TokenKind.{TokenKind}
-use Rattle.phrase_parser.specs.Kept.{kept_sign, kept_kind}
+use Rattle.phrase_parser.specs.Kept.{kept_kind}
 use Rattle.phrase_parser.specs.Front.{front_of}
-use Rattle.phrase_parser.specs.TokenIn.{sign_of}
 use Rattle.phrase_parser.specs.Unquoted.{undoubled, undoubled_behind}
 use Rattle.phrase_parser.proofs.Runs.{name_word, keyword_word}
 use Rattle.phrase_parser.proofs.FoundTokens.{found_tells}
@@ -60,24 +60,24 @@ found_first x front found =
 pub none_found : (x : List ℕ) → front_of x ≡ None → NoToken x
 none_found x found token bytes behind whole is = covered_at x None found token bytes behind whole is
 
-empty_no_sign : (s : grammar.Sign) → [] ≡ sign_bytes s → ⊥
-empty_no_sign grammar.Sign.plus h = absurd (omega (arith, ap length h))
-empty_no_sign grammar.Sign.minus h = absurd (omega (arith, ap length h))
-empty_no_sign grammar.Sign.times h = absurd (omega (arith, ap length h))
-empty_no_sign grammar.Sign.divide h = absurd (omega (arith, ap length h))
-empty_no_sign grammar.Sign.join h = absurd (omega (arith, ap length h))
-empty_no_sign grammar.Sign.equal h = absurd (omega (arith, ap length h))
-empty_no_sign grammar.Sign.not_equal h = absurd (omega (arith, ap length h))
-empty_no_sign grammar.Sign.less h = absurd (omega (arith, ap length h))
-empty_no_sign grammar.Sign.less_equal h = absurd (omega (arith, ap length h))
-empty_no_sign grammar.Sign.greater h = absurd (omega (arith, ap length h))
-empty_no_sign grammar.Sign.greater_equal h = absurd (omega (arith, ap length h))
-empty_no_sign grammar.Sign.ampersand h = absurd (omega (arith, ap length h))
-empty_no_sign grammar.Sign.bar h = absurd (omega (arith, ap length h))
-empty_no_sign grammar.Sign.caret h = absurd (omega (arith, ap length h))
-empty_no_sign grammar.Sign.open_parenthesis h = absurd (omega (arith, ap length h))
-empty_no_sign grammar.Sign.close_parenthesis h = absurd (omega (arith, ap length h))
-empty_no_sign grammar.Sign.comma h = absurd (omega (arith, ap length h))
+empty_no_sign : (s : Sign) → [] ≡ sign_bytes s → ⊥
+empty_no_sign Sign.Plus h = absurd (omega (arith, ap length h))
+empty_no_sign Sign.Minus h = absurd (omega (arith, ap length h))
+empty_no_sign Sign.Times h = absurd (omega (arith, ap length h))
+empty_no_sign Sign.Divide h = absurd (omega (arith, ap length h))
+empty_no_sign Sign.Join h = absurd (omega (arith, ap length h))
+empty_no_sign Sign.Equal h = absurd (omega (arith, ap length h))
+empty_no_sign Sign.NotEqual h = absurd (omega (arith, ap length h))
+empty_no_sign Sign.Less h = absurd (omega (arith, ap length h))
+empty_no_sign Sign.LessEqual h = absurd (omega (arith, ap length h))
+empty_no_sign Sign.Greater h = absurd (omega (arith, ap length h))
+empty_no_sign Sign.GreaterEqual h = absurd (omega (arith, ap length h))
+empty_no_sign Sign.Ampersand h = absurd (omega (arith, ap length h))
+empty_no_sign Sign.Bar h = absurd (omega (arith, ap length h))
+empty_no_sign Sign.Caret h = absurd (omega (arith, ap length h))
+empty_no_sign Sign.OpenParenthesis h = absurd (omega (arith, ap length h))
+empty_no_sign Sign.CloseParenthesis h = absurd (omega (arith, ap length h))
+empty_no_sign Sign.Comma h = absurd (omega (arith, ap length h))
 
 empty_no_token : (token : Token) (behind : List ℕ) → IsToken token [] behind → ⊥
 empty_no_token (Token.name n) behind is = false≢true (name_word [] (subst IsName (sym is.0) is.1))
@@ -92,26 +92,6 @@ empty_no_token (Token.sign s) behind is = empty_no_sign s is
 pub token_not_empty : (token : Token) (bytes behind : List ℕ) → IsToken token bytes behind → 1 ≤ length bytes
 token_not_empty token [] behind is = absurd (empty_no_token token behind is)
 token_not_empty token (byte ∷ rest) behind is = omega arith
-
--- a sign is read again from what is kept of it
-pub sign_of-kept : (s : grammar.Sign) → sign_of (kept_sign s) ≡ s
-sign_of-kept grammar.Sign.plus = refl
-sign_of-kept grammar.Sign.minus = refl
-sign_of-kept grammar.Sign.times = refl
-sign_of-kept grammar.Sign.divide = refl
-sign_of-kept grammar.Sign.join = refl
-sign_of-kept grammar.Sign.equal = refl
-sign_of-kept grammar.Sign.not_equal = refl
-sign_of-kept grammar.Sign.less = refl
-sign_of-kept grammar.Sign.less_equal = refl
-sign_of-kept grammar.Sign.greater = refl
-sign_of-kept grammar.Sign.greater_equal = refl
-sign_of-kept grammar.Sign.ampersand = refl
-sign_of-kept grammar.Sign.bar = refl
-sign_of-kept grammar.Sign.caret = refl
-sign_of-kept grammar.Sign.open_parenthesis = refl
-sign_of-kept grammar.Sign.close_parenthesis = refl
-sign_of-kept grammar.Sign.comma = refl
 
 -- doubling quotes and taking one of each two changes nothing
 pub undoubled_doubled : (value : List ℕ) → undoubled (with_quotes_doubled value) ≡ value
@@ -141,9 +121,7 @@ one_token (Token.text v) (Token.text w) bytes behind is so same = ap Token.text 
 one_token (Token.text v) k bytes behind is so same = absurd cc
 one_token (Token.bit b) (Token.bit c) bytes behind is so same = let e : b ≡ c = cc in ap Token.bit e
 one_token (Token.bit b) k bytes behind is so same = absurd cc
-one_token (Token.sign s) (Token.sign t) bytes behind is so same =
-    let e : kept_sign s ≡ kept_sign t = cc in
-    ap Token.sign (sym (sign_of-kept s) ∙ ap sign_of e ∙ sign_of-kept t)
+one_token (Token.sign s) (Token.sign t) bytes behind is so same = let e : s ≡ t = cc in ap Token.sign e
 one_token (Token.sign s) k bytes behind is so same = absurd cc
 
 covers_exactly : (k : TokenKind) (n : ℕ) (front : Front) → Covers k n (Some front) → front.length ≤ n

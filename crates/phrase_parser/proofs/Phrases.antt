@@ -2,7 +2,7 @@
 use Rattle.std.proofs.Common.{◌≡◌, refl, ℕ, ◌≤◌, List, [], ◌∷◌, ◌++◌, Option, Some, None, ap, sym, subst, ◌∙◌, ap₂}
 use Rattle.plcs_grammar.specs.declared.category.Category.{Category}
 use Rattle.plcs_grammar.specs.declared.item.Item.{Item}
-use Rattle.plcs_grammar.specs.Sign.{Sign}
+use Rattle.plcs_grammar.specs.declared.sign.Sign.TheVariants as Sign
 use Rattle.plcs_grammar.specs.Token.{Token}
 use Rattle.plcs_grammar.specs.Reading.{Trees, Reading, category_of}
 use Rattle.plcs_grammar.specs.Level.{in_parentheses, IsReference}
@@ -13,7 +13,7 @@ module _ {X : Type 0} (f : X → List Token) where
   -- the tokens of each, behind a comma
   abbrev pub spell_more : List X → List Token
   spell_more [] = []
-  spell_more (x ∷ xs) = Token.sign Sign.comma ∷ (f x ++ spell_more xs)
+  spell_more (x ∷ xs) = Token.sign Sign.Comma ∷ (f x ++ spell_more xs)
 
   -- the tokens of each, joined by commas
   abbrev pub spell_listed : List X → List Token
@@ -38,7 +38,7 @@ module _ {X : Type 0} (Is : X → List Token → Type 0) (f : X → List Token) 
   spelled_more (x ∷ xs) ks h =
       let p = reads x h.0 h.3 in
       let q = spelled_more xs h.1 h.4 in
-      ((p.0, q.0), h.2 ∙ ap₂ (λ a b. Token.sign Sign.comma ∷ (a ++ b)) p.1 q.1)
+      ((p.0, q.0), h.2 ∙ ap₂ (λ a b. Token.sign Sign.Comma ∷ (a ++ b)) p.1 q.1)
 
   -- what is joined by commas is those tokens
   pub spelled_listed : (xs : List X) (ks : List Token) → JoinedBy Is xs ks → FitsListed Fit xs × (ks ≡ spell_listed f xs)
@@ -97,7 +97,7 @@ FitsCall (Trees.cons a rest) = FitsAll (Trees.cons a rest)
 
 -- the tokens of a phrase
 abbrev pub spell_phrase : Reading → List Token
-spell_phrase (Reading.assignment target value) = spell_reference target ++ (Token.sign Sign.equal ∷ spell value)
+spell_phrase (Reading.assignment target value) = spell_reference target ++ (Token.sign Sign.Equal ∷ spell value)
 spell_phrase (Reading.condition e) = spell e
 spell_phrase (Reading.expression e) = spell e
 spell_phrase (Reading.expression_list es) = spell_all es
@@ -149,7 +149,7 @@ pub spelled_phrase : (p : Reading) (ks : List Token) → IsPhrase p ks → FitsP
 spelled_phrase (Reading.assignment target value) ks h =
     let p = spelled_reference target h.0 h.3 in
     let q = spelled value 1 h.1 h.4 in
-    ((p.0, q.0), h.2 ∙ ap₂ (λ a b. a ++ (Token.sign Sign.equal ∷ b)) p.1 q.1)
+    ((p.0, q.0), h.2 ∙ ap₂ (λ a b. a ++ (Token.sign Sign.Equal ∷ b)) p.1 q.1)
 spelled_phrase (Reading.condition e) ks h = spelled e 1 ks h
 spelled_phrase (Reading.expression e) ks h = spelled e 1 ks h
 spelled_phrase (Reading.expression_list es) ks h = spelled_all es ks h

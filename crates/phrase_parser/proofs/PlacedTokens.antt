@@ -5,38 +5,19 @@ use Rattle.std.specs.List.{AllByRecursion}
 use Rattle.std.proofs.lemmas.List.Elements.{All-from_recursion}
 use Rattle.plcs_grammar.specs.declared.category.Category.{Category}
 use Rattle.plcs_base.specs.Name.{IsName}
-use Rattle.plcs_grammar.specs.Sign as grammar
 use Rattle.plcs_grammar.specs.Token.{Token, IsToken}
 use Rattle.plcs_grammar.specs.Reading.{Reading}
 use Rattle.plcs_grammar.specs.Cuts.{Piece, Cuts, tokens_of}
 use Rattle.plcs_grammar.specs.Form.{Form}
-use Rattle.plcs_grammar.specs.Limit.{IsWithinLimits, greatest_number, phrase_opened}
-use Rattle.phrase_parser.specs.Kept.{kept_sign, kept_kind, kept}
+use Rattle.plcs_grammar.specs.Limit.{IsWithinLimits, greatest_number}
+use Rattle.plcs_grammar.specs.Opened.{phrase_opened}
+use Rattle.phrase_parser.specs.Kept.{kept_kind, kept}
 use Rattle.phrase_parser.specs.Recognizer as model
 use Rattle.phrase_parser.specs.Findings.{seen_of}
 use Rattle.phrase_parser.specs.Shapes.{kind_from, seen_in, LiesIn}
-use Rattle.phrase_parser.specs.TokenIn.{sign_of, token_from, token_in, IsOfKind, IsPlacedIn}
+use Rattle.phrase_parser.specs.TokenIn.{token_from, token_in, IsOfKind, IsPlacedIn}
 use Rattle.phrase_parser.proofs.Limits.{NumberFits, AllFine, within, none_fine}
 use Rattle.phrase_parser.proofs.PieceFacts.{InOrder, cut_in_order, StandIn, cut_stands, constant_value}
-
-sign_again : (s : grammar.Sign) → sign_of (kept_sign s) ≡ s
-sign_again grammar.Sign.plus = refl
-sign_again grammar.Sign.minus = refl
-sign_again grammar.Sign.times = refl
-sign_again grammar.Sign.divide = refl
-sign_again grammar.Sign.join = refl
-sign_again grammar.Sign.equal = refl
-sign_again grammar.Sign.not_equal = refl
-sign_again grammar.Sign.less = refl
-sign_again grammar.Sign.less_equal = refl
-sign_again grammar.Sign.greater = refl
-sign_again grammar.Sign.greater_equal = refl
-sign_again grammar.Sign.ampersand = refl
-sign_again grammar.Sign.bar = refl
-sign_again grammar.Sign.caret = refl
-sign_again grammar.Sign.open_parenthesis = refl
-sign_again grammar.Sign.close_parenthesis = refl
-sign_again grammar.Sign.comma = refl
 
 -- what the check looks at of a token is what is kept of it
 kind_as : (token : Token) (bytes behind : List ℕ) → IsToken token bytes behind → kind_from (kept_kind token) bytes ≡ model.kind_of token
@@ -45,7 +26,7 @@ kind_as (Token.keyword word) bytes behind is = refl
 kind_as (Token.number n) bytes behind is = refl
 kind_as (Token.text value) bytes behind is = refl
 kind_as (Token.bit value) bytes behind is = refl
-kind_as (Token.sign s) bytes behind is = ap model.Kind.sign (sign_again s)
+kind_as (Token.sign s) bytes behind is = refl
 
 seen_as_kept : (text : List ℕ) (pieces : List Piece) → StandIn text pieces → map (seen_in text) (map kept pieces) ≡ map seen_of pieces
 seen_as_kept text [] h = refl
@@ -93,7 +74,7 @@ token_as (Token.keyword word) bytes behind is f = ap Token.keyword is.0
 token_as (Token.number n) bytes behind is f = ap Token.number (small_kept n f)
 token_as (Token.text value) bytes behind is f = ap Token.text (constant_value value bytes behind is)
 token_as (Token.bit value) bytes behind is f = refl
-token_as (Token.sign s) bytes behind is f = ap Token.sign (sign_again s)
+token_as (Token.sign s) bytes behind is f = refl
 
 kind_stands : (token : Token) (bytes behind : List ℕ) → IsToken token bytes behind → NumberFits token → IsOfKind (kept_kind token) bytes
 kind_stands (Token.name n) bytes behind is f = subst IsName (sym is.0) is.1

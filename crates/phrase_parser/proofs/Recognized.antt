@@ -2,17 +2,19 @@
 use Rattle.std.proofs.Common.{◌≡◌, refl, ℕ, ◌+◌, true, false, List, [], ◌∷◌, map, Option, Some, None, is_some, ap, sym, ◌∙◌}
 use Rattle.plcs_grammar.specs.declared.category.Category.{Category}
 use Rattle.plcs_grammar.specs.declared.category.Category.TheVariants.{Assignment, Condition, Expression, ExpressionList, VariableList, Variable, CallRef, DeclaredList, ProcedureName, NameList, Length, CommentText}
-use Rattle.plcs_grammar.specs.Sign.{Sign}
+use Rattle.plcs_grammar.specs.declared.sign.Sign.{Sign}
+use Rattle.plcs_grammar.specs.declared.sign.Sign.TheVariants as Sign
 use Rattle.plcs_grammar.specs.Token.{Token}
 use Rattle.plcs_grammar.specs.Cuts.{Piece, tokens_of}
 use Rattle.plcs_grammar.specs.Reading.{Tree, Reference, Reading}
 use Rattle.plcs_grammar.specs.Form.{Form, Begins}
-use Rattle.plcs_grammar.specs.Limit.{first_over, phrase_opened}
+use Rattle.plcs_grammar.specs.Opened.{phrase_opened}
+use Rattle.plcs_grammar.specs.Over.{first_over}
 use Rattle.phrase_parser.specs.Machine
-use Rattle.phrase_parser.specs.Machine.{Stack, Role, State, step, step_if, run, start, ended, ended_if}
+use Rattle.phrase_parser.specs.Machine.{Stack, Role, State, step, run, start, ended_if}
 use Rattle.phrase_parser.specs.Trace.{opens, opens_by_role, opens_before, opens_behind, trace, depth}
 use Rattle.phrase_parser.specs.Recognizer
-use Rattle.phrase_parser.specs.Recognizer.{Kind, kind_of, Shape, next, next_if, follow, first_shape, may_end, level_of, follow_levels}
+use Rattle.phrase_parser.specs.Recognizer.{Kind, kind_of, Shape, next, follow, first_shape, may_end, level_of, follow_levels}
 use Rattle.phrase_parser.proofs.Completeness.{run_none, complete, traced_over, alive}
 use Rattle.phrase_parser.proofs.Consumed.{Sound}
 use Rattle.phrase_parser.proofs.Soundness.{AfterIf, step_after, has_read, IsFreshIf, start_fresh}
@@ -64,13 +66,13 @@ pub follows_start : (c : Category) (ks : List Token) → follow (kinds_of ks) (f
 follows_start c ks = ap (follow (kinds_of ks)) (first_as c) ∙ follows_first c (start c) ks (start_fresh c)
 
 role_sign_level : (role : Role) (sign : Sign) → Recognizer.sign_level (Shape.name_had (use_of role)) sign ≡ opens_by_role role (Token.sign sign)
-role_sign_level Role.target Sign.open_parenthesis = refl
-role_sign_level (Role.variables done) Sign.open_parenthesis = refl
-role_sign_level Role.callee Sign.open_parenthesis = refl
-role_sign_level (Role.items done) Sign.open_parenthesis = refl
-role_sign_level (Role.names done) Sign.open_parenthesis = refl
-role_sign_level Role.variable Sign.open_parenthesis = refl
-role_sign_level Role.procedure Sign.open_parenthesis = refl
+role_sign_level Role.target Sign.OpenParenthesis = refl
+role_sign_level (Role.variables done) Sign.OpenParenthesis = refl
+role_sign_level Role.callee Sign.OpenParenthesis = refl
+role_sign_level (Role.items done) Sign.OpenParenthesis = refl
+role_sign_level (Role.names done) Sign.OpenParenthesis = refl
+role_sign_level Role.variable Sign.OpenParenthesis = refl
+role_sign_level Role.procedure Sign.OpenParenthesis = refl
 role_sign_level Role.target sign = refl
 role_sign_level (Role.variables done) sign = refl
 role_sign_level Role.callee sign = refl
@@ -86,7 +88,7 @@ behind_level s t z e = absurd (cc)
 
 had_level : (s : Stack) (t : Tree) (sign : Sign) (z : State) → step (State.had s t) (Token.sign sign) ≡ Some z
     → Recognizer.sign_level (shape_of (State.had s t)) sign ≡ opens (State.had s t) (Token.sign sign)
-had_level s t Sign.open_parenthesis z e = behind_level s t z e
+had_level s t Sign.OpenParenthesis z e = behind_level s t z e
 had_level s t sign z e = refl
 
 sign_levels : (s : State) (sign : Sign) (z : State) → step s (Token.sign sign) ≡ Some z

@@ -3,7 +3,8 @@ use Rattle.std.proofs.Common.{ℕ, ◌+◌, ◌≤◌, Bool, true, false, cond, 
 use Rattle.std.specs.List.{AllByRecursion}
 use Rattle.plcs_grammar.specs.declared.operator.PrefixOp.{PrefixOp}
 use Rattle.plcs_grammar.specs.declared.operator.InfixOp.{InfixOp}
-use Rattle.plcs_grammar.specs.Sign.{Sign}
+use Rattle.plcs_grammar.specs.declared.sign.Sign.{Sign}
+use Rattle.plcs_grammar.specs.declared.sign.Sign.TheVariants as Sign
 use Rattle.phrase_parser.specs.Machine.{prefix_of, infix_of}
 use Rattle.phrase_parser.specs.Recognizer.{Kind, Ground, Bracket, Last, Use, Shape, inside, next_name, next_constant, next_number, next_open_behind, next_open_name, next_open, next_close_in, next_close, next_comma_in, next_comma_name, next_comma, next_equal_name, next_equal, next_prefix, next_infix, next_operator, next_sign, next}
 use Rattle.phrase_parser.specs.Shapes.{LastWithin, NestingWithin, Within}
@@ -228,23 +229,23 @@ next_operator_within n Shape.length_wanted sign h = tt
 next_operator_within n Shape.length_had sign h = tt
 
 next_sign_within : (n : ℕ) (s : Shape) (sign : Sign) → Within n s → WithinIf (n + 1) (next_sign s sign)
-next_sign_within n s Sign.open_parenthesis h = next_open_within n s h
-next_sign_within n s Sign.close_parenthesis h = if_more n (next_close s) (next_close_within n s h)
-next_sign_within n s Sign.comma h = if_more n (next_comma s) (next_comma_within n s h)
-next_sign_within n s Sign.equal h = if_more n (next_equal s) (next_equal_within n s h)
-next_sign_within n s Sign.plus h = next_operator_within n s Sign.plus h
-next_sign_within n s Sign.minus h = next_operator_within n s Sign.minus h
-next_sign_within n s Sign.times h = next_operator_within n s Sign.times h
-next_sign_within n s Sign.divide h = next_operator_within n s Sign.divide h
-next_sign_within n s Sign.join h = next_operator_within n s Sign.join h
-next_sign_within n s Sign.not_equal h = next_operator_within n s Sign.not_equal h
-next_sign_within n s Sign.less h = next_operator_within n s Sign.less h
-next_sign_within n s Sign.less_equal h = next_operator_within n s Sign.less_equal h
-next_sign_within n s Sign.greater h = next_operator_within n s Sign.greater h
-next_sign_within n s Sign.greater_equal h = next_operator_within n s Sign.greater_equal h
-next_sign_within n s Sign.ampersand h = next_operator_within n s Sign.ampersand h
-next_sign_within n s Sign.bar h = next_operator_within n s Sign.bar h
-next_sign_within n s Sign.caret h = next_operator_within n s Sign.caret h
+next_sign_within n s Sign.OpenParenthesis h = next_open_within n s h
+next_sign_within n s Sign.CloseParenthesis h = if_more n (next_close s) (next_close_within n s h)
+next_sign_within n s Sign.Comma h = if_more n (next_comma s) (next_comma_within n s h)
+next_sign_within n s Sign.Equal h = if_more n (next_equal s) (next_equal_within n s h)
+next_sign_within n s Sign.Plus h = next_operator_within n s Sign.Plus h
+next_sign_within n s Sign.Minus h = next_operator_within n s Sign.Minus h
+next_sign_within n s Sign.Times h = next_operator_within n s Sign.Times h
+next_sign_within n s Sign.Divide h = next_operator_within n s Sign.Divide h
+next_sign_within n s Sign.Join h = next_operator_within n s Sign.Join h
+next_sign_within n s Sign.NotEqual h = next_operator_within n s Sign.NotEqual h
+next_sign_within n s Sign.Less h = next_operator_within n s Sign.Less h
+next_sign_within n s Sign.LessEqual h = next_operator_within n s Sign.LessEqual h
+next_sign_within n s Sign.Greater h = next_operator_within n s Sign.Greater h
+next_sign_within n s Sign.GreaterEqual h = next_operator_within n s Sign.GreaterEqual h
+next_sign_within n s Sign.Ampersand h = next_operator_within n s Sign.Ampersand h
+next_sign_within n s Sign.Bar h = next_operator_within n s Sign.Bar h
+next_sign_within n s Sign.Caret h = next_operator_within n s Sign.Caret h
 
 -- one more token opens one level more at most
 pub next_within : (n : ℕ) (s : Shape) (k : Kind) → Within n s → WithinIf (n + 1) (next s k)

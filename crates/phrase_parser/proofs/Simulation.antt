@@ -5,16 +5,17 @@ use Rattle.plcs_grammar.specs.declared.operator.PrefixOp.{PrefixOp}
 use Rattle.plcs_grammar.specs.declared.operator.InfixOp.{InfixOp}
 use Rattle.plcs_grammar.specs.declared.operator.InfixOp.TheVariants as between
 use Rattle.plcs_grammar.specs.declared.builtin.Builtin.{Builtin}
-use Rattle.plcs_grammar.specs.Sign.{Sign}
+use Rattle.plcs_grammar.specs.declared.sign.Sign.{Sign}
+use Rattle.plcs_grammar.specs.declared.sign.Sign.TheVariants as Sign
 use Rattle.plcs_grammar.specs.Token.{Token}
 use Rattle.plcs_grammar.specs.Reading.{Tree, Reference}
-use Rattle.plcs_grammar.specs.Builtin.{is_builtin_name}
+use Rattle.plcs_grammar.specs.Builtin.{is_builtin_name, builtin_of}
 use Rattle.plcs_grammar.specs.Level.{priority, tightest}
 use Rattle.phrase_parser.specs.Machine
-use Rattle.phrase_parser.specs.Machine.{Base, Stack, Role, State, Operand, reduced, joined, step, step_if, run, start, ended, ended_at, builtin_of, prefix_of, infix_of}
+use Rattle.phrase_parser.specs.Machine.{Base, Stack, Role, State, Operand, reduced, joined, step, ended, ended_at, prefix_of, infix_of}
 use Rattle.phrase_parser.specs.Trace.{base_depth, depth}
 use Rattle.phrase_parser.specs.Recognizer
-use Rattle.phrase_parser.specs.Recognizer.{greatest_kept, Kind, kind_of, Ground, ground_level, Bracket, Last, Use, Shape, inside, next, next_if, follow, first_shape, may_end, may_end_in, level_of, follow_levels, next_close_in, next_comma_in}
+use Rattle.phrase_parser.specs.Recognizer.{greatest_kept, kind_of, Ground, ground_level, Bracket, Last, Use, Shape, inside, next, may_end, may_end_in, next_close_in, next_comma_in}
 use Rattle.phrase_parser.proofs.KeptNumbers.{kept_from, kept_to}
 use Rattle.phrase_parser.proofs.BuiltinNames.{builtin_missing, builtin_known}
 use Rattle.phrase_parser.proofs.Arrival.{above_none, below_tightest}
@@ -248,10 +249,10 @@ sim_operator (State.had s t) sign h = sim_with_infix s t (infix_of sign) h
 sim_operator s sign h = refl
 
 sim_sign : (s : State) (sign : Sign) → Sound s → Recognizer.next_sign (shape_of s) sign ≡ shape_if (Machine.signed s sign)
-sim_sign s Sign.open_parenthesis h = sim_open s
-sim_sign s Sign.close_parenthesis h = sim_close s h
-sim_sign s Sign.comma h = sim_comma s h
-sim_sign s Sign.equal h = sim_equal s h
+sim_sign s Sign.OpenParenthesis h = sim_open s
+sim_sign s Sign.CloseParenthesis h = sim_close s h
+sim_sign s Sign.Comma h = sim_comma s h
+sim_sign s Sign.Equal h = sim_equal s h
 sim_sign s sign h = sim_operator s sign h
 
 sim_name : (s : State) (name : List ℕ) → Recognizer.next_name (shape_of s) (is_builtin_name name) ≡ shape_if (Machine.named s name)

@@ -7,13 +7,15 @@ use Rattle.plcs_grammar.specs.declared.operator.InfixOp.TheVariants as between
 use Rattle.plcs_grammar.specs.declared.builtin.Builtin.{Builtin}
 use Rattle.plcs_grammar.specs.declared.category.Category.{Category}
 use Rattle.plcs_grammar.specs.declared.category.Category.TheVariants.{Assignment, Condition, Expression, ExpressionList, VariableList, Variable, CallRef, DeclaredList, ProcedureName, NameList, Length, CommentText}
-use Rattle.plcs_grammar.specs.Sign.{Sign, prefix_sign, infix_sign}
+use Rattle.plcs_grammar.specs.declared.sign.Sign.{Sign}
+use Rattle.plcs_grammar.specs.declared.sign.Sign.TheVariants as Sign
+use Rattle.plcs_grammar.specs.Sign.{prefix_sign, infix_sign}
 use Rattle.plcs_grammar.specs.Token.{Token}
 use Rattle.plcs_grammar.specs.Reading.{Tree, Trees, Reference, Reading, category_of}
-use Rattle.plcs_grammar.specs.Builtin.{builtin_name}
+use Rattle.plcs_grammar.specs.Builtin.{builtin_name, builtin_of}
 use Rattle.plcs_grammar.specs.Level.{priority, in_parentheses}
 use Rattle.phrase_parser.specs.Machine
-use Rattle.phrase_parser.specs.Machine.{Base, Stack, Role, State, Operand, tree_push, reduced, joined, step, run, step_if, start, ended, ended_at, ended_base, ended_by_role, builtin_of, prefix_of, infix_of}
+use Rattle.phrase_parser.specs.Machine.{Base, Stack, Role, State, Operand, tree_push, reduced, joined, step, run, start, ended, ended_at, ended_base, ended_by_role, prefix_of, infix_of}
 use Rattle.phrase_parser.proofs.Spelling.{spell, spell_reference, spell_all, Fits, FitsReference, FitsAll}
 use Rattle.phrase_parser.proofs.Phrases.{spell_name, spell_item, spell_phrase, FitsPhrase, FitsItem, AnyName}
 use Rattle.phrase_parser.proofs.BuiltinNames.{builtin_found, builtin_missing}
@@ -22,13 +24,13 @@ use Rattle.phrase_parser.proofs.Arrival.{above_none}
 use Rattle.phrase_parser.proofs.Consumed.{spell_before, all_push, before_push, call_push, behind_fits, all_fit, call_fits, spell_each, listed_last, each_last, listed_comma, each_fits, listed_fits, listed_each, flat_stack, flat, hole, SoundStack, SoundRole, Sound, stack_category, state_category}
 
 abbrev pub comma : Token
-comma = Token.sign Sign.comma
+comma = Token.sign Sign.Comma
 
 abbrev pub close : Token
-close = Token.sign Sign.close_parenthesis
+close = Token.sign Sign.CloseParenthesis
 
 abbrev pub open_ : Token
-open_ = Token.sign Sign.open_parenthesis
+open_ = Token.sign Sign.OpenParenthesis
 
 -- an operand on a stack that came from another, with the operators of a level joined
 pub record Joins (level : ℕ) (s : Stack) (t : Tree) (o : Operand) : Type 0 where
@@ -306,11 +308,11 @@ infix_after op s t h =
     (reduced_joins (priority op) s t h.0 (h.1 (hole s)) (h.1 (priority op)) (above_none op))
 
 assigned_by_role_after : (role : Role) (name : List ℕ) → SoundRole role
-    → AfterIf (State.name_had role name) (Token.sign Sign.equal) (Machine.assigned_by_role role name)
+    → AfterIf (State.name_had role name) (Token.sign Sign.Equal) (Machine.assigned_by_role role name)
 assigned_by_role_after Role.target name h = record { sound = tt; tokens = refl; category = refl }
 assigned_by_role_after role name h = tt
 
-equated_after : (s : State) → Sound s → AfterIf s (Token.sign Sign.equal) (Machine.equated s)
+equated_after : (s : State) → Sound s → AfterIf s (Token.sign Sign.Equal) (Machine.equated s)
 equated_after (State.had s t) h = infix_after between.Equal s t h
 equated_after (State.name_had role name) h = assigned_by_role_after role name h
 equated_after (State.target_had reference) h = record { sound = h; tokens = refl; category = refl }
@@ -326,25 +328,25 @@ InfixIs sign None = Unit {0}
 InfixIs sign (Some op) = infix_sign op ≡ sign
 
 prefix_is : (sign : Sign) → PrefixIs sign (prefix_of sign)
-prefix_is Sign.plus = refl
-prefix_is Sign.minus = refl
-prefix_is Sign.caret = refl
+prefix_is Sign.Plus = refl
+prefix_is Sign.Minus = refl
+prefix_is Sign.Caret = refl
 prefix_is sign = tt
 
 infix_is : (sign : Sign) → InfixIs sign (infix_of sign)
-infix_is Sign.bar = refl
-infix_is Sign.ampersand = refl
-infix_is Sign.equal = refl
-infix_is Sign.not_equal = refl
-infix_is Sign.less = refl
-infix_is Sign.less_equal = refl
-infix_is Sign.greater = refl
-infix_is Sign.greater_equal = refl
-infix_is Sign.join = refl
-infix_is Sign.plus = refl
-infix_is Sign.minus = refl
-infix_is Sign.times = refl
-infix_is Sign.divide = refl
+infix_is Sign.Bar = refl
+infix_is Sign.Ampersand = refl
+infix_is Sign.Equal = refl
+infix_is Sign.NotEqual = refl
+infix_is Sign.Less = refl
+infix_is Sign.LessEqual = refl
+infix_is Sign.Greater = refl
+infix_is Sign.GreaterEqual = refl
+infix_is Sign.Join = refl
+infix_is Sign.Plus = refl
+infix_is Sign.Minus = refl
+infix_is Sign.Times = refl
+infix_is Sign.Divide = refl
 infix_is sign = tt
 
 with_prefix_after : (s : Stack) (sign : Sign) (found : Option PrefixOp) → PrefixIs sign found → SoundStack s
@@ -365,10 +367,10 @@ operated_after (State.had s t) sign h = with_infix_after s t sign (infix_of sign
 operated_after s sign h = tt
 
 signed_after : (s : State) (sign : Sign) → Sound s → AfterIf s (Token.sign sign) (Machine.signed s sign)
-signed_after s Sign.open_parenthesis h = opened_after s h
-signed_after s Sign.close_parenthesis h = closed_after s h
-signed_after s Sign.comma h = separated_after s h
-signed_after s Sign.equal h = equated_after s h
+signed_after s Sign.OpenParenthesis h = opened_after s h
+signed_after s Sign.CloseParenthesis h = closed_after s h
+signed_after s Sign.Comma h = separated_after s h
+signed_after s Sign.Equal h = equated_after s h
 signed_after s sign h = operated_after s sign h
 
 -- one more token stops the machine, or is one more that it has read
@@ -422,7 +424,7 @@ ended_base_whole s t u (Base.expressions done) j =
     record { fits = all_fit done t j.sound j.fits; tokens = sym (all_push done t ∙ j.tokens); category = j.category }
 ended_base_whole s t u (Base.assigned reference) j = record {
   fits = (j.sound, j.fits);
-  tokens = sym j.tokens ∙ append_assoc (spell_reference reference) (Token.sign Sign.equal ∷ []) (spell t);
+  tokens = sym j.tokens ∙ append_assoc (spell_reference reference) (Token.sign Sign.Equal ∷ []) (spell t);
   category = j.category;
 }
 ended_base_whole s t u b j = tt

@@ -1,6 +1,7 @@
 -- The tokens of a tree as a list, and the levels that its operators keep.
 use Rattle.std.proofs.Common.{◌≡◌, refl, ℕ, ◌+◌, ◌≤◌, pos, negsuc, nat_abs, List, [], ◌∷◌, ◌++◌, ap, ◌∙◌, ap₂}
-use Rattle.plcs_grammar.specs.Sign.{Sign, prefix_sign, infix_sign}
+use Rattle.plcs_grammar.specs.declared.sign.Sign.TheVariants as Sign
+use Rattle.plcs_grammar.specs.Sign.{prefix_sign, infix_sign}
 use Rattle.plcs_grammar.specs.Token.{Token}
 use Rattle.plcs_grammar.specs.Reading.{Tree, Trees, Reference}
 use Rattle.plcs_grammar.specs.Builtin.{builtin_name}
@@ -31,7 +32,7 @@ abbrev mutual
   -- the tokens of expressions, each behind a comma
   pub spell_behind : Trees → List Token
   spell_behind Trees.nil = []
-  spell_behind (Trees.cons a rest) = Token.sign Sign.comma ∷ (spell a ++ spell_behind rest)
+  spell_behind (Trees.cons a rest) = Token.sign Sign.Comma ∷ (spell a ++ spell_behind rest)
 
 abbrev mutual
   -- the operators of a tree keep their levels
@@ -107,7 +108,7 @@ mutual
   spelled_behind (Trees.cons a rest) ks h =
       let p = spelled a 1 h.0 h.3 in
       let q = spelled_behind rest h.1 h.4 in
-      ((p.0, q.0), h.2 ∙ ap₂ (λ x y. Token.sign Sign.comma ∷ (x ++ y)) p.1 q.1)
+      ((p.0, q.0), h.2 ∙ ap₂ (λ x y. Token.sign Sign.Comma ∷ (x ++ y)) p.1 q.1)
 
 mutual
   -- the tokens of a tree that keeps its levels are at its level

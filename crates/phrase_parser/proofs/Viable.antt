@@ -2,7 +2,8 @@
 use Rattle.std.proofs.Common.{◌≡◌, refl, ℕ, pos, List, [], ◌∷◌, ◌++◌, Option, Some, None, ap, sym, subst, ◌∙◌, append_assoc, append-nil, le_refl, lit≤}
 use Rattle.plcs_grammar.specs.declared.category.Category.{Category}
 use Rattle.plcs_grammar.specs.declared.item.Item.{Item}
-use Rattle.plcs_grammar.specs.Sign.{Sign, prefix_sign, infix_sign}
+use Rattle.plcs_grammar.specs.declared.sign.Sign.TheVariants as Sign
+use Rattle.plcs_grammar.specs.Sign.{prefix_sign, infix_sign}
 use Rattle.plcs_grammar.specs.Token.{Token}
 use Rattle.plcs_grammar.specs.Reading.{Tree, Trees, Reference, Reading, category_of}
 use Rattle.plcs_grammar.specs.Builtin.{builtin_name}
@@ -15,7 +16,7 @@ use Rattle.phrase_parser.proofs.Consumed.{spell_before, all_push, call_push, all
 use Rattle.phrase_parser.proofs.Soundness.{close, open_, regroup, arguments_tokens, IsWholeIf, ended_whole, HasRead, has_read}
 
 abbrev equal : Token
-equal = Token.sign Sign.equal
+equal = Token.sign Sign.Equal
 
 -- a number, where any operand does
 abbrev anything : Tree

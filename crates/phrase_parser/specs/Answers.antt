@@ -4,7 +4,7 @@ use Rattle.plcs_grammar.specs.declared.category.Category.{Category}
 use Rattle.plcs_grammar.specs.declared.phrase.Phrase.{Phrase}
 use Rattle.plcs_grammar.specs.Reading.{Reading}
 use Rattle.plcs_grammar.specs.PlainForm.{reading_of}
-use Rattle.plcs_grammar.specs.Limit.{OverLimit}
+use Rattle.plcs_grammar.specs.Over.{OverLimit}
 use Rattle.plcs_grammar.specs.Reads.{Outline, Reads, IsOver}
 use Rattle.plcs_grammar.specs.Syntax.{SyntaxAt}
 use Rattle.phrase_parser.specs.declared.fault.PhraseFault.{PhraseFault}

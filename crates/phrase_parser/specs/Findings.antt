@@ -1,7 +1,9 @@
 -- What the check of the tokens of a text finds, without trees.
 use Rattle.std.specs.Prelude.{ℕ, Bool, false, nat_lt, if◌then◌else◌, List, [], ◌∷◌, Option, Some, None}
+use Rattle.std.specs.Option.{option_or}
 use Rattle.plcs_grammar.specs.Cuts.{Piece}
-use Rattle.plcs_grammar.specs.Limit.{greatest_number, greatest_nesting, OverLimit, or_else}
+use Rattle.plcs_grammar.specs.Limit.{greatest_number, greatest_nesting}
+use Rattle.plcs_grammar.specs.Over.{OverLimit}
 use Rattle.phrase_parser.specs.Recognizer.{Kind, Shape, kind_of, next, may_end, level_of}
 
 -- nothing, the place where the text goes wrong, or what goes past a limit first
@@ -54,4 +56,4 @@ abbrev pub findings : List Seen → Option ℕ → ℕ → Shape → Option Over
 findings [] stop end shape found = found_at_end stop end shape found
 findings (seen ∷ rest) stop end shape found =
     found_at (next shape seen.kind) seen.start
-    (λ z. findings rest stop end z (or_else found (seen_over seen (level_of shape seen.kind))))
+    (λ z. findings rest stop end z (option_or found (seen_over seen (level_of shape seen.kind))))

@@ -5,12 +5,14 @@ use Rattle.plcs_base.specs.Byte.{is_letter, is_digit, is_name_byte, is_printable
 use Rattle.plcs_base.specs.Name.{is_name}
 use Rattle.plcs_grammar.specs.Token.{begins_with, is_quote, numeral_value}
 use Rattle.plcs_grammar.specs.Cuts.{is_blank}
+use Rattle.plcs_grammar.specs.declared.sign.Sign.{Sign}
+use Rattle.plcs_grammar.specs.declared.sign.Sign.TheVariants as Sign
 use Rattle.phrase_parser.specs.declared.byte_class.ByteClass.{ByteClass}
 use Rattle.phrase_parser.specs.declared.byte_class.ByteClass.TheVariants as class
 use Rattle.phrase_parser.specs.declared.front.Front.{Front}
 use Rattle.phrase_parser.specs.declared.token.Placed.{Placed}
-use Rattle.phrase_parser.specs.declared.token.Sign.{Sign}
-use Rattle.phrase_parser.specs.declared.token.Sign.TheVariants as sign
+use Rattle.plcs_grammar.specs.declared.sign.Sign.{Sign}
+use Rattle.plcs_grammar.specs.declared.sign.Sign.TheVariants as Sign
 use Rattle.phrase_parser.specs.declared.token.TokenKind.TheVariants as kind
 
 abbrev pub is_in : ByteClass → ℕ → Bool
@@ -77,27 +79,27 @@ constant_front x = constant_of (bit_constant x) (closing 1 0 (drop 1 x))
 
 abbrev pub single_sign : ℕ → Option Sign
 single_sign byte =
-    if byte == 43 then Some sign.Plus
-    else if byte == 45 then Some sign.Minus
-    else if byte == 42 then Some sign.Times
-    else if byte == 47 then Some sign.Divide
-    else if byte == 61 then Some sign.Equal
-    else if byte == 60 then Some sign.Less
-    else if byte == 62 then Some sign.Greater
-    else if byte == 38 then Some sign.Ampersand
-    else if byte == 124 then Some sign.Bar
-    else if byte == 94 then Some sign.Caret
-    else if byte == 40 then Some sign.OpenParenthesis
-    else if byte == 41 then Some sign.CloseParenthesis
-    else if byte == 44 then Some sign.Comma
+    if byte == 43 then Some Sign.Plus
+    else if byte == 45 then Some Sign.Minus
+    else if byte == 42 then Some Sign.Times
+    else if byte == 47 then Some Sign.Divide
+    else if byte == 61 then Some Sign.Equal
+    else if byte == 60 then Some Sign.Less
+    else if byte == 62 then Some Sign.Greater
+    else if byte == 38 then Some Sign.Ampersand
+    else if byte == 124 then Some Sign.Bar
+    else if byte == 94 then Some Sign.Caret
+    else if byte == 40 then Some Sign.OpenParenthesis
+    else if byte == 41 then Some Sign.CloseParenthesis
+    else if byte == 44 then Some Sign.Comma
     else None
 
 abbrev pub double_sign : ℕ → ℕ → Option Sign
 double_sign first second =
-    if (first == 124) && (second == 124) then Some sign.Join
-    else if (first == 94) && (second == 61) then Some sign.NotEqual
-    else if (first == 60) && (second == 61) then Some sign.LessEqual
-    else if (first == 62) && (second == 61) then Some sign.GreaterEqual
+    if (first == 124) && (second == 124) then Some Sign.Join
+    else if (first == 94) && (second == 61) then Some Sign.NotEqual
+    else if (first == 60) && (second == 61) then Some Sign.LessEqual
+    else if (first == 62) && (second == 61) then Some Sign.GreaterEqual
     else None
 
 abbrev pub double_at : ℕ → List ℕ → Option Sign

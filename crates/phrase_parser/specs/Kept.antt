@@ -1,32 +1,10 @@
 -- What is kept of tokens: their kinds and places.
 use Rattle.std.specs.Prelude.{◌≡◌, ℕ, min, List, map, Option}
-use Rattle.plcs_grammar.specs.Sign as grammar
 use Rattle.plcs_grammar.specs.Token.{Token}
 use Rattle.plcs_grammar.specs.Cuts.{Piece, Cuts}
-use Rattle.phrase_parser.specs.declared.token.Sign.{Sign}
-use Rattle.phrase_parser.specs.declared.token.Sign.TheVariants.{Plus, Minus, Times, Divide, Join, Equal, NotEqual, Less, LessEqual, Greater, GreaterEqual, Ampersand, Bar, Caret, OpenParenthesis, CloseParenthesis, Comma}
 use Rattle.phrase_parser.specs.declared.token.TokenKind.{TokenKind}
 use Rattle.phrase_parser.specs.declared.token.TokenKind.TheVariants as kind
 use Rattle.phrase_parser.specs.declared.token.Placed.{Placed}
-
-abbrev pub kept_sign : grammar.Sign → Sign
-kept_sign grammar.Sign.plus = Plus
-kept_sign grammar.Sign.minus = Minus
-kept_sign grammar.Sign.times = Times
-kept_sign grammar.Sign.divide = Divide
-kept_sign grammar.Sign.join = Join
-kept_sign grammar.Sign.equal = Equal
-kept_sign grammar.Sign.not_equal = NotEqual
-kept_sign grammar.Sign.less = Less
-kept_sign grammar.Sign.less_equal = LessEqual
-kept_sign grammar.Sign.greater = Greater
-kept_sign grammar.Sign.greater_equal = GreaterEqual
-kept_sign grammar.Sign.ampersand = Ampersand
-kept_sign grammar.Sign.bar = Bar
-kept_sign grammar.Sign.caret = Caret
-kept_sign grammar.Sign.open_parenthesis = OpenParenthesis
-kept_sign grammar.Sign.close_parenthesis = CloseParenthesis
-kept_sign grammar.Sign.comma = Comma
 
 -- the kind of a token; of a number its value, or 4294967295 where it is greater
 abbrev pub kept_kind : Token → TokenKind
@@ -35,7 +13,7 @@ kept_kind (Token.keyword word) = kind.Keyword
 kept_kind (Token.number n) = kind.Number (min n 4294967295)
 kept_kind (Token.text value) = kind.Text
 kept_kind (Token.bit value) = kind.Bit value
-kept_kind (Token.sign s) = kind.Sign (kept_sign s)
+kept_kind (Token.sign s) = kind.Sign s
 
 -- a token's kind with its place
 abbrev pub kept : Piece → Placed

@@ -1,6 +1,6 @@
 -- The machine that reads a phrase token by token. What is open stands on a stack, and an operator's operands are joined
 -- no sooner than the next token asks for it.
-use Rattle.std.specs.Prelude.{ℕ, pos, ◌&&◌, nat_le, if◌then◌else◌, bytes_eq, find, List, [], ◌∷◌, ◌++◌, Option, Some, None}
+use Rattle.std.specs.Prelude.{ℕ, pos, ◌&&◌, nat_le, if◌then◌else◌, List, [], ◌∷◌, ◌++◌, Option, Some, None}
 use Rattle.plcs_grammar.specs.declared.operator.PrefixOp.{PrefixOp}
 use Rattle.plcs_grammar.specs.declared.operator.PrefixOp.TheVariants as before
 use Rattle.plcs_grammar.specs.declared.operator.InfixOp.{InfixOp}
@@ -9,10 +9,11 @@ use Rattle.plcs_grammar.specs.declared.builtin.Builtin.{Builtin}
 use Rattle.plcs_grammar.specs.declared.item.Item.{Item}
 use Rattle.plcs_grammar.specs.declared.category.Category.{Category}
 use Rattle.plcs_grammar.specs.declared.category.Category.TheVariants.{Assignment, Condition, Expression, ExpressionList, VariableList, Variable, CallRef, DeclaredList, ProcedureName, NameList, Length, CommentText}
-use Rattle.plcs_grammar.specs.Sign.{Sign}
+use Rattle.plcs_grammar.specs.declared.sign.Sign.{Sign}
+use Rattle.plcs_grammar.specs.declared.sign.Sign.TheVariants as Sign
 use Rattle.plcs_grammar.specs.Token.{Token}
 use Rattle.plcs_grammar.specs.Reading.{Tree, Trees, Reference, Reading}
-use Rattle.plcs_grammar.specs.Builtin.{builtin_name, builtins}
+use Rattle.plcs_grammar.specs.Builtin.{builtin_of}
 use Rattle.plcs_grammar.specs.Level.{priority}
 
 -- what an expression that stands in no other is for, with what of the phrase stands before it
@@ -74,32 +75,28 @@ abbrev pub tree_push : Trees → Tree → Trees
 tree_push Trees.nil t = Trees.cons t Trees.nil
 tree_push (Trees.cons a rest) t = Trees.cons a (tree_push rest t)
 
--- the built-in function of the name
-abbrev pub builtin_of : List ℕ → Option Builtin
-builtin_of name = find (λ function. bytes_eq name (builtin_name function)) builtins
-
 -- the operator that the sign is before an operand
 abbrev pub prefix_of : Sign → Option PrefixOp
-prefix_of Sign.plus = Some before.Plus
-prefix_of Sign.minus = Some before.Minus
-prefix_of Sign.caret = Some before.Not
+prefix_of Sign.Plus = Some before.Plus
+prefix_of Sign.Minus = Some before.Minus
+prefix_of Sign.Caret = Some before.Not
 prefix_of sign = None
 
 -- the operator that the sign is behind an operand
 abbrev pub infix_of : Sign → Option InfixOp
-infix_of Sign.bar = Some between.Or
-infix_of Sign.ampersand = Some between.And
-infix_of Sign.equal = Some between.Equal
-infix_of Sign.not_equal = Some between.NotEqual
-infix_of Sign.less = Some between.Less
-infix_of Sign.less_equal = Some between.LessEqual
-infix_of Sign.greater = Some between.Greater
-infix_of Sign.greater_equal = Some between.GreaterEqual
-infix_of Sign.join = Some between.Join
-infix_of Sign.plus = Some between.Plus
-infix_of Sign.minus = Some between.Minus
-infix_of Sign.times = Some between.Times
-infix_of Sign.divide = Some between.Divide
+infix_of Sign.Bar = Some between.Or
+infix_of Sign.Ampersand = Some between.And
+infix_of Sign.Equal = Some between.Equal
+infix_of Sign.NotEqual = Some between.NotEqual
+infix_of Sign.Less = Some between.Less
+infix_of Sign.LessEqual = Some between.LessEqual
+infix_of Sign.Greater = Some between.Greater
+infix_of Sign.GreaterEqual = Some between.GreaterEqual
+infix_of Sign.Join = Some between.Join
+infix_of Sign.Plus = Some between.Plus
+infix_of Sign.Minus = Some between.Minus
+infix_of Sign.Times = Some between.Times
+infix_of Sign.Divide = Some between.Divide
 infix_of sign = None
 
 -- the operand, joined with each open operator of the level or a higher one
@@ -237,10 +234,10 @@ operated state sign = None
 
 -- a sign is read
 abbrev pub signed : State → Sign → Option State
-signed state Sign.open_parenthesis = opened state
-signed state Sign.close_parenthesis = closed state
-signed state Sign.comma = separated state
-signed state Sign.equal = equated state
+signed state Sign.OpenParenthesis = opened state
+signed state Sign.CloseParenthesis = closed state
+signed state Sign.Comma = separated state
+signed state Sign.Equal = equated state
 signed state sign = operated state sign
 
 -- the state behind one more token, if it can stand there

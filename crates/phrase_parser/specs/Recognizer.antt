@@ -4,7 +4,8 @@ use Rattle.plcs_grammar.specs.declared.operator.PrefixOp.{PrefixOp}
 use Rattle.plcs_grammar.specs.declared.operator.InfixOp.{InfixOp}
 use Rattle.plcs_grammar.specs.declared.category.Category.{Category}
 use Rattle.plcs_grammar.specs.declared.category.Category.TheVariants.{Assignment, Condition, Expression, ExpressionList, VariableList, Variable, CallRef, DeclaredList, ProcedureName, NameList, Length, CommentText}
-use Rattle.plcs_grammar.specs.Sign.{Sign}
+use Rattle.plcs_grammar.specs.declared.sign.Sign.{Sign}
+use Rattle.plcs_grammar.specs.declared.sign.Sign.TheVariants as Sign
 use Rattle.plcs_grammar.specs.Token.{Token}
 use Rattle.plcs_grammar.specs.Builtin.{is_builtin_name}
 use Rattle.phrase_parser.specs.Machine.{prefix_of, infix_of}
@@ -211,10 +212,10 @@ next_operator shape s = None
 
 -- a sign is read
 abbrev pub next_sign : Shape → Sign → Option Shape
-next_sign shape Sign.open_parenthesis = next_open shape
-next_sign shape Sign.close_parenthesis = next_close shape
-next_sign shape Sign.comma = next_comma shape
-next_sign shape Sign.equal = next_equal shape
+next_sign shape Sign.OpenParenthesis = next_open shape
+next_sign shape Sign.CloseParenthesis = next_close shape
+next_sign shape Sign.Comma = next_comma shape
+next_sign shape Sign.Equal = next_equal shape
 next_sign shape s = next_operator shape s
 
 -- the shape behind one more token, if it can stand there
@@ -284,8 +285,8 @@ level_by_use use_of = 1
 -- the level that the sign opens, or 0
 abbrev pub sign_level : Shape → Sign → ℕ
 sign_level (wanted g brackets level) s = level + 1
-sign_level (had last g brackets) Sign.open_parenthesis = level_behind last
-sign_level (name_had use_of) Sign.open_parenthesis = level_by_use use_of
+sign_level (had last g brackets) Sign.OpenParenthesis = level_behind last
+sign_level (name_had use_of) Sign.OpenParenthesis = level_by_use use_of
 sign_level shape s = 0
 
 -- the level that the token opens, or 0

@@ -2,7 +2,7 @@
 use Rattle.std.specs.Prelude.{ℕ, ◌≤◌, List, map, reverse, length, Option, Some, None}
 use Rattle.std.specs.List.{AllByRecursion}
 use Rattle.plcs_grammar.specs.Builtin.{is_builtin_name}
-use Rattle.plcs_grammar.specs.Limit.{OverLimit}
+use Rattle.plcs_grammar.specs.Over.{OverLimit}
 use Rattle.phrase_parser.specs.declared.check.kind.Kind.{Kind}
 use Rattle.phrase_parser.specs.declared.check.kind.Kind.TheVariants as kept
 use Rattle.phrase_parser.specs.declared.check.shape.Ground.{Ground}
@@ -17,7 +17,7 @@ use Rattle.phrase_parser.specs.declared.check.shape.Shape.TheVariants.{Wanted, H
 use Rattle.phrase_parser.specs.declared.token.TokenKind.{TokenKind}
 use Rattle.phrase_parser.specs.declared.token.TokenKind.TheVariants as token
 use Rattle.phrase_parser.specs.declared.token.Placed.{Placed}
-use Rattle.phrase_parser.specs.TokenIn.{sign_of, bytes_in}
+use Rattle.phrase_parser.specs.TokenIn.{bytes_in}
 use Rattle.phrase_parser.specs.Recognizer as model
 use Rattle.phrase_parser.specs.declared.check.finding.Over.{Over}
 use Rattle.phrase_parser.specs.declared.check.finding.Over.TheVariants.{NumberTooLarge, TooDeep}
@@ -76,7 +76,7 @@ kind_of (kept.Name is_builtin) = model.Kind.name is_builtin
 kind_of kept.Keyword = model.Kind.keyword
 kind_of (kept.Number n) = model.Kind.number n
 kind_of kept.Constant = model.Kind.constant
-kind_of (kept.Sign sign) = model.Kind.sign (sign_of sign)
+kind_of (kept.Sign sign) = model.Kind.sign sign
 
 -- what is looked at of a token whose bytes are these
 abbrev pub kind_from : TokenKind → List ℕ → model.Kind
@@ -85,7 +85,7 @@ kind_from token.Keyword bytes = model.Kind.keyword
 kind_from (token.Number n) bytes = model.Kind.number n
 kind_from token.Text bytes = model.Kind.constant
 kind_from (token.Bit value) bytes = model.Kind.constant
-kind_from (token.Sign sign) bytes = model.Kind.sign (sign_of sign)
+kind_from (token.Sign sign) bytes = model.Kind.sign sign
 
 abbrev pub seen_in : List ℕ → Placed → Seen
 seen_in text placed = record { kind = kind_from placed.kind (bytes_in text placed); start = placed.start }

@@ -1,33 +1,11 @@
 -- What a token with its place is in its text.
 use Rattle.std.specs.Prelude.{◌≡◌, ℕ, ◌-◌, ◌≤◌, List, length, slice_range}
 use Rattle.plcs_base.specs.Name.{IsName}
-use Rattle.plcs_grammar.specs.Sign as grammar
 use Rattle.plcs_grammar.specs.Token.{Token, quoted, IsConstantText}
 use Rattle.phrase_parser.specs.Unquoted.{undoubled}
-use Rattle.phrase_parser.specs.declared.token.Sign.{Sign}
-use Rattle.phrase_parser.specs.declared.token.Sign.TheVariants.{Plus, Minus, Times, Divide, Join, Equal, NotEqual, Less, LessEqual, Greater, GreaterEqual, Ampersand, Bar, Caret, OpenParenthesis, CloseParenthesis, Comma}
 use Rattle.phrase_parser.specs.declared.token.TokenKind.{TokenKind}
 use Rattle.phrase_parser.specs.declared.token.TokenKind.TheVariants as kind
 use Rattle.phrase_parser.specs.declared.token.Placed.{Placed}
-
-abbrev pub sign_of : Sign → grammar.Sign
-sign_of Plus = grammar.Sign.plus
-sign_of Minus = grammar.Sign.minus
-sign_of Times = grammar.Sign.times
-sign_of Divide = grammar.Sign.divide
-sign_of Join = grammar.Sign.join
-sign_of Equal = grammar.Sign.equal
-sign_of NotEqual = grammar.Sign.not_equal
-sign_of Less = grammar.Sign.less
-sign_of LessEqual = grammar.Sign.less_equal
-sign_of Greater = grammar.Sign.greater
-sign_of GreaterEqual = grammar.Sign.greater_equal
-sign_of Ampersand = grammar.Sign.ampersand
-sign_of Bar = grammar.Sign.bar
-sign_of Caret = grammar.Sign.caret
-sign_of OpenParenthesis = grammar.Sign.open_parenthesis
-sign_of CloseParenthesis = grammar.Sign.close_parenthesis
-sign_of Comma = grammar.Sign.comma
 
 -- what stands between the first byte and the last
 abbrev pub inside : List ℕ → List ℕ
@@ -40,7 +18,7 @@ token_from kind.Keyword bytes = Token.keyword bytes
 token_from (kind.Number n) bytes = Token.number n
 token_from kind.Text bytes = Token.text (undoubled (inside bytes))
 token_from (kind.Bit value) bytes = Token.bit value
-token_from (kind.Sign s) bytes = Token.sign (sign_of s)
+token_from (kind.Sign s) bytes = Token.sign s
 
 -- the bytes of the token
 abbrev pub bytes_in : List ℕ → Placed → List ℕ

@@ -1,6 +1,6 @@
 -- The levels that the tokens of a phrase open, as the machine counts them.
 use Rattle.std.specs.Prelude.{ℕ, ◌+◌, List, [], ◌∷◌, Option, Some, None}
-use Rattle.plcs_grammar.specs.Sign.{Sign}
+use Rattle.plcs_grammar.specs.declared.sign.Sign.TheVariants as Sign
 use Rattle.plcs_grammar.specs.Token.{Token}
 use Rattle.phrase_parser.specs.Machine.{Base, Stack, Role, State, step_if}
 
@@ -30,7 +30,7 @@ opens_before outside token = 0
 
 -- the level that a token opens behind an operand or a name
 abbrev pub opens_behind : ℕ → Token → ℕ
-opens_behind outside (Token.sign Sign.open_parenthesis) = outside + 1
+opens_behind outside (Token.sign Sign.OpenParenthesis) = outside + 1
 opens_behind outside token = 0
 
 -- the level that a token opens behind a name that stands in no expression; an array's size opens none

@@ -4,7 +4,6 @@ ghost use Rattle.phrase_parser.specs.Machine.{start, run, ended_if};
 ghost use Rattle.phrase_parser.specs.TokenIn.{IsPlacedIn, token_in};
 ghost use Rattle.phrase_parser.specs.Gives.{Gives};
 
-mod builtins;
 mod closing;
 mod ending;
 mod fault;

@@ -1,7 +1,8 @@
 ghost use Rattle.std.specs.Prelude.{◌≡◌, ◌≤◌, length};
 ghost use Rattle.std.specs.List.{prefix_len};
-ghost use Rattle.plcs_base.specs.Byte.{is_letter, is_digit, is_name_byte, is_printable};
 ghost use Rattle.phrase_parser.specs.Front.{is_in};
+
+use plcs_base::{is_digit, is_name_byte};
 
 /// The classes of bytes that stand in a row.
 #[derive(Clone, Copy)]
@@ -35,32 +36,4 @@ fn is_in(class: ByteClass, byte: u8) -> bool
         ByteClass::Digit => is_digit(byte),
         ByteClass::NameByte => is_name_byte(byte),
     }
-}
-
-/// Whether the byte is a letter.
-pub fn is_letter(byte: u8) -> bool
-    ensures { result ≡ is_letter byte }
-{
-    matches!(byte, b'a'..=b'z' | b'A'..=b'Z')
-}
-
-/// Whether the byte is a digit.
-pub fn is_digit(byte: u8) -> bool
-    ensures { result ≡ is_digit byte }
-{
-    byte.is_ascii_digit()
-}
-
-/// Whether the byte may follow in a name.
-pub fn is_name_byte(byte: u8) -> bool
-    ensures { result ≡ is_name_byte byte }
-{
-    is_letter(byte) || is_digit(byte) || byte == b'_'
-}
-
-/// Whether a phrase may have the byte.
-pub fn is_printable(byte: u8) -> bool
-    ensures { result ≡ is_printable byte }
-{
-    matches!(byte, b' '..=b'~')
 }

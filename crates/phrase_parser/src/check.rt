@@ -6,7 +6,6 @@ mod finding;
 mod kind;
 mod level;
 mod nesting;
-mod operator;
 mod shape;
 mod step;
 

@@ -3,8 +3,9 @@ ghost use Rattle.plcs_grammar.specs.Comment.{trimmed, comment_syntax, comment_of
 ghost use Rattle.plcs_grammar.specs.declared.category.Category.TheVariants.{CommentText};
 ghost use Rattle.phrase_parser.specs.Answers.{Answers};
 
-use crate::byte_class::{ByteClass, is_printable, leading};
+use crate::byte_class::{ByteClass, leading};
 use crate::fault::PhraseFault;
+use plcs_base::is_printable;
 use plcs_grammar::Phrase;
 use std::alloc::Global;
 

@@ -1,7 +1,7 @@
 ghost use Rattle.std.specs.Prelude.{◌≡◌, drop};
 ghost use Rattle.phrase_parser.specs.Front.{bit_value, bit_constant, closing, ends_word};
 
-use crate::byte_class::{is_name_byte, is_printable};
+use plcs_base::{is_name_byte, is_printable};
 
 /// The greatest number of bytes that a character constant may be the value of.
 const MAX_CONTENT: usize = 256;

@@ -2,11 +2,12 @@ ghost use Rattle.std.specs.Prelude.{◌≡◌, min};
 ghost use Rattle.plcs_grammar.specs.Token.{numeral_value};
 ghost use Rattle.phrase_parser.specs.Front.{front_of, word_front, number_front, constant_front, sign_front, sign_kept};
 
-use crate::byte_class::{ByteClass, is_digit, is_letter, leading};
+use crate::byte_class::{ByteClass, leading};
 use crate::constant::{bit_constant, constant_length};
 use crate::sign::{double_sign, single_sign};
-use crate::token::{Sign, TokenKind};
-use plcs_base::Name;
+use crate::token::TokenKind;
+use plcs_base::{Name, is_digit, is_letter};
+use plcs_grammar::Sign;
 
 /// The greatest number of bytes of a name.
 const MAX_NAME: usize = 31;

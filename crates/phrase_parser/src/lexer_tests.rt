@@ -1,5 +1,6 @@
 use crate::lexer::tokens;
-use crate::token::{Sign, TokenKind};
+use crate::token::TokenKind;
+use plcs_grammar::Sign;
 use std::alloc::{AllocError, Global};
 use std::process::Abort;
 use std::test::Fail;

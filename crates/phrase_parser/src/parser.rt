@@ -1,5 +1,5 @@
 ghost use Rattle.std.specs.Prelude.{◌≡◌, ◌<◌, ◌^◌, ℕ, length, map, All, Some, IsTrue, is_some};
-ghost use Rattle.plcs_grammar.specs.Limit.{OverLimit};
+ghost use Rattle.plcs_grammar.specs.Over.{OverLimit};
 ghost use Rattle.plcs_grammar.specs.Reading.{Reading};
 ghost use Rattle.plcs_grammar.specs.Reads.{Outline, Reads, IsOver};
 ghost use Rattle.plcs_grammar.specs.Syntax.{SyntaxAt};

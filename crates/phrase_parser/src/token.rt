@@ -1,47 +1,12 @@
-/// The signs of phrases.
-#[derive(Clone, Copy, Debug, PartialEq, Eq)]
-pub enum Sign {
-    /// `+`
-    Plus,
-    /// `-`
-    Minus,
-    /// `*`
-    Times,
-    /// `/`
-    Divide,
-    /// `||`
-    Join,
-    /// `=`
-    Equal,
-    /// `^=`
-    NotEqual,
-    /// `<`
-    Less,
-    /// `<=`
-    LessEqual,
-    /// `>`
-    Greater,
-    /// `>=`
-    GreaterEqual,
-    /// `&`
-    Ampersand,
-    /// `|`
-    Bar,
-    /// `^`
-    Caret,
-    /// `(`
-    OpenParenthesis,
-    /// `)`
-    CloseParenthesis,
-    /// `,`
-    Comma,
-}
+use plcs_grammar::Sign;
 
 /// What kind of token it is. The bytes of names, keywords and character constants are read from the
 /// text again where they are wanted.
 #[derive(Clone, Copy, Debug, PartialEq, Eq)]
 pub enum TokenKind {
+    /// A name.
     Name,
+    /// A keyword.
     Keyword,
     /// The number, or 4294967295 where it is greater.
     Number(u32),
@@ -49,6 +14,7 @@ pub enum TokenKind {
     Text,
     /// A bit constant.
     Bit(bool),
+    /// A sign.
     Sign(Sign),
 }
 

@@ -1,7 +1,8 @@
-//! What every other layer speaks of: names, values, places, marks, counts of work, and want of
-//! memory.
+//! What every other layer speaks of: bytes, names, values, places, marks, counts of work, and want
+//! of memory.
 #![tactic(auto)]
 
+mod byte;
 mod byte_out;
 mod item;
 mod mark;
@@ -15,6 +16,7 @@ mod text;
 mod value;
 mod work;
 
+pub use byte::{is_digit, is_letter, is_name_byte, is_printable};
 pub use byte_out::ByteOut;
 pub use item::{Declared, ItemType};
 pub use mark::{MarkKind, Marked};

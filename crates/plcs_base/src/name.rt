@@ -1,9 +1,10 @@
 ghost use Rattle.std.specs.Prelude.{◌≡◌, ◌↔◌, IsSome, IfSome, IsTrue};
 ghost use Rattle.std.specs.Str.{bytes_eq};
 ghost use Rattle.std.specs.List.{list_all, list_any};
-ghost use Rattle.plcs_base.specs.Byte.{is_letter, is_name_byte};
+ghost use Rattle.plcs_base.specs.Byte.{is_name_byte};
 ghost use Rattle.plcs_base.specs.Name.{is_keyword, is_word, is_name, IsName};
 
+use crate::byte::{is_letter, is_name_byte};
 use arrayvec::ArrayVec;
 use std::marker::Model;
 
@@ -116,18 +117,4 @@ fn is_one_of(bytes: &[u8], words: &[&[u8]]) -> bool
     ensures { result ≡ list_any (λ word. bytes_eq bytes.now word.now) words.now }
 {
     words.iter().any(|word| bytes == *word)
-}
-
-/// Whether the byte is a letter.
-fn is_letter(byte: u8) -> bool
-    ensures { result ≡ is_letter byte }
-{
-    matches!(byte, b'a'..=b'z' | b'A'..=b'Z')
-}
-
-/// Whether the byte may follow in a name.
-fn is_name_byte(byte: u8) -> bool
-    ensures { result ≡ is_name_byte byte }
-{
-    is_letter(byte) || matches!(byte, b'0'..=b'9' | b'_')
 }

@@ -2,6 +2,21 @@ use super::*;
 use std::test::Fail;
 
 #[test]
+fn bytes_are_of_their_classes(rt: HostRuntime) {
+    let letters = b"azAZ";
+    assert!(rt;
+        letters
+            .iter()
+            .all(|byte| is_letter(*byte) && is_name_byte(*byte))
+    );
+    let no_letters = b"@[`{09_";
+    assert!(rt; !no_letters.iter().any(|byte| is_letter(*byte)));
+    assert!(rt; is_digit(b'0') && is_digit(b'9') && !is_digit(b'/') && !is_digit(b':'));
+    assert!(rt; is_name_byte(b'_') && is_name_byte(b'5') && !is_name_byte(b'-'));
+    assert!(rt; is_printable(32) && is_printable(126) && !is_printable(31) && !is_printable(127));
+}
+
+#[test]
 fn a_name_is_read(rt: HostRuntime) -> Result<(), Fail> {
     let name = Name::read(b"larger_2").ok_or("a name")?;
     assert_eq!(rt; name.as_bytes(), b"larger_2".as_slice());

@@ -5,12 +5,15 @@ use Rattle.std.specs.Prelude.{IsTrue}
 use Rattle.plcs_base.specs.Name.{IsName, is_keyword}
 use Rattle.plcs_grammar.specs.declared.operator.InfixOp.TheVariants.{Equal, Plus, Times}
 use Rattle.plcs_grammar.specs.Reading.{Tree, Trees, Reference, Reading}
-use Rattle.plcs_grammar.specs.Sign.{Sign, sign_bytes, infix_sign}
+use Rattle.plcs_grammar.specs.declared.sign.Sign.{Sign}
+use Rattle.plcs_grammar.specs.declared.sign.Sign.TheVariants as Sign
+use Rattle.plcs_grammar.specs.Sign.{sign_bytes, infix_sign}
 use Rattle.plcs_grammar.specs.Token.{Token, IsToken, IsNumeral, First, quoted, bit_bytes, numeral_value}
 use Rattle.plcs_grammar.specs.Cuts.{Piece, Cuts}
 use Rattle.plcs_grammar.specs.Level.{Level, in_parentheses}
 use Rattle.plcs_grammar.specs.Comment.{comment_syntax, trimmed}
-use Rattle.plcs_grammar.specs.Limit.{OverLimit, first_over, phrase_opened}
+use Rattle.plcs_grammar.specs.Opened.{phrase_opened}
+use Rattle.plcs_grammar.specs.Over.{OverLimit, first_over}
 use Rattle.plcs_grammar.specs.Form.{Form}
 use Rattle.plcs_grammar.specs.Syntax.{GoesWrong, SyntaxAt}
 use Rattle.plcs_grammar.specs.Canon.{Canon}
@@ -43,13 +46,13 @@ leading_zeros = refl
 -- `a`, `b` and `c`, joined by `=`
 abbrev equals : List Token
 equals =
-    Token.name (codes "a") ∷ Token.sign Sign.equal ∷ Token.name (codes "b") ∷ Token.sign Sign.equal ∷ Token.name (codes "c") ∷ []
+    Token.name (codes "a") ∷ Token.sign Sign.Equal ∷ Token.name (codes "b") ∷ Token.sign Sign.Equal ∷ Token.name (codes "c") ∷ []
 
 -- they are `( a = b ) = c` in structure
 left_first : Level (Tree.binary Equal (Tree.binary Equal (var (codes "a")) (var (codes "b"))) (var (codes "c"))) 1 equals
 left_first = (
   lit≤ tt,
-  Token.name (codes "a") ∷ Token.sign Sign.equal ∷ Token.name (codes "b") ∷ [],
+  Token.name (codes "a") ∷ Token.sign Sign.Equal ∷ Token.name (codes "b") ∷ [],
   Token.name (codes "c") ∷ [],
   refl,
   (lit≤ tt, Token.name (codes "a") ∷ [], Token.name (codes "b") ∷ [], refl, (tt, refl), (tt, refl)),
@@ -77,7 +80,7 @@ nested (suc n) = Tree.parenthesized (nested n)
 
 abbrev nested_tokens : ℕ → List Token
 nested_tokens n =
-    times n (Token.sign Sign.open_parenthesis) (Token.number 1 ∷ times n (Token.sign Sign.close_parenthesis) [])
+    times n (Token.sign Sign.OpenParenthesis) (Token.number 1 ∷ times n (Token.sign Sign.CloseParenthesis) [])
 
 -- the 33rd parenthesis is one too many, and 32 are not
 thirty_three : first_over (placed 0 (nested_tokens 33)) (phrase_opened (Reading.expression (nested 33))) ≡ Some (OverLimit.too_deep 32)
@@ -111,23 +114,23 @@ comment_trimmed = refl
 
 -- a sign has at most two bytes
 short_sign : (s : Sign) → length (sign_bytes s) ≤ 2
-short_sign Sign.plus = lit≤ tt
-short_sign Sign.minus = lit≤ tt
-short_sign Sign.times = lit≤ tt
-short_sign Sign.divide = lit≤ tt
-short_sign Sign.join = lit≤ tt
-short_sign Sign.equal = lit≤ tt
-short_sign Sign.not_equal = lit≤ tt
-short_sign Sign.less = lit≤ tt
-short_sign Sign.less_equal = lit≤ tt
-short_sign Sign.greater = lit≤ tt
-short_sign Sign.greater_equal = lit≤ tt
-short_sign Sign.ampersand = lit≤ tt
-short_sign Sign.bar = lit≤ tt
-short_sign Sign.caret = lit≤ tt
-short_sign Sign.open_parenthesis = lit≤ tt
-short_sign Sign.close_parenthesis = lit≤ tt
-short_sign Sign.comma = lit≤ tt
+short_sign Sign.Plus = lit≤ tt
+short_sign Sign.Minus = lit≤ tt
+short_sign Sign.Times = lit≤ tt
+short_sign Sign.Divide = lit≤ tt
+short_sign Sign.Join = lit≤ tt
+short_sign Sign.Equal = lit≤ tt
+short_sign Sign.NotEqual = lit≤ tt
+short_sign Sign.Less = lit≤ tt
+short_sign Sign.LessEqual = lit≤ tt
+short_sign Sign.Greater = lit≤ tt
+short_sign Sign.GreaterEqual = lit≤ tt
+short_sign Sign.Ampersand = lit≤ tt
+short_sign Sign.Bar = lit≤ tt
+short_sign Sign.Caret = lit≤ tt
+short_sign Sign.OpenParenthesis = lit≤ tt
+short_sign Sign.CloseParenthesis = lit≤ tt
+short_sign Sign.Comma = lit≤ tt
 
 untrue : ¬ (IsTrue false)
 untrue h = cc
@@ -176,14 +179,14 @@ less_equal_longest token (a ∷ b ∷ c ∷ rest) back e is =
     let first : 60 ≡ a = cc in
     absurd (short_at_less token b c rest back (subst (λ byte. IsToken token (byte ∷ b ∷ c ∷ rest) back) (sym first) is))
 
-less_equal_first : First (codes "<=b") (Token.sign Sign.less_equal) (codes "<=") (codes "b")
+less_equal_first : First (codes "<=b") (Token.sign Sign.LessEqual) (codes "<=") (codes "b")
 less_equal_first = record { whole = refl; is_token = refl; longest = less_equal_longest }
 
 -- `  )` is one token, from place 2 up to place 3
 one_byte_longest : (token : Token) (front back : List ℕ) → codes ")" ≡ front ++ back → IsToken token front back → length front ≤ 1
 one_byte_longest token front back e is = omega (arith, ap length e, length-append front back)
 
-one_piece : Cuts (record { token = Token.sign Sign.close_parenthesis; start = 2; end = 3 } ∷ []) 0 (codes "  )") None
+one_piece : Cuts (record { token = Token.sign Sign.CloseParenthesis; start = 2; end = 3 } ∷ []) 0 (codes "  )") None
 one_piece = (codes ")", [], record { whole = refl; is_token = refl; longest = one_byte_longest }, refl, refl, refl)
 
 -- no expression is made of no tokens

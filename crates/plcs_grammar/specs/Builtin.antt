@@ -1,7 +1,5 @@
 -- The names of the built-in functions, which are reserved.
-use Rattle.std.specs.Prelude.{ℕ, Bool, List, [], ◌∷◌, codes}
-use Rattle.std.specs.Str.{bytes_eq}
-use Rattle.std.specs.List.{list_any}
+use Rattle.std.specs.Prelude.{ℕ, Bool, List, [], ◌∷◌, codes, bytes_eq, find, Option, is_some}
 use Rattle.plcs_grammar.specs.declared.builtin.Builtin.{Builtin}
 use Rattle.plcs_grammar.specs.declared.builtin.Builtin.TheVariants.{Abs, Mod, Min, Max, Length, Substr, Index}
 
@@ -19,6 +17,10 @@ builtin_name Index = codes "INDEX"
 abbrev pub builtins : List Builtin
 builtins = Abs ∷ Mod ∷ Min ∷ Max ∷ Length ∷ Substr ∷ Index ∷ []
 
+-- the built-in function of the name, if it has one
+abbrev pub builtin_of : List ℕ → Option Builtin
+builtin_of name = find (λ function. bytes_eq name (builtin_name function)) builtins
+
 -- whether the name is a built-in function's
 unfoldable pub is_builtin_name : List ℕ → Bool
-is_builtin_name name = list_any (λ function. bytes_eq name (builtin_name function)) builtins
+is_builtin_name name = is_some (builtin_of name)

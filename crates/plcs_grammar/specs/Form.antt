@@ -2,7 +2,7 @@
 use Rattle.std.specs.Prelude.{◌≡◌, ℕ, ◌≤◌, List, [], ◌∷◌, ◌++◌, Option, Some, None}
 use Rattle.plcs_grammar.specs.declared.category.Category.{Category}
 use Rattle.plcs_grammar.specs.declared.item.Item.{Item}
-use Rattle.plcs_grammar.specs.Sign.{Sign}
+use Rattle.plcs_grammar.specs.declared.sign.Sign.TheVariants as Sign
 use Rattle.plcs_grammar.specs.Token.{Token}
 use Rattle.plcs_grammar.specs.Reading.{Trees, Reading, category_of}
 use Rattle.plcs_grammar.specs.Level.{Level, IsReference, Joined, in_parentheses}
@@ -25,7 +25,7 @@ module _ {X : Type 0} (Is : X → List Token → Type 0) where
   abbrev pub MoreBehind : List X → List Token → Type 0
   MoreBehind [] tokens = tokens ≡ []
   MoreBehind (x ∷ xs) tokens =
-      (left right : List Token) × (tokens ≡ Token.sign Sign.comma ∷ (left ++ right)) × Is x left × MoreBehind xs right
+      (left right : List Token) × (tokens ≡ Token.sign Sign.Comma ∷ (left ++ right)) × Is x left × MoreBehind xs right
 
   -- the tokens are one or more of them, joined by commas
   abbrev pub JoinedBy : List X → List Token → Type 0
@@ -41,7 +41,7 @@ IsCall name (Trees.cons a rest) tokens =
 -- the tokens are the phrase
 abbrev pub IsPhrase : Reading → List Token → Type 0
 IsPhrase (Reading.assignment target value) tokens =
-    (left right : List Token) × (tokens ≡ left ++ (Token.sign Sign.equal ∷ right)) × IsReference target left × Level value 1 right
+    (left right : List Token) × (tokens ≡ left ++ (Token.sign Sign.Equal ∷ right)) × IsReference target left × Level value 1 right
 IsPhrase (Reading.condition e) tokens = Level e 1 tokens
 IsPhrase (Reading.expression e) tokens = Level e 1 tokens
 IsPhrase (Reading.expression_list es) tokens = Joined es tokens

@@ -3,7 +3,8 @@ use Rattle.std.specs.Prelude.{◌≡◌, ℕ, ◌+◌, ◌≤◌, pos, negsuc, n
 use Rattle.plcs_grammar.specs.declared.operator.InfixOp.{InfixOp}
 use Rattle.plcs_grammar.specs.declared.operator.InfixOp.TheVariants.{Or, And, Equal, NotEqual, Less, LessEqual, Greater, GreaterEqual, Join, Plus, Minus, Times, Divide}
 use Rattle.plcs_grammar.specs.Builtin.{builtin_name, is_builtin_name}
-use Rattle.plcs_grammar.specs.Sign.{Sign, prefix_sign, infix_sign}
+use Rattle.plcs_grammar.specs.declared.sign.Sign.TheVariants as Sign
+use Rattle.plcs_grammar.specs.Sign.{prefix_sign, infix_sign}
 use Rattle.plcs_grammar.specs.Token.{Token}
 use Rattle.plcs_grammar.specs.Reading.{Tree, Trees, Reference}
 
@@ -34,7 +35,7 @@ IsNoCall (Reference.subscripted name index) = IsTrue (not (is_builtin_name name)
 
 -- the tokens in parentheses
 abbrev pub in_parentheses : List Token → List Token
-in_parentheses tokens = Token.sign Sign.open_parenthesis ∷ (tokens ++ (Token.sign Sign.close_parenthesis ∷ []))
+in_parentheses tokens = Token.sign Sign.OpenParenthesis ∷ (tokens ++ (Token.sign Sign.CloseParenthesis ∷ []))
 
 abbrev mutual
   -- the tokens are the expression, at this level or a higher one
@@ -70,4 +71,4 @@ abbrev mutual
   pub Behind : Trees → List Token → Type 0
   Behind Trees.nil tokens = tokens ≡ []
   Behind (Trees.cons a rest) tokens =
-      (left right : List Token) × (tokens ≡ Token.sign Sign.comma ∷ (left ++ right)) × Level a 1 left × Behind rest right
+      (left right : List Token) × (tokens ≡ Token.sign Sign.Comma ∷ (left ++ right)) × Level a 1 left × Behind rest right

@@ -9,6 +9,8 @@ pub mod Level
 pub mod Form
 pub mod Comment
 pub mod Limit
+pub mod Opened
+pub mod Over
 pub mod Reads
 pub mod Syntax
 pub mod Canon

@@ -6,7 +6,9 @@ use Rattle.plcs_grammar.specs.Reading.{Reading}
 use Rattle.plcs_grammar.specs.Cuts.{Piece, Cuts, tokens_of}
 use Rattle.plcs_grammar.specs.Form.{Form}
 use Rattle.plcs_grammar.specs.Comment.{IsCommentText, trimmed}
-use Rattle.plcs_grammar.specs.Limit.{IsWithinLimits, OverLimit, first_over, phrase_opened}
+use Rattle.plcs_grammar.specs.Limit.{IsWithinLimits}
+use Rattle.plcs_grammar.specs.Opened.{phrase_opened}
+use Rattle.plcs_grammar.specs.Over.{OverLimit, first_over}
 
 -- the whole text is cut into the pieces, and they are the phrase
 pub record IsCutAs (category : Category) (x : List ℕ) (pieces : List Piece) (phrase : Reading) : Type 0 where

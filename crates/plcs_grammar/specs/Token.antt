@@ -5,7 +5,8 @@ use Rattle.std.specs.Int.Digits.{number_from_digits}
 use Rattle.plcs_base.specs.Byte.{is_digit, is_name_byte, is_printable}
 use Rattle.plcs_base.specs.Name.{is_keyword, IsName}
 use Rattle.plcs_base.specs.Text.{IsTextValue}
-use Rattle.plcs_grammar.specs.Sign.{Sign, sign_bytes}
+use Rattle.plcs_grammar.specs.declared.sign.Sign.{Sign}
+use Rattle.plcs_grammar.specs.Sign.{sign_bytes}
 
 -- a number may be of any size, and a constant is its value
 pub data Token : Type 0 where

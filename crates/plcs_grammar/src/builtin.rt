@@ -1,5 +1,5 @@
 ghost use Rattle.std.specs.Prelude.{◌≡◌};
-ghost use Rattle.plcs_grammar.specs.Builtin.{builtin_name};
+ghost use Rattle.plcs_grammar.specs.Builtin.{builtin_name, builtin_of};
 
 /// A function that the language has. Its name is reserved.
 #[derive(Clone, Copy, Debug, PartialEq, Eq)]
@@ -20,9 +20,30 @@ pub enum Builtin {
     Index,
 }
 
+/// All of them.
+const BUILTINS: [Builtin; 7] = [
+    Builtin::Abs,
+    Builtin::Mod,
+    Builtin::Min,
+    Builtin::Max,
+    Builtin::Length,
+    Builtin::Substr,
+    Builtin::Index,
+];
+
 impl Builtin {
+    /// The function that has the name, or `None` where none has.
+    pub fn read(name: &[u8]) -> Option<Builtin>
+        ensures { result ≡ builtin_of name.now }
+    {
+        BUILTINS
+            .iter()
+            .copied()
+            .find(|function| name == function.name())
+    }
+
     /// Its name.
-    pub(crate) fn name(self) -> &'static [u8]
+    pub fn name(self) -> &'static [u8]
         ensures { result.now ≡ builtin_name self }
     {
         match self {

@@ -16,6 +16,7 @@ mod put_bytes;
 mod show_expr;
 mod show_joined;
 mod show_phrase;
+mod sign;
 mod template;
 #[cfg(test)]
 mod tests;
@@ -29,4 +30,5 @@ pub use length_out::shown_len;
 pub use operator::{InfixOp, PrefixOp};
 pub use phrase::Phrase;
 pub use show_phrase::show;
+pub use sign::Sign;
 pub use template::Template;

@@ -1,5 +1,7 @@
 ghost use Rattle.std.specs.Prelude.{◌≡◌};
-ghost use Rattle.plcs_grammar.specs.Sign.{sign_bytes, prefix_sign, infix_sign};
+ghost use Rattle.plcs_grammar.specs.Sign.{prefix_sign, infix_sign};
+
+use crate::sign::Sign;
 
 /// An operator before its operand.
 #[derive(Clone, Copy, Debug, PartialEq, Eq)]
@@ -45,36 +47,36 @@ pub enum InfixOp {
 
 impl PrefixOp {
     /// Its sign.
-    pub(crate) fn sign(self) -> &'static [u8]
-        ensures { result.now ≡ sign_bytes (prefix_sign self) }
+    pub(crate) fn sign(self) -> Sign
+        ensures { result ≡ prefix_sign self }
     {
         match self {
-            PrefixOp::Plus => b"+",
-            PrefixOp::Minus => b"-",
-            PrefixOp::Not => b"^",
+            PrefixOp::Plus => Sign::Plus,
+            PrefixOp::Minus => Sign::Minus,
+            PrefixOp::Not => Sign::Caret,
         }
     }
 }
 
 impl InfixOp {
     /// Its sign.
-    pub(crate) fn sign(self) -> &'static [u8]
-        ensures { result.now ≡ sign_bytes (infix_sign self) }
+    pub(crate) fn sign(self) -> Sign
+        ensures { result ≡ infix_sign self }
     {
         match self {
-            InfixOp::Or => b"|",
-            InfixOp::And => b"&",
-            InfixOp::Equal => b"=",
-            InfixOp::NotEqual => b"^=",
-            InfixOp::Less => b"<",
-            InfixOp::LessEqual => b"<=",
-            InfixOp::Greater => b">",
-            InfixOp::GreaterEqual => b">=",
-            InfixOp::Join => b"||",
-            InfixOp::Plus => b"+",
-            InfixOp::Minus => b"-",
-            InfixOp::Times => b"*",
-            InfixOp::Divide => b"/",
+            InfixOp::Or => Sign::Bar,
+            InfixOp::And => Sign::Ampersand,
+            InfixOp::Equal => Sign::Equal,
+            InfixOp::NotEqual => Sign::NotEqual,
+            InfixOp::Less => Sign::Less,
+            InfixOp::LessEqual => Sign::LessEqual,
+            InfixOp::Greater => Sign::Greater,
+            InfixOp::GreaterEqual => Sign::GreaterEqual,
+            InfixOp::Join => Sign::Join,
+            InfixOp::Plus => Sign::Plus,
+            InfixOp::Minus => Sign::Minus,
+            InfixOp::Times => Sign::Times,
+            InfixOp::Divide => Sign::Divide,
         }
     }
 }

@@ -21,7 +21,7 @@ pub(crate) fn show_expr<O: ByteOut>(expr: &Expr, out: &mut O)
         Expr::Bit(bit) => put_bit(*bit, out),
         Expr::Var(variable) => show_variable(variable, out),
         Expr::Prefix(op, operand) => {
-            put_bytes(op.sign(), out);
+            put_bytes(op.sign().bytes(), out);
             show_expr(operand, out);
         }
         Expr::Infix(op, left, right) => {
@@ -71,7 +71,7 @@ fn show_operator<O: ByteOut>(right: &Expr, op: InfixOp, out: &mut O)
     ensures { PutsAll O.puts out.old (operator_text op (tree_of right.now)) out.new }
 {
     out.put(b' ');
-    put_bytes(op.sign(), out);
+    put_bytes(op.sign().bytes(), out);
     out.put(b' ');
     show_expr(right, out);
 }

@@ -1,5 +1,6 @@
 -- The keys that bytes stand for.
-use Rattle.std.specs.Prelude.{ℕ, ◌==◌, ◌&&◌, ◌||◌, nat_le, List, [], ◌∷◌, ◌++◌, None, Some, Option, option_to_list, if◌then◌else◌}
+use Rattle.std.specs.Prelude.{ℕ, ◌==◌, ◌||◌, List, [], ◌∷◌, ◌++◌, None, Some, Option, option_to_list, if◌then◌else◌}
+use Rattle.plcs_base.specs.Byte.{is_printable}
 use Rattle.synth_top.specs.declared.key.Key.{Key}
 use Rattle.synth_top.specs.declared.key.Key.TheVariants.{Char, Enter, Other}
 use Rattle.synth_top.specs.declared.key.Keys.{Keys}
@@ -8,7 +9,7 @@ use Rattle.synth_top.specs.declared.key.KeyReader.{KeyReader}
 -- the key of a byte: a printable byte is itself, and both line ends are Enter
 abbrev pub key_of : ℕ → Key
 key_of byte =
-    if nat_le 32 byte && nat_le byte 126 then Char byte
+    if is_printable byte then Char byte
     else (if byte == 13 || byte == 10 then Enter else Other)
 
 -- a reader that has read nothing

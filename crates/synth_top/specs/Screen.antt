@@ -68,8 +68,8 @@ prompt statement = prompt_word statement ++ codes "> "
 abbrev pub last_of : ℕ → List ℕ → List ℕ
 last_of room text = drop (length text - room) text
 
--- the prompt and the end of the typed line, of which two columns less than the rest of the row is
--- shown
+-- the prompt and the end of the typed line: as many of its last bytes as there are columns, less the
+-- prompt and two
 unfoldable pub input_text : PlainSession → List ℕ
 input_text s =
     prompt s.statement ++ last_of (s.size.cols - 2 - length (prompt s.statement)) s.typed

@@ -1,5 +1,7 @@
 ghost use Rattle.std.specs.Prelude.{◌≡◌};
 
+use plcs_base::is_printable;
+
 /// What a person presses.
 #[derive(Clone, Copy, Debug, PartialEq, Eq)]
 pub enum Key {
@@ -56,8 +58,8 @@ impl KeyReader {
         ensures reader { self.new ≡ reader_behind self.old byte }
     {
         let key = match byte {
-            32..=126 => Key::Char(byte),
             b'\r' | b'\n' => Key::Enter,
+            _ if is_printable(byte) => Key::Char(byte),
             _ => Key::Other,
         };
         Keys {

@@ -3,7 +3,6 @@ ghost use Rattle.phrase_parser.specs.Machine.{named_open, opened_behind, opened_
 ghost use Rattle.phrase_parser.specs.Gives.{Gives};
 ghost use Rattle.phrase_parser.specs.Views.{base_of, stack_of, primary_of, role_of, state_of, pushed};
 
-use crate::builder::builtins::builtin_of;
 use crate::builder::fault::BuildError;
 use crate::builder::state::{Base, Frame, Primary, Role, Stack, State};
 use plcs_base::Name;
@@ -45,7 +44,7 @@ fn opened_behind(alloc: Global, stack: Stack, primary: Primary) -> Result<State,
     let Primary::Name(name) = primary else {
         return Err(BuildError::Refused);
     };
-    let function = builtin_of(name.as_bytes());
+    let function = Builtin::read(name.as_bytes());
     let frame = named_open(alloc, name, function);
     Ok(State::Wanted(with_frame(stack, frame)?))
 }

@@ -1,53 +1,17 @@
 ghost use Rattle.std.specs.Prelude.{◌≡◌, IfOk};
 ghost use Rattle.plcs_grammar.specs.Level.{priority};
 ghost use Rattle.plcs_grammar.specs.PlainForm.{tree_of};
-ghost use Rattle.phrase_parser.specs.Machine.{prefix_of, infix_of, reduced, Stack as OpenStack};
-ghost use Rattle.phrase_parser.specs.TokenIn.{sign_of};
+ghost use Rattle.phrase_parser.specs.Machine.{reduced, Stack as OpenStack};
 ghost use Rattle.phrase_parser.specs.Reduction.{rest_of};
 ghost use Rattle.phrase_parser.specs.Views.{stack_of, pair_of, pushed};
 
 use crate::builder::make::{binary, unary};
 use crate::builder::state::{Frame, Stack};
-use crate::token::Sign;
-use plcs_grammar::{Expr, InfixOp, PrefixOp};
+use plcs_grammar::{Expr, InfixOp};
 use std::alloc::{AllocError, Global};
 
 /// The level at which every operator is joined.
 pub const EVERY_LEVEL: u8 = 1;
-
-/// The operator that the sign is before an operand.
-pub fn prefix_of(sign: Sign) -> Option<PrefixOp>
-    ensures { result ≡ prefix_of (sign_of sign) }
-{
-    match sign {
-        Sign::Plus => Some(PrefixOp::Plus),
-        Sign::Minus => Some(PrefixOp::Minus),
-        Sign::Caret => Some(PrefixOp::Not),
-        _ => None,
-    }
-}
-
-/// The operator that the sign is behind an operand.
-pub fn infix_of(sign: Sign) -> Option<InfixOp>
-    ensures { result ≡ infix_of (sign_of sign) }
-{
-    match sign {
-        Sign::Bar => Some(InfixOp::Or),
-        Sign::Ampersand => Some(InfixOp::And),
-        Sign::Equal => Some(InfixOp::Equal),
-        Sign::NotEqual => Some(InfixOp::NotEqual),
-        Sign::Less => Some(InfixOp::Less),
-        Sign::LessEqual => Some(InfixOp::LessEqual),
-        Sign::Greater => Some(InfixOp::Greater),
-        Sign::GreaterEqual => Some(InfixOp::GreaterEqual),
-        Sign::Join => Some(InfixOp::Join),
-        Sign::Plus => Some(InfixOp::Plus),
-        Sign::Minus => Some(InfixOp::Minus),
-        Sign::Times => Some(InfixOp::Times),
-        Sign::Divide => Some(InfixOp::Divide),
-        Sign::Caret | Sign::OpenParenthesis | Sign::CloseParenthesis | Sign::Comma => None,
-    }
-}
 
 /// The level that the operator joins, from 1 for the one that joins last.
 pub fn priority(op: InfixOp) -> u8

@@ -1,6 +1,5 @@
 ghost use Rattle.std.specs.Prelude.{◌≡◌, IfOk};
 ghost use Rattle.phrase_parser.specs.Machine.{joined, assigned_by_role, equated, with_prefix, with_infix, operated, signed};
-ghost use Rattle.phrase_parser.specs.TokenIn.{sign_of};
 ghost use Rattle.phrase_parser.specs.Gives.{Gives};
 ghost use Rattle.phrase_parser.specs.Views.{stack_of, primary_of, pair_of, role_of, state_of};
 
@@ -8,12 +7,12 @@ use crate::builder::closing::closed;
 use crate::builder::fault::BuildError;
 use crate::builder::make::{expression, simple};
 use crate::builder::opening::{opened, wanted_on, with_frame};
-use crate::builder::operators::{infix_of, prefix_of, priority, reduced};
+use crate::builder::operators::{priority, reduced};
 use crate::builder::separating::separated;
 use crate::builder::state::{Base, Frame, Primary, Role, Stack, State};
-use crate::token::Sign;
+use crate::sign::{infix_of, prefix_of};
 use plcs_base::Name;
-use plcs_grammar::{Expr, InfixOp, PrefixOp};
+use plcs_grammar::{Expr, InfixOp, PrefixOp, Sign};
 use std::alloc::{AllocError, Global};
 
 /// The state behind an operator that joins what stands before it.
@@ -84,7 +83,7 @@ fn with_infix(
 
 /// A sign is read that is an operator wherever it stands.
 fn operated(alloc: Global, state: State, sign: Sign) -> Result<State, BuildError>
-    ensures { Gives state_of result (operated (state_of state) (sign_of sign)) }
+    ensures { Gives state_of result (operated (state_of state) sign) }
 {
     match state {
         State::Wanted(stack) => with_prefix(stack, prefix_of(sign)),
@@ -95,7 +94,7 @@ fn operated(alloc: Global, state: State, sign: Sign) -> Result<State, BuildError
 
 /// A sign is read.
 pub fn signed(alloc: Global, state: State, sign: Sign) -> Result<State, BuildError>
-    ensures { Gives state_of result (signed (state_of state) (sign_of sign)) }
+    ensures { Gives state_of result (signed (state_of state) sign) }
 {
     match sign {
         Sign::OpenParenthesis => opened(alloc, state),

@@ -2,9 +2,9 @@ ghost use Rattle.std.specs.Prelude.{◌≡◌, ◌≤◌, length, All, IfOk, IsT
 ghost use Rattle.phrase_parser.specs.TokenIn.{IsConstant, IsOfKind, IsPlacedIn};
 
 use super::{BuildError, build};
-use crate::token::{Placed, Sign, TokenKind};
+use crate::token::{Placed, TokenKind};
 use plcs_base::Name;
-use plcs_grammar::{Builtin, Category, Expr, InfixOp, Phrase, PrefixOp, VarRef};
+use plcs_grammar::{Builtin, Category, Expr, InfixOp, Phrase, PrefixOp, Sign, VarRef};
 use std::alloc::{AllocError, Global};
 use std::test::Fail;
 

@@ -1,11 +1,10 @@
 ghost use Rattle.std.specs.Prelude.{◌≡◌};
 ghost use Rattle.phrase_parser.specs.Recognizer.{level_behind, level_by_use, sign_level, level_of};
-ghost use Rattle.phrase_parser.specs.TokenIn.{sign_of};
 ghost use Rattle.phrase_parser.specs.Shapes.{last_of, use_of, shape_of, kind_of, LastWithin, Within};
 
 use crate::check::kind::Kind;
 use crate::check::shape::{Last, Role, Shape};
-use crate::token::Sign;
+use plcs_grammar::Sign;
 
 /// The level that a parenthesis opens behind an operand, or 0.
 fn level_behind(last: Last) -> u32
@@ -32,7 +31,7 @@ fn level_by_role(role: Role) -> u32
 /// The level that the sign opens, or 0.
 fn sign_level(shape: &Shape, sign: Sign) -> u32
     requires { Within 4294967294 (shape_of shape.now) }
-    ensures { result ≡ sign_level (shape_of shape.now) (sign_of sign) }
+    ensures { result ≡ sign_level (shape_of shape.now) sign }
 {
     match (shape, sign) {
         (Shape::Wanted(_, level), _) => *level + 1,

@@ -27,7 +27,6 @@ fn ground_level(place: Ground) -> u32
 }
 
 /// How many levels the open parentheses opened.
-
 pub fn inside(nesting: &Nesting) -> u32
     ensures { result ≡ inside (ground_of nesting.now.place) (brackets_of nesting.now.brackets.items) }
 {
@@ -113,7 +112,6 @@ pub fn comma(alloc: Global, nesting: Nesting) -> Result<Option<Shape>, AllocErro
 }
 
 /// Whether a phrase may end where all that is open is this.
-
 pub fn may_end_in(nesting: &Nesting) -> bool
     ensures { result ≡ may_end_in (ground_of nesting.now.place) (brackets_of nesting.now.brackets.items) }
 {

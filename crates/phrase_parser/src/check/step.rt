@@ -1,14 +1,12 @@
 ghost use Rattle.std.specs.Prelude.{◌≡◌, IfOk, []};
 ghost use Rattle.phrase_parser.specs.Recognizer.{next_name, next_constant, next_number, next_open_name, next_open, next_close, next_comma_name, next_comma, next_equal_name, next_equal, next_operator, next_sign, next, first_shape, may_end, inside, Shape as model};
-ghost use Rattle.phrase_parser.specs.TokenIn.{sign_of};
 ghost use Rattle.phrase_parser.specs.Shapes.{ground_of, brackets_of, use_of, shape_of, shape_if, kind_of, Within};
 
 use crate::check::kind::Kind;
 use crate::check::nesting::{bracketed, closed, comma, inside, may_end_in};
-use crate::check::operator::{is_infix, is_prefix};
 use crate::check::shape::{Ground, Last, Nesting, Role, Shape};
-use crate::token::Sign;
-use plcs_grammar::Category;
+use crate::sign::{infix_of, prefix_of};
+use plcs_grammar::{Category, Sign};
 use std::alloc::{AllocError, Global};
 
 /// An operand is wanted, and nothing is open but the phrase's own expression.
@@ -147,11 +145,14 @@ fn next_equal(alloc: Global, shape: Shape) -> Option<Shape>
 #[tactic(auto, using(crate::proofs::Operators::prefix_if, crate::proofs::Operators::infix_if))]
 fn next_operator(shape: Shape, sign: Sign) -> Option<Shape>
     requires { Within 4294967294 (shape_of shape) }
-    ensures { shape_if result ≡ next_operator (shape_of shape) (sign_of sign) }
+    ensures { shape_if result ≡ next_operator (shape_of shape) sign }
 {
     match shape {
-        Shape::Wanted(nesting, level) if is_prefix(sign) => Some(Shape::Wanted(nesting, level + 1)),
-        Shape::Had(_, nesting) if is_infix(sign) => Some(behind_operator(nesting)),
+        Shape::Wanted(nesting, level) if prefix_of(sign).is_some() => Some(Shape::Wanted(
+            nesting,
+            level + 1,
+        )),
+        Shape::Had(_, nesting) if infix_of(sign).is_some() => Some(behind_operator(nesting)),
         _ => None,
     }
 }
@@ -159,7 +160,7 @@ fn next_operator(shape: Shape, sign: Sign) -> Option<Shape>
 /// A sign is read.
 fn next_sign(alloc: Global, shape: Shape, sign: Sign) -> Result<Option<Shape>, AllocError>
     requires { Within 4294967294 (shape_of shape) }
-    ensures { IfOk result (λ s. shape_if s ≡ next_sign (shape_of shape) (sign_of sign)) }
+    ensures { IfOk result (λ s. shape_if s ≡ next_sign (shape_of shape) sign) }
 {
     match sign {
         Sign::OpenParenthesis => next_open(alloc, shape),

@@ -2,6 +2,7 @@ use Rattle.std.proofs.Common.{◌+◌, ◌-◌, ◌/◌, ◌<◌, ◌≡◌, len
 use Rattle.std.proofs.Math.Seq.{take-length}
 use Rattle.plcs_base.specs.Put.{puts_nothing}
 use Rattle.plcs_grammar.specs.PlainForm.{tree_of, trees_of}
+use Rattle.plcs_grammar.specs.Sign.{sign_bytes}
 use Rattle.plcs_grammar.specs.Canon.{canon, canon_list, joined}
 use Rattle.plcs_grammar.specs.Chain.{leftmost, chain_text, operator_text}
 use Rattle.plcs_grammar.proofs.Putting.{puts_append, puts_same, puts_before, puts_three, puts_parenthesized}
@@ -14,7 +15,7 @@ use Rattle.plcs_grammar.proofs.show_expr.+show_expr.Goals as goal
 pub show_expr-returns-in-Prefix : goal.show_expr-returns-in-Prefix
 show_expr-returns-in-Prefix g t c =
     let tree = tree_prefix c.args.expr.now c.in-Prefix.op c.in-Prefix.operand c.in-Prefix.is in
-    let sign = puts_same c.sign.ensures c.put_bytes.ensures in
+    let sign = puts_same (c.bytes.ensures ∙ ap sign_bytes c.sign.ensures) c.put_bytes.ensures in
     let operand = shown_expr _ _ c.deref-in-Prefix.ensures c.show_expr.ensures in
     shown_tree _ _ tree (puts_append sign operand)
 
@@ -46,7 +47,7 @@ show_expr-returns-in-Paren g t c =
 
 pub show_operator-returns : goal.show_operator-returns
 show_operator-returns g t c =
-    let sign = puts_same c.sign.ensures c.put_bytes.ensures in
+    let sign = puts_same (c.bytes.ensures ∙ ap sign_bytes c.sign.ensures) c.put_bytes.ensures in
     puts_before c.put.ensures (puts_append sign (puts_before c.put-2.ensures c.show_expr.ensures))
 
 pub show_chain-returns-then-operators-gt1 : goal.show_chain-returns-then-operators-gt1
