@@ -1,19 +1,23 @@
 -- The canonical text of a phrase reads as the phrase.
-use Rattle.std.proofs.Common.{◌≡◌, inl, inr, ℕ, List, [], ◌∷◌, ◌++◌, Option, Some, None, refl, sym, ap, subst}
-use Rattle.std.specs.Prelude.{decimal}
+use Rattle.std.proofs.Common.{◌≡◌, inl, inr, ℕ, List, [], ◌∷◌, ◌++◌, Option, Some, None, Result, Ok, Err, refl, sym, ap, subst}
+use Rattle.std.specs.Prelude.{decimal, IfOk}
 use Rattle.plcs_grammar.specs.declared.category.Category.{Category}
-use Rattle.plcs_grammar.specs.declared.sign.Sign.TheVariants as Sign
+use Rattle.plcs_grammar.specs.declared.sign.Sign.{Sign}
 use Rattle.plcs_grammar.specs.Token.{Token}
+use Rattle.plcs_grammar.specs.declared.phrase.Phrase.{Phrase}
 use Rattle.plcs_grammar.specs.Reading.{Trees, Reading}
+use Rattle.plcs_grammar.specs.PlainForm.{reading_of}
 use Rattle.plcs_grammar.specs.Cuts.{Piece, tokens_of}
 use Rattle.plcs_grammar.specs.Limit.{IsWithinLimits}
 use Rattle.plcs_grammar.specs.Opened.{phrase_opened}
 use Rattle.plcs_grammar.specs.Reads.{IsCutAs, IsCommentAs, Reads}
-use Rattle.plcs_grammar.specs.Canon.{canon, canon_reference, canon_list, more_joined, joined, canon_sized, canon_item, canon_call, Canon}
-use Rattle.phrase_parser.proofs.PieceFacts.{AllSound, cut_sound}
+use Rattle.plcs_grammar.specs.Canon.{canon, canon_reference, canon_list, more_joined, joined, canon_sized, canon_item, canon_call, Canon, IsWellFormed}
+use Rattle.phrase_parser.specs.declared.fault.PhraseFault.{PhraseFault}
+use Rattle.phrase_parser.specs.Answers.{Answers}
+use Rattle.phrase_parser.proofs.CutPieces.{AllSound, cut_sound}
 use Rattle.phrase_parser.proofs.Limits.{AllFine, none_fine, within}
-use Rattle.phrase_parser.proofs.Spelling.{spell, spell_reference, spell_all, FitsReference}
-use Rattle.phrase_parser.proofs.Phrases.{spell_more, spell_listed, EachFits, FitsListed, spell_name, AnyName, spell_sized, spell_item, FitsItem, spell_call, FitsCall, spell_phrase, FitsPhrase, form_spelled, form_from}
+use Rattle.phrase_parser.proofs.TreeSpelling.{spell, spell_reference, spell_all, FitsReference}
+use Rattle.phrase_parser.proofs.PhraseSpelling.{spell_more, spell_listed, EachFits, FitsListed, spell_name, AnyName, spell_sized, spell_item, FitsItem, spell_call, FitsCall, spell_phrase, FitsPhrase, form_spelled, form_from}
 use Rattle.phrase_parser.proofs.LexedTexts.{Lexed, Safe, lexed_empty, lexed_append, lexed_name, lexed_number, lexed_whole}
 use Rattle.phrase_parser.proofs.CanonicalTokens.{AllWritable, writable_split, small_number, number_ends_sign, list_ends_sign, lexed_called, lexed_behind_comma, lexed_behind_sign, inner_writable, canon_lexed, reference_lexed, list_lexed}
 use Rattle.phrase_parser.proofs.OneAnswer.{one_reading}
@@ -143,3 +147,9 @@ canonical_reads c x p (inr comment, limits) = (inr (comment_canonical c x p comm
 pub canonical_tells : (c : Category) (x y : List ℕ) (p q : Reading) → Reads c x p → Reads c y q → Canon p ≡ Canon q → p ≡ q
 canonical_tells c x y p q a b same =
     one_reading c (Canon p) p q (canonical_reads c x p a) (subst (λ (z : List ℕ). Reads c z q) (sym same) (canonical_reads c y q b))
+
+-- a phrase that is answered is well formed
+pub answer_well_formed : (c : Category) (x : List ℕ) (answer : Result Phrase PhraseFault) → Answers c x answer
+    → IfOk answer (λ phrase. IsWellFormed c (reading_of phrase))
+answer_well_formed c x (Ok phrase) says = canonical_reads c x (reading_of phrase) says
+answer_well_formed c x (Err fault) says = tt

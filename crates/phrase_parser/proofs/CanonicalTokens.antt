@@ -9,7 +9,6 @@ use Rattle.plcs_base.specs.Name.{is_word, IsName}
 use Rattle.plcs_grammar.specs.declared.operator.PrefixOp.{PrefixOp}
 use Rattle.plcs_grammar.specs.declared.operator.PrefixOp.TheVariants as before
 use Rattle.plcs_grammar.specs.declared.sign.Sign.{Sign}
-use Rattle.plcs_grammar.specs.declared.sign.Sign.TheVariants as Sign
 use Rattle.plcs_grammar.specs.Sign.{sign_bytes, prefix_sign, infix_sign}
 use Rattle.plcs_grammar.specs.Token.{Token, IsNumeral, bit_bytes}
 use Rattle.plcs_grammar.specs.Reading.{Tree, Trees, Reference}
@@ -17,12 +16,12 @@ use Rattle.plcs_grammar.specs.Builtin.{builtin_name}
 use Rattle.plcs_grammar.specs.Level.{priority, tightest, in_parentheses}
 use Rattle.plcs_grammar.specs.Limit.{greatest_number}
 use Rattle.plcs_grammar.specs.Canon.{canon, canon_reference, canon_list, canon_behind, parenthesized_bytes}
-use Rattle.phrase_parser.proofs.Runs.{name_word}
+use Rattle.phrase_parser.proofs.ByteRuns.{name_word}
 use Rattle.phrase_parser.proofs.Numerals.{decimal_numeral}
-use Rattle.phrase_parser.proofs.Longest.{EndsSign, is_second}
-use Rattle.phrase_parser.proofs.PieceFacts.{IsSound}
+use Rattle.phrase_parser.proofs.LongestFront.{EndsSign, is_second}
+use Rattle.phrase_parser.proofs.CutPieces.{IsSound}
 use Rattle.phrase_parser.proofs.Limits.{NumberFits}
-use Rattle.phrase_parser.proofs.Spelling.{spell, spell_reference, spell_all, spell_behind, Fits, FitsReference, FitsAll, FitsBehind}
+use Rattle.phrase_parser.proofs.TreeSpelling.{spell, spell_reference, spell_all, spell_behind, Fits, FitsReference, FitsAll, FitsBehind}
 use Rattle.phrase_parser.proofs.LexedTexts.{Lexed, Safe, safe_sign, lexed_empty, lexed_append, lexed_blank, lexed_name, lexed_number, lexed_text, lexed_bit, lexed_sign}
 
 -- a name is a name, a constant can be a value, and a number is no larger than the greatest

@@ -4,7 +4,7 @@ use Rattle.std.specs.Option.{option_or}
 use Rattle.std.proofs.lemmas.Bool.{cond-true, and_from}
 use Rattle.plcs_grammar.specs.declared.category.Category.{Category}
 use Rattle.plcs_grammar.specs.declared.item.Item.{Item}
-use Rattle.plcs_grammar.specs.declared.sign.Sign.TheVariants as Sign
+use Rattle.plcs_grammar.specs.declared.sign.Sign.{Sign}
 use Rattle.plcs_grammar.specs.Token.{Token}
 use Rattle.plcs_grammar.specs.Cuts.{Piece, tokens_of}
 use Rattle.plcs_grammar.specs.Reading.{Tree, Trees, Reference, Reading, category_of}
@@ -13,11 +13,11 @@ use Rattle.plcs_grammar.specs.Opened.{opened as levels, reference_opened as refe
 use Rattle.plcs_grammar.specs.Over.{first_over, over_at}
 use Rattle.phrase_parser.specs.Machine.{Base, Stack, State, Role, Operand, step, step_if, run, start, closed_at, ended_at, ended, ended_if}
 use Rattle.phrase_parser.specs.Trace.{depth, opens, trace}
-use Rattle.phrase_parser.proofs.Spelling.{spell, spell_reference, Fits, FitsReference, FitsAll}
-use Rattle.phrase_parser.proofs.Phrases.{spell_phrase, spell_name, spell_item, spell_sized, FitsPhrase, FitsItem, FitsSize, FitsCall, AnyName, FitsListed, form_spelled}
-use Rattle.phrase_parser.proofs.Goes.{Goes, there, by, joins, goes_runs, goes_opens}
-use Rattle.phrase_parser.proofs.Lists.{Listing, levels_more, levels_listed, reads_listed}
-use Rattle.phrase_parser.proofs.Arrival.{Holds, arrives, arrives_all}
+use Rattle.phrase_parser.proofs.TreeSpelling.{spell, spell_reference, Fits, FitsReference, FitsAll}
+use Rattle.phrase_parser.proofs.PhraseSpelling.{spell_phrase, spell_name, spell_item, spell_sized, FitsPhrase, FitsItem, FitsSize, FitsCall, AnyName, FitsListed, form_spelled}
+use Rattle.phrase_parser.proofs.MachineRuns.{Goes, there, by, joins, goes_runs, goes_opens}
+use Rattle.phrase_parser.proofs.ListedItems.{Listing, levels_more, levels_listed, reads_listed}
+use Rattle.phrase_parser.proofs.TreesRead.{Holds, arrives, arrives_all}
 
 -- each is 0
 abbrev pub NoLevels : List ℕ → Type 0

@@ -9,6 +9,7 @@ use Rattle.phrase_parser.specs.declared.front.Front.{Front}
 use Rattle.phrase_parser.specs.declared.token.Placed.{Placed}
 use Rattle.phrase_parser.specs.Kept.{kept, kept_kind, AreTokens}
 use Rattle.phrase_parser.specs.Front.{front_of, placed_at}
+use Rattle.phrase_parser.proofs.FrontTokens.{found_tells}
 use Rattle.phrase_parser.proofs.OneCut.{found_first, none_found, token_not_empty}
 
 -- the text is cut into the pieces that are kept, and goes on behind blanks at the place start
@@ -37,11 +38,11 @@ pub start_within : (x : List ℕ) (place start : ℕ) → place ≤ length x →
 start_within x place start within h = omega (arith, h, prefix_len-le-length is_blank (drop place x), length-drop place x)
 
 -- what is found is within the text, and not empty
-pub found_within : (x : List ℕ) (front : Front) → front_of x ≡ Some front → (1 ≤ front.length) × (front.length ≤ length x)
-found_within x front found =
-    let told = found_first x front found in (
-      omega (arith, told.same_length, token_not_empty told.token told.bytes told.behind told.first.is_token),
-      omega (arith, told.same_length, ap length told.first.whole, length-append told.bytes told.behind),
+pub front_within : (x : List ℕ) (front : Front) → front_of x ≡ Some front → (1 ≤ front.length) × (front.length ≤ length x)
+front_within x front found =
+    let told = found_tells x front found in (
+      omega (arith, told.same_length, token_not_empty told.token told.bytes told.behind told.is_token),
+      omega (arith, told.same_length, ap length told.whole, length-append told.bytes told.behind),
     )
 
 placed_parts : (start : ℕ) (o : Option Front) (token : Placed) → placed_at start o ≡ Some token
@@ -60,7 +61,7 @@ pub token_within : (x : List ℕ) (start : ℕ) (token : Placed) → start ≤ l
     → (start < token.end) × (token.end ≤ length x)
 token_within x start token within h =
     let (front, found, same) = placed_parts start (front_of (drop start x)) token h in
-    let size = found_within (drop start x) front found in
+    let size = front_within (drop start x) front found in
     let end = ap (λ (p : Placed). p.end) same in
     (omega (arith, size.0, end), omega (arith, size.1, end, within, length-drop start x))
 
@@ -78,18 +79,18 @@ pub one_more_cut : (x : List ℕ) (items : List Placed) (start : ℕ) (token : P
     → CutSoFar x (items ++ (token ∷ [])) next
 one_more_cut x items start token next so_far h after =
     let (front, found, same) = placed_parts start (front_of (drop start x)) token h in
-    let told = found_first (drop start x) front found in
+    let told = found_tells (drop start x) front found in
     let bounds = token_within x start token (start_within x so_far.place start so_far.within so_far.at_start) h in
     let end = ap (λ (p : Placed). p.end) same in
     let piece : Piece = record { token = told.token; start = start; end = token.end } in
     let here : unblanked (drop so_far.place x) ≡ drop start x =
     drop-drop (blanks (drop so_far.place x)) so_far.place x ∙ ap (λ (n : ℕ). drop n x) (sym so_far.at_start) in
     let first : First (unblanked (drop so_far.place x)) told.token told.bytes told.behind =
-    subst (λ (y : List ℕ). First y told.token told.bytes told.behind) (sym here) told.first in
+    subst (λ (y : List ℕ). First y told.token told.bytes told.behind) (sym here) (found_first (drop start x) front found told) in
     let size : token.end ≡ start + length told.bytes = omega (arith, end, told.same_length) in
     let behind : drop token.end x ≡ told.behind =
     ap (λ (n : ℕ). drop n x) size ∙ sym (drop-drop (length told.bytes) start x)
-    ∙ ap (λ (y : List ℕ). drop (length told.bytes) y) told.first.whole ∙ drop_at told.bytes told.behind (length told.bytes) refl in
+    ∙ ap (λ (y : List ℕ). drop (length told.bytes) y) told.whole ∙ drop_at told.bytes told.behind (length told.bytes) refl in
     record {
       pieces = so_far.pieces ++ (piece ∷ []);
       place = token.end;

@@ -8,14 +8,15 @@ use Rattle.std.proofs.lemmas.List.{append_assoc, append-nil, length-append, map-
 use Rattle.plcs_base.specs.Byte.{is_letter, is_digit, is_name_byte}
 use Rattle.plcs_base.specs.Name.{is_word, IsName}
 use Rattle.plcs_grammar.specs.declared.sign.Sign.{Sign}
-use Rattle.plcs_grammar.specs.declared.sign.Sign.TheVariants as Sign
 use Rattle.plcs_grammar.specs.Sign.{sign_bytes}
 use Rattle.plcs_grammar.specs.Token.{Token, IsToken, First, NoToken, IsNumeral, IsConstantText, begins_with, is_quote, numeral_value, quoted, bit_bytes}
 use Rattle.plcs_grammar.specs.Cuts.{Piece, Cuts, blanks, unblanked, is_blank, tokens_of}
+use Rattle.phrase_parser.specs.declared.front.Front.{Front}
 use Rattle.phrase_parser.specs.Kept.{kept_kind}
 use Rattle.phrase_parser.specs.Front.{front_of}
-use Rattle.phrase_parser.proofs.Runs.{run_none, name_word, keyword_word}
-use Rattle.phrase_parser.proofs.Longest.{EndsSign, is_second, name_found, number_found, text_found, bit_found, sign_found}
+use Rattle.phrase_parser.proofs.ByteRuns.{run_none, name_word, keyword_word}
+use Rattle.phrase_parser.proofs.LongestFront.{EndsSign, is_second, name_found, number_found, text_found, bit_found, sign_found}
+use Rattle.phrase_parser.proofs.FrontTokens.{found_tells}
 use Rattle.phrase_parser.proofs.OneCut.{found_first}
 use Rattle.phrase_parser.proofs.Numerals.{decimal_numeral}
 
@@ -147,11 +148,13 @@ lexed_first token bytes behind first =
 first_if_found : (token : Token) (bytes behind : List ℕ) → IsToken token bytes behind
     → front_of (bytes ++ behind) ≡ Some (record { kind = kept_kind token; length = length bytes }) → First (bytes ++ behind) token bytes behind
 first_if_found token bytes behind is found =
-    let told = found_first (bytes ++ behind) (record { kind = kept_kind token; length = length bytes }) found in
+    let front : Front = record { kind = kept_kind token; length = length bytes } in
+    let told = found_tells (bytes ++ behind) front found in
+    let first = found_first (bytes ++ behind) front found told in
     record {
       whole = refl;
       is_token = is;
-      longest = λ other front back cut is_other. omega (arith, told.same_length, told.first.longest other front back cut is_other);
+      longest = λ other ahead back cut is_other. omega (arith, told.same_length, first.longest other ahead back cut is_other);
     }
 
 -- a name, where no further byte of a name follows

@@ -1,41 +1,47 @@
-mod Spelling
+-- ---- tokens of a text
+mod ByteRuns
+mod QuotedTexts
+mod Numerals
+mod FrontTokens
+mod LongestFront
+mod OneCut
+mod CutSoFar
+mod ConstantValues
+mod CutPieces
+-- ---- the machine reads exactly the forms of the grammar
 mod BuiltinNames
-mod Goes
-mod Arrival
-mod Phrases
-mod Lists
+mod TreeSpelling
+mod PhraseSpelling
+mod MachineRuns
+mod TreesRead
+mod ListedItems
 mod Completeness
-mod Consumed
+mod ConsumedTokens
 mod Soundness
-mod Viable
-pub mod Numerals
-pub mod Runs
-pub mod Quoted
-pub mod FoundTokens
-pub mod Longest
-pub mod OneCut
-pub mod CutSoFar
+mod ViablePrefixes
 mod Limits
-mod OneAnswer
-mod Trimming
-mod Simulation
-mod Recognized
-mod Checked
-pub mod PieceFacts
-pub mod LexedTexts
+-- ---- the machine without trees, and the check
 mod KeptNumbers
-mod Found
-mod FindingSays
-mod CanonicalTokens
-mod TrimmedTexts
-mod CanonicalText
+mod Simulation
+mod RecognizedTokens
+mod FindingsSound
+mod FindingsComplete
 mod PlacedTokens
-pub mod Stacks
-pub mod Constants
+mod FindingsOfText
+mod FindingPlaces
+mod CheckAnswers
+mod OperatorTests
 mod OpenBrackets
-mod Operators
-pub mod Fails
 mod ShapeLevels
 mod FindingsGoOn
-mod FoundPlaces
-mod Told
+-- ---- the builder
+mod FrameStacks
+mod StoppedMachine
+-- ---- comments
+mod TrimmedTexts
+mod CommentRefusals
+-- ---- the answers, and canonical texts
+mod OneAnswer
+mod LexedTexts
+mod CanonicalTokens
+mod CanonicalText

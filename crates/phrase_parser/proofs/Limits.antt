@@ -5,7 +5,7 @@ use Rattle.std.specs.List.{AllByRecursion}
 use Rattle.std.proofs.Math.Nat.{le-max_left, le-max_right, max-le}
 use Rattle.std.proofs.lemmas.List.Elements.{All-from_recursion, recursion_from_All}
 use Rattle.plcs_grammar.specs.declared.category.Category.{Category}
-use Rattle.plcs_grammar.specs.declared.sign.Sign.TheVariants as Sign
+use Rattle.plcs_grammar.specs.declared.sign.Sign.{Sign}
 use Rattle.plcs_grammar.specs.Token.{Token}
 use Rattle.plcs_grammar.specs.Cuts.{Piece, tokens_of}
 use Rattle.plcs_grammar.specs.Reading.{Tree, Trees, Reference, Reading}
@@ -13,8 +13,8 @@ use Rattle.plcs_grammar.specs.Form.{Form}
 use Rattle.plcs_grammar.specs.Limit.{greatest_number, greatest_nesting, nesting, reference_nesting, deepest, deepest_reference, arguments_nesting, phrase_nesting, numbers, reference_numbers, numbers_of_all, size_numbers, phrase_numbers, IsWithinLimits}
 use Rattle.plcs_grammar.specs.Opened.{opened, reference_opened, opened_by_all, opened_behind, references_behind, opened_by_references, opened_by_call, phrase_opened}
 use Rattle.plcs_grammar.specs.Over.{OverLimit, is_too_large, over_at, first_over}
-use Rattle.phrase_parser.proofs.Spelling.{spell, spell_reference, spell_all, spell_behind}
-use Rattle.phrase_parser.proofs.Phrases.{spell_name, spell_item, spell_sized, spell_call, spell_more, spell_listed, spell_phrase, form_spelled}
+use Rattle.phrase_parser.proofs.TreeSpelling.{spell, spell_reference, spell_all, spell_behind}
+use Rattle.phrase_parser.proofs.PhraseSpelling.{spell_name, spell_item, spell_sized, spell_call, spell_more, spell_listed, spell_phrase, form_spelled}
 
 -- a token that is a number is no larger than the greatest
 abbrev pub NumberFits : Token → Type 0

@@ -22,7 +22,7 @@ use Rattle.phrase_parser.specs.Answers.{Answers, Only, OnlyFault, over_fault}
 use Rattle.phrase_parser.proofs.OneCut.{one_cut}
 use Rattle.phrase_parser.proofs.Completeness.{complete, unique, run_none}
 use Rattle.phrase_parser.proofs.Limits.{within}
-use Rattle.phrase_parser.proofs.Found.{finds_wrong}
+use Rattle.phrase_parser.proofs.FindingsComplete.{finds_wrong}
 
 -- no tokens are the phrase of a comment, or begin one
 pub comment_no_form : (c : Category) (ks : List Token) (p : Reading) → c ≡ CommentText → Form c ks p → ⊥

@@ -5,7 +5,6 @@ use Rattle.std.proofs.lemmas.Option.{same_Some}
 use Rattle.std.proofs.lemmas.List.{take_at, drop_at, length-append, same_from_push}
 use Rattle.plcs_base.specs.Name.{is_word, IsName}
 use Rattle.plcs_grammar.specs.declared.sign.Sign.{Sign}
-use Rattle.plcs_grammar.specs.declared.sign.Sign.TheVariants as Sign
 use Rattle.plcs_grammar.specs.Sign.{sign_bytes}
 use Rattle.plcs_grammar.specs.Token.{Token, IsToken, First, NoToken, is_quote, quoted, with_quotes_doubled}
 use Rattle.plcs_grammar.specs.Cuts.{Piece, Cuts, unblanked}
@@ -14,18 +13,9 @@ use Rattle.phrase_parser.specs.declared.token.TokenKind.{TokenKind}
 use Rattle.phrase_parser.specs.Kept.{kept_kind}
 use Rattle.phrase_parser.specs.Front.{front_of}
 use Rattle.phrase_parser.specs.Unquoted.{undoubled, undoubled_behind}
-use Rattle.phrase_parser.proofs.Runs.{name_word, keyword_word}
-use Rattle.phrase_parser.proofs.FoundTokens.{found_tells}
-use Rattle.phrase_parser.proofs.Longest.{Covers, token_covered}
-
--- the longest token at the front of the text, of which the front keeps the kind and the length
-pub record Told (x : List ℕ) (front : Front) : Type 0 where
-  pub token : Token
-  pub bytes : List ℕ
-  pub behind : List ℕ
-  pub first : First x token bytes behind
-  pub same_kind : kept_kind token ≡ front.kind
-  pub same_length : length bytes ≡ front.length
+use Rattle.phrase_parser.proofs.ByteRuns.{name_word, keyword_word}
+use Rattle.phrase_parser.proofs.FrontTokens.{Tells, found_tells}
+use Rattle.phrase_parser.proofs.LongestFront.{Covers, token_covered}
 
 covers_at : (k : TokenKind) (n : ℕ) (front : Front) → Covers k n (Some front) → n ≤ front.length
 covers_at k n front (inl less) = omega (arith, less)
@@ -37,24 +27,15 @@ covered_at x o found token bytes behind whole is =
     subst (λ (p : Option Front). Covers (kept_kind token) (length bytes) p) (ap front_of (sym whole) ∙ found) (token_covered token bytes behind is)
 
 -- what is found is the longest token
-pub found_first : (x : List ℕ) (front : Front) → front_of x ≡ Some front → Told x front
-found_first x front found =
-    let t = found_tells x front found in
-    record {
-      token = t.token;
-      bytes = t.bytes;
-      behind = t.behind;
-      first = record {
-        whole = t.whole;
-        is_token = t.is_token;
-        longest = λ other ahead back cut is.
-            let at_most : length ahead ≤ front.length =
-            covers_at (kept_kind other) (length ahead) front (covered_at x (Some front) found other ahead back cut is) in
-            omega (arith, at_most, t.same_length);
-      };
-      same_kind = t.same_kind;
-      same_length = t.same_length;
-    }
+pub found_first : (x : List ℕ) (front : Front) → front_of x ≡ Some front → (t : Tells x front) → First x t.token t.bytes t.behind
+found_first x front found t = record {
+  whole = t.whole;
+  is_token = t.is_token;
+  longest = λ other ahead back cut is.
+      let at_most : length ahead ≤ front.length =
+      covers_at (kept_kind other) (length ahead) front (covered_at x (Some front) found other ahead back cut is) in
+      omega (arith, at_most, t.same_length);
+}
 
 -- where nothing is found, no token can be made
 pub none_found : (x : List ℕ) → front_of x ≡ None → NoToken x

@@ -17,7 +17,7 @@ use Rattle.phrase_parser.specs.Findings.{seen_of}
 use Rattle.phrase_parser.specs.Shapes.{kind_from, seen_in, LiesIn}
 use Rattle.phrase_parser.specs.TokenIn.{token_from, token_in, IsOfKind, IsPlacedIn}
 use Rattle.phrase_parser.proofs.Limits.{NumberFits, AllFine, within, none_fine}
-use Rattle.phrase_parser.proofs.PieceFacts.{InOrder, cut_in_order, StandIn, cut_stands, constant_value}
+use Rattle.phrase_parser.proofs.CutPieces.{InOrder, cut_in_order, StandIn, cut_stands, constant_value}
 
 -- what the check looks at of a token is what is kept of it
 kind_as : (token : Token) (bytes behind : List ℕ) → IsToken token bytes behind → kind_from (kept_kind token) bytes ≡ model.kind_of token

@@ -4,11 +4,11 @@ use Rattle.std.specs.List.{AllByRecursion}
 use Rattle.plcs_grammar.specs.declared.operator.PrefixOp.{PrefixOp}
 use Rattle.plcs_grammar.specs.declared.operator.InfixOp.{InfixOp}
 use Rattle.plcs_grammar.specs.declared.sign.Sign.{Sign}
-use Rattle.plcs_grammar.specs.declared.sign.Sign.TheVariants as Sign
 use Rattle.phrase_parser.specs.Machine.{prefix_of, infix_of}
 use Rattle.phrase_parser.specs.Recognizer.{Kind, Ground, Bracket, Last, Use, Shape, inside, next_name, next_constant, next_number, next_open_behind, next_open_name, next_open, next_close_in, next_close, next_comma_in, next_comma_name, next_comma, next_equal_name, next_equal, next_prefix, next_infix, next_operator, next_sign, next}
 use Rattle.phrase_parser.specs.Shapes.{LastWithin, NestingWithin, Within}
 
+-- the same of a shape that may be missing
 abbrev pub WithinIf : ℕ → Option Shape → Type 0
 WithinIf limit None = Unit {0}
 WithinIf limit (Some shape) = Within limit shape
@@ -24,47 +24,19 @@ last_more : (n m : ℕ) → n ≤ m → (last : Last) → LastWithin n last → 
 last_more n m e Last.operand h = tt
 last_more n m e (Last.named is_builtin level) h = omega (arith, e, h)
 
+-- what is within a limit is within a greater one
 pub within_more : (n m : ℕ) → n ≤ m → (s : Shape) → Within n s → Within m s
 within_more n m e (Shape.wanted g brackets level) h = (omega (arith, e, h.0), nesting_more n m e g brackets h.1)
 within_more n m e (Shape.had last g brackets) h = (last_more n m e last h.0, nesting_more n m e g brackets h.1)
-within_more n m e (Shape.name_wanted use_of) h = tt
-within_more n m e (Shape.name_had use_of) h = tt
-within_more n m e Shape.target_had h = tt
-within_more n m e Shape.variable_had h = tt
-within_more n m e Shape.call_had h = tt
-within_more n m e Shape.size_wanted h = tt
-within_more n m e Shape.size_had h = tt
-within_more n m e Shape.item_had h = tt
-within_more n m e Shape.length_wanted h = tt
-within_more n m e Shape.length_had h = tt
+within_more n m e s h = tt
 
 next_name_within : (n : ℕ) (s : Shape) (b : Bool) → Within n s → WithinIf n (next_name s b)
 next_name_within n (Shape.wanted g brackets level) b h = (h.0, h.1)
-next_name_within n (Shape.had last g brackets) b h = tt
-next_name_within n (Shape.name_wanted use_of) b h = tt
-next_name_within n (Shape.name_had use_of) b h = tt
-next_name_within n Shape.target_had b h = tt
-next_name_within n Shape.variable_had b h = tt
-next_name_within n Shape.call_had b h = tt
-next_name_within n Shape.size_wanted b h = tt
-next_name_within n Shape.size_had b h = tt
-next_name_within n Shape.item_had b h = tt
-next_name_within n Shape.length_wanted b h = tt
-next_name_within n Shape.length_had b h = tt
+next_name_within n s b h = tt
 
 next_constant_within : (n : ℕ) (s : Shape) → Within n s → WithinIf n (next_constant s)
 next_constant_within n (Shape.wanted g brackets level) h = (tt, h.1)
-next_constant_within n (Shape.had last g brackets) h = tt
-next_constant_within n (Shape.name_wanted use_of) h = tt
-next_constant_within n (Shape.name_had use_of) h = tt
-next_constant_within n Shape.target_had h = tt
-next_constant_within n Shape.variable_had h = tt
-next_constant_within n Shape.call_had h = tt
-next_constant_within n Shape.size_wanted h = tt
-next_constant_within n Shape.size_had h = tt
-next_constant_within n Shape.item_had h = tt
-next_constant_within n Shape.length_wanted h = tt
-next_constant_within n Shape.length_had h = tt
+next_constant_within n s h = tt
 
 if_within : (n : ℕ) (b : Bool) (s : Shape) → Within n s → WithinIf n (cond b (Some s) None)
 if_within n true s h = h
@@ -72,17 +44,9 @@ if_within n false s h = tt
 
 next_number_within : (n : ℕ) (s : Shape) (k : ℕ) → Within n s → WithinIf n (next_number s k)
 next_number_within n (Shape.wanted g brackets level) k h = (tt, h.1)
-next_number_within n (Shape.had last g brackets) k h = tt
-next_number_within n (Shape.name_wanted use_of) k h = tt
-next_number_within n (Shape.name_had use_of) k h = tt
-next_number_within n Shape.target_had k h = tt
-next_number_within n Shape.variable_had k h = tt
-next_number_within n Shape.call_had k h = tt
 next_number_within n Shape.size_wanted k h = if_within n _ Shape.size_had tt
-next_number_within n Shape.size_had k h = tt
-next_number_within n Shape.item_had k h = tt
 next_number_within n Shape.length_wanted k h = if_within n _ Shape.length_had tt
-next_number_within n Shape.length_had k h = tt
+next_number_within n s k h = tt
 
 -- an open parenthesis is one level more
 bracketed_within : (n : ℕ) (b : Bool) (g : Ground) (brackets : List Bracket) (level : ℕ) → level ≤ n → NestingWithin n g brackets
@@ -102,23 +66,13 @@ next_open_name_within : (n : ℕ) (u : Use) → WithinIf (n + 1) (next_open_name
 next_open_name_within n Use.target = (omega arith, (omega arith, tt))
 next_open_name_within n Use.listed_variable = (omega arith, (omega arith, tt))
 next_open_name_within n Use.callee = (omega arith, (omega arith, tt))
-next_open_name_within n Use.item = tt
-next_open_name_within n Use.listed_name = tt
-next_open_name_within n Use.single = tt
+next_open_name_within n u = tt
 
 next_open_within : (n : ℕ) (s : Shape) → Within n s → WithinIf (n + 1) (next_open s)
 next_open_within n (Shape.wanted g brackets level) h = bracketed_within n false g brackets level h.0 h.1
 next_open_within n (Shape.had last g brackets) h = next_open_behind_within n last g brackets h.0 h.1
-next_open_within n (Shape.name_wanted use_of) h = tt
 next_open_within n (Shape.name_had use_of) h = next_open_name_within n use_of
-next_open_within n Shape.target_had h = tt
-next_open_within n Shape.variable_had h = tt
-next_open_within n Shape.call_had h = tt
-next_open_within n Shape.size_wanted h = tt
-next_open_within n Shape.size_had h = tt
-next_open_within n Shape.item_had h = tt
-next_open_within n Shape.length_wanted h = tt
-next_open_within n Shape.length_had h = tt
+next_open_within n s h = tt
 
 next_close_in_within : (n : ℕ) (g : Ground) (brackets : List Bracket) → NestingWithin n g brackets → WithinIf n (next_close_in g brackets)
 next_close_in_within n Ground.whole [] h = tt
@@ -129,18 +83,8 @@ next_close_in_within n Ground.call_list [] h = tt
 next_close_in_within n g (b ∷ brackets) h = (tt, (h.0, h.1.1))
 
 next_close_within : (n : ℕ) (s : Shape) → Within n s → WithinIf n (next_close s)
-next_close_within n (Shape.wanted g brackets level) h = tt
 next_close_within n (Shape.had last g brackets) h = next_close_in_within n g brackets h.1
-next_close_within n (Shape.name_wanted use_of) h = tt
-next_close_within n (Shape.name_had use_of) h = tt
-next_close_within n Shape.target_had h = tt
-next_close_within n Shape.variable_had h = tt
-next_close_within n Shape.call_had h = tt
-next_close_within n Shape.size_wanted h = tt
-next_close_within n Shape.size_had h = tt
-next_close_within n Shape.item_had h = tt
-next_close_within n Shape.length_wanted h = tt
-next_close_within n Shape.length_had h = tt
+next_close_within n s h = tt
 
 next_comma_in_within : (n : ℕ) (g : Ground) (brackets : List Bracket) → NestingWithin n g brackets → WithinIf n (next_comma_in g brackets)
 next_comma_in_within n Ground.whole [] h = tt
@@ -152,25 +96,12 @@ next_comma_in_within n g (b ∷ brackets) h = if_within n b.takes_commas (Shape.
 
 next_comma_name_within : (n : ℕ) (u : Use) → WithinIf n (next_comma_name u)
 next_comma_name_within n Use.target = tt
-next_comma_name_within n Use.listed_variable = tt
-next_comma_name_within n Use.callee = tt
-next_comma_name_within n Use.item = tt
-next_comma_name_within n Use.listed_name = tt
-next_comma_name_within n Use.single = tt
+next_comma_name_within n u = tt
 
 next_comma_within : (n : ℕ) (s : Shape) → Within n s → WithinIf n (next_comma s)
-next_comma_within n (Shape.wanted g brackets level) h = tt
 next_comma_within n (Shape.had last g brackets) h = next_comma_in_within n g brackets h.1
-next_comma_within n (Shape.name_wanted use_of) h = tt
 next_comma_within n (Shape.name_had use_of) h = next_comma_name_within n use_of
-next_comma_within n Shape.target_had h = tt
-next_comma_within n Shape.variable_had h = tt
-next_comma_within n Shape.call_had h = tt
-next_comma_within n Shape.size_wanted h = tt
-next_comma_within n Shape.size_had h = tt
-next_comma_within n Shape.item_had h = tt
-next_comma_within n Shape.length_wanted h = tt
-next_comma_within n Shape.length_had h = tt
+next_comma_within n s h = tt
 
 inside_within : (n : ℕ) (g : Ground) (brackets : List Bracket) → NestingWithin n g brackets → inside g brackets ≤ n
 inside_within n g [] h = h.0
@@ -178,25 +109,13 @@ inside_within n g (b ∷ brackets) h = h.1.0
 
 next_equal_name_within : (n : ℕ) (u : Use) → WithinIf n (next_equal_name u)
 next_equal_name_within n Use.target = (zero-le, (zero-le, tt))
-next_equal_name_within n Use.listed_variable = tt
-next_equal_name_within n Use.callee = tt
-next_equal_name_within n Use.item = tt
-next_equal_name_within n Use.listed_name = tt
-next_equal_name_within n Use.single = tt
+next_equal_name_within n u = tt
 
 next_equal_within : (n : ℕ) (s : Shape) → Within n s → WithinIf n (next_equal s)
-next_equal_within n (Shape.wanted g brackets level) h = tt
 next_equal_within n (Shape.had last g brackets) h = (inside_within n g brackets h.1, h.1)
-next_equal_within n (Shape.name_wanted use_of) h = tt
 next_equal_within n (Shape.name_had use_of) h = next_equal_name_within n use_of
 next_equal_within n Shape.target_had h = (zero-le, (zero-le, tt))
-next_equal_within n Shape.variable_had h = tt
-next_equal_within n Shape.call_had h = tt
-next_equal_within n Shape.size_wanted h = tt
-next_equal_within n Shape.size_had h = tt
-next_equal_within n Shape.item_had h = tt
-next_equal_within n Shape.length_wanted h = tt
-next_equal_within n Shape.length_had h = tt
+next_equal_within n s h = tt
 
 next_prefix_within : (n : ℕ) (g : Ground) (brackets : List Bracket) (level : ℕ) (op : Option PrefixOp) → level ≤ n → NestingWithin n g brackets
     → WithinIf (n + 1) (next_prefix g brackets level op)
@@ -217,35 +136,14 @@ next_operator_within : (n : ℕ) (s : Shape) (sign : Sign) → Within n s → Wi
 next_operator_within n (Shape.wanted g brackets level) sign h = next_prefix_within n g brackets level (prefix_of sign) h.0 h.1
 next_operator_within n (Shape.had last g brackets) sign h =
     if_more n (next_infix g brackets (infix_of sign)) (next_infix_within n g brackets (infix_of sign) h.1)
-next_operator_within n (Shape.name_wanted use_of) sign h = tt
-next_operator_within n (Shape.name_had use_of) sign h = tt
-next_operator_within n Shape.target_had sign h = tt
-next_operator_within n Shape.variable_had sign h = tt
-next_operator_within n Shape.call_had sign h = tt
-next_operator_within n Shape.size_wanted sign h = tt
-next_operator_within n Shape.size_had sign h = tt
-next_operator_within n Shape.item_had sign h = tt
-next_operator_within n Shape.length_wanted sign h = tt
-next_operator_within n Shape.length_had sign h = tt
+next_operator_within n s sign h = tt
 
 next_sign_within : (n : ℕ) (s : Shape) (sign : Sign) → Within n s → WithinIf (n + 1) (next_sign s sign)
 next_sign_within n s Sign.OpenParenthesis h = next_open_within n s h
 next_sign_within n s Sign.CloseParenthesis h = if_more n (next_close s) (next_close_within n s h)
 next_sign_within n s Sign.Comma h = if_more n (next_comma s) (next_comma_within n s h)
 next_sign_within n s Sign.Equal h = if_more n (next_equal s) (next_equal_within n s h)
-next_sign_within n s Sign.Plus h = next_operator_within n s Sign.Plus h
-next_sign_within n s Sign.Minus h = next_operator_within n s Sign.Minus h
-next_sign_within n s Sign.Times h = next_operator_within n s Sign.Times h
-next_sign_within n s Sign.Divide h = next_operator_within n s Sign.Divide h
-next_sign_within n s Sign.Join h = next_operator_within n s Sign.Join h
-next_sign_within n s Sign.NotEqual h = next_operator_within n s Sign.NotEqual h
-next_sign_within n s Sign.Less h = next_operator_within n s Sign.Less h
-next_sign_within n s Sign.LessEqual h = next_operator_within n s Sign.LessEqual h
-next_sign_within n s Sign.Greater h = next_operator_within n s Sign.Greater h
-next_sign_within n s Sign.GreaterEqual h = next_operator_within n s Sign.GreaterEqual h
-next_sign_within n s Sign.Ampersand h = next_operator_within n s Sign.Ampersand h
-next_sign_within n s Sign.Bar h = next_operator_within n s Sign.Bar h
-next_sign_within n s Sign.Caret h = next_operator_within n s Sign.Caret h
+next_sign_within n s sign h = next_operator_within n s sign h
 
 -- one more token opens one level more at most
 pub next_within : (n : ℕ) (s : Shape) (k : Kind) → Within n s → WithinIf (n + 1) (next s k)

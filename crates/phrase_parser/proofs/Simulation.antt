@@ -6,7 +6,6 @@ use Rattle.plcs_grammar.specs.declared.operator.InfixOp.{InfixOp}
 use Rattle.plcs_grammar.specs.declared.operator.InfixOp.TheVariants as between
 use Rattle.plcs_grammar.specs.declared.builtin.Builtin.{Builtin}
 use Rattle.plcs_grammar.specs.declared.sign.Sign.{Sign}
-use Rattle.plcs_grammar.specs.declared.sign.Sign.TheVariants as Sign
 use Rattle.plcs_grammar.specs.Token.{Token}
 use Rattle.plcs_grammar.specs.Reading.{Tree, Reference}
 use Rattle.plcs_grammar.specs.Builtin.{is_builtin_name, builtin_of}
@@ -18,8 +17,8 @@ use Rattle.phrase_parser.specs.Recognizer
 use Rattle.phrase_parser.specs.Recognizer.{greatest_kept, kind_of, Ground, ground_level, Bracket, Last, Use, Shape, inside, next, may_end, may_end_in, next_close_in, next_comma_in}
 use Rattle.phrase_parser.proofs.KeptNumbers.{kept_from, kept_to}
 use Rattle.phrase_parser.proofs.BuiltinNames.{builtin_missing, builtin_known}
-use Rattle.phrase_parser.proofs.Arrival.{above_none, below_tightest}
-use Rattle.phrase_parser.proofs.Consumed.{hole, SoundStack, Sound}
+use Rattle.phrase_parser.proofs.TreesRead.{above_none, below_tightest}
+use Rattle.phrase_parser.proofs.ConsumedTokens.{hole, SoundStack, Sound}
 use Rattle.phrase_parser.proofs.Soundness.{Joins, reduced_joins}
 
 -- where an expression stands that stands in no other

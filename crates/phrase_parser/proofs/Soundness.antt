@@ -8,7 +8,6 @@ use Rattle.plcs_grammar.specs.declared.builtin.Builtin.{Builtin}
 use Rattle.plcs_grammar.specs.declared.category.Category.{Category}
 use Rattle.plcs_grammar.specs.declared.category.Category.TheVariants.{Assignment, Condition, Expression, ExpressionList, VariableList, Variable, CallRef, DeclaredList, ProcedureName, NameList, Length, CommentText}
 use Rattle.plcs_grammar.specs.declared.sign.Sign.{Sign}
-use Rattle.plcs_grammar.specs.declared.sign.Sign.TheVariants as Sign
 use Rattle.plcs_grammar.specs.Sign.{prefix_sign, infix_sign}
 use Rattle.plcs_grammar.specs.Token.{Token}
 use Rattle.plcs_grammar.specs.Reading.{Tree, Trees, Reference, Reading, category_of}
@@ -16,12 +15,12 @@ use Rattle.plcs_grammar.specs.Builtin.{builtin_name, builtin_of}
 use Rattle.plcs_grammar.specs.Level.{priority, in_parentheses}
 use Rattle.phrase_parser.specs.Machine
 use Rattle.phrase_parser.specs.Machine.{Base, Stack, Role, State, Operand, tree_push, reduced, joined, step, run, start, ended, ended_at, ended_base, ended_by_role, prefix_of, infix_of}
-use Rattle.phrase_parser.proofs.Spelling.{spell, spell_reference, spell_all, Fits, FitsReference, FitsAll}
-use Rattle.phrase_parser.proofs.Phrases.{spell_name, spell_item, spell_phrase, FitsPhrase, FitsItem, AnyName}
+use Rattle.phrase_parser.proofs.TreeSpelling.{spell, spell_reference, spell_all, Fits, FitsReference, FitsAll}
+use Rattle.phrase_parser.proofs.PhraseSpelling.{spell_name, spell_item, spell_phrase, FitsPhrase, FitsItem, AnyName}
 use Rattle.phrase_parser.proofs.BuiltinNames.{builtin_found, builtin_missing}
 use Rattle.phrase_parser.proofs.Completeness.{run_none}
-use Rattle.phrase_parser.proofs.Arrival.{above_none}
-use Rattle.phrase_parser.proofs.Consumed.{spell_before, all_push, before_push, call_push, behind_fits, all_fit, call_fits, spell_each, listed_last, each_last, listed_comma, each_fits, listed_fits, listed_each, flat_stack, flat, hole, SoundStack, SoundRole, Sound, stack_category, state_category}
+use Rattle.phrase_parser.proofs.TreesRead.{above_none}
+use Rattle.phrase_parser.proofs.ConsumedTokens.{spell_before, all_push, before_push, call_push, behind_fits, all_fit, call_fits, spell_each, listed_last, each_last, listed_comma, each_fits, listed_fits, listed_each, flat_stack, flat, hole, SoundStack, SoundRole, Sound, stack_category, state_category}
 
 abbrev pub comma : Token
 comma = Token.sign Sign.Comma

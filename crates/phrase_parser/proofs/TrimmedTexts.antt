@@ -8,10 +8,10 @@ use Rattle.plcs_base.specs.Byte.{is_printable}
 use Rattle.plcs_grammar.specs.Token.{begins_with}
 use Rattle.plcs_grammar.specs.Cuts.{is_blank, blanks, unblanked}
 use Rattle.plcs_grammar.specs.Comment.{trimmed, IsCommentText}
-use Rattle.phrase_parser.proofs.Runs.{run_none, run_ends}
+use Rattle.phrase_parser.proofs.ByteRuns.{run_none, run_ends}
 
 -- the text without the blanks at its front begins with its trimmed text
-trimmed_first : (x : List ℕ) → (behind : List ℕ) × (unblanked x ≡ trimmed x ++ behind)
+pub trimmed_first : (x : List ℕ) → (behind : List ℕ) × (unblanked x ≡ trimmed x ++ behind)
 trimmed_first x =
     let turned = reverse (unblanked x) in (
       reverse (take (blanks turned) turned),

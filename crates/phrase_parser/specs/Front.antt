@@ -6,42 +6,45 @@ use Rattle.plcs_base.specs.Name.{is_name}
 use Rattle.plcs_grammar.specs.Token.{begins_with, is_quote, numeral_value}
 use Rattle.plcs_grammar.specs.Cuts.{is_blank}
 use Rattle.plcs_grammar.specs.declared.sign.Sign.{Sign}
-use Rattle.plcs_grammar.specs.declared.sign.Sign.TheVariants as Sign
 use Rattle.phrase_parser.specs.declared.byte_class.ByteClass.{ByteClass}
 use Rattle.phrase_parser.specs.declared.byte_class.ByteClass.TheVariants as class
 use Rattle.phrase_parser.specs.declared.front.Front.{Front}
 use Rattle.phrase_parser.specs.declared.token.Placed.{Placed}
-use Rattle.plcs_grammar.specs.declared.sign.Sign.{Sign}
-use Rattle.plcs_grammar.specs.declared.sign.Sign.TheVariants as Sign
 use Rattle.phrase_parser.specs.declared.token.TokenKind.TheVariants as kind
 
+-- whether the byte is of the class
 abbrev pub is_in : ByteClass → ℕ → Bool
 is_in class.Blank = is_blank
 is_in class.Digit = is_digit
 is_in class.NameByte = is_name_byte
 
+-- whether no letter, digit or `_` follows
 abbrev pub ends_word : List ℕ → Bool
 ends_word behind = not (begins_with is_name_byte behind)
 
--- a name or a keyword, where the first byte is a letter
+-- a name or a keyword of so many bytes
 abbrev pub word_of : ℕ → List ℕ → Option Front
 word_of length x =
     if nat_le length 31 then Some (record { kind = if is_name (take length x) then kind.Name else kind.Keyword; length = length })
     else None
 
+-- a name or a keyword: the letters, digits and `_` that the text begins with
 abbrev pub word_front : List ℕ → Option Front
 word_front x = word_of (prefix_len is_name_byte x) x
 
--- a number, where the first byte is a digit
+-- a number of so many digits, kept up to 4294967295
 abbrev pub number_of : ℕ → List ℕ → Front
 number_of length x = record { kind = kind.Number (min (numeral_value (take length x)) 4294967295); length = length }
 
+-- a number: the digits that the text begins with
 abbrev pub number_front : List ℕ → Front
 number_front x = number_of (prefix_len is_digit x) x
 
+-- the bit that the digit stands for
 abbrev pub bit_value : ℕ → Option Bool
 bit_value digit = if digit == 48 then Some false else if digit == 49 then Some true else None
 
+-- the bit constant that the text begins with
 abbrev pub bit_constant : List ℕ → Option Bool
 bit_constant (a ∷ digit ∷ c ∷ d ∷ behind) =
     if (a == 39) && ((c == 39) && ((d == 66) && ends_word behind)) then bit_value digit else None
@@ -50,11 +53,12 @@ bit_constant (a ∷ digit ∷ []) = None
 bit_constant (a ∷ []) = None
 bit_constant [] = None
 
+-- where the constant ends, if its value has so few bytes
 abbrev pub end_if_short : ℕ → ℕ → Option ℕ
 end_if_short end content = if nat_le content 256 then Some end else None
 
--- how many bytes a constant has, where so many are read, with so many of its value, and x is left
 abbrev mutual
+  -- how many bytes a constant has, where so many are read, with so many of its value, and x is left
   pub closing : ℕ → ℕ → List ℕ → Option ℕ
   closing read content [] = None
   closing read content (byte ∷ rest) =
@@ -68,6 +72,7 @@ abbrev mutual
   closing_at_quote read content (byte ∷ rest) =
       if is_quote byte then closing (read + 2) (content + 1) rest else end_if_short (read + 1) content
 
+-- a bit constant, or else a character constant of so many bytes
 abbrev pub constant_of : Option Bool → Option ℕ → Option Front
 constant_of (Some bit) length = Some (record { kind = kind.Bit bit; length = 4 })
 constant_of None (Some length) = Some (record { kind = kind.Text; length = length })
@@ -77,6 +82,7 @@ constant_of None None = None
 abbrev pub constant_front : List ℕ → Option Front
 constant_front x = constant_of (bit_constant x) (closing 1 0 (drop 1 x))
 
+-- the sign of one byte
 abbrev pub single_sign : ℕ → Option Sign
 single_sign byte =
     if byte == 43 then Some Sign.Plus
@@ -94,6 +100,7 @@ single_sign byte =
     else if byte == 44 then Some Sign.Comma
     else None
 
+-- the sign of two bytes
 abbrev pub double_sign : ℕ → ℕ → Option Sign
 double_sign first second =
     if (first == 124) && (second == 124) then Some Sign.Join
@@ -102,13 +109,16 @@ double_sign first second =
     else if (first == 62) && (second == 61) then Some Sign.GreaterEqual
     else None
 
+-- the sign of two bytes, if there is a second
 abbrev pub double_at : ℕ → List ℕ → Option Sign
 double_at first [] = None
 double_at first (second ∷ rest) = double_sign first second
 
+-- a sign of so many bytes
 abbrev pub sign_kept : Sign → ℕ → Front
 sign_kept s length = record { kind = kind.Sign s; length = length }
 
+-- the sign of two bytes, or else the one of one byte
 abbrev pub sign_of : Option Sign → Option Sign → Option Front
 sign_of (Some double) single = Some (sign_kept double 2)
 sign_of None (Some single) = Some (sign_kept single 1)

@@ -10,7 +10,6 @@ use Rattle.plcs_grammar.specs.declared.item.Item.{Item}
 use Rattle.plcs_grammar.specs.declared.category.Category.{Category}
 use Rattle.plcs_grammar.specs.declared.category.Category.TheVariants.{Assignment, Condition, Expression, ExpressionList, VariableList, Variable, CallRef, DeclaredList, ProcedureName, NameList, Length, CommentText}
 use Rattle.plcs_grammar.specs.declared.sign.Sign.{Sign}
-use Rattle.plcs_grammar.specs.declared.sign.Sign.TheVariants as Sign
 use Rattle.plcs_grammar.specs.Token.{Token}
 use Rattle.plcs_grammar.specs.Reading.{Tree, Trees, Reference, Reading}
 use Rattle.plcs_grammar.specs.Builtin.{builtin_of}

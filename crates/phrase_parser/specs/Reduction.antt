@@ -6,6 +6,7 @@ use Rattle.phrase_parser.specs.declared.builder.operators.Joined.{Joined}
 use Rattle.phrase_parser.specs.declared.builder.operators.Joined.TheVariants as joined
 use Rattle.phrase_parser.specs.Views.{pushed}
 
+-- an operand is joined further, and a frame that stays open ends it
 abbrev pub rest_of : Joined → Stack → ℕ → Operand
 rest_of (joined.Operand t) s level = reduced s level (tree_of t)
 rest_of (joined.Open f t) s level = (pushed f s, tree_of t)

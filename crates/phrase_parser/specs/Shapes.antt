@@ -27,6 +27,7 @@ use Rattle.phrase_parser.specs.declared.check.finding.Finding.TheVariants as fou
 use Rattle.phrase_parser.specs.Findings as findings
 use Rattle.phrase_parser.specs.Findings.{Seen}
 
+-- where an expression stands that stands in no other
 abbrev pub ground_of : Ground → model.Ground
 ground_of Whole = model.Ground.whole
 ground_of Listed = model.Ground.listed
@@ -34,6 +35,7 @@ ground_of TargetIndex = model.Ground.target_index
 ground_of VariableIndex = model.Ground.variable_index
 ground_of CallList = model.Ground.call_list
 
+-- an open parenthesis
 abbrev pub bracket_of : Bracket → model.Bracket
 bracket_of bracket = record { takes_commas = bracket.takes_commas; level = bracket.level }
 
@@ -41,10 +43,12 @@ bracket_of bracket = record { takes_commas = bracket.takes_commas; level = brack
 abbrev pub brackets_of : List Bracket → List model.Bracket
 brackets_of brackets = reverse (map bracket_of brackets)
 
+-- what the last token of an expression was
 abbrev pub last_of : Last → model.Last
 last_of Operand = model.Last.operand
 last_of (Named is_builtin level) = model.Last.named is_builtin level
 
+-- what a name that stands in no expression is for
 abbrev pub use_of : Role → model.Use
 use_of Target = model.Use.target
 use_of ListedVariable = model.Use.listed_variable
@@ -53,6 +57,7 @@ use_of Item = model.Use.item
 use_of ListedName = model.Use.listed_name
 use_of Single = model.Use.single
 
+-- what was read last, and what is wanted
 abbrev pub shape_of : Shape → model.Shape
 shape_of (Wanted nesting level) = model.Shape.wanted (ground_of nesting.place) (brackets_of nesting.brackets.items) level
 shape_of (Had last nesting) = model.Shape.had (last_of last) (ground_of nesting.place) (brackets_of nesting.brackets.items)
@@ -67,10 +72,12 @@ shape_of ItemHad = model.Shape.item_had
 shape_of LengthWanted = model.Shape.length_wanted
 shape_of LengthHad = model.Shape.length_had
 
+-- the same, if there is one
 abbrev pub shape_if : Option Shape → Option model.Shape
 shape_if None = None
 shape_if (Some shape) = Some (shape_of shape)
 
+-- what is looked at of a token
 abbrev pub kind_of : Kind → model.Kind
 kind_of (kept.Name is_builtin) = model.Kind.name is_builtin
 kind_of kept.Keyword = model.Kind.keyword
@@ -87,6 +94,7 @@ kind_from token.Text bytes = model.Kind.constant
 kind_from (token.Bit value) bytes = model.Kind.constant
 kind_from (token.Sign sign) bytes = model.Kind.sign sign
 
+-- what is looked at of a token that stands in the text
 abbrev pub seen_in : List ℕ → Placed → Seen
 seen_in text placed = record { kind = kind_from placed.kind (bytes_in text placed); start = placed.start }
 
@@ -95,9 +103,11 @@ abbrev pub LastWithin : ℕ → model.Last → Type 0
 LastWithin limit model.Last.operand = Unit {0}
 LastWithin limit (model.Last.named is_builtin level) = level ≤ limit
 
+-- the same for the open parentheses of an expression
 abbrev pub NestingWithin : ℕ → model.Ground → List model.Bracket → Type 0
 NestingWithin limit at brackets = (model.ground_level at ≤ limit) × AllByRecursion (λ bracket. bracket.level ≤ limit) brackets
 
+-- the same for all that is open in a shape
 abbrev pub Within : ℕ → model.Shape → Type 0
 Within limit (model.Shape.wanted at brackets level) = (level ≤ limit) × NestingWithin limit at brackets
 Within limit (model.Shape.had last at brackets) = LastWithin limit last × NestingWithin limit at brackets
@@ -112,18 +122,22 @@ Within limit model.Shape.item_had = Unit {0}
 Within limit model.Shape.length_wanted = Unit {0}
 Within limit model.Shape.length_had = Unit {0}
 
+-- what goes past a limit
 abbrev pub over_of : Over → OverLimit
 over_of (NumberTooLarge place) = OverLimit.number_too_large place
 over_of (TooDeep place) = OverLimit.too_deep place
 
+-- the place of what goes past a limit
 abbrev pub over_place : OverLimit → ℕ
 over_place (OverLimit.number_too_large place) = place
 over_place (OverLimit.too_deep place) = place
 
+-- what goes past a limit, if something does
 abbrev pub over_if : Option Over → Option OverLimit
 over_if None = None
 over_if (Some over) = Some (over_of over)
 
+-- what is found in the tokens of a text
 abbrev pub as_found : Finding → findings.Finding
 as_found Fine = findings.Finding.fine
 as_found (SyntaxAt place) = findings.Finding.syntax_at place

@@ -1,6 +1,6 @@
 -- The levels that the tokens of a phrase open, as the machine counts them.
 use Rattle.std.specs.Prelude.{ℕ, ◌+◌, List, [], ◌∷◌, Option, Some, None}
-use Rattle.plcs_grammar.specs.declared.sign.Sign.TheVariants as Sign
+use Rattle.plcs_grammar.specs.declared.sign.Sign.{Sign}
 use Rattle.plcs_grammar.specs.Token.{Token}
 use Rattle.phrase_parser.specs.Machine.{Base, Stack, Role, State, step_if}
 

@@ -2,8 +2,8 @@
 use Rattle.std.specs.Prelude.{ℕ, if◌then◌else◌, List, [], ◌∷◌}
 use Rattle.plcs_grammar.specs.Token.{is_quote}
 
--- the bytes with one quote for each two
 abbrev mutual
+  -- the bytes with one quote for each two
   pub undoubled : List ℕ → List ℕ
   undoubled [] = []
   undoubled (byte ∷ rest) = byte ∷ (if is_quote byte then undoubled_behind rest else undoubled rest)

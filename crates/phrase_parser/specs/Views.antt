@@ -16,6 +16,7 @@ use Rattle.phrase_parser.specs.declared.builder.state.Role.TheVariants as role
 use Rattle.phrase_parser.specs.declared.builder.state.State.{State}
 use Rattle.phrase_parser.specs.declared.builder.state.State.TheVariants as state
 
+-- what an expression that stands in no other is for
 abbrev pub base_of : Base → machine.Base
 base_of base.Condition = machine.Base.condition
 base_of base.Expression = machine.Base.expression
@@ -38,9 +39,11 @@ abbrev pub stack_on : machine.Stack → List Frame → machine.Stack
 stack_on s [] = s
 stack_on s (f ∷ fs) = stack_on (pushed f s) fs
 
+-- all that stands open around an operand
 abbrev pub stack_of : Stack → machine.Stack
 stack_of s = stack_on (machine.Stack.base (base_of s.base)) s.frames.items
 
+-- an operand that is no operator with operands of its own
 abbrev pub primary_of : Primary → Tree
 primary_of (primary.Number z) = Tree.number z
 primary_of (primary.Text value) = Tree.text value.value
@@ -50,6 +53,7 @@ primary_of (primary.Subscripted name index) = Tree.variable (Reference.subscript
 primary_of (primary.Call function passed) = Tree.builtin function (trees_of passed.items)
 primary_of (primary.Parenthesized t) = Tree.parenthesized (tree_of t.value)
 
+-- what a name that stands in no expression is for
 abbrev pub role_of : Role → machine.Role
 role_of role.Target = machine.Role.target
 role_of (role.Variables done) = machine.Role.variables (map reference_of done.items)
@@ -59,6 +63,7 @@ role_of (role.Names done) = machine.Role.names done.items
 role_of role.Variable = machine.Role.variable
 role_of role.Procedure = machine.Role.procedure
 
+-- what was read last, and what is wanted
 abbrev pub state_of : State → machine.State
 state_of (state.Wanted s) = machine.State.wanted (stack_of s)
 state_of (state.Had s t) = machine.State.had (stack_of s) (primary_of t)

@@ -1,5 +1,7 @@
-ghost use Rattle.std.specs.Prelude.{◌≡◌, ◌<◌, ◌^◌, ℕ, length, map, All, Some, IsTrue, is_some};
+ghost use Rattle.std.specs.Prelude.{◌≡◌, ◌<◌, ◌^◌, ℕ, length, map, All, Some, IfOk, IsTrue, is_some};
+ghost use Rattle.plcs_grammar.specs.Canon.{IsWellFormed};
 ghost use Rattle.plcs_grammar.specs.Over.{OverLimit};
+ghost use Rattle.plcs_grammar.specs.PlainForm.{reading_of};
 ghost use Rattle.plcs_grammar.specs.Reading.{Reading};
 ghost use Rattle.plcs_grammar.specs.Reads.{Outline, Reads, IsOver};
 ghost use Rattle.plcs_grammar.specs.Syntax.{SyntaxAt};
@@ -26,6 +28,8 @@ pub fn parse(alloc: Global, category: Category, text: &[u8]) -> Result<Phrase, P
     requires { length text.now < 2 ^ 32 }
     // What each answer says of the text.
     ensures says { Answers category text.now result }
+    // The phrase is well formed: its canonical text reads as it.
+    ensures well_formed { IfOk result (λ phrase. IsWellFormed category (reading_of phrase)) }
     // What the text reads as is answered, unless memory runs out.
     ensures only { (phrase : Reading) → Reads category text.now phrase → Only result phrase }
     // So is what goes past a limit first.

@@ -6,7 +6,6 @@ use Rattle.plcs_base.specs.Name.{IsName, is_keyword}
 use Rattle.plcs_grammar.specs.declared.operator.InfixOp.TheVariants.{Equal, Plus, Times}
 use Rattle.plcs_grammar.specs.Reading.{Tree, Trees, Reference, Reading}
 use Rattle.plcs_grammar.specs.declared.sign.Sign.{Sign}
-use Rattle.plcs_grammar.specs.declared.sign.Sign.TheVariants as Sign
 use Rattle.plcs_grammar.specs.Sign.{sign_bytes, infix_sign}
 use Rattle.plcs_grammar.specs.Token.{Token, IsToken, IsNumeral, First, quoted, bit_bytes, numeral_value}
 use Rattle.plcs_grammar.specs.Cuts.{Piece, Cuts}

@@ -1,10 +1,14 @@
+-- ---- the definitions at work
 mod Examples
-pub mod Putting
-pub mod Doubling
-pub mod Negative
-pub mod Joining
-pub mod Chaining
-pub mod Unfolded
-pub mod Shown
-pub mod Counting
-pub mod Linking
+-- ---- bytes that are put in turn
+mod Putting
+mod CountedBytes
+mod NegativeNumbers
+mod DoubledQuotes
+-- ---- canonical texts
+mod PlainFormCases
+mod EqualShown
+mod JoinedTexts
+mod ChainTexts
+-- ---- copies
+mod LinkedChains

@@ -19,11 +19,7 @@ pub puts_same : {Out : Type 0} {puts : Out → ℕ → Out → Type 0} {before a
     → bytes ≡ same → PutsAll puts before bytes after → PutsAll puts before same after
 puts_same {puts = puts} {before = before} {after = after} e done = subst (λ bytes. PutsAll puts before bytes after) e done
 
--- one byte before others, and one behind them
-pub puts_before : {Out : Type 0} {puts : Out → ℕ → Out → Type 0} {before between after : Out} {byte : ℕ} {bytes : List ℕ}
-    → puts before byte between → PutsAll puts between bytes after → PutsAll puts before (byte ∷ bytes) after
-puts_before one rest = puts_next one rest
-
+-- one byte behind others
 pub puts_behind : {Out : Type 0} {puts : Out → ℕ → Out → Type 0} {before between after : Out} {byte : ℕ} {bytes : List ℕ}
     → PutsAll puts before bytes between → puts between byte after → PutsAll puts before (bytes ++ (byte ∷ [])) after
 puts_behind done one = puts_append done (puts_one one)
@@ -37,4 +33,4 @@ puts_three one two three = puts_append one (puts_append two three)
 pub puts_parenthesized : {Out : Type 0} {puts : Out → ℕ → Out → Type 0} {a b c d e : Out} {name inner : List ℕ}
     → PutsAll puts a name b → puts b 40 c → PutsAll puts c inner d → puts d 41 e
     → PutsAll puts a (name ++ parenthesized_bytes inner) e
-puts_parenthesized before left inside right = puts_append before (puts_before left (puts_behind inside right))
+puts_parenthesized before left inside right = puts_append before (puts_next left (puts_behind inside right))

@@ -17,10 +17,11 @@ tokens_of pieces = map (λ piece. piece.token) pieces
 abbrev pub is_blank : ℕ → Bool
 is_blank byte = byte == 32
 
--- how many blanks the text begins with, and the text behind them
+-- how many blanks the text begins with
 abbrev pub blanks : List ℕ → ℕ
 blanks x = prefix_len is_blank x
 
+-- the text behind them
 abbrev pub unblanked : List ℕ → List ℕ
 unblanked x = drop (blanks x) x
 

@@ -3,7 +3,7 @@ use Rattle.std.specs.Prelude.{◌≡◌, ℕ, ◌+◌, ◌≤◌, pos, negsuc, n
 use Rattle.plcs_grammar.specs.declared.operator.InfixOp.{InfixOp}
 use Rattle.plcs_grammar.specs.declared.operator.InfixOp.TheVariants.{Or, And, Equal, NotEqual, Less, LessEqual, Greater, GreaterEqual, Join, Plus, Minus, Times, Divide}
 use Rattle.plcs_grammar.specs.Builtin.{builtin_name, is_builtin_name}
-use Rattle.plcs_grammar.specs.declared.sign.Sign.TheVariants as Sign
+use Rattle.plcs_grammar.specs.declared.sign.Sign.{Sign}
 use Rattle.plcs_grammar.specs.Sign.{prefix_sign, infix_sign}
 use Rattle.plcs_grammar.specs.Token.{Token}
 use Rattle.plcs_grammar.specs.Reading.{Tree, Trees, Reference}

@@ -22,6 +22,7 @@ abbrev mutual
   nesting (Tree.builtin function arguments) = deepest arguments + 1
   nesting (Tree.parenthesized a) = nesting a + 1
 
+  -- the same for a variable
   pub reference_nesting : Reference → ℕ
   reference_nesting (Reference.simple name) = 0
   reference_nesting (Reference.subscripted name index) = nesting index + 1

@@ -16,6 +16,7 @@ abbrev mutual
       0 ∷ (outside + 1) ∷ (opened_by_all arguments (outside + 1) ++ (0 ∷ []))
   opened (Tree.parenthesized a) outside = (outside + 1) ∷ (opened a (outside + 1) ++ (0 ∷ []))
 
+  -- the same for a variable
   pub reference_opened : Reference → ℕ → List ℕ
   reference_opened (Reference.simple name) outside = 0 ∷ []
   reference_opened (Reference.subscripted name index) outside =
@@ -26,6 +27,7 @@ abbrev mutual
   opened_by_all Trees.nil outside = []
   opened_by_all (Trees.cons a rest) outside = opened a outside ++ opened_behind rest outside
 
+  -- the same for expressions, each behind a comma
   pub opened_behind : Trees → ℕ → List ℕ
   opened_behind Trees.nil outside = []
   opened_behind (Trees.cons a rest) outside = 0 ∷ (opened a outside ++ opened_behind rest outside)

@@ -5,7 +5,6 @@ use Rattle.plcs_grammar.specs.declared.operator.PrefixOp.TheVariants as before
 use Rattle.plcs_grammar.specs.declared.operator.InfixOp.{InfixOp}
 use Rattle.plcs_grammar.specs.declared.operator.InfixOp.TheVariants as between
 use Rattle.plcs_grammar.specs.declared.sign.Sign.{Sign}
-use Rattle.plcs_grammar.specs.declared.sign.Sign.TheVariants as Sign
 
 -- how a sign is written
 abbrev pub sign_bytes : Sign → List ℕ

@@ -78,6 +78,20 @@ fn chain(alloc: Global, operators: u32) -> Result<Expr, AllocError> {
 }
 
 #[test]
+fn names_are_read_as_builtin_functions(rt: HostRuntime) {
+    let names: [&[u8]; 7] = [
+        b"ABS", b"MOD", b"MIN", b"MAX", b"LENGTH", b"SUBSTR", b"INDEX",
+    ];
+    for name in names {
+        assert!(rt; matches!(Builtin::read(name), Some(function) if function.name() == name));
+    }
+    let others: [&[u8]; 5] = [b"", b"abs", b"AB", b"ABSX", b"BIT"];
+    for name in others {
+        assert!(rt; Builtin::read(name).is_none());
+    }
+}
+
+#[test]
 fn constants_are_shown(rt: HostRuntime) -> Result<(), Fail> {
     let alloc = rt.alloc();
     assert!(rt; is_shown(alloc, Phrase::Expression(Expr::Number(7)), b"7")?);

@@ -1,6 +1,5 @@
 -- Blanks at the end of a row.
-use Rattle.std.proofs.Common.{◌≡◌, ℕ, false, List, [], ◌∷◌, ◌++◌, refl, ap, ◌∙◌, cond}
-use Rattle.std.proofs.Common.{eqb}
+use Rattle.std.proofs.Common.{◌≡◌, ℕ, false, List, [], ◌∷◌, ◌++◌, refl, ap, ◌∙◌, cond, eqb}
 use Rattle.synth_top.specs.Paint.{cut_before, trimmed}
 
 -- a cell stays before a list that isn't empty

@@ -30,7 +30,7 @@ fn closed_base(alloc: Global, base: Base, expr: Expr) -> Result<State, BuildErro
 }
 
 /// A parenthesis is closed behind an expression.
-#[tactic(auto, using(crate::proofs::Stacks::stack_on_push))]
+#[tactic(auto, using(crate::proofs::FrameStacks::stack_on_push))]
 fn closed_at(alloc: Global, stack: Stack, expr: Expr) -> Result<State, BuildError>
     ensures { Gives state_of result (closed_at (stack_of stack) (tree_of expr)) }
 {

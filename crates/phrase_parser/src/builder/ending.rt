@@ -29,7 +29,7 @@ fn ended_base(base: Base, expr: Expr) -> Result<Phrase, BuildError>
 }
 
 /// The phrase whose last part is the expression, unless something is still open around it.
-#[tactic(auto, using(crate::proofs::Stacks::stack_on_push, crate::proofs::Stacks::ended_at_open))]
+#[tactic(auto, using(crate::proofs::FrameStacks::stack_on_push, crate::proofs::FrameStacks::ended_at_open))]
 fn ended_at(stack: Stack, expr: Expr) -> Result<Phrase, BuildError>
     ensures { Gives reading_of result (ended_at (stack_of stack) (tree_of expr)) }
 {

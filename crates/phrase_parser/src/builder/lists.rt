@@ -7,7 +7,7 @@ use plcs_grammar::{Expr, Item, VarRef};
 use std::alloc::AllocError;
 
 /// The expressions with one more.
-#[tactic(auto, using(crate::proofs::Stacks::trees_of_push))]
+#[tactic(auto, using(crate::proofs::FrameStacks::trees_of_push))]
 pub fn with_expr(done: Vec<Expr>, expr: Expr) -> Result<Vec<Expr>, AllocError>
     ensures { IfOk result (λ all. trees_of all.items ≡ tree_push (trees_of done.items) (tree_of expr)) }
 {
@@ -17,7 +17,7 @@ pub fn with_expr(done: Vec<Expr>, expr: Expr) -> Result<Vec<Expr>, AllocError>
 }
 
 /// The variables with one more.
-#[tactic(auto, using(crate::proofs::Stacks::references_of_push))]
+#[tactic(auto, using(crate::proofs::FrameStacks::references_of_push))]
 pub fn with_variable(done: Vec<VarRef>, variable: VarRef) -> Result<Vec<VarRef>, AllocError>
     ensures { IfOk result (λ all. map reference_of all.items ≡ map reference_of done.items ++ (reference_of variable ∷ [])) }
 {

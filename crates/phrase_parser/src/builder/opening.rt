@@ -10,7 +10,7 @@ use plcs_grammar::Builtin;
 use std::alloc::{AllocError, Global};
 
 /// The stack with one frame more.
-#[tactic(auto, using(crate::proofs::Stacks::stack_on_push))]
+#[tactic(auto, using(crate::proofs::FrameStacks::stack_on_push))]
 pub fn with_frame(stack: Stack, frame: Frame) -> Result<Stack, AllocError>
     ensures { IfOk result (λ s. stack_of s ≡ pushed frame (stack_of stack)) }
 {

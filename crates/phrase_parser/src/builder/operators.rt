@@ -59,7 +59,7 @@ fn join(alloc: Global, frame: Frame, level: u8, operand: Expr) -> Result<Joined,
 }
 
 /// The operand, joined with each open operator of the level or a higher one, and what is left open.
-#[tactic(auto, using(crate::proofs::Stacks::stack_on_push))]
+#[tactic(auto, using(crate::proofs::FrameStacks::stack_on_push))]
 pub fn reduced(
     alloc: Global,
     stack: Stack,

@@ -17,7 +17,7 @@ pub fn name_of(bytes: &[u8]) -> Name
 }
 
 /// The value of the character constant that the bytes are.
-#[tactic(auto, using(crate::proofs::Constants::constant_long, crate::proofs::Constants::constant_short))]
+#[tactic(auto, using(crate::proofs::ConstantValues::constant_long, crate::proofs::ConstantValues::constant_short))]
 pub fn constant_value(bytes: &[u8]) -> TextValue
     requires { IsConstant bytes.now }
     ensures { result ≡ undoubled (inside bytes.now) }

@@ -36,7 +36,7 @@ fn separated_base(alloc: Global, base: Base, expr: Expr) -> Result<State, BuildE
 }
 
 /// A comma stands behind an expression.
-#[tactic(auto, using(crate::proofs::Stacks::stack_on_push))]
+#[tactic(auto, using(crate::proofs::FrameStacks::stack_on_push))]
 fn separated_at(alloc: Global, stack: Stack, expr: Expr) -> Result<State, BuildError>
     ensures { Gives state_of result (separated_at (stack_of stack) (tree_of expr)) }
 {

@@ -142,7 +142,7 @@ fn next_equal(alloc: Global, shape: Shape) -> Option<Shape>
 }
 
 /// A sign is read that is an operator wherever it stands.
-#[tactic(auto, using(crate::proofs::Operators::prefix_if, crate::proofs::Operators::infix_if))]
+#[tactic(auto, using(crate::proofs::OperatorTests::prefix_if, crate::proofs::OperatorTests::infix_if))]
 fn next_operator(shape: Shape, sign: Sign) -> Option<Shape>
     requires { Within 4294967294 (shape_of shape) }
     ensures { shape_if result ≡ next_operator (shape_of shape) sign }

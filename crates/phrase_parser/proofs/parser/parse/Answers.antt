@@ -1,5 +1,9 @@
+use Rattle.phrase_parser.proofs.CanonicalText.{answer_well_formed}
 use Rattle.phrase_parser.proofs.OneAnswer.{only, only_over, only_syntax}
 use Rattle.phrase_parser.proofs.parser.parse.Goals as goal
+
+pub returns-clause-well_formed : goal.returns-clause-well_formed
+returns-clause-well_formed c = answer_well_formed c.args.category c.args.text.now c.answer.result c.answer.ensures
 
 pub returns-clause-only : goal.returns-clause-only
 returns-clause-only c = λ phrase h. only c.args.category c.args.text.now c.answer.result phrase c.answer.ensures h

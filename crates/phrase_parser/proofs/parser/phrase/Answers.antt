@@ -4,7 +4,7 @@ use Rattle.phrase_parser.specs.Shapes.{shape_of, LiesIn}
 use Rattle.phrase_parser.specs.TokenIn.{token_in, IsPlacedIn}
 use Rattle.phrase_parser.specs.Answers.{IsBuilt, FaultSays}
 use Rattle.phrase_parser.specs.declared.check.finding.Finding.TheVariants.{Fine, SyntaxAt, Over}
-use Rattle.phrase_parser.proofs.Told.{tokens_lie, tokens_few, told_known, read_whole, built_answers}
+use Rattle.phrase_parser.proofs.CheckAnswers.{tokens_lie, tokens_few, told_known, read_whole, built_answers}
 use Rattle.phrase_parser.proofs.parser.phrase.Goals as goal
 
 pub check-requires-clause-within : goal.check-requires-clause-within

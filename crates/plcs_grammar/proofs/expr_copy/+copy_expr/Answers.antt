@@ -4,8 +4,8 @@ use Rattle.plcs_grammar.specs.PlainForm.{tree_of}
 use Rattle.plcs_grammar.specs.declared.expr.Expr.{size-Expr}
 use Rattle.plcs_grammar.specs.declared.expr_copy.Link.{Link}
 use Rattle.plcs_grammar.specs.Link.{linked}
-use Rattle.plcs_grammar.proofs.Unfolded.{tree_infix, left_no_deeper, reference_subscripted}
-use Rattle.plcs_grammar.proofs.Linking.{linked_push}
+use Rattle.plcs_grammar.proofs.PlainFormCases.{tree_infix, left_no_deeper, reference_subscripted}
+use Rattle.plcs_grammar.proofs.LinkedChains.{linked_push}
 use Rattle.plcs_grammar.proofs.expr_copy.+copy_expr.Goals as goal
 
 pub copy_expr-loop-at-preserved : goal.copy_expr-loop-at-preserved

@@ -2,8 +2,8 @@ use Rattle.std.proofs.Common.{refl, sym, ap, ◌∙◌}
 use Rattle.plcs_grammar.specs.Reading.{Tree}
 use Rattle.plcs_grammar.specs.PlainForm.{tree_of}
 use Rattle.plcs_grammar.specs.Link.{linked}
-use Rattle.plcs_grammar.proofs.Unfolded.{tree_infix}
-use Rattle.plcs_grammar.proofs.Linking.{linked_push}
+use Rattle.plcs_grammar.proofs.PlainFormCases.{tree_infix}
+use Rattle.plcs_grammar.proofs.LinkedChains.{linked_push}
 use Rattle.plcs_grammar.proofs.expr_copy.chained.Goals as goal
 
 pub loop-last-preserved : goal.loop-last-preserved

@@ -1,5 +1,5 @@
 use Rattle.std.proofs.Common.{lit≤, arith}
-use Rattle.plcs_grammar.proofs.Counting.{counted}
+use Rattle.plcs_grammar.proofs.CountedBytes.{counted}
 use Rattle.plcs_grammar.proofs.length_out.shown_len.Goals as goal
 
 pub returns : goal.returns

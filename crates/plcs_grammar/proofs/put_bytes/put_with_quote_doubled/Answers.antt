@@ -1,6 +1,6 @@
 use Rattle.std.proofs.Common.{sym}
 use Rattle.plcs_grammar.proofs.Putting.{puts_one, puts_same}
-use Rattle.plcs_grammar.proofs.Doubling.{undoubled}
+use Rattle.plcs_grammar.proofs.DoubledQuotes.{undoubled}
 use Rattle.plcs_grammar.proofs.put_bytes.put_with_quote_doubled.Goals as goal
 
 pub returns-else-byte-eq39 : goal.returns-else-byte-eq39

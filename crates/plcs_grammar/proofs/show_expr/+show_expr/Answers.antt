@@ -1,15 +1,15 @@
 use Rattle.std.proofs.Common.{◌+◌, ◌-◌, ◌/◌, ◌<◌, ◌≡◌, length, take, sym, ap, ◌∙◌, arith}
 use Rattle.std.proofs.Math.Seq.{take-length}
-use Rattle.plcs_base.specs.Put.{puts_nothing}
+use Rattle.plcs_base.specs.Put.{puts_nothing, puts_next}
 use Rattle.plcs_grammar.specs.PlainForm.{tree_of, trees_of}
 use Rattle.plcs_grammar.specs.Sign.{sign_bytes}
 use Rattle.plcs_grammar.specs.Canon.{canon, canon_list, joined}
 use Rattle.plcs_grammar.specs.Chain.{leftmost, chain_text, operator_text}
-use Rattle.plcs_grammar.proofs.Putting.{puts_append, puts_same, puts_before, puts_three, puts_parenthesized}
-use Rattle.plcs_grammar.proofs.Shown.{shown_tree, shown_reference, shown_expr}
-use Rattle.plcs_grammar.proofs.Chaining.{chain_whole, chain_halves}
-use Rattle.plcs_grammar.proofs.Joining.{joined_next, list_is}
-use Rattle.plcs_grammar.proofs.Unfolded.{tree_prefix, tree_infix, tree_builtin, tree_paren, reference_subscripted, no_operator}
+use Rattle.plcs_grammar.proofs.Putting.{puts_append, puts_same, puts_three, puts_parenthesized}
+use Rattle.plcs_grammar.proofs.EqualShown.{shown_tree, shown_reference, shown_expr}
+use Rattle.plcs_grammar.proofs.ChainTexts.{chain_whole, chain_halves}
+use Rattle.plcs_grammar.proofs.JoinedTexts.{joined_next, list_is}
+use Rattle.plcs_grammar.proofs.PlainFormCases.{tree_prefix, tree_infix, tree_builtin, tree_paren, reference_subscripted, no_operator}
 use Rattle.plcs_grammar.proofs.show_expr.+show_expr.Goals as goal
 
 pub show_expr-returns-in-Prefix : goal.show_expr-returns-in-Prefix
@@ -48,7 +48,7 @@ show_expr-returns-in-Paren g t c =
 pub show_operator-returns : goal.show_operator-returns
 show_operator-returns g t c =
     let sign = puts_same (c.bytes.ensures ∙ ap sign_bytes c.sign.ensures) c.put_bytes.ensures in
-    puts_before c.put.ensures (puts_append sign (puts_before c.put-2.ensures c.show_expr.ensures))
+    puts_next c.put.ensures (puts_append sign (puts_next c.put-2.ensures c.show_expr.ensures))
 
 pub show_chain-returns-then-operators-gt1 : goal.show_chain-returns-then-operators-gt1
 show_chain-returns-then-operators-gt1 g t c =

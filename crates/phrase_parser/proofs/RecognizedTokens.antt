@@ -3,7 +3,6 @@ use Rattle.std.proofs.Common.{◌≡◌, refl, ℕ, ◌+◌, true, false, List, 
 use Rattle.plcs_grammar.specs.declared.category.Category.{Category}
 use Rattle.plcs_grammar.specs.declared.category.Category.TheVariants.{Assignment, Condition, Expression, ExpressionList, VariableList, Variable, CallRef, DeclaredList, ProcedureName, NameList, Length, CommentText}
 use Rattle.plcs_grammar.specs.declared.sign.Sign.{Sign}
-use Rattle.plcs_grammar.specs.declared.sign.Sign.TheVariants as Sign
 use Rattle.plcs_grammar.specs.Token.{Token}
 use Rattle.plcs_grammar.specs.Cuts.{Piece, tokens_of}
 use Rattle.plcs_grammar.specs.Reading.{Tree, Reference, Reading}
@@ -16,9 +15,9 @@ use Rattle.phrase_parser.specs.Trace.{opens, opens_by_role, opens_before, opens_
 use Rattle.phrase_parser.specs.Recognizer
 use Rattle.phrase_parser.specs.Recognizer.{Kind, kind_of, Shape, next, follow, first_shape, may_end, level_of, follow_levels}
 use Rattle.phrase_parser.proofs.Completeness.{run_none, complete, traced_over, alive}
-use Rattle.phrase_parser.proofs.Consumed.{Sound}
+use Rattle.phrase_parser.proofs.ConsumedTokens.{Sound}
 use Rattle.phrase_parser.proofs.Soundness.{AfterIf, step_after, has_read, IsFreshIf, start_fresh}
-use Rattle.phrase_parser.proofs.Viable.{viable, stopped, sound, no_form}
+use Rattle.phrase_parser.proofs.ViablePrefixes.{viable, stopped, sound, no_form}
 use Rattle.phrase_parser.proofs.Simulation.{use_of, last_of, shape_of, shape_if, simulates, ends_as}
 
 -- what is looked at of each token

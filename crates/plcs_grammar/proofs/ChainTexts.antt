@@ -1,7 +1,6 @@
 -- The text of a chain of operators, from the left to the right.
-use Rattle.std.proofs.Common.{ℕ, zero, suc, ◌+◌, ◌≡◌, ◌++◌, refl, sym, ap, ◌∙◌, append_assoc}
+use Rattle.std.proofs.Common.{ℕ, zero, suc, ◌+◌, ◌≡◌, ◌++◌, refl, sym, ap, ◌∙◌, append_assoc, add-suc, add-zero}
 use Rattle.std.proofs.lemmas.List.{append-nil}
-use Rattle.std.proofs.Common.{add-suc, add-zero}
 use Rattle.plcs_grammar.specs.Reading.{Tree}
 use Rattle.plcs_grammar.specs.Canon.{canon}
 use Rattle.plcs_grammar.specs.Chain.{leftmost, operator_text, chain_text}

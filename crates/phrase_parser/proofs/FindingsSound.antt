@@ -15,7 +15,7 @@ use Rattle.phrase_parser.specs.Recognizer.{Shape, kind_of, next, next_if, follow
 use Rattle.phrase_parser.specs.Findings.{Finding, finding_of, found_at, found_at_end, seen_of, is_large, seen_over, findings}
 use Rattle.phrase_parser.proofs.KeptNumbers.{kept_above}
 use Rattle.phrase_parser.proofs.Limits.{none_over}
-use Rattle.phrase_parser.proofs.Recognized.{kinds_of, taken_begins, refused_begins, whole_form, part_form, levels_over}
+use Rattle.phrase_parser.proofs.RecognizedTokens.{kinds_of, taken_begins, refused_begins, whole_form, part_form, levels_over}
 
 -- the shape behind pieces, and the first of them over a limit
 abbrev pub follow_pieces : List Piece → Option Shape → Option Shape
@@ -61,13 +61,13 @@ pub record Ends (pieces : List Piece) (stop : Option ℕ) (shape : Shape) (found
 
 module _ (c : Category) (stop : Option ℕ) (end : ℕ) where
   -- what a finding says of the pieces that follow a shape
-  abbrev pub Says : List Piece → List Piece → Shape → Option OverLimit → Finding → Type 0
-  Says front pieces shape found Finding.fine = Ends pieces stop shape found None
-  Says front pieces shape found (Finding.syntax_at place) = GoesWrong c (front ++ pieces) end stop place
-  Says front pieces shape found (Finding.over o) = Ends pieces stop shape found (Some o)
+  abbrev pub SaysOfRest : List Piece → List Piece → Shape → Option OverLimit → Finding → Type 0
+  SaysOfRest front pieces shape found Finding.fine = Ends pieces stop shape found None
+  SaysOfRest front pieces shape found (Finding.syntax_at place) = GoesWrong c (front ++ pieces) end stop place
+  SaysOfRest front pieces shape found (Finding.over o) = Ends pieces stop shape found (Some o)
 
 says_found : (c : Category) (end : ℕ) (front : List Piece) (shape : Shape) (found : Option OverLimit) → may_end shape ≡ true
-    → Says c None end front [] shape found (finding_of found)
+    → SaysOfRest c None end front [] shape found (finding_of found)
 says_found c end front shape None m = record { end = shape; stops = refl; leads = refl; may = m; over = refl }
 says_found c end front shape (Some o) m = record { end = shape; stops = refl; leads = refl; may = m; over = refl }
 
@@ -76,11 +76,11 @@ begins_all c front h = subst (λ z. Begins c (tokens_of z)) (sym (append-nil fro
 
 says_end : (c : Category) (stop : Option ℕ) (end : ℕ) (front : List Piece) (shape : Shape) (found : Option OverLimit)
     → follow_pieces front (first_shape c) ≡ Some shape
-    → Says c stop end front [] shape found (found_at_end stop end shape found)
+    → SaysOfRest c stop end front [] shape found (found_at_end stop end shape found)
 says_end c (Some stop) end front shape found e =
     GoesWrong.at_byte stop (begins_all c front (taken_begins c (tokens_of front) shape e))
 says_end c None end front shape found e =
-    cond_both (may_end shape) (finding_of found) (Finding.syntax_at end) (Says c None end front [] shape found)
+    cond_both (may_end shape) (finding_of found) (Finding.syntax_at end) (SaysOfRest c None end front [] shape found)
     (λ m. says_found c end front shape found m)
     (λ m. GoesWrong.at_end (begins_all c front (taken_begins c (tokens_of front) shape e))
     (λ p f. part_form c (tokens_of front) shape e m p (subst (λ z. Form c (tokens_of z) p) (append-nil front) f)))
@@ -103,8 +103,8 @@ ends_more piece pieces stop shape z found first e h = record {
 
 says_more : (c : Category) (stop : Option ℕ) (end : ℕ) (front : List Piece) (piece : Piece) (pieces : List Piece)
     (shape z : Shape) (found : Option OverLimit) (r : Finding) → next shape (kind_of piece.token) ≡ Some z
-    → Says c stop end (front ++ (piece ∷ [])) pieces z (option_or found (seen_over (seen_of piece) (level_of shape (kind_of piece.token)))) r
-    → Says c stop end front (piece ∷ pieces) shape found r
+    → SaysOfRest c stop end (front ++ (piece ∷ [])) pieces z (option_or found (seen_over (seen_of piece) (level_of shape (kind_of piece.token)))) r
+    → SaysOfRest c stop end front (piece ∷ pieces) shape found r
 says_more c stop end front piece pieces shape z found Finding.fine e h = ends_more piece pieces stop shape z found None e h
 says_more c stop end front piece pieces shape z found (Finding.syntax_at place) e h =
     subst (λ ps. GoesWrong c ps end stop place) (append_assoc front (piece ∷ []) pieces) h
@@ -114,8 +114,8 @@ says_next : (c : Category) (stop : Option ℕ) (end : ℕ) (front : List Piece) 
     (shape : Shape) (found : Option OverLimit) (r : Option Shape) (behind : Shape → Finding)
     → next shape (kind_of piece.token) ≡ r → follow_pieces front (first_shape c) ≡ Some shape
     → ((z : Shape) → follow_pieces (front ++ (piece ∷ [])) (first_shape c) ≡ Some z
-    → Says c stop end (front ++ (piece ∷ [])) pieces z (option_or found (seen_over (seen_of piece) (level_of shape (kind_of piece.token)))) (behind z))
-    → Says c stop end front (piece ∷ pieces) shape found (found_at r piece.start behind)
+    → SaysOfRest c stop end (front ++ (piece ∷ [])) pieces z (option_or found (seen_over (seen_of piece) (level_of shape (kind_of piece.token)))) (behind z))
+    → SaysOfRest c stop end front (piece ∷ pieces) shape found (found_at r piece.start behind)
 says_next c stop end front piece pieces shape found None behind n e go =
     GoesWrong.at_token front piece pieces refl (taken_begins c (tokens_of front) shape e)
     (refused_begins c (tokens_of (front ++ (piece ∷ [])))
@@ -127,7 +127,7 @@ says_next c stop end front piece pieces shape found (Some z) behind n e go =
 -- what is found in the pieces behind others is so
 pub says : (c : Category) (stop : Option ℕ) (end : ℕ) (pieces front : List Piece) (shape : Shape) (found : Option OverLimit)
     → follow_pieces front (first_shape c) ≡ Some shape
-    → Says c stop end front pieces shape found (findings (map seen_of pieces) stop end shape found)
+    → SaysOfRest c stop end front pieces shape found (findings (map seen_of pieces) stop end shape found)
 says c stop end [] front shape found e = says_end c stop end front shape found e
 says c stop end (piece ∷ pieces) front shape found e =
     says_next c stop end front piece pieces shape found (next shape (kind_of piece.token))
@@ -137,10 +137,10 @@ says c stop end (piece ∷ pieces) front shape found e =
     (option_or found (seen_over (seen_of piece) (level_of shape (kind_of piece.token)))) f)
 
 -- what a finding says of all pieces of a text
-abbrev pub Means : Category → List Piece → Option ℕ → ℕ → Finding → Type 0
-Means c pieces stop end Finding.fine = (stop ≡ None) × (p : Reading) × Form c (tokens_of pieces) p × IsWithinLimits p
-Means c pieces stop end (Finding.syntax_at place) = GoesWrong c pieces end stop place
-Means c pieces stop end (Finding.over o) =
+abbrev pub SaysOfPieces : Category → List Piece → Option ℕ → ℕ → Finding → Type 0
+SaysOfPieces c pieces stop end Finding.fine = (stop ≡ None) × (p : Reading) × Form c (tokens_of pieces) p × IsWithinLimits p
+SaysOfPieces c pieces stop end (Finding.syntax_at place) = GoesWrong c pieces end stop place
+SaysOfPieces c pieces stop end (Finding.over o) =
     (stop ≡ None) × (p : Reading) × Form c (tokens_of pieces) p × (first_over pieces (phrase_opened p) ≡ Some o)
 
 ends_form : (c : Category) (pieces : List Piece) (stop : Option ℕ) (shape : Shape) (first : Option OverLimit)
@@ -151,7 +151,7 @@ ends_form c pieces stop shape first e h =
     (r.0, r.1, sym (levels_over c pieces r.0 r.1) ∙ ap (over_pieces pieces) e ∙ h.over)
 
 means_if : (c : Category) (pieces : List Piece) (stop : Option ℕ) (end : ℕ) (shape : Shape) (r : Finding)
-    → first_shape c ≡ Some shape → Says c stop end [] pieces shape None r → Means c pieces stop end r
+    → first_shape c ≡ Some shape → SaysOfRest c stop end [] pieces shape None r → SaysOfPieces c pieces stop end r
 means_if c pieces stop end shape Finding.fine e h =
     let f = ends_form c pieces stop shape None e h in
     (h.stops, f.0, f.1, none_over c pieces f.0 f.1 f.2)
@@ -162,6 +162,6 @@ means_if c pieces stop end shape (Finding.over o) e h =
 
 -- what is found in all pieces of a text is so
 pub found_means : (c : Category) (pieces : List Piece) (stop : Option ℕ) (end : ℕ) (shape : Shape) → first_shape c ≡ Some shape
-    → Means c pieces stop end (findings (map seen_of pieces) stop end shape None)
+    → SaysOfPieces c pieces stop end (findings (map seen_of pieces) stop end shape None)
 found_means c pieces stop end shape e =
     means_if c pieces stop end shape (findings (map seen_of pieces) stop end shape None) e (says c stop end pieces [] shape None e)

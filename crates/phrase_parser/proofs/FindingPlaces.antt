@@ -9,7 +9,7 @@ use Rattle.plcs_grammar.specs.Over.{OverLimit}
 use Rattle.phrase_parser.specs.Recognizer.{Shape, next, may_end, level_of}
 use Rattle.phrase_parser.specs.Findings.{Finding, finding_of, found_at, found_at_end, Seen, seen_of, is_large, seen_over, findings}
 use Rattle.phrase_parser.specs.Shapes.{over_place}
-use Rattle.phrase_parser.proofs.PieceFacts.{InOrder, cut_in_order, stop_within}
+use Rattle.phrase_parser.proofs.CutPieces.{InOrder, cut_in_order, stop_within}
 
 module _ (limit : ℕ) where
   abbrev pub OverWithin : OverLimit → Type 0
@@ -76,9 +76,9 @@ stop_if : (pieces : List Piece) (x : List ℕ) (stop : Option ℕ) → Cuts piec
 stop_if pieces x None cut = tt
 stop_if pieces x (Some stop) cut = let h = stop_within pieces 0 x stop cut in omega (arith, h.1)
 
-pub found_within : (x : List ℕ) (pieces : List Piece) (stop : Option ℕ) (shape : Shape) → Cuts pieces 0 x stop
+pub places_within : (x : List ℕ) (pieces : List Piece) (stop : Option ℕ) (shape : Shape) → Cuts pieces 0 x stop
     → FindingWithin (length x) (findings (map seen_of pieces) stop (length x) shape None)
-found_within x pieces stop shape cut =
+places_within x pieces stop shape cut =
     let order : InOrder 0 pieces (length x) = subst (λ n. InOrder 0 pieces n) (omega arith) (cut_in_order pieces 0 x stop cut) in
     findings_within (length x) (map seen_of pieces) stop (length x) shape None (starts_within pieces 0 (length x) order)
     (stop_if pieces x stop cut) (omega arith) tt

@@ -13,8 +13,8 @@ use Rattle.plcs_grammar.specs.Over.{OverLimit, first_over, over_at}
 use Rattle.phrase_parser.specs.Recognizer.{Shape, kind_of, next, next_if, first_shape, may_end, level_of}
 use Rattle.phrase_parser.specs.Findings.{Finding, finding_of, found_at, found_at_end, seen_of, seen_over, findings}
 use Rattle.phrase_parser.proofs.Limits.{within}
-use Rattle.phrase_parser.proofs.Recognized.{kinds_of, follow_none, taken_begins, whole_form, levels_over, begins_taken, form_taken}
-use Rattle.phrase_parser.proofs.Checked.{follow_pieces, over_pieces, follow_last, option_or_assoc, seen_as}
+use Rattle.phrase_parser.proofs.RecognizedTokens.{kinds_of, follow_none, taken_begins, whole_form, levels_over, begins_taken, form_taken}
+use Rattle.phrase_parser.proofs.FindingsSound.{follow_pieces, over_pieces, follow_last, option_or_assoc, seen_as}
 
 -- the check has come to a shape behind pieces, with what went past a limit first in them
 abbrev Comes : List Piece → List Piece → Option ℕ → ℕ → Shape → Shape → Option OverLimit → Type 0

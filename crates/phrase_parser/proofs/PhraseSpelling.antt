@@ -2,12 +2,12 @@
 use Rattle.std.proofs.Common.{◌≡◌, refl, ℕ, ◌≤◌, List, [], ◌∷◌, ◌++◌, Option, Some, None, ap, sym, subst, ◌∙◌, ap₂}
 use Rattle.plcs_grammar.specs.declared.category.Category.{Category}
 use Rattle.plcs_grammar.specs.declared.item.Item.{Item}
-use Rattle.plcs_grammar.specs.declared.sign.Sign.TheVariants as Sign
+use Rattle.plcs_grammar.specs.declared.sign.Sign.{Sign}
 use Rattle.plcs_grammar.specs.Token.{Token}
 use Rattle.plcs_grammar.specs.Reading.{Trees, Reading, category_of}
 use Rattle.plcs_grammar.specs.Level.{in_parentheses, IsReference}
 use Rattle.plcs_grammar.specs.Form.{Form, IsPhrase, IsCall, IsItem, IsSizedName, IsNameToken, JoinedBy, MoreBehind}
-use Rattle.phrase_parser.proofs.Spelling.{spell, spell_reference, spell_all, Fits, FitsReference, FitsAll, spelled, spelled_reference, spelled_all, levelled, levelled_reference, levelled_all}
+use Rattle.phrase_parser.proofs.TreeSpelling.{spell, spell_reference, spell_all, Fits, FitsReference, FitsAll, spelled, spelled_reference, spelled_all, levelled, levelled_reference, levelled_all}
 
 module _ {X : Type 0} (f : X → List Token) where
   -- the tokens of each, behind a comma

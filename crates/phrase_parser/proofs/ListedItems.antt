@@ -1,11 +1,11 @@
 -- Lists that stand in no expression are read item by item.
 use Rattle.std.proofs.Common.{◌≡◌, refl, ℕ, List, [], ◌∷◌, ◌++◌, Some, ◌∙◌, append_assoc}
-use Rattle.plcs_grammar.specs.declared.sign.Sign.TheVariants as Sign
+use Rattle.plcs_grammar.specs.declared.sign.Sign.{Sign}
 use Rattle.plcs_grammar.specs.Token.{Token}
 use Rattle.phrase_parser.specs.Machine.{State, step}
 use Rattle.phrase_parser.specs.Trace.{opens}
-use Rattle.phrase_parser.proofs.Goes.{Goes, there, by, joins}
-use Rattle.phrase_parser.proofs.Phrases.{spell_more, spell_listed, EachFits, FitsListed}
+use Rattle.phrase_parser.proofs.MachineRuns.{Goes, there, by, joins}
+use Rattle.phrase_parser.proofs.PhraseSpelling.{spell_more, spell_listed, EachFits, FitsListed}
 
 module _ {X : Type 0} (g : X → List ℕ) where
   -- the levels that each opens, behind a comma

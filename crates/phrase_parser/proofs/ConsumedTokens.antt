@@ -2,15 +2,15 @@
 use Rattle.std.proofs.Common.{◌≡◌, refl, ℕ, ◌+◌, ◌≤◌, not, IsTrue, List, [], ◌∷◌, ◌++◌, ap, sym, ◌∙◌, append_assoc, append-nil}
 use Rattle.plcs_grammar.specs.declared.category.Category.{Category}
 use Rattle.plcs_grammar.specs.declared.category.Category.TheVariants.{Assignment, Condition, Expression, ExpressionList, VariableList, Variable, CallRef, DeclaredList, ProcedureName, NameList, Length}
-use Rattle.plcs_grammar.specs.declared.sign.Sign.TheVariants as Sign
+use Rattle.plcs_grammar.specs.declared.sign.Sign.{Sign}
 use Rattle.plcs_grammar.specs.Sign.{prefix_sign, infix_sign}
 use Rattle.plcs_grammar.specs.Token.{Token}
 use Rattle.plcs_grammar.specs.Reading.{Tree, Trees}
 use Rattle.plcs_grammar.specs.Builtin.{builtin_name, is_builtin_name}
 use Rattle.plcs_grammar.specs.Level.{priority, tightest, in_parentheses}
 use Rattle.phrase_parser.specs.Machine.{Base, Stack, Role, State, tree_push}
-use Rattle.phrase_parser.proofs.Spelling.{spell, spell_reference, spell_all, spell_behind, Fits, FitsReference, FitsAll, FitsBehind}
-use Rattle.phrase_parser.proofs.Phrases.{spell_name, spell_item, spell_call, spell_more, spell_listed, EachFits, FitsListed, FitsItem, FitsCall, AnyName}
+use Rattle.phrase_parser.proofs.TreeSpelling.{spell, spell_reference, spell_all, spell_behind, Fits, FitsReference, FitsAll, FitsBehind}
+use Rattle.phrase_parser.proofs.PhraseSpelling.{spell_name, spell_item, spell_call, spell_more, spell_listed, EachFits, FitsListed, FitsItem, FitsCall, AnyName}
 
 -- expressions, each with the comma behind it
 abbrev pub spell_before : Trees → List Token

@@ -10,8 +10,7 @@ use Rattle.plcs_grammar.specs.declared.expr.Expr.TheOpen.{Expr-F}
 use Rattle.plcs_grammar.specs.declared.expr.Expr.TheViews.{out-Expr, roll-Expr, roll-out-Expr, the_lemmas}
 use Rattle.plcs_grammar.specs.declared.expr.Expr.TheVariants.{Prefix, Infix, Builtin, Paren, rolls-Prefix, rolls-Infix, rolls-Builtin, rolls-Paren}
 use Rattle.plcs_grammar.specs.declared.expr.Expr.TheFolds.{fold-roll-Expr}
-use Rattle.plcs_grammar.specs.declared.expr.VarRef.{VarRef}
-use Rattle.plcs_grammar.specs.declared.expr.VarRef.{fold_out-VarRef, map-VarRef}
+use Rattle.plcs_grammar.specs.declared.expr.VarRef.{VarRef, fold_out-VarRef, map-VarRef}
 use Rattle.plcs_grammar.specs.Reading.{Tree, Reference}
 use Rattle.plcs_grammar.specs.Chain.{chain_text}
 use Rattle.plcs_grammar.specs.PlainForm.{tree_of, tree_step, reference_step, trees_of, reference_of}

@@ -20,8 +20,8 @@ use Rattle.phrase_parser.specs.Shapes.{seen_in, as_found, over_of, over_place, L
 use Rattle.phrase_parser.specs.TokenIn.{token_in, IsPlacedIn}
 use Rattle.phrase_parser.specs.Answers.{FaultSays, Answers, IsBuilt, over_fault}
 use Rattle.phrase_parser.proofs.PlacedTokens.{cut_seen, cut_lies, cut_few, cut_tokens, cut_placed}
-use Rattle.phrase_parser.proofs.FoundPlaces.{FindingWithin, found_within}
-use Rattle.phrase_parser.proofs.FindingSays.{Says, finding_says}
+use Rattle.phrase_parser.proofs.FindingPlaces.{FindingWithin, places_within}
+use Rattle.phrase_parser.proofs.FindingsOfText.{SaysOfText, finding_says}
 
 pub tokens_lie : (items : List Placed) (stop : Option ℕ) (x : List ℕ) → AreTokens items stop x → All (LiesIn x) items
 tokens_lie items stop x h = subst (λ z. All (LiesIn x) z) (sym h.2) (cut_lies x h.0 stop h.1)
@@ -37,13 +37,13 @@ pub record IsRead (c : Category) (x : List ℕ) (items : List Placed) : Type 0 w
   pub placed : All (IsPlacedIn x) items
 
 -- what an answer of the check says
-abbrev pub Told : Category → List ℕ → List Placed → Finding → Type 0
-Told c x items Fine = IsRead c x items
-Told c x items (SyntaxAt place) = (place ≤ length x) × FaultSays c x (fault.Syntax place)
-Told c x items (Over over) = (over_place (over_of over) ≤ length x) × FaultSays c x (over_fault (over_of over))
+abbrev pub CheckSays : Category → List ℕ → List Placed → Finding → Type 0
+CheckSays c x items Fine = IsRead c x items
+CheckSays c x items (SyntaxAt place) = (place ≤ length x) × FaultSays c x (fault.Syntax place)
+CheckSays c x items (Over over) = (over_place (over_of over) ≤ length x) × FaultSays c x (over_fault (over_of over))
 
 told_if : (c : Category) (x : List ℕ) (pieces : List Piece) (stop : Option ℕ) (found : Finding) → Cuts pieces 0 x stop
-    → Says c x pieces (as_found found) → FindingWithin (length x) (as_found found) → Told c x (map kept pieces) found
+    → SaysOfText c x pieces (as_found found) → FindingWithin (length x) (as_found found) → CheckSays c x (map kept pieces) found
 told_if c x pieces stop Fine cut h w =
     record {
       phrase = h.0;
@@ -55,14 +55,14 @@ told_if c x pieces stop (SyntaxAt place) cut h w = (w, h)
 told_if c x pieces stop (Over over) cut h w = (w, h)
 
 pub told : (c : Category) (x : List ℕ) (items : List Placed) (stop : Option ℕ) (shape : Shape) (found : Finding) → first_shape c ≡ Some shape
-    → AreTokens items stop x → as_found found ≡ findings (map (seen_in x) items) stop (length x) shape None → Told c x items found
+    → AreTokens items stop x → as_found found ≡ findings (map (seen_in x) items) stop (length x) shape None → CheckSays c x items found
 told c x items stop shape found e (pieces, cut, same) f =
     let g : findings (map seen_of pieces) stop (length x) shape None ≡ as_found found =
     ap (λ z. findings z stop (length x) shape None) (sym (cut_seen x pieces stop cut))
     ∙ ap (λ z. findings (map (seen_in x) z) stop (length x) shape None) (sym same) ∙ sym f in
-    subst (λ z. Told c x z found) (sym same)
-    (told_if c x pieces stop found cut (subst (Says c x pieces) g (finding_says c x pieces stop shape e cut))
-    (subst (FindingWithin (length x)) g (found_within x pieces stop shape cut)))
+    subst (λ z. CheckSays c x z found) (sym same)
+    (told_if c x pieces stop found cut (subst (SaysOfText c x pieces) g (finding_says c x pieces stop shape e cut))
+    (subst (FindingWithin (length x)) g (places_within x pieces stop shape cut)))
 
 -- the phrase is built
 pub read_whole : (c : Category) (x : List ℕ) (items : List Placed) → IsRead c x items
@@ -83,7 +83,7 @@ built_answers c x items answer h b =
 -- what an answer says, of the tokens as they were lent
 pub told_known : (c : Category) (x : List ℕ) (items lent : List Placed) (stop : Option ℕ) (shape : Shape) (found known : Finding)
     → lent ≡ items → first_shape c ≡ Some shape → AreTokens items stop x
-    → as_found found ≡ findings (map (seen_in x) lent) stop (length x) shape None → found ≡ known → Told c x items known
+    → as_found found ≡ findings (map (seen_in x) lent) stop (length x) shape None → found ≡ known → CheckSays c x items known
 told_known c x items lent stop shape found known same e are f is =
-    subst (Told c x items) is
+    subst (CheckSays c x items) is
     (told c x items stop shape found e are (f ∙ ap (λ z. findings (map (seen_in x) z) stop (length x) shape None) same))

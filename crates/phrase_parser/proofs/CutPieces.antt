@@ -7,7 +7,7 @@ use Rattle.plcs_base.specs.Name.{IsName, is_keyword}
 use Rattle.plcs_grammar.specs.Token.{Token, IsToken, IsConstantText}
 use Rattle.plcs_grammar.specs.Cuts.{Piece, Cuts, blanks, unblanked, is_blank, tokens_of}
 use Rattle.phrase_parser.specs.TokenIn.{inside}
-use Rattle.phrase_parser.proofs.Constants.{undoubled_inside}
+use Rattle.phrase_parser.proofs.ConstantValues.{undoubled_inside}
 use Rattle.phrase_parser.specs.Unquoted.{undoubled}
 use Rattle.phrase_parser.proofs.OneCut.{token_not_empty}
 

@@ -5,7 +5,7 @@ use Rattle.plcs_grammar.specs.declared.operator.PrefixOp.{PrefixOp}
 use Rattle.plcs_grammar.specs.declared.operator.PrefixOp.TheVariants as before
 use Rattle.plcs_grammar.specs.declared.operator.InfixOp.{InfixOp}
 use Rattle.plcs_grammar.specs.declared.operator.InfixOp.TheVariants.{Or, And, Equal, NotEqual, Less, LessEqual, Greater, GreaterEqual, Join, Plus, Minus, Times, Divide}
-use Rattle.plcs_grammar.specs.declared.sign.Sign.TheVariants as Sign
+use Rattle.plcs_grammar.specs.declared.sign.Sign.{Sign}
 use Rattle.plcs_grammar.specs.Sign.{prefix_sign, infix_sign}
 use Rattle.plcs_grammar.specs.Token.{Token}
 use Rattle.plcs_grammar.specs.Reading.{Tree, Trees, Reference}
@@ -14,9 +14,9 @@ use Rattle.plcs_grammar.specs.Level.{IsNoCall, priority, tightest}
 use Rattle.plcs_grammar.specs.Opened.{opened as levels, opened_by_all as levels_of_all, opened_behind as levels_behind}
 use Rattle.phrase_parser.specs.Machine.{Stack, State, Operand, tree_push, reduced, joined, step, closed_at, separated_at, named_open}
 use Rattle.phrase_parser.specs.Trace.{depth, opens}
-use Rattle.phrase_parser.proofs.Spelling.{spell, spell_all, spell_behind, Fits, FitsReference, FitsAll, FitsBehind}
+use Rattle.phrase_parser.proofs.TreeSpelling.{spell, spell_all, spell_behind, Fits, FitsReference, FitsAll, FitsBehind}
 use Rattle.phrase_parser.proofs.BuiltinNames.{builtin_of_name, no_builtin}
-use Rattle.phrase_parser.proofs.Goes.{Goes, there, by, joins}
+use Rattle.phrase_parser.proofs.MachineRuns.{Goes, there, by, joins}
 
 -- no operator of the level or a higher one is open on the top of the stack
 abbrev pub Blocks : ℕ → Stack → Type 0

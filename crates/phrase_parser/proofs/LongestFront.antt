@@ -9,7 +9,6 @@ use Rattle.std.proofs.lemmas.List.{take_at, drop_at}
 use Rattle.plcs_base.specs.Byte.{is_letter, is_digit, is_name_byte}
 use Rattle.plcs_base.specs.Name.{is_keyword, is_word, is_name, IsName}
 use Rattle.plcs_grammar.specs.declared.sign.Sign.{Sign}
-use Rattle.plcs_grammar.specs.declared.sign.Sign.TheVariants as Sign
 use Rattle.plcs_grammar.specs.Sign.{sign_bytes}
 use Rattle.plcs_grammar.specs.Token.{Token, IsToken, IsNumeral, IsConstantText, begins_with, is_quote, numeral_value, quoted, bit_bytes}
 use Rattle.phrase_parser.specs.declared.front.Front.{Front}
@@ -17,9 +16,9 @@ use Rattle.phrase_parser.specs.declared.token.TokenKind.{TokenKind}
 use Rattle.phrase_parser.specs.declared.token.TokenKind.TheVariants as kind
 use Rattle.phrase_parser.specs.Kept.{kept_kind}
 use Rattle.phrase_parser.specs.Front.{front_of, word_of, word_front, number_of, number_front, constant_of, constant_front, bit_constant, closing, sign_of, sign_front, double_at, ends_word}
-use Rattle.phrase_parser.proofs.Runs.{run_append, run_none, run_begins, word_bytes, keyword_word, keyword_short, name_word, name_short}
-use Rattle.phrase_parser.proofs.Quoted.{quoted_read, quoted_append}
-use Rattle.phrase_parser.proofs.FoundTokens.{BeginsBit, bit_tells, bit_read}
+use Rattle.phrase_parser.proofs.ByteRuns.{run_append, run_none, run_begins, word_bytes, keyword_word, keyword_short, name_word, name_short}
+use Rattle.phrase_parser.proofs.QuotedTexts.{quoted_read, quoted_append}
+use Rattle.phrase_parser.proofs.FrontTokens.{BeginsBit, bit_tells, bit_read}
 
 -- what is found is longer, or as long and of the same kind
 abbrev pub Covers : TokenKind → ℕ → Option Front → Type 0

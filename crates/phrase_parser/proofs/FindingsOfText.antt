@@ -16,9 +16,9 @@ use Rattle.phrase_parser.specs.Answers.{FaultSays, over_fault}
 use Rattle.phrase_parser.proofs.OneCut.{one_cut}
 use Rattle.phrase_parser.proofs.Completeness.{complete}
 use Rattle.phrase_parser.proofs.Limits.{none_over}
-use Rattle.phrase_parser.proofs.Checked.{Means, found_means}
+use Rattle.phrase_parser.proofs.FindingsSound.{SaysOfPieces, found_means}
 use Rattle.phrase_parser.proofs.PlacedTokens.{AllFit, form_fit}
-use Rattle.phrase_parser.proofs.Found.{finds_fine, finds_over, finds_wrong}
+use Rattle.phrase_parser.proofs.FindingsComplete.{finds_fine, finds_over, finds_wrong}
 
 -- what is found in a phrase is no place of wrong syntax
 form_found : (c : Category) (pieces : List Piece) (end place : ℕ) (shape : Shape) (p : Reading) (over : Option OverLimit)
@@ -42,18 +42,18 @@ no_outline c x pieces stop shape place e cut h (p, inl (qs, q)) =
 no_outline c x pieces stop shape place e cut h (p, inr k) =
     let a = sym e ∙ ap first_shape k.category_is in absurd (cc)
 
--- the fault of a finding
-abbrev pub Says : Category → List ℕ → List Piece → Finding → Type 0
-Says c x pieces Finding.fine = (p : Reading) × (ended_if (run (tokens_of pieces) (start c)) ≡ Some p) × Reads c x p × AllFit pieces
-Says c x pieces (Finding.syntax_at place) = FaultSays c x (Syntax place)
-Says c x pieces (Finding.over o) = FaultSays c x (over_fault o)
+-- what a finding says of the text
+abbrev pub SaysOfText : Category → List ℕ → List Piece → Finding → Type 0
+SaysOfText c x pieces Finding.fine = (p : Reading) × (ended_if (run (tokens_of pieces) (start c)) ≡ Some p) × Reads c x p × AllFit pieces
+SaysOfText c x pieces (Finding.syntax_at place) = FaultSays c x (Syntax place)
+SaysOfText c x pieces (Finding.over o) = FaultSays c x (over_fault o)
 
 says_over : (c : Category) (x : List ℕ) (o : OverLimit) → IsOver c x o → FaultSays c x (over_fault o)
 says_over c x (OverLimit.number_too_large place) h = h
 says_over c x (OverLimit.too_deep place) h = h
 
 says_if : (c : Category) (x : List ℕ) (pieces : List Piece) (stop : Option ℕ) (shape : Shape) (found : Finding)
-    → first_shape c ≡ Some shape → Cuts pieces 0 x stop → Means c pieces stop (length x) found → Says c x pieces found
+    → first_shape c ≡ Some shape → Cuts pieces 0 x stop → SaysOfPieces c pieces stop (length x) found → SaysOfText c x pieces found
 says_if c x pieces stop shape Finding.fine e cut (none, p, form, fits) =
     let whole = subst (λ z. Cuts pieces 0 x z) none cut in
     (p, complete c (tokens_of pieces) p form, (inl (pieces, record { cuts = whole; form = form }), fits), form_fit c pieces p form fits)
@@ -65,6 +65,6 @@ says_if c x pieces stop shape (Finding.over o) e cut (none, p, form, first) =
 
 -- what is found in the pieces of a text says what the text is
 pub finding_says : (c : Category) (x : List ℕ) (pieces : List Piece) (stop : Option ℕ) (shape : Shape) → first_shape c ≡ Some shape
-    → Cuts pieces 0 x stop → Says c x pieces (findings (map seen_of pieces) stop (length x) shape None)
+    → Cuts pieces 0 x stop → SaysOfText c x pieces (findings (map seen_of pieces) stop (length x) shape None)
 finding_says c x pieces stop shape e cut =
     says_if c x pieces stop shape (findings (map seen_of pieces) stop (length x) shape None) e cut (found_means c pieces stop (length x) shape e)

@@ -2,17 +2,17 @@
 use Rattle.std.proofs.Common.{◌≡◌, refl, ℕ, pos, List, [], ◌∷◌, ◌++◌, Option, Some, None, ap, sym, subst, ◌∙◌, append_assoc, append-nil, le_refl, lit≤}
 use Rattle.plcs_grammar.specs.declared.category.Category.{Category}
 use Rattle.plcs_grammar.specs.declared.item.Item.{Item}
-use Rattle.plcs_grammar.specs.declared.sign.Sign.TheVariants as Sign
+use Rattle.plcs_grammar.specs.declared.sign.Sign.{Sign}
 use Rattle.plcs_grammar.specs.Sign.{prefix_sign, infix_sign}
 use Rattle.plcs_grammar.specs.Token.{Token}
 use Rattle.plcs_grammar.specs.Reading.{Tree, Trees, Reference, Reading, category_of}
 use Rattle.plcs_grammar.specs.Builtin.{builtin_name}
 use Rattle.plcs_grammar.specs.Form.{Form, Begins}
 use Rattle.phrase_parser.specs.Machine.{Base, Stack, Role, State, tree_push, run, start, ended, ended_if}
-use Rattle.phrase_parser.proofs.Spelling.{spell, spell_reference, Fits, FitsReference}
-use Rattle.phrase_parser.proofs.Phrases.{spell_name, spell_item, spell_call, spell_listed, spell_phrase, FitsPhrase, FitsItem, AnyName, form_from}
+use Rattle.phrase_parser.proofs.TreeSpelling.{spell, spell_reference, Fits, FitsReference}
+use Rattle.phrase_parser.proofs.PhraseSpelling.{spell_name, spell_item, spell_call, spell_listed, spell_phrase, FitsPhrase, FitsItem, AnyName, form_from}
 use Rattle.phrase_parser.proofs.Completeness.{complete, alive}
-use Rattle.phrase_parser.proofs.Consumed.{spell_before, all_push, call_push, all_fit, call_fits, spell_each, listed_last, listed_fits, flat_base, flat_stack, flat_role, flat, hole, SoundBase, SoundStack, SoundRole, Sound, base_category, stack_category, role_category, state_category}
+use Rattle.phrase_parser.proofs.ConsumedTokens.{spell_before, all_push, call_push, all_fit, call_fits, spell_each, listed_last, listed_fits, flat_base, flat_stack, flat_role, flat, hole, SoundBase, SoundStack, SoundRole, Sound, base_category, stack_category, role_category, state_category}
 use Rattle.phrase_parser.proofs.Soundness.{close, open_, regroup, arguments_tokens, IsWholeIf, ended_whole, HasRead, has_read}
 
 abbrev equal : Token

@@ -1,25 +1,23 @@
 -- A comment's text is refused exactly where it isn't one.
-use Rattle.std.proofs.Common.{◌≡◌, inl, inr, refl, ℕ, suc, ◌+◌, ◌≤◌, Bool, true, false, cond, ◌||◌, not, List, [], ◌∷◌, ◌++◌, take, drop, reverse, length, Some, None, ap, sym, ◌∙◌, append_assoc, zero-le, arith}
+use Rattle.std.proofs.Common.{◌≡◌, inl, inr, refl, ℕ, ◌+◌, ◌≤◌, Bool, true, false, cond, ◌||◌, not, List, [], ◌∷◌, ◌++◌, take, drop, reverse, length, Some, None, ap, sym, ◌∙◌, append_assoc, zero-le, arith}
 use Rattle.std.specs.Prelude.{nat_eq, bytes_eq}
 use Rattle.std.specs.List.{list_all, starts_with, prefix_len}
-use Rattle.std.proofs.lemmas.Bool.{and_parts, and_from, or_right, or_parts, or_from, cond-true, cond-false, cond_both, false_from_ne_true, not_from_true}
+use Rattle.std.proofs.lemmas.Bool.{not-false, and_parts, and_from, or_right, or_parts, or_from, cond-true, cond-false, cond_both, false_from_ne_true, not_from_true}
 use Rattle.std.proofs.lemmas.Bool.Decides.{Decides-eqb}
 use Rattle.std.proofs.lemmas.Slice.Eq.{bytes_eq-Decides, starts_is}
 use Rattle.std.proofs.lemmas.List.{reverse-append, reverse-reverse, take-append-drop}
 use Rattle.plcs_base.specs.Byte.{is_printable}
-use Rattle.plcs_grammar.specs.Cuts.{is_blank, blanks, unblanked}
+use Rattle.plcs_grammar.specs.Cuts.{is_blank, blanks, unblanked, tokens_of}
 use Rattle.std.proofs.lemmas.List.Elements.{All-from_recursion}
 use Rattle.plcs_grammar.specs.declared.category.Category.TheVariants.{CommentText}
 use Rattle.plcs_grammar.specs.Reading.{Reading}
-use Rattle.plcs_grammar.specs.Cuts.{tokens_of}
 use Rattle.plcs_grammar.specs.Reads.{Outline, Reads}
 use Rattle.phrase_parser.specs.declared.fault.PhraseFault.TheVariants.{Syntax}
 use Rattle.phrase_parser.specs.Answers.{FaultSays}
+use Rattle.phrase_parser.proofs.ByteRuns.{drop_one_more}
+use Rattle.phrase_parser.proofs.TrimmedTexts.{trimmed_first}
 use Rattle.phrase_parser.proofs.OneAnswer.{comment_no_form}
 use Rattle.plcs_grammar.specs.Comment.{trimmed, comment_end, comment_placeholder, comment_offence, comment_syntax, IsCommentText}
-
-drop_one_more : (x : ℕ) (xs : List ℕ) (n : ℕ) → drop (1 + n) (x ∷ xs) ≡ drop n xs
-drop_one_more x xs n = let e : 1 + n ≡ suc n = omega arith in ap (λ (k : ℕ). drop k (x ∷ xs)) e
 
 absurd_true : (b : Bool) → b ≡ false → b ≡ true → ⊥
 absurd_true b e h = absurd (cc)
@@ -56,11 +54,8 @@ trimmed_keeps front a b rest h k =
 -- the text is its trimmed text between blanks
 surrounded : (x : List ℕ) → (left right : List ℕ) × (x ≡ left ++ (trimmed x ++ right))
 surrounded x =
-    let u = unblanked x in
-    let r = reverse u in
-    let whole : u ≡ trimmed x ++ reverse (take (blanks r) r) =
-    sym (reverse-reverse u) ∙ ap reverse (sym (take-append-drop (blanks r) r)) ∙ reverse-append (take (blanks r) r) (unblanked r) in
-    (take (blanks x) x, reverse (take (blanks r) r), sym (take-append-drop (blanks x) x) ∙ ap (λ z. take (blanks x) x ++ z) whole)
+    let first = trimmed_first x in
+    (take (blanks x) x, first.0, sym (take-append-drop (blanks x) x) ∙ ap (λ z. take (blanks x) x ++ z) first.1)
 
 -- a blank at the end is left out
 pub trim_last : (front : List ℕ) → reverse (unblanked (reverse (front ++ (32 ∷ [])))) ≡ reverse (unblanked (reverse front))
@@ -94,17 +89,13 @@ offence_there (b ∷ front) rest place e =
     (λ z. z ≡ None → ⊥) (λ t k. absurd (cc)) (λ t k. offence_there front rest (place + 1) k) e
 
 -- a text that isn't refused is printable
-not_false : (b : Bool) → not b ≡ false → b ≡ true
-not_false true e = refl
-not_false false e = absurd (cc)
-
 no_offence_printable : (x : List ℕ) (place : ℕ) → comment_offence place x ≡ None → list_all is_printable x ≡ true
 no_offence_printable [] place e = refl
 no_offence_printable (b ∷ rest) place e =
     cond_both (not (is_printable b) || ends (b ∷ rest)) (Some place) (comment_offence (place + 1) rest)
     (λ z. z ≡ None → list_all is_printable (b ∷ rest) ≡ true) (λ t k. absurd (cc))
     (λ t k. and_from (is_printable b) (list_all is_printable rest)
-    (not_false (is_printable b) (or_parts (not (is_printable b)) (ends (b ∷ rest)) t).0)
+    (not-false (is_printable b) (or_parts (not (is_printable b)) (ends (b ∷ rest)) t).0)
     (no_offence_printable rest (place + 1) k)) e
 
 -- where the end begins its two bytes stand

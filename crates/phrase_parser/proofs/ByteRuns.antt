@@ -8,10 +8,12 @@ use Rattle.plcs_base.specs.Byte.{is_letter, is_name_byte}
 use Rattle.plcs_base.specs.Name.{keywords, is_keyword, is_word, is_name, IsName}
 use Rattle.plcs_grammar.specs.Token.{begins_with}
 
+-- one byte more is taken
 take_one_more : (x : ℕ) (xs : List ℕ) (n : ℕ) → take (1 + n) (x ∷ xs) ≡ x ∷ take n xs
 take_one_more x xs n = let e : 1 + n ≡ suc n = omega arith in ap (λ (k : ℕ). take k (x ∷ xs)) e
 
-drop_one_more : (x : ℕ) (xs : List ℕ) (n : ℕ) → drop (1 + n) (x ∷ xs) ≡ drop n xs
+-- one byte more is dropped
+pub drop_one_more : (x : ℕ) (xs : List ℕ) (n : ℕ) → drop (1 + n) (x ∷ xs) ≡ drop n xs
 drop_one_more x xs n = let e : 1 + n ≡ suc n = omega arith in ap (λ (k : ℕ). drop k (x ∷ xs)) e
 
 -- a run goes on through a list whose bytes are all of its class
