@@ -5,7 +5,7 @@ use Rattle.std.specs.List.{list_all, list_any, prefix_len}
 use Rattle.std.proofs.lemmas.Bool.{and_parts, and_from, or_left, or_cases, cond-true, cond-false, cond_both, leb-true}
 use Rattle.std.proofs.lemmas.Slice.Eq.{bytes_eq-Decides}
 use Rattle.plcs_base.specs.Byte.{is_letter, is_name_byte}
-use Rattle.plcs_base.specs.Name.{keywords, is_keyword, is_word, is_name, IsName}
+use Rattle.plcs_base.specs.Name.{keywords, is_keyword, is_word, is_name, IsName, longest_name}
 use Rattle.plcs_grammar.specs.Token.{begins_with}
 
 -- one byte more is taken
@@ -83,19 +83,19 @@ unfolding is_keyword
 keyword_word w h = listed_word is_word w keywords refl h
 
 -- a keyword has at most 31 bytes
-pub keyword_short : (w : List ℕ) → is_keyword w ≡ true → length w ≤ 31
+pub keyword_short : (w : List ℕ) → is_keyword w ≡ true → length w ≤ longest_name
 unfolding is_keyword
-keyword_short w h = leb-true (length w) 31 (listed_word (λ u. nat_le (length u) 31) w keywords refl h)
+keyword_short w h = leb-true (length w) longest_name (listed_word (λ u. nat_le (length u) longest_name) w keywords refl h)
 
 -- a name is a word
 pub name_word : (w : List ℕ) → IsName w → is_word w ≡ true
 name_word w h = (and_parts (is_word w) _ h).0
 
 -- a name has at most 31 bytes
-pub name_short : (w : List ℕ) → IsName w → length w ≤ 31
+pub name_short : (w : List ℕ) → IsName w → length w ≤ longest_name
 name_short w h =
-    leb-true (length w) 31 (and_parts (nat_le (length w) 31) (not (is_keyword w)) (and_parts (is_word w) _ h).1).0
+    leb-true (length w) longest_name (and_parts (nat_le (length w) longest_name) (not (is_keyword w)) (and_parts (is_word w) _ h).1).0
 
 -- a short word that is no name is a keyword
-pub word_no_name : (w : List ℕ) → is_word w ≡ true → nat_le (length w) 31 ≡ true → is_name w ≡ false → is_keyword w ≡ true
+pub word_no_name : (w : List ℕ) → is_word w ≡ true → nat_le (length w) longest_name ≡ true → is_name w ≡ false → is_keyword w ≡ true
 word_no_name w word short h = grind (arith, word, short, h)

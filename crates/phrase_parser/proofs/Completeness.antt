@@ -2,6 +2,7 @@
 use Rattle.std.proofs.Common.{◌≡◌, refl, ℕ, ◌&&◌, leb, le-leb, List, [], ◌∷◌, ◌++◌, Option, Some, None, ap, sym, subst, ◌∙◌, le_refl, lit≤}
 use Rattle.std.specs.Option.{option_or}
 use Rattle.std.proofs.lemmas.Bool.{cond-true, and_from}
+use Rattle.plcs_base.specs.Text.{longest_text}
 use Rattle.plcs_grammar.specs.declared.category.Category.{Category}
 use Rattle.plcs_grammar.specs.declared.item.Item.{Item}
 use Rattle.plcs_grammar.specs.declared.sign.Sign.{Sign}
@@ -319,7 +320,7 @@ reaches (Reading.greatest_length n) f = record {
   end = State.length_had n;
   traced = 0 ∷ [];
   begins = refl;
-  goes = by (cond-true (leb 1 n && leb n 256) _ _ (and_from (leb 1 n) (leb n 256) (le-leb 1 n f.0) (le-leb n 256 f.1))) refl there;
+  goes = by (cond-true (leb 1 n && leb n longest_text) _ _ (and_from (leb 1 n) (leb n longest_text) (le-leb 1 n f.0) (le-leb n longest_text f.1))) refl there;
   ends = refl;
   agrees = λ pieces. over_none pieces (0 ∷ []) (refl, tt);
 }

@@ -2,7 +2,7 @@
 use Rattle.std.proofs.Common.{◌≡◌, ℕ, suc, ◌-◌, ◌≤◌, List, [], ◌∷◌, ◌++◌, length, take, sym, ap, ◌∙◌, subst, arith}
 use Rattle.std.proofs.lemmas.List.{length-append}
 use Rattle.std.proofs.Math.Seq.{take-append_seam}
-use Rattle.plcs_base.specs.Text.{IsTextValue}
+use Rattle.plcs_base.specs.Text.{IsTextValue, longest_text}
 use Rattle.plcs_grammar.specs.Token.{with_quotes_doubled, quoted}
 use Rattle.phrase_parser.specs.Unquoted.{undoubled}
 use Rattle.phrase_parser.specs.TokenIn.{inside, IsConstant}
@@ -23,7 +23,7 @@ undoubled_inside value = ap undoubled (inside_quoted value) ∙ undoubled_double
 pub constant_short : (bytes : List ℕ) → IsConstant bytes → IsTextValue (undoubled (inside bytes))
 constant_short bytes c =
     subst (λ (b : List ℕ). IsTextValue (undoubled (inside b))) (sym c.whole)
-    (subst (λ (v : List ℕ). length v ≤ 256) (sym (undoubled_inside c.value)) c.content.0)
+    (subst (λ (v : List ℕ). length v ≤ longest_text) (sym (undoubled_inside c.value)) c.content.0)
 
 -- there are two quotes
 pub constant_long : (bytes : List ℕ) → IsConstant bytes → 2 ≤ length bytes

@@ -1,5 +1,6 @@
 -- The tokens that the machine has read in a state, and what a state keeps.
 use Rattle.std.proofs.Common.{◌≡◌, refl, ℕ, ◌+◌, ◌≤◌, not, IsTrue, List, [], ◌∷◌, ◌++◌, ap, sym, ◌∙◌, append_assoc, append-nil}
+use Rattle.plcs_base.specs.Text.{longest_text}
 use Rattle.plcs_grammar.specs.declared.category.Category.{Category}
 use Rattle.plcs_grammar.specs.declared.category.Category.TheVariants.{Assignment, Condition, Expression, ExpressionList, VariableList, Variable, CallRef, DeclaredList, ProcedureName, NameList, Length}
 use Rattle.plcs_grammar.specs.declared.sign.Sign.{Sign}
@@ -212,7 +213,7 @@ Sound (State.size_wanted done name) = EachFits FitsItem done
 Sound (State.size_had done name n) = (1 ≤ n) × EachFits FitsItem done
 Sound (State.item_had done) = FitsListed FitsItem done
 Sound State.length_wanted = Unit {0}
-Sound (State.length_had n) = (1 ≤ n) × (n ≤ 256)
+Sound (State.length_had n) = (1 ≤ n) × (n ≤ longest_text)
 
 -- the category of the phrase that is read
 abbrev pub base_category : Base → Category

@@ -7,7 +7,7 @@ use Rattle.std.proofs.lemmas.Option.{none-some, same_Some, cond_some}
 use Rattle.std.proofs.lemmas.List.{take-append-drop}
 use Rattle.std.proofs.lemmas.List.Folds.{length-prefix_len}
 use Rattle.plcs_base.specs.Byte.{is_letter, is_digit, is_name_byte}
-use Rattle.plcs_base.specs.Name.{is_word, is_name}
+use Rattle.plcs_base.specs.Name.{is_word, is_name, longest_name}
 use Rattle.plcs_grammar.specs.declared.sign.Sign.{Sign}
 use Rattle.plcs_grammar.specs.Sign.{sign_bytes}
 use Rattle.plcs_grammar.specs.Token.{Token, IsToken, begins_with, is_quote, numeral_value, quoted, bit_bytes}
@@ -30,7 +30,7 @@ pub record Tells (x : List ℕ) (front : Front) : Type 0 where
 
 -- words
 
-word_tells : (w behind : List ℕ) (front : Front) → is_word w ≡ true → nat_le (length w) 31 ≡ true
+word_tells : (w behind : List ℕ) (front : Front) → is_word w ≡ true → nat_le (length w) longest_name ≡ true
     → begins_with is_name_byte behind ≡ false
     → front.kind ≡ cond (is_name w) kind.Name kind.Keyword → front.length ≡ length w → Tells (w ++ behind) front
 word_tells w behind front word short ends kind_is length_is =
@@ -62,7 +62,7 @@ word_front_tells first rest front letter h =
     let x = first ∷ rest in
     let n = prefix_len is_name_byte x in
     let w = take n x in
-    let found = cond_some (nat_le n 31) (record { kind = cond (is_name w) kind.Name kind.Keyword; length = n }) front h in
+    let found = cond_some (nat_le n longest_name) (record { kind = cond (is_name w) kind.Name kind.Keyword; length = n }) front h in
     let size : length w ≡ n = length-prefix_len is_name_byte x in
     let begins : is_name_byte first ≡ true = letter_is_name_byte first letter in
     let cut : w ≡ first ∷ take (prefix_len is_name_byte rest) rest = run_first is_name_byte first rest begins in
@@ -72,7 +72,7 @@ word_front_tells first rest front letter h =
     ap is_word cut ∙ and_from (is_letter first) (list_all is_name_byte (take (prefix_len is_name_byte rest) rest)) letter
     (and_parts (is_name_byte first) (list_all is_name_byte (take (prefix_len is_name_byte rest) rest)) all).1 in
     subst (λ (y : List ℕ). Tells y front) (take-append-drop n x)
-    (word_tells w (drop n x) front word (ap (λ (k : ℕ). nat_le k 31) size ∙ found.0) (run_ends is_name_byte x)
+    (word_tells w (drop n x) front word (ap (λ (k : ℕ). nat_le k longest_name) size ∙ found.0) (run_ends is_name_byte x)
     (sym (ap (λ (f : Front). f.kind) found.1)) (sym (ap (λ (f : Front). f.length) found.1) ∙ sym size))
 
 -- numbers

@@ -7,14 +7,14 @@ use Rattle.std.proofs.lemmas.Bool.Decides.{nat_tests}
 use Rattle.std.proofs.lemmas.Option.{same_Some}
 use Rattle.std.proofs.lemmas.List.{take_at, drop_at}
 use Rattle.plcs_base.specs.Byte.{is_letter, is_digit, is_name_byte}
-use Rattle.plcs_base.specs.Name.{is_keyword, is_word, is_name, IsName}
+use Rattle.plcs_base.specs.Name.{is_keyword, is_word, is_name, IsName, longest_name}
 use Rattle.plcs_grammar.specs.declared.sign.Sign.{Sign}
 use Rattle.plcs_grammar.specs.Sign.{sign_bytes}
 use Rattle.plcs_grammar.specs.Token.{Token, IsToken, IsNumeral, IsConstantText, begins_with, is_quote, numeral_value, quoted, bit_bytes}
 use Rattle.phrase_parser.specs.declared.front.Front.{Front}
 use Rattle.phrase_parser.specs.declared.token.TokenKind.{TokenKind}
 use Rattle.phrase_parser.specs.declared.token.TokenKind.TheVariants as kind
-use Rattle.phrase_parser.specs.Kept.{kept_kind}
+use Rattle.phrase_parser.specs.Kept.{kept_kind, greatest_kept}
 use Rattle.phrase_parser.specs.Front.{front_of, word_of, word_front, number_of, number_front, constant_of, constant_front, bit_constant, closing, sign_of, sign_front, double_at, ends_word}
 use Rattle.phrase_parser.proofs.ByteRuns.{run_append, run_none, run_begins, word_bytes, keyword_word, keyword_short, name_word, name_short}
 use Rattle.phrase_parser.proofs.QuotedTexts.{quoted_read, quoted_append}
@@ -63,7 +63,7 @@ at_digit first rest digit =
 -- words
 
 -- a short word is found, where no word goes on behind it
-pub word_found : (w behind : List ℕ) → is_word w ≡ true → length w ≤ 31 → begins_with is_name_byte behind ≡ false
+pub word_found : (w behind : List ℕ) → is_word w ≡ true → length w ≤ longest_name → begins_with is_name_byte behind ≡ false
     → Finds (w ++ behind) (cond (is_name w) kind.Name kind.Keyword) (length w)
 word_found [] behind word short ends = absurd (false≢true word)
 word_found (first ∷ rest) behind word short ends =
@@ -73,7 +73,7 @@ word_found (first ∷ rest) behind word short ends =
     let size : prefix_len is_name_byte x ≡ length w =
     omega (arith, run_append is_name_byte w behind (word_bytes w word), run_none is_name_byte behind ends) in
     at_letter first (rest ++ behind) letter ∙ ap (λ (n : ℕ). word_of n x) size
-    ∙ cond-true (nat_le (length w) 31) (Some (front_with (cond (is_name (take (length w) x)) kind.Name kind.Keyword) (length w))) None (le-leb (length w) 31 short)
+    ∙ cond-true (nat_le (length w) longest_name) (Some (front_with (cond (is_name (take (length w) x)) kind.Name kind.Keyword) (length w))) None (le-leb (length w) longest_name short)
     ∙ ap (λ (u : List ℕ). Some (front_with (cond (is_name u) kind.Name kind.Keyword) (length w))) (take_at w behind (length w) refl)
 
 -- a name is found, where no word goes on behind it
@@ -85,8 +85,8 @@ name_found n behind named ends =
 
 keyword_no_name : (w : List ℕ) → is_keyword w ≡ true → is_name w ≡ false
 keyword_no_name w h =
-    and_right (is_word w) (nat_le (length w) 31 && not (is_keyword w))
-    (and_right (nat_le (length w) 31) (not (is_keyword w)) (not_from_true (is_keyword w) h))
+    and_right (is_word w) (nat_le (length w) longest_name && not (is_keyword w))
+    (and_right (nat_le (length w) longest_name) (not (is_keyword w)) (not_from_true (is_keyword w) h))
 
 -- and so is a keyword
 pub keyword_found : (w behind : List ℕ) → IsTrue (is_keyword w) → begins_with is_name_byte behind ≡ false
@@ -99,7 +99,7 @@ keyword_found w behind listed ends =
 
 -- a number is found, where no digit follows
 pub number_found : (w behind : List ℕ) → IsNumeral w → begins_with is_digit behind ≡ false
-    → Finds (w ++ behind) (kind.Number (min (numeral_value w) 4294967295)) (length w)
+    → Finds (w ++ behind) (kind.Number (min (numeral_value w) greatest_kept)) (length w)
 number_found [] behind numeral ends = absurd (omega (arith, numeral.0))
 number_found (first ∷ rest) behind numeral ends =
     let w = first ∷ rest in
@@ -108,7 +108,7 @@ number_found (first ∷ rest) behind numeral ends =
     let size : prefix_len is_digit x ≡ length w =
     omega (arith, run_append is_digit w behind numeral.1, run_none is_digit behind ends) in
     at_digit first (rest ++ behind) digit ∙ ap (λ (n : ℕ). Some (number_of n x)) size
-    ∙ ap (λ (u : List ℕ). Some (front_with (kind.Number (min (numeral_value u) 4294967295)) (length w))) (take_at w behind (length w) refl)
+    ∙ ap (λ (u : List ℕ). Some (front_with (kind.Number (min (numeral_value u) greatest_kept)) (length w))) (take_at w behind (length w) refl)
 
 longer_run : (xs ys : List ℕ) → list_all is_digit xs ≡ true → begins_with is_digit ys ≡ true
     → length xs < prefix_len is_digit (xs ++ ys)
@@ -116,11 +116,11 @@ longer_run xs [] all more = absurd (false≢true more)
 longer_run xs (y ∷ ys) all more = omega (arith, run_append is_digit xs (y ∷ ys) all, run_begins is_digit y ys more)
 
 number_covered : (w behind : List ℕ) → IsNumeral w
-    → Covers (kind.Number (min (numeral_value w) 4294967295)) (length w) (front_of (w ++ behind))
+    → Covers (kind.Number (min (numeral_value w) greatest_kept)) (length w) (front_of (w ++ behind))
 number_covered [] behind numeral = absurd (omega (arith, numeral.0))
 number_covered (first ∷ rest) behind numeral =
     let w = first ∷ rest in
-    let k = kind.Number (min (numeral_value w) 4294967295) in
+    let k = kind.Number (min (numeral_value w) greatest_kept) in
     let digit = (and_parts (is_digit first) (list_all is_digit rest) numeral.1).0 in
     elim (cases_Bool (begins_with is_digit behind)) [
       | inl more ↦ subst (λ (o : Option Front). Covers k (length w) o) (sym (at_digit first (rest ++ behind) digit)) (inl (longer_run w behind numeral.1 more))
@@ -271,7 +271,7 @@ token_covered (Token.keyword word) bytes behind is =
     subst (λ (b : List ℕ). Covers kind.Keyword (length b) (front_of (b ++ behind))) (sym is.0)
     (covers_found (word ++ behind) kind.Keyword (length word) (keyword_found word behind is.1 (not-true _ is.2)))
 token_covered (Token.number n) bytes behind is =
-    subst (λ (m : ℕ). Covers (kind.Number (min m 4294967295)) (length bytes) (front_of (bytes ++ behind))) is.1 (number_covered bytes behind is.0)
+    subst (λ (m : ℕ). Covers (kind.Number (min m greatest_kept)) (length bytes) (front_of (bytes ++ behind))) is.1 (number_covered bytes behind is.0)
 token_covered (Token.text value) bytes behind is =
     subst (λ (b : List ℕ). Covers kind.Text (length b) (front_of (b ++ behind))) (sym is.0) (text_covered value behind is.1 (not-true _ is.2))
 token_covered (Token.bit bit) bytes behind is =

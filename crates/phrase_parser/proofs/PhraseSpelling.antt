@@ -1,5 +1,6 @@
 -- The tokens of a phrase as a list, and what its parts keep.
 use Rattle.std.proofs.Common.{◌≡◌, refl, ℕ, ◌≤◌, List, [], ◌∷◌, ◌++◌, Option, Some, None, ap, sym, subst, ◌∙◌, ap₂}
+use Rattle.plcs_base.specs.Text.{longest_text}
 use Rattle.plcs_grammar.specs.declared.category.Category.{Category}
 use Rattle.plcs_grammar.specs.declared.item.Item.{Item}
 use Rattle.plcs_grammar.specs.declared.sign.Sign.{Sign}
@@ -122,7 +123,7 @@ FitsPhrase (Reading.call name passed) = FitsCall passed
 FitsPhrase (Reading.declared_list items) = FitsListed FitsItem items
 FitsPhrase (Reading.procedure_name name) = Unit {0}
 FitsPhrase (Reading.name_list names) = FitsListed AnyName names
-FitsPhrase (Reading.greatest_length n) = (1 ≤ n) × (n ≤ 256)
+FitsPhrase (Reading.greatest_length n) = (1 ≤ n) × (n ≤ longest_text)
 FitsPhrase (Reading.comment bytes) = ⊥
 
 spelled_sized : (name : List ℕ) (size : Option ℕ) (ks : List Token) → IsSizedName name size ks

@@ -11,7 +11,7 @@ use Rattle.plcs_grammar.specs.Cuts.{Piece, Cuts, tokens_of}
 use Rattle.plcs_grammar.specs.Form.{Form}
 use Rattle.plcs_grammar.specs.Limit.{IsWithinLimits, greatest_number}
 use Rattle.plcs_grammar.specs.Opened.{phrase_opened}
-use Rattle.phrase_parser.specs.Kept.{kept_kind, kept}
+use Rattle.phrase_parser.specs.Kept.{kept_kind, kept, greatest_kept}
 use Rattle.phrase_parser.specs.Recognizer as model
 use Rattle.phrase_parser.specs.Findings.{seen_of}
 use Rattle.phrase_parser.specs.Shapes.{kind_from, seen_in, LiesIn}
@@ -65,7 +65,7 @@ cut_few text pieces stop cut =
 abbrev pub AllFit : List Piece → Type 0
 AllFit pieces = AllByRecursion (λ piece. NumberFits piece.token) pieces
 
-small_kept : (n : ℕ) → n ≤ greatest_number → min n 4294967295 ≡ n
+small_kept : (n : ℕ) → n ≤ greatest_number → min n greatest_kept ≡ n
 small_kept n h = omega (arith, h)
 
 token_as : (token : Token) (bytes behind : List ℕ) → IsToken token bytes behind → NumberFits token → token_from (kept_kind token) bytes ≡ token

@@ -5,6 +5,7 @@ use Rattle.std.specs.List.{list_all}
 use Rattle.std.proofs.lemmas.List.{append_assoc, length-append}
 use Rattle.std.proofs.lemmas.Option.{cond_some, none-some}
 use Rattle.std.proofs.lemmas.Bool.{and_parts, and_from, cond-true, cond-false, cond_both, leb-true, le-leb, eqb-true}
+use Rattle.plcs_base.specs.Text.{longest_text}
 use Rattle.plcs_base.specs.Byte.{is_printable}
 use Rattle.plcs_grammar.specs.Token.{begins_with, is_quote, with_quotes_doubled, quoted}
 use Rattle.phrase_parser.specs.Front.{closing, closing_at_quote, end_if_short}
@@ -19,7 +20,7 @@ pub record ClosesAt (read content : ℕ) (x : List ℕ) (end : ℕ) : Type 0 whe
   pub behind : List ℕ
   pub whole : x ≡ with_quotes_doubled value ++ (39 ∷ behind)
   pub end_is : end ≡ read + length (with_quotes_doubled value) + 1
-  pub short : content + length value ≤ 256
+  pub short : content + length value ≤ longest_text
   pub printable : list_all is_printable value ≡ true
   pub closed : begins_with is_quote behind ≡ false
 
@@ -57,13 +58,13 @@ closes_quotes read content x end c = record {
 closes_here : (read content : ℕ) (x : List ℕ) (end : ℕ) → begins_with is_quote x ≡ false
     → end_if_short (read + 1) content ≡ Some end → ClosesAt read content (39 ∷ x) end
 closes_here read content x end behind h =
-    let ends : (nat_le content 256 ≡ true) × (read + 1 ≡ end) = cond_some (nat_le content 256) (read + 1) end h in
+    let ends : (nat_le content longest_text ≡ true) × (read + 1 ≡ end) = cond_some (nat_le content longest_text) (read + 1) end h in
     record {
       value = [];
       behind = x;
       whole = refl;
       end_is = omega (arith, ends.1);
-      short = omega (arith, leb-true content 256 ends.0);
+      short = omega (arith, leb-true content longest_text ends.0);
       printable = refl;
       closed = behind;
     }
@@ -117,12 +118,12 @@ value_read (byte ∷ value) behind read content end total printable at sum =
     at
 
 -- and ends there, where no further quote follows
-pub quote_closes : (read content : ℕ) (behind : List ℕ) → content ≤ 256 → begins_with is_quote behind ≡ false
+pub quote_closes : (read content : ℕ) (behind : List ℕ) → content ≤ longest_text → begins_with is_quote behind ≡ false
     → closing_at_quote read content behind ≡ Some (read + 1)
-quote_closes read content [] short closed = cond-true (nat_le content 256) (Some (read + 1)) None (le-leb content 256 short)
+quote_closes read content [] short closed = cond-true (nat_le content longest_text) (Some (read + 1)) None (le-leb content longest_text short)
 quote_closes read content (byte ∷ rest) short closed =
     cond-false (is_quote byte) (closing (read + 2) (content + 1) rest) (end_if_short (read + 1) content) closed
-    ∙ cond-true (nat_le content 256) (Some (read + 1)) None (le-leb content 256 short)
+    ∙ cond-true (nat_le content longest_text) (Some (read + 1)) None (le-leb content longest_text short)
 
 -- a constant without its opening quote has the same bytes behind it as before it
 pub quoted_append : (value behind : List ℕ) → quoted value ++ behind ≡ 39 ∷ (with_quotes_doubled value ++ (39 ∷ behind))
@@ -133,7 +134,7 @@ pub length_quoted : (value : List ℕ) → length (quoted value) ≡ length (wit
 length_quoted value = omega (arith, length-append (with_quotes_doubled value) (39 ∷ []))
 
 -- so a constant is read to its end
-pub quoted_read : (value behind : List ℕ) → length value ≤ 256 → list_all is_printable value ≡ true
+pub quoted_read : (value behind : List ℕ) → length value ≤ longest_text → list_all is_printable value ≡ true
     → begins_with is_quote behind ≡ false → closing 1 0 (with_quotes_doubled value ++ (39 ∷ behind)) ≡ Some (length (quoted value))
 quoted_read value behind short printable closed =
     let end = 1 + length (with_quotes_doubled value) in

@@ -1,6 +1,8 @@
 -- The machine without trees does as the machine with trees.
 use Rattle.std.proofs.Common.{◌≡◌, refl, ℕ, ◌+◌, ◌≤◌, Bool, true, false, cond, leb, ◌&&◌, List, [], ◌∷◌, Option, Some, None, is_some, ap, ap₂, sym, ◌∙◌, arith, le_refl, lit≤, min}
 use Rattle.std.proofs.lemmas.Bool.{cond_both, not-true}
+use Rattle.plcs_base.specs.Text.{longest_text}
+use Rattle.phrase_parser.specs.Kept.{greatest_kept}
 use Rattle.plcs_grammar.specs.declared.operator.PrefixOp.{PrefixOp}
 use Rattle.plcs_grammar.specs.declared.operator.InfixOp.{InfixOp}
 use Rattle.plcs_grammar.specs.declared.operator.InfixOp.TheVariants as between
@@ -14,7 +16,7 @@ use Rattle.phrase_parser.specs.Machine
 use Rattle.phrase_parser.specs.Machine.{Base, Stack, Role, State, Operand, reduced, joined, step, ended, ended_at, prefix_of, infix_of}
 use Rattle.phrase_parser.specs.Trace.{base_depth, depth}
 use Rattle.phrase_parser.specs.Recognizer
-use Rattle.phrase_parser.specs.Recognizer.{greatest_kept, kind_of, Ground, ground_level, Bracket, Last, Use, Shape, inside, next, may_end, may_end_in, next_close_in, next_comma_in}
+use Rattle.phrase_parser.specs.Recognizer.{kind_of, Ground, ground_level, Bracket, Last, Use, Shape, inside, next, may_end, may_end_in, next_close_in, next_comma_in}
 use Rattle.phrase_parser.proofs.KeptNumbers.{kept_from, kept_to}
 use Rattle.phrase_parser.proofs.BuiltinNames.{builtin_missing, builtin_known}
 use Rattle.phrase_parser.proofs.TreesRead.{above_none, below_tightest}
@@ -267,8 +269,8 @@ sim_number : (s : State) (n : ℕ) → Recognizer.next_number (shape_of s) (min 
 sim_number (State.size_wanted done name) n =
     if_shape (leb 1 (min n greatest_kept)) (leb 1 n) (State.size_had done name n) (kept_from n 1 (lit≤ tt))
 sim_number State.length_wanted n =
-    if_shape (leb 1 (min n greatest_kept) && leb (min n greatest_kept) 256) (leb 1 n && leb n 256) (State.length_had n)
-    (ap₂ (λ a b. a && b) (kept_from n 1 (lit≤ tt)) (kept_to n 256 (lit≤ tt)))
+    if_shape (leb 1 (min n greatest_kept) && leb (min n greatest_kept) longest_text) (leb 1 n && leb n longest_text) (State.length_had n)
+    (ap₂ (λ a b. a && b) (kept_from n 1 (lit≤ tt)) (kept_to n longest_text (lit≤ tt)))
 sim_number s n = refl
 
 sim_constant : (s : State) (t : Tree) → last_of 0 t ≡ Last.operand → ((d : ℕ) → last_of d t ≡ Last.operand)

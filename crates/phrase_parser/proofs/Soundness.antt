@@ -1,6 +1,7 @@
 -- Each token that the machine takes is one more that it has read, and what it has read keeps its levels.
 use Rattle.std.proofs.Common.{◌≡◌, refl, ℕ, ◌≤◌, leb, ◌&&◌, leb-true, leb-false, List, [], ◌∷◌, ◌++◌, Option, Some, None, ap, sym, subst, ◌∙◌, arith, append_assoc, append-nil, le_refl}
 use Rattle.std.proofs.lemmas.Bool.{cond_both, and_parts}
+use Rattle.plcs_base.specs.Text.{longest_text}
 use Rattle.plcs_grammar.specs.declared.operator.PrefixOp.{PrefixOp}
 use Rattle.plcs_grammar.specs.declared.operator.InfixOp.{InfixOp}
 use Rattle.plcs_grammar.specs.declared.operator.InfixOp.TheVariants as between
@@ -110,9 +111,9 @@ numbered_after (State.size_wanted done name) n h =
     })
     (λ e. tt)
 numbered_after State.length_wanted n h =
-    cond_both (leb 1 n && leb n 256) (Some (State.length_had n)) None (AfterIf State.length_wanted (Token.number n))
-    (λ e. let p = and_parts (leb 1 n) (leb n 256) e in
-    record { sound = (leb-true 1 n p.0, leb-true n 256 p.1); tokens = refl; category = refl })
+    cond_both (leb 1 n && leb n longest_text) (Some (State.length_had n)) None (AfterIf State.length_wanted (Token.number n))
+    (λ e. let p = and_parts (leb 1 n) (leb n longest_text) e in
+    record { sound = (leb-true 1 n p.0, leb-true n longest_text p.1); tokens = refl; category = refl })
     (λ e. tt)
 numbered_after s n h = tt
 

@@ -1,8 +1,10 @@
 -- The token that a text begins with, as a function: a model of the code, which proofs compare with the longest token.
 use Rattle.std.specs.Prelude.{ℕ, ◌+◌, min, Bool, true, false, ◌&&◌, ◌==◌, not, nat_le, if◌then◌else◌, List, [], ◌∷◌, take, drop, Option, Some, None}
 use Rattle.std.specs.List.{prefix_len}
+use Rattle.phrase_parser.specs.Kept.{greatest_kept}
+use Rattle.plcs_base.specs.Text.{longest_text}
 use Rattle.plcs_base.specs.Byte.{is_letter, is_digit, is_name_byte, is_printable}
-use Rattle.plcs_base.specs.Name.{is_name}
+use Rattle.plcs_base.specs.Name.{is_name, longest_name}
 use Rattle.plcs_grammar.specs.Token.{begins_with, is_quote, numeral_value}
 use Rattle.plcs_grammar.specs.Cuts.{is_blank}
 use Rattle.plcs_grammar.specs.declared.sign.Sign.{Sign}
@@ -25,16 +27,16 @@ ends_word behind = not (begins_with is_name_byte behind)
 -- a name or a keyword of so many bytes
 abbrev pub word_of : ℕ → List ℕ → Option Front
 word_of length x =
-    if nat_le length 31 then Some (record { kind = if is_name (take length x) then kind.Name else kind.Keyword; length = length })
+    if nat_le length longest_name then Some (record { kind = if is_name (take length x) then kind.Name else kind.Keyword; length = length })
     else None
 
 -- a name or a keyword: the letters, digits and `_` that the text begins with
 abbrev pub word_front : List ℕ → Option Front
 word_front x = word_of (prefix_len is_name_byte x) x
 
--- a number of so many digits, kept up to 4294967295
+-- a number of so many digits, as it is kept
 abbrev pub number_of : ℕ → List ℕ → Front
-number_of length x = record { kind = kind.Number (min (numeral_value (take length x)) 4294967295); length = length }
+number_of length x = record { kind = kind.Number (min (numeral_value (take length x)) greatest_kept); length = length }
 
 -- a number: the digits that the text begins with
 abbrev pub number_front : List ℕ → Front
@@ -55,7 +57,7 @@ bit_constant [] = None
 
 -- where the constant ends, if its value has so few bytes
 abbrev pub end_if_short : ℕ → ℕ → Option ℕ
-end_if_short end content = if nat_le content 256 then Some end else None
+end_if_short end content = if nat_le content longest_text then Some end else None
 
 abbrev mutual
   -- how many bytes a constant has, where so many are read, with so many of its value, and x is left

@@ -6,11 +6,15 @@ use Rattle.phrase_parser.specs.declared.token.TokenKind.{TokenKind}
 use Rattle.phrase_parser.specs.declared.token.TokenKind.TheVariants as kind
 use Rattle.phrase_parser.specs.declared.token.Placed.{Placed}
 
--- the kind of a token; of a number its value, or 4294967295 where it is greater
+-- a number is kept up to this one
+abbrev pub greatest_kept : ℕ
+greatest_kept = 4294967295
+
+-- the kind of a token; of a number its value, or the greatest that is kept where it is greater
 abbrev pub kept_kind : Token → TokenKind
 kept_kind (Token.name n) = kind.Name
 kept_kind (Token.keyword word) = kind.Keyword
-kept_kind (Token.number n) = kind.Number (min n 4294967295)
+kept_kind (Token.number n) = kind.Number (min n greatest_kept)
 kept_kind (Token.text value) = kind.Text
 kept_kind (Token.bit value) = kind.Bit value
 kept_kind (Token.sign s) = kind.Sign s

@@ -5,6 +5,10 @@ use Rattle.plcs_grammar.specs.Reading.{Reading}
 use Rattle.plcs_grammar.specs.Canon.{Canon}
 use Rattle.plcs_grammar.specs.Reads.{Reads}
 
+-- a text reads as one phrase of a category at most
+abbrev pub OneReading : Type 0
+OneReading = (category : Category) (x : List ℕ) (p q : Reading) → Reads category x p → Reads category x q → p ≡ q
+
 -- for every phrase that some text reads as, its canonical text reads as that same phrase
 abbrev pub CanonicalTextReads : Type 0
 CanonicalTextReads = (category : Category) (x : List ℕ) (phrase : Reading) → Reads category x phrase → Reads category (Canon phrase) phrase

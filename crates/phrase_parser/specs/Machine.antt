@@ -1,6 +1,7 @@
 -- The machine that reads a phrase token by token. What is open stands on a stack, and an operator's operands are joined
 -- no sooner than the next token asks for it.
 use Rattle.std.specs.Prelude.{ℕ, pos, ◌&&◌, nat_le, if◌then◌else◌, List, [], ◌∷◌, ◌++◌, Option, Some, None}
+use Rattle.plcs_base.specs.Text.{longest_text}
 use Rattle.plcs_grammar.specs.declared.operator.PrefixOp.{PrefixOp}
 use Rattle.plcs_grammar.specs.declared.operator.PrefixOp.TheVariants as before
 use Rattle.plcs_grammar.specs.declared.operator.InfixOp.{InfixOp}
@@ -126,7 +127,7 @@ named state name = None
 abbrev pub numbered : State → ℕ → Option State
 numbered (wanted s) n = Some (had s (Tree.number (pos n)))
 numbered (size_wanted done name) n = if nat_le 1 n then Some (size_had done name n) else None
-numbered length_wanted n = if nat_le 1 n && nat_le n 256 then Some (length_had n) else None
+numbered length_wanted n = if nat_le 1 n && nat_le n longest_text then Some (length_had n) else None
 numbered state n = None
 
 -- a parenthesis is opened behind a name in an expression

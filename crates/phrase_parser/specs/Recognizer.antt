@@ -1,5 +1,7 @@
 -- The machine without trees: it tells which tokens can stand where, whether a phrase may end, and which levels are opened.
 use Rattle.std.specs.Prelude.{ℕ, ◌+◌, min, Bool, true, false, ◌&&◌, nat_le, if◌then◌else◌, List, [], ◌∷◌, Option, Some, None}
+use Rattle.phrase_parser.specs.Kept.{greatest_kept}
+use Rattle.plcs_base.specs.Text.{longest_text}
 use Rattle.plcs_grammar.specs.declared.operator.PrefixOp.{PrefixOp}
 use Rattle.plcs_grammar.specs.declared.operator.InfixOp.{InfixOp}
 use Rattle.plcs_grammar.specs.declared.category.Category.{Category}
@@ -16,10 +18,6 @@ pub data Kind : Type 0 where
   number : ℕ → Kind
   constant : Kind
   sign : Sign → Kind
-
--- a number is kept up to this one
-abbrev pub greatest_kept : ℕ
-greatest_kept = 4294967295
 
 -- what is looked at of the token
 abbrev pub kind_of : Token → Kind
@@ -102,7 +100,7 @@ next_constant shape = None
 abbrev pub next_number : Shape → ℕ → Option Shape
 next_number (wanted g brackets level) n = Some (had operand g brackets)
 next_number size_wanted n = if nat_le 1 n then Some size_had else None
-next_number length_wanted n = if nat_le 1 n && nat_le n 256 then Some length_had else None
+next_number length_wanted n = if nat_le 1 n && nat_le n longest_text then Some length_had else None
 next_number shape n = None
 
 -- a parenthesis is opened in an expression

@@ -98,6 +98,10 @@ kind_from (token.Sign sign) bytes = model.Kind.sign sign
 abbrev pub seen_in : List ℕ → Placed → Seen
 seen_in text placed = record { kind = kind_from placed.kind (bytes_in text placed); start = placed.start }
 
+-- the deepest level of which one more can still be counted
+abbrev pub deepest_level : ℕ
+deepest_level = 4294967294
+
 -- no level is over the limit
 abbrev pub LastWithin : ℕ → model.Last → Type 0
 LastWithin limit model.Last.operand = Unit {0}

@@ -1,5 +1,6 @@
 -- What a token with its place is in its text.
 use Rattle.std.specs.Prelude.{◌≡◌, ℕ, ◌-◌, ◌≤◌, List, length, slice_range}
+use Rattle.plcs_grammar.specs.Limit.{greatest_number}
 use Rattle.plcs_base.specs.Name.{IsName}
 use Rattle.plcs_grammar.specs.Token.{Token, quoted, IsConstantText}
 use Rattle.phrase_parser.specs.Unquoted.{undoubled}
@@ -38,7 +39,7 @@ pub record IsConstant (bytes : List ℕ) : Type 0 where
 abbrev pub IsOfKind : TokenKind → List ℕ → Type 0
 IsOfKind kind.Name bytes = IsName bytes
 IsOfKind kind.Keyword bytes = Unit {0}
-IsOfKind (kind.Number n) bytes = n ≤ 2147483647
+IsOfKind (kind.Number n) bytes = n ≤ greatest_number
 IsOfKind kind.Text bytes = IsConstant bytes
 IsOfKind (kind.Bit value) bytes = Unit {0}
 IsOfKind (kind.Sign s) bytes = Unit {0}

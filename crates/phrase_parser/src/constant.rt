@@ -1,10 +1,7 @@
 ghost use Rattle.std.specs.Prelude.{◌≡◌, drop};
 ghost use Rattle.phrase_parser.specs.Front.{bit_value, bit_constant, closing, ends_word};
 
-use plcs_base::{is_name_byte, is_printable};
-
-/// The greatest number of bytes that a character constant may be the value of.
-const MAX_CONTENT: usize = 256;
+use plcs_base::{LONGEST_TEXT, is_name_byte, is_printable};
 
 /// The bit constant that the text begins with.
 pub fn bit_constant(text: &[u8]) -> Option<bool>
@@ -53,7 +50,7 @@ pub fn constant_length(text: &[u8]) -> Option<usize>
         } else if end + 1 < text.len() && text[end + 1] == b'\'' {
             end += 2;
         } else {
-            return if content <= MAX_CONTENT {
+            return if content <= LONGEST_TEXT {
                 Some(end + 1)
             } else {
                 None

@@ -1,16 +1,14 @@
 ghost use Rattle.std.specs.Prelude.{◌≡◌, min};
 ghost use Rattle.plcs_grammar.specs.Token.{numeral_value};
+ghost use Rattle.phrase_parser.specs.Kept.{greatest_kept};
 ghost use Rattle.phrase_parser.specs.Front.{front_of, word_front, number_front, constant_front, sign_front, sign_kept};
 
 use crate::byte_class::{ByteClass, leading};
 use crate::constant::{bit_constant, constant_length};
 use crate::sign::{double_sign, single_sign};
 use crate::token::TokenKind;
-use plcs_base::{Name, is_digit, is_letter};
+use plcs_base::{LONGEST_NAME, Name, is_digit, is_letter};
 use plcs_grammar::Sign;
-
-/// The greatest number of bytes of a name.
-const MAX_NAME: usize = 31;
 
 /// A token that a text begins with.
 #[derive(Clone, Copy)]
@@ -39,7 +37,7 @@ fn word_front(text: &[u8]) -> Option<Front>
     ensures { result ≡ word_front text.now }
 {
     let length = leading(ByteClass::NameByte, text);
-    if length > MAX_NAME {
+    if length > LONGEST_NAME {
         return None;
     }
     let kind = match Name::read(&text[..length]) {
@@ -60,7 +58,7 @@ fn number_front(text: &[u8]) -> Front
 
 /// The number that the digits write, or 4294967295 where it is greater.
 fn capped_value(digits: &[u8]) -> u32
-    ensures { result ≡ min (numeral_value digits.now) 4294967295 }
+    ensures { result ≡ min (numeral_value digits.now) greatest_kept }
 {
     let mut value: u32 = 0;
     for digit in digits {

@@ -1,5 +1,10 @@
 //! Laws about what texts read as. Each is the contract of a function that does nothing.
-ghost use Rattle.phrase_parser.specs.Laws.{CanonicalTextReads, CanonicalTextTells};
+ghost use Rattle.phrase_parser.specs.Laws.{OneReading, CanonicalTextReads, CanonicalTextTells};
+
+/// A text reads as one phrase of a category at most.
+pub fn one_reading()
+    ensures { OneReading }
+{}
 
 /// The canonical text of a phrase that some text reads as reads as that same phrase, so the phrase is well formed.
 pub fn canonical_text_reads()

@@ -12,14 +12,13 @@ mod law;
 mod lexer;
 #[cfg(test)]
 mod lexer_tests;
+mod limit;
 mod parser;
 #[cfg(test)]
 mod parser_tests;
 mod sign;
 mod token;
-mod uniqueness;
 
 pub use fault::PhraseFault;
-pub use law::{canonical_text_reads, canonical_text_tells};
+pub use law::{canonical_text_reads, canonical_text_tells, one_reading};
 pub use parser::parse;
-pub use uniqueness::one_reading;

@@ -20,9 +20,13 @@ abbrev pub is_word : List ℕ → Bool
 is_word [] = false
 is_word (first ∷ rest) = is_letter first && list_all is_name_byte rest
 
--- a word of at most 31 bytes that is no keyword
+-- how many bytes a name may have
+abbrev pub longest_name : ℕ
+longest_name = 31
+
+-- a word, not too long, that is no keyword
 abbrev pub is_name : List ℕ → Bool
-is_name bytes = is_word bytes && (nat_le (length bytes) 31 && not (is_keyword bytes))
+is_name bytes = is_word bytes && (nat_le (length bytes) longest_name && not (is_keyword bytes))
 
 -- the bytes are a name
 abbrev pub IsName : List ℕ → Type 0

@@ -39,10 +39,13 @@ const KEYWORDS: [&[u8]; 27] = [
     b"WHILE",
 ];
 
-/// A name of at most 31 bytes, which contracts see as its bytes.
+/// How many bytes a name may have.
+pub const LONGEST_NAME: usize = 31;
+
+/// A name, which contracts see as its bytes.
 #[derive(Clone, Debug, Drop, PartialEq, Eq, Hash)]
 pub struct Name {
-    bytes: ArrayVec<u8, 31>,
+    bytes: ArrayVec<u8, LONGEST_NAME>,
 }
 
 impl Model for Name {
@@ -84,7 +87,7 @@ impl Name {
 fn is_name(bytes: &[u8]) -> bool
     ensures { result ≡ is_name bytes.now }
 {
-    is_word(bytes) && bytes.len() <= 31 && !is_keyword(bytes)
+    is_word(bytes) && bytes.len() <= LONGEST_NAME && !is_keyword(bytes)
 }
 
 /// Whether the bytes are a letter and then letters, digits or `_`.

@@ -4,12 +4,15 @@ ghost use Rattle.plcs_base.specs.Text.{IsTextValue};
 use arrayvec::ArrayVec;
 use std::marker::Model;
 
-/// The text that a value holds, of at most 256 bytes, which contracts see as its bytes.
+/// How many bytes the text of a value may have.
+pub const LONGEST_TEXT: usize = 256;
+
+/// The text that a value holds, which contracts see as its bytes.
 ///
 /// It may hold any bytes. That a phrase spells only the bytes from 32 to 126 is a rule of phrases.
 #[derive(Clone, Debug, Drop, PartialEq, Eq)]
 pub struct TextValue {
-    bytes: ArrayVec<u8, 256>,
+    bytes: ArrayVec<u8, LONGEST_TEXT>,
 }
 
 impl Model for TextValue {

@@ -1,5 +1,6 @@
 -- The forms of the categories of phrases, as tokens.
 use Rattle.std.specs.Prelude.{◌≡◌, ℕ, ◌≤◌, List, [], ◌∷◌, ◌++◌, Option, Some, None}
+use Rattle.plcs_base.specs.Text.{longest_text}
 use Rattle.plcs_grammar.specs.declared.category.Category.{Category}
 use Rattle.plcs_grammar.specs.declared.item.Item.{Item}
 use Rattle.plcs_grammar.specs.declared.sign.Sign.{Sign}
@@ -51,7 +52,7 @@ IsPhrase (Reading.call name arguments) tokens = IsCall name arguments tokens
 IsPhrase (Reading.declared_list items) tokens = JoinedBy IsItem items tokens
 IsPhrase (Reading.procedure_name name) tokens = IsNameToken name tokens
 IsPhrase (Reading.name_list names) tokens = JoinedBy IsNameToken names tokens
-IsPhrase (Reading.greatest_length n) tokens = (1 ≤ n) × (n ≤ 256) × (tokens ≡ Token.number n ∷ [])
+IsPhrase (Reading.greatest_length n) tokens = (1 ≤ n) × (n ≤ longest_text) × (tokens ≡ Token.number n ∷ [])
 IsPhrase (Reading.comment bytes) tokens = ⊥
 
 -- the tokens are the phrase, which is of the category

@@ -1,4 +1,5 @@
 ghost use Rattle.std.specs.Prelude.{◌≡◌, ◌≤◌, IfOk, pos};
+ghost use Rattle.plcs_grammar.specs.Limit.{greatest_number};
 ghost use Rattle.plcs_grammar.specs.Reading.{Tree, Reference};
 ghost use Rattle.plcs_grammar.specs.PlainForm.{tree_of, trees_of, reference_of};
 ghost use Rattle.phrase_parser.specs.Views.{primary_of};
@@ -10,7 +11,7 @@ use std::alloc::{AllocError, Global};
 
 /// The number as an operand.
 pub fn number(n: u32) -> Primary
-    requires { n ≤ 2147483647 }
+    requires { n ≤ greatest_number }
     ensures { primary_of result ≡ Tree.number (pos n) }
 {
     Primary::Number(n as i32)

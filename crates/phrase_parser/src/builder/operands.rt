@@ -1,4 +1,5 @@
 ghost use Rattle.std.specs.Prelude.{◌≡◌, ◌≤◌};
+ghost use Rattle.plcs_grammar.specs.Limit.{greatest_number};
 ghost use Rattle.phrase_parser.specs.Machine.{operand, named, numbered};
 ghost use Rattle.phrase_parser.specs.Gives.{Gives};
 ghost use Rattle.phrase_parser.specs.Views.{primary_of, state_of};
@@ -6,10 +7,8 @@ ghost use Rattle.phrase_parser.specs.Views.{primary_of, state_of};
 use crate::builder::fault::BuildError;
 use crate::builder::make::number;
 use crate::builder::state::{Primary, State};
+use crate::limit::GREATEST_LENGTH;
 use plcs_base::Name;
-
-/// The greatest length that a text can be declared with.
-const GREATEST_LENGTH: u32 = 256;
 
 /// A whole operand is read.
 pub fn operand(state: State, primary: Primary) -> Result<State, BuildError>
@@ -34,13 +33,13 @@ pub fn named(state: State, name: Name) -> Result<State, BuildError>
 
 /// A number is read.
 pub fn numbered(state: State, n: u32) -> Result<State, BuildError>
-    requires { n ≤ 2147483647 }
+    requires { n ≤ greatest_number }
     ensures { Gives state_of result (numbered (state_of state) n) }
 {
     match state {
         State::Wanted(stack) => Ok(State::Had(stack, number(n))),
-        State::SizeWanted(done, name) if 1 <= n => Ok(State::SizeHad(done, name, n)),
-        State::LengthWanted if 1 <= n && n <= GREATEST_LENGTH => Ok(State::LengthHad(n as u16)),
+        State::SizeWanted(done, name) if n >= 1 => Ok(State::SizeHad(done, name, n)),
+        State::LengthWanted if n >= 1 && n <= GREATEST_LENGTH => Ok(State::LengthHad(n as u16)),
         _ => Err(BuildError::Refused),
     }
 }

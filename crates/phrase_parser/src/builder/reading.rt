@@ -6,7 +6,7 @@ ghost use Rattle.phrase_parser.specs.Unquoted.{undoubled, undoubled_behind};
 ghost use Rattle.phrase_parser.specs.TokenIn.{IsConstant, inside};
 
 use arrayvec::ArrayVec;
-use plcs_base::{Name, TextValue};
+use plcs_base::{LONGEST_TEXT, Name, TextValue};
 
 /// The name that the bytes are.
 pub fn name_of(bytes: &[u8]) -> Name
@@ -30,7 +30,7 @@ fn undoubled(bytes: &[u8]) -> TextValue
     requires { IsTextValue (undoubled bytes.now) }
     ensures { result ≡ undoubled bytes.now }
 {
-    let mut value: ArrayVec<u8, 256> = ArrayVec::new();
+    let mut value: ArrayVec<u8, LONGEST_TEXT> = ArrayVec::new();
     let mut left = bytes;
     while let [byte, behind @ ..] = left {
         value.push(*byte);

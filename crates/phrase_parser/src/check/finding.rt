@@ -6,12 +6,7 @@ ghost use Rattle.phrase_parser.specs.Shapes.{shape_of, kind_of, over_if, as_foun
 use crate::check::kind::Kind;
 use crate::check::shape::Shape;
 use crate::check::step::may_end;
-
-/// The greatest number that a phrase may have.
-const GREATEST_NUMBER: u32 = 2147483647;
-
-/// How many levels may be open.
-const GREATEST_NESTING: u32 = 32;
+use crate::limit::{GREATEST_NESTING, GREATEST_NUMBER};
 
 /// What goes past its limit, and the place of it.
 #[derive(Clone, Copy)]

@@ -1,6 +1,6 @@
 ghost use Rattle.std.specs.Prelude.{◌≡◌};
 ghost use Rattle.phrase_parser.specs.Recognizer.{level_behind, level_by_use, sign_level, level_of};
-ghost use Rattle.phrase_parser.specs.Shapes.{last_of, use_of, shape_of, kind_of, LastWithin, Within};
+ghost use Rattle.phrase_parser.specs.Shapes.{last_of, use_of, shape_of, kind_of, LastWithin, Within, deepest_level};
 
 use crate::check::kind::Kind;
 use crate::check::shape::{Last, Role, Shape};
@@ -8,7 +8,7 @@ use plcs_grammar::Sign;
 
 /// The level that a parenthesis opens behind an operand, or 0.
 fn level_behind(last: Last) -> u32
-    requires { LastWithin 4294967294 (last_of last) }
+    requires { LastWithin deepest_level (last_of last) }
     ensures { result ≡ level_behind (last_of last) }
 {
     match last {
@@ -30,7 +30,7 @@ fn level_by_role(role: Role) -> u32
 
 /// The level that the sign opens, or 0.
 fn sign_level(shape: &Shape, sign: Sign) -> u32
-    requires { Within 4294967294 (shape_of shape.now) }
+    requires { Within deepest_level (shape_of shape.now) }
     ensures { result ≡ sign_level (shape_of shape.now) sign }
 {
     match (shape, sign) {
@@ -43,7 +43,7 @@ fn sign_level(shape: &Shape, sign: Sign) -> u32
 
 /// The level that the token opens, or 0.
 pub fn level_of(shape: &Shape, kind: Kind) -> u32
-    requires { Within 4294967294 (shape_of shape.now) }
+    requires { Within deepest_level (shape_of shape.now) }
     ensures { result ≡ level_of (shape_of shape.now) (kind_of kind) }
 {
     match kind {

@@ -1,6 +1,6 @@
-ghost use Rattle.std.specs.Prelude.{◌≡◌, ◌<◌, IfOk, []};
+ghost use Rattle.std.specs.Prelude.{◌≡◌, ◌≤◌, IfOk, []};
 ghost use Rattle.phrase_parser.specs.Recognizer.{ground_level, inside, bracketed, next_close_ground, next_close_in, next_comma_ground, next_comma_in, may_end_in};
-ghost use Rattle.phrase_parser.specs.Shapes.{ground_of, brackets_of, shape_of, shape_if};
+ghost use Rattle.phrase_parser.specs.Shapes.{ground_of, brackets_of, shape_of, shape_if, deepest_level};
 
 use crate::check::shape::{Bracket, Ground, Last, Nesting, Shape};
 use std::alloc::{AllocError, Global};
@@ -39,7 +39,7 @@ pub fn inside(nesting: &Nesting) -> u32
 /// A parenthesis is opened where so many levels are open.
 #[tactic(auto, using(crate::proofs::OpenBrackets::brackets_push))]
 pub fn bracketed(nesting: Nesting, takes_commas: bool, level: u32) -> Result<Shape, AllocError>
-    requires { level < 4294967295 }
+    requires { level ≤ deepest_level }
     ensures { IfOk result (λ s. shape_of s ≡ bracketed takes_commas (ground_of nesting.place) (brackets_of nesting.brackets.items) level) }
 {
     let Nesting {

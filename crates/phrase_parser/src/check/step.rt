@@ -1,10 +1,11 @@
 ghost use Rattle.std.specs.Prelude.{◌≡◌, IfOk, []};
 ghost use Rattle.phrase_parser.specs.Recognizer.{next_name, next_constant, next_number, next_open_name, next_open, next_close, next_comma_name, next_comma, next_equal_name, next_equal, next_operator, next_sign, next, first_shape, may_end, inside, Shape as model};
-ghost use Rattle.phrase_parser.specs.Shapes.{ground_of, brackets_of, use_of, shape_of, shape_if, kind_of, Within};
+ghost use Rattle.phrase_parser.specs.Shapes.{ground_of, brackets_of, use_of, shape_of, shape_if, kind_of, Within, deepest_level};
 
 use crate::check::kind::Kind;
 use crate::check::nesting::{bracketed, closed, comma, inside, may_end_in};
 use crate::check::shape::{Ground, Last, Nesting, Role, Shape};
+use crate::limit::GREATEST_LENGTH;
 use crate::sign::{infix_of, prefix_of};
 use plcs_grammar::{Category, Sign};
 use std::alloc::{AllocError, Global};
@@ -44,7 +45,7 @@ fn next_number(shape: Shape, n: u32) -> Option<Shape>
     match shape {
         Shape::Wanted(nesting, _) => Some(Shape::Had(Last::Operand, nesting)),
         Shape::SizeWanted if n >= 1 => Some(Shape::SizeHad),
-        Shape::LengthWanted if n >= 1 && n <= 256 => Some(Shape::LengthHad),
+        Shape::LengthWanted if n >= 1 && n <= GREATEST_LENGTH => Some(Shape::LengthHad),
         _ => None,
     }
 }
@@ -64,7 +65,7 @@ fn next_open_name(alloc: Global, role: Role) -> Option<Shape>
 
 /// A parenthesis is opened.
 fn next_open(alloc: Global, shape: Shape) -> Result<Option<Shape>, AllocError>
-    requires { Within 4294967294 (shape_of shape) }
+    requires { Within deepest_level (shape_of shape) }
     ensures { IfOk result (λ s. shape_if s ≡ next_open (shape_of shape)) }
 {
     match shape {
@@ -144,7 +145,7 @@ fn next_equal(alloc: Global, shape: Shape) -> Option<Shape>
 /// A sign is read that is an operator wherever it stands.
 #[tactic(auto, using(crate::proofs::OperatorTests::prefix_if, crate::proofs::OperatorTests::infix_if))]
 fn next_operator(shape: Shape, sign: Sign) -> Option<Shape>
-    requires { Within 4294967294 (shape_of shape) }
+    requires { Within deepest_level (shape_of shape) }
     ensures { shape_if result ≡ next_operator (shape_of shape) sign }
 {
     match shape {
@@ -159,7 +160,7 @@ fn next_operator(shape: Shape, sign: Sign) -> Option<Shape>
 
 /// A sign is read.
 fn next_sign(alloc: Global, shape: Shape, sign: Sign) -> Result<Option<Shape>, AllocError>
-    requires { Within 4294967294 (shape_of shape) }
+    requires { Within deepest_level (shape_of shape) }
     ensures { IfOk result (λ s. shape_if s ≡ next_sign (shape_of shape) sign) }
 {
     match sign {
@@ -185,7 +186,7 @@ fn next_sign(alloc: Global, shape: Shape, sign: Sign) -> Result<Option<Shape>, A
 
 /// What is wanted behind one more token, if it can stand there.
 pub fn next(alloc: Global, shape: Shape, kind: Kind) -> Result<Option<Shape>, AllocError>
-    requires { Within 4294967294 (shape_of shape) }
+    requires { Within deepest_level (shape_of shape) }
     ensures { IfOk result (λ s. shape_if s ≡ next (shape_of shape) (kind_of kind)) }
 {
     match kind {

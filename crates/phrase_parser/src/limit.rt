@@ -1,0 +1,10 @@
+//! The limits of phrases.
+
+/// The greatest number that a phrase may have.
+pub const GREATEST_NUMBER: u32 = 2147483647;
+
+/// How many levels may be open.
+pub const GREATEST_NESTING: u32 = 32;
+
+/// The greatest length that a text can be declared with.
+pub const GREATEST_LENGTH: u32 = 256;
