@@ -16,6 +16,8 @@ mod limit;
 mod parser;
 #[cfg(test)]
 mod parser_tests;
+#[cfg(test)]
+mod same_phrase;
 mod sign;
 mod token;
 

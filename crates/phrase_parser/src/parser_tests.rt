@@ -1,6 +1,7 @@
 ghost use Rattle.std.specs.Prelude.{◌<◌, length};
 
 use crate::PhraseFault::{NumberTooLarge, Syntax, TooDeep};
+use crate::same_phrase::same_phrase;
 use crate::{PhraseFault, parse};
 use arrayvec::ArrayVec;
 use plcs_base::ByteOut;
@@ -255,7 +256,7 @@ const NAMES: [Text; 28] = [
     (CommentText, b"DO 'x", b"DO 'x"),
 ];
 
-/// The canonical text of a phrase, where it is short.
+/// Keeps what is put, up to 100 bytes.
 #[derive(Drop)]
 struct Kept {
     text: ArrayVec<u8, 100>,
@@ -272,23 +273,35 @@ impl ByteOut for Kept {
     }
 }
 
-/// Whether the text reads as a phrase with this canonical text, and that text as one with the same.
-/// Two phrases with one canonical text are equal.
-fn is_read_again(alloc: Global, category: Category, text: &[u8], canonical: &[u8]) -> bool
-    requires { length text.now < 1000 }
-{
-    let Ok(phrase) = parse(alloc, category, text) else {
-        return false
-    };
+/// The canonical text of the phrase, where it has at most 100 bytes.
+fn text_of(phrase: &Phrase) -> Option<ArrayVec<u8, 100>> {
     let mut kept = Kept {
         text: ArrayVec::new(),
         whole: true,
     };
-    show(&phrase, &mut kept);
-    let Ok(again) = parse(alloc, category, kept.text.as_slice()) else {
-        return false
+    show(phrase, &mut kept);
+    if kept.whole { Some(kept.text) } else { None }
+}
+
+/// Whether the phrase has this canonical text.
+fn has_text(phrase: &Phrase, text: &[u8]) -> bool {
+    matches!(text_of(phrase), Some(kept) if kept.as_slice() == text)
+}
+
+/// Whether the text reads as a phrase with this canonical text, and that text as the same phrase.
+fn is_read_again(alloc: Global, category: Category, text: &[u8], canonical: &[u8]) -> bool
+    requires { length text.now < 1000 }
+{
+    let Ok(phrase) = parse(alloc, category, text) else {
+        return false;
     };
-    kept.whole && kept.text.as_slice() == canonical && has_text(&again, canonical)
+    let Some(shown) = text_of(&phrase) else {
+        return false;
+    };
+    let Ok(again) = parse(alloc, category, shown.as_slice()) else {
+        return false;
+    };
+    shown.as_slice() == canonical && has_text(&again, canonical) && same_phrase(&phrase, &again)
 }
 
 fn compare_again(rt: &impl Abort, alloc: Global, texts: &[Text]) {
@@ -306,6 +319,38 @@ fn canonical_texts_are_read_again(rt: HostRuntime) {
     compare_again(&rt, rt.alloc(), &OPERANDS);
     compare_again(&rt, rt.alloc(), &LISTS);
     compare_again(&rt, rt.alloc(), &NAMES);
+}
+
+/// A category, and two texts that read as different phrases of it.
+type Pair = (Category, &'static [u8], &'static [u8]);
+
+const PAIRS: [Pair; 14] = [
+    (Assignment, b"x = 1", b"y = 1"),
+    (Condition, b"a & b | c", b"a & ( b | c )"),
+    (Expression, b"1 - 2 - 3", b"1 - ( 2 - 3 )"),
+    (Expression, b"1", b"( 1 )"),
+    (Expression, b"a", b"'a'"),
+    (Expression, b"a(1)", b"a(2)"),
+    (Expression, b"MIN(1, 2)", b"MAX(1, 2)"),
+    (Expression, b"'0'B", b"'1'B"),
+    (ExpressionList, b"1, 2", b"1"),
+    (VariableList, b"a(1)", b"a"),
+    (CallRef, b"p", b"p(1)"),
+    (DeclaredList, b"a", b"a(1)"),
+    (NameList, b"a, b", b"b, a"),
+    (CommentText, b"a b", b"a  b"),
+];
+
+#[test]
+fn other_texts_are_other_phrases(rt: HostRuntime) -> Result<(), Fail> {
+    for (category, text, other) in PAIRS {
+        assert!(rt; text.len() < 100 && other.len() < 100);
+        let one = parse(rt.alloc(), category, text).map_err(|_| "a phrase")?;
+        let another = parse(rt.alloc(), category, other).map_err(|_| "a phrase")?;
+        assert!(rt; same_phrase(&one, &one) && same_phrase(&another, &another));
+        assert!(rt; !same_phrase(&one, &another), "{text:?} and {other:?}");
+    }
+    Ok(())
 }
 
 /// All keywords.
@@ -368,34 +413,6 @@ fn no_phrase_but_a_comment_has_a_keyword(rt: HostRuntime) {
         let comment = parse(rt.alloc(), CommentText, keyword);
         assert!(rt; is_answer(&comment, Ok(keyword)), "{keyword:?}");
     }
-}
-
-/// Compares what is put with what is awaited.
-#[derive(Drop)]
-struct Awaited<'a> {
-    left: &'a [u8],
-    same: bool,
-}
-
-impl ByteOut for Awaited<'_> {
-    ghost puts = { λ _ _ _. Unit {0} };
-
-    fn put(&mut self, byte: u8) {
-        match self.left {
-            [first, rest @ ..] if *first == byte => self.left = rest,
-            _ => self.same = false,
-        }
-    }
-}
-
-/// Whether the phrase has this canonical text.
-fn has_text(phrase: &Phrase, text: &[u8]) -> bool {
-    let mut out = Awaited {
-        left: text,
-        same: true,
-    };
-    show(phrase, &mut out);
-    out.same && out.left.is_empty()
 }
 
 /// Whether the answer is the one that is wanted.
