@@ -1,14 +1,18 @@
-pub mod Machine
-pub mod Trace
+-- ---- what public contracts cite
+pub mod Answers
+pub mod Laws
+-- ---- tokens of a text
 pub mod Kept
 pub mod Front
 pub mod Unquoted
-pub mod Answers
-pub mod Recognizer
-pub mod Findings
 pub mod TokenIn
+-- ---- the machine that reads tokens, and the builder
+pub mod Machine
+pub mod Trace
 pub mod Gives
 pub mod Views
 pub mod Reduction
+-- ---- the machine without trees, and the check
+pub mod Recognizer
+pub mod Findings
 pub mod Shapes
-pub mod Laws

@@ -1,19 +1,26 @@
-pub mod Placeholder
-pub mod Builtin
-pub mod Sign
+-- ---- phrases as plain data
 pub mod Reading
 pub mod PlainForm
+-- ---- tokens
+pub mod Sign
+pub mod Builtin
 pub mod Token
 pub mod Cuts
+-- ---- which tokens are which phrase
 pub mod Level
 pub mod Form
 pub mod Comment
+-- ---- limits
 pub mod Limit
 pub mod Opened
 pub mod Over
+-- ---- what a text reads as, and where it goes wrong
 pub mod Reads
 pub mod Syntax
+-- ---- what is written
 pub mod Canon
+pub mod Placeholder
+-- ---- what private contracts alone cite
 pub mod Chain
 pub mod Separator
 pub mod Link
