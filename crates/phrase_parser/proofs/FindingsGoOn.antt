@@ -6,7 +6,8 @@ use Rattle.std.proofs.Math.Seq.{drop-cons}
 use Rattle.plcs_grammar.specs.Over.{OverLimit}
 use Rattle.phrase_parser.specs.declared.check.finding.Over.{Over}
 use Rattle.phrase_parser.specs.declared.token.Placed.{Placed}
-use Rattle.phrase_parser.specs.Recognizer.{Kind, Shape, next, level_of}
+use Rattle.phrase_parser.specs.declared.check.kind.Kind.{Kind}
+use Rattle.phrase_parser.specs.Recognizer.{Shape, next, level_of}
 use Rattle.phrase_parser.specs.Findings.{Seen, found_at, seen_over, findings}
 use Rattle.phrase_parser.specs.Shapes.{seen_in, over_if, Within}
 use Rattle.phrase_parser.proofs.ShapeLevels.{WithinIf, next_within}

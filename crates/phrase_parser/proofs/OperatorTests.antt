@@ -3,7 +3,9 @@ use Rattle.std.proofs.Common.{◌≡◌, refl, ℕ, ◌+◌, cond, List, Option,
 use Rattle.std.specs.Prelude.{is_some}
 use Rattle.plcs_grammar.specs.declared.operator.PrefixOp.{PrefixOp}
 use Rattle.plcs_grammar.specs.declared.operator.InfixOp.{InfixOp}
-use Rattle.phrase_parser.specs.Recognizer.{Ground, Bracket, Shape, inside, next_prefix, next_infix}
+use Rattle.phrase_parser.specs.declared.check.shape.Ground.{Ground}
+use Rattle.phrase_parser.specs.declared.check.shape.Bracket.{Bracket}
+use Rattle.phrase_parser.specs.Recognizer.{Shape, inside, next_prefix, next_infix}
 
 pub prefix_if : (g : Ground) (brackets : List Bracket) (level : ℕ) (op : Option PrefixOp)
     → next_prefix g brackets level op ≡ cond (is_some op) (Some (Shape.wanted g brackets (level + 1))) None

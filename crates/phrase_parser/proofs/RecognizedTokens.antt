@@ -13,7 +13,8 @@ use Rattle.phrase_parser.specs.Machine
 use Rattle.phrase_parser.specs.Machine.{Stack, Role, State, step, run, start, ended_if}
 use Rattle.phrase_parser.specs.Trace.{opens, opens_by_role, opens_before, opens_behind, trace, depth}
 use Rattle.phrase_parser.specs.Recognizer
-use Rattle.phrase_parser.specs.Recognizer.{Kind, kind_of, Shape, next, follow, first_shape, may_end, level_of, follow_levels}
+use Rattle.phrase_parser.specs.declared.check.kind.Kind.{Kind}
+use Rattle.phrase_parser.specs.Recognizer.{kind_of, Shape, next, follow, first_shape, may_end, level_of, follow_levels}
 use Rattle.phrase_parser.proofs.Completeness.{run_none, complete, traced_over, alive}
 use Rattle.phrase_parser.proofs.ConsumedTokens.{Sound}
 use Rattle.phrase_parser.proofs.Soundness.{AfterIf, step_after, has_read, IsFreshIf, start_fresh}

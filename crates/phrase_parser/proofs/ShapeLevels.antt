@@ -5,7 +5,12 @@ use Rattle.plcs_grammar.specs.declared.operator.PrefixOp.{PrefixOp}
 use Rattle.plcs_grammar.specs.declared.operator.InfixOp.{InfixOp}
 use Rattle.plcs_grammar.specs.declared.sign.Sign.{Sign}
 use Rattle.phrase_parser.specs.Machine.{prefix_of, infix_of}
-use Rattle.phrase_parser.specs.Recognizer.{Kind, Ground, Bracket, Last, Use, Shape, inside, next_name, next_constant, next_number, next_open_behind, next_open_name, next_open, next_close_in, next_close, next_comma_in, next_comma_name, next_comma, next_equal_name, next_equal, next_prefix, next_infix, next_operator, next_sign, next}
+use Rattle.phrase_parser.specs.declared.check.kind.Kind.{Kind}
+use Rattle.phrase_parser.specs.declared.check.shape.Ground.{Ground}
+use Rattle.phrase_parser.specs.declared.check.shape.Bracket.{Bracket}
+use Rattle.phrase_parser.specs.declared.check.shape.Last.{Last}
+use Rattle.phrase_parser.specs.declared.check.shape.Role.{Role as Use}
+use Rattle.phrase_parser.specs.Recognizer.{Shape, inside, next_name, next_constant, next_number, next_open_behind, next_open_name, next_open, next_close_in, next_close, next_comma_in, next_comma_name, next_comma, next_equal_name, next_equal, next_prefix, next_infix, next_operator, next_sign, next}
 use Rattle.phrase_parser.specs.Shapes.{LastWithin, NestingWithin, Within}
 
 -- the same of a shape that may be missing
@@ -21,8 +26,8 @@ nesting_more : (n m : ℕ) → n ≤ m → (g : Ground) (brackets : List Bracket
 nesting_more n m e g brackets h = (omega (arith, e, h.0), brackets_more n m e brackets h.1)
 
 last_more : (n m : ℕ) → n ≤ m → (last : Last) → LastWithin n last → LastWithin m last
-last_more n m e Last.operand h = tt
-last_more n m e (Last.named is_builtin level) h = omega (arith, e, h)
+last_more n m e Last.Operand h = tt
+last_more n m e (Last.Named is_builtin level) h = omega (arith, e, h)
 
 -- what is within a limit is within a greater one
 pub within_more : (n m : ℕ) → n ≤ m → (s : Shape) → Within n s → Within m s
@@ -59,27 +64,27 @@ bracketed_within n b g brackets level e h =
 
 next_open_behind_within : (n : ℕ) (last : Last) (g : Ground) (brackets : List Bracket) → LastWithin n last → NestingWithin n g brackets
     → WithinIf (n + 1) (next_open_behind last g brackets)
-next_open_behind_within n Last.operand g brackets e h = tt
-next_open_behind_within n (Last.named b level) g brackets e h = bracketed_within n b g brackets level e h
+next_open_behind_within n Last.Operand g brackets e h = tt
+next_open_behind_within n (Last.Named b level) g brackets e h = bracketed_within n b g brackets level e h
 
 next_open_name_within : (n : ℕ) (u : Use) → WithinIf (n + 1) (next_open_name u)
-next_open_name_within n Use.target = (omega arith, (omega arith, tt))
-next_open_name_within n Use.listed_variable = (omega arith, (omega arith, tt))
-next_open_name_within n Use.callee = (omega arith, (omega arith, tt))
+next_open_name_within n Use.Target = (omega arith, (omega arith, tt))
+next_open_name_within n Use.ListedVariable = (omega arith, (omega arith, tt))
+next_open_name_within n Use.Callee = (omega arith, (omega arith, tt))
 next_open_name_within n u = tt
 
 next_open_within : (n : ℕ) (s : Shape) → Within n s → WithinIf (n + 1) (next_open s)
 next_open_within n (Shape.wanted g brackets level) h = bracketed_within n false g brackets level h.0 h.1
 next_open_within n (Shape.had last g brackets) h = next_open_behind_within n last g brackets h.0 h.1
-next_open_within n (Shape.name_had use_of) h = next_open_name_within n use_of
+next_open_within n (Shape.name_had role) h = next_open_name_within n role
 next_open_within n s h = tt
 
 next_close_in_within : (n : ℕ) (g : Ground) (brackets : List Bracket) → NestingWithin n g brackets → WithinIf n (next_close_in g brackets)
-next_close_in_within n Ground.whole [] h = tt
-next_close_in_within n Ground.listed [] h = tt
-next_close_in_within n Ground.target_index [] h = tt
-next_close_in_within n Ground.variable_index [] h = tt
-next_close_in_within n Ground.call_list [] h = tt
+next_close_in_within n Ground.Whole [] h = tt
+next_close_in_within n Ground.Listed [] h = tt
+next_close_in_within n Ground.TargetIndex [] h = tt
+next_close_in_within n Ground.VariableIndex [] h = tt
+next_close_in_within n Ground.CallList [] h = tt
 next_close_in_within n g (b ∷ brackets) h = (tt, (h.0, h.1.1))
 
 next_close_within : (n : ℕ) (s : Shape) → Within n s → WithinIf n (next_close s)
@@ -87,20 +92,20 @@ next_close_within n (Shape.had last g brackets) h = next_close_in_within n g bra
 next_close_within n s h = tt
 
 next_comma_in_within : (n : ℕ) (g : Ground) (brackets : List Bracket) → NestingWithin n g brackets → WithinIf n (next_comma_in g brackets)
-next_comma_in_within n Ground.whole [] h = tt
-next_comma_in_within n Ground.listed [] h = (zero-le, (zero-le, tt))
-next_comma_in_within n Ground.target_index [] h = tt
-next_comma_in_within n Ground.variable_index [] h = tt
-next_comma_in_within n Ground.call_list [] h = (h.0, (h.0, tt))
+next_comma_in_within n Ground.Whole [] h = tt
+next_comma_in_within n Ground.Listed [] h = (zero-le, (zero-le, tt))
+next_comma_in_within n Ground.TargetIndex [] h = tt
+next_comma_in_within n Ground.VariableIndex [] h = tt
+next_comma_in_within n Ground.CallList [] h = (h.0, (h.0, tt))
 next_comma_in_within n g (b ∷ brackets) h = if_within n b.takes_commas (Shape.wanted g (b ∷ brackets) b.level) (h.1.0, h)
 
 next_comma_name_within : (n : ℕ) (u : Use) → WithinIf n (next_comma_name u)
-next_comma_name_within n Use.target = tt
+next_comma_name_within n Use.Target = tt
 next_comma_name_within n u = tt
 
 next_comma_within : (n : ℕ) (s : Shape) → Within n s → WithinIf n (next_comma s)
 next_comma_within n (Shape.had last g brackets) h = next_comma_in_within n g brackets h.1
-next_comma_within n (Shape.name_had use_of) h = next_comma_name_within n use_of
+next_comma_within n (Shape.name_had role) h = next_comma_name_within n role
 next_comma_within n s h = tt
 
 inside_within : (n : ℕ) (g : Ground) (brackets : List Bracket) → NestingWithin n g brackets → inside g brackets ≤ n
@@ -108,12 +113,12 @@ inside_within n g [] h = h.0
 inside_within n g (b ∷ brackets) h = h.1.0
 
 next_equal_name_within : (n : ℕ) (u : Use) → WithinIf n (next_equal_name u)
-next_equal_name_within n Use.target = (zero-le, (zero-le, tt))
+next_equal_name_within n Use.Target = (zero-le, (zero-le, tt))
 next_equal_name_within n u = tt
 
 next_equal_within : (n : ℕ) (s : Shape) → Within n s → WithinIf n (next_equal s)
 next_equal_within n (Shape.had last g brackets) h = (inside_within n g brackets h.1, h.1)
-next_equal_within n (Shape.name_had use_of) h = next_equal_name_within n use_of
+next_equal_within n (Shape.name_had role) h = next_equal_name_within n role
 next_equal_within n Shape.target_had h = (zero-le, (zero-le, tt))
 next_equal_within n s h = tt
 
@@ -147,8 +152,8 @@ next_sign_within n s sign h = next_operator_within n s sign h
 
 -- one more token opens one level more at most
 pub next_within : (n : ℕ) (s : Shape) (k : Kind) → Within n s → WithinIf (n + 1) (next s k)
-next_within n s (Kind.name b) h = if_more n (next_name s b) (next_name_within n s b h)
-next_within n s Kind.keyword h = tt
-next_within n s (Kind.number k) h = if_more n (next_number s k) (next_number_within n s k h)
-next_within n s Kind.constant h = if_more n (next_constant s) (next_constant_within n s h)
-next_within n s (Kind.sign sign) h = next_sign_within n s sign h
+next_within n s (Kind.Name b) h = if_more n (next_name s b) (next_name_within n s b h)
+next_within n s Kind.Keyword h = tt
+next_within n s (Kind.Number k) h = if_more n (next_number s k) (next_number_within n s k h)
+next_within n s Kind.Constant h = if_more n (next_constant s) (next_constant_within n s h)
+next_within n s (Kind.Sign sign) h = next_sign_within n s sign h

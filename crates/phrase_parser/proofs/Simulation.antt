@@ -16,7 +16,11 @@ use Rattle.phrase_parser.specs.Machine
 use Rattle.phrase_parser.specs.Machine.{Base, Stack, Role, State, Operand, reduced, joined, step, ended, ended_at, prefix_of, infix_of}
 use Rattle.phrase_parser.specs.Trace.{base_depth, depth}
 use Rattle.phrase_parser.specs.Recognizer
-use Rattle.phrase_parser.specs.Recognizer.{kind_of, Ground, ground_level, Bracket, Last, Use, Shape, inside, next, may_end, may_end_in, next_close_in, next_comma_in}
+use Rattle.phrase_parser.specs.declared.check.shape.Ground.{Ground}
+use Rattle.phrase_parser.specs.declared.check.shape.Bracket.{Bracket}
+use Rattle.phrase_parser.specs.declared.check.shape.Last.{Last}
+use Rattle.phrase_parser.specs.declared.check.shape.Role.{Role as Use}
+use Rattle.phrase_parser.specs.Recognizer.{kind_of, ground_level, Shape, inside, next, may_end, may_end_in, next_close_in, next_comma_in}
 use Rattle.phrase_parser.proofs.KeptNumbers.{kept_from, kept_to}
 use Rattle.phrase_parser.proofs.BuiltinNames.{builtin_missing, builtin_known}
 use Rattle.phrase_parser.proofs.TreesRead.{above_none, below_tightest}
@@ -25,13 +29,13 @@ use Rattle.phrase_parser.proofs.Soundness.{Joins, reduced_joins}
 
 -- where an expression stands that stands in no other
 abbrev pub ground_of_base : Base → Ground
-ground_of_base Base.condition = Ground.whole
-ground_of_base Base.expression = Ground.whole
-ground_of_base (Base.expressions done) = Ground.listed
-ground_of_base (Base.assigned reference) = Ground.whole
-ground_of_base (Base.target_subscript name) = Ground.target_index
-ground_of_base (Base.variable_subscript done name) = Ground.variable_index
-ground_of_base (Base.call_arguments name done) = Ground.call_list
+ground_of_base Base.condition = Ground.Whole
+ground_of_base Base.expression = Ground.Whole
+ground_of_base (Base.expressions done) = Ground.Listed
+ground_of_base (Base.assigned reference) = Ground.Whole
+ground_of_base (Base.target_subscript name) = Ground.TargetIndex
+ground_of_base (Base.variable_subscript done name) = Ground.VariableIndex
+ground_of_base (Base.call_arguments name done) = Ground.CallList
 
 -- where the phrase's own expression stands
 abbrev pub ground_of : Stack → Ground
@@ -53,18 +57,18 @@ brackets_of (Stack.arguments function done s) = record { takes_commas = true; le
 
 -- what an operand shows of itself
 abbrev pub last_of : ℕ → Tree → Last
-last_of level (Tree.variable (Reference.simple name)) = Last.named (is_builtin_name name) level
-last_of level t = Last.operand
+last_of level (Tree.variable (Reference.simple name)) = Last.Named (is_builtin_name name) level
+last_of level t = Last.Operand
 
 -- what a name that stands in no expression is for
 abbrev pub use_of : Role → Use
-use_of Role.target = Use.target
-use_of (Role.variables done) = Use.listed_variable
-use_of Role.callee = Use.callee
-use_of (Role.items done) = Use.item
-use_of (Role.names done) = Use.listed_name
-use_of Role.variable = Use.single
-use_of Role.procedure = Use.single
+use_of Role.target = Use.Target
+use_of (Role.variables done) = Use.ListedVariable
+use_of Role.callee = Use.Callee
+use_of (Role.items done) = Use.Item
+use_of (Role.names done) = Use.ListedName
+use_of Role.variable = Use.Single
+use_of Role.procedure = Use.Single
 
 -- the shape of a state: what is left of it without trees
 abbrev pub shape_of : State → Shape
@@ -273,7 +277,7 @@ sim_number State.length_wanted n =
     (ap₂ (λ a b. a && b) (kept_from n 1 (lit≤ tt)) (kept_to n longest_text (lit≤ tt)))
 sim_number s n = refl
 
-sim_constant : (s : State) (t : Tree) → last_of 0 t ≡ Last.operand → ((d : ℕ) → last_of d t ≡ Last.operand)
+sim_constant : (s : State) (t : Tree) → last_of 0 t ≡ Last.Operand → ((d : ℕ) → last_of d t ≡ Last.Operand)
     → Recognizer.next_constant (shape_of s) ≡ shape_if (Machine.operand s t)
 sim_constant (State.wanted s) t z e = ap (λ l. Some (Shape.had l (ground_of s) (brackets_of s))) (sym (e (depth s)))
 sim_constant s t z e = refl
@@ -288,11 +292,11 @@ simulates s (Token.bit value) h = sim_constant s (Tree.bit value) refl (λ d. re
 simulates s (Token.sign sign) h = sim_sign s sign h
 
 no_end : (g : Ground) (b : Bracket) (bs : List Bracket) → may_end_in g (b ∷ bs) ≡ false
-no_end Ground.whole b bs = refl
-no_end Ground.listed b bs = refl
-no_end Ground.target_index b bs = refl
-no_end Ground.variable_index b bs = refl
-no_end Ground.call_list b bs = refl
+no_end Ground.Whole b bs = refl
+no_end Ground.Listed b bs = refl
+no_end Ground.TargetIndex b bs = refl
+no_end Ground.VariableIndex b bs = refl
+no_end Ground.CallList b bs = refl
 
 ends_base : (b : Base) (t : Tree) → may_end_in (ground_of_base b) [] ≡ is_some (Machine.ended_base b t)
 ends_base Base.condition t = refl

@@ -4,7 +4,8 @@ use Rattle.std.specs.Option.{option_or}
 use Rattle.plcs_grammar.specs.Cuts.{Piece}
 use Rattle.plcs_grammar.specs.Limit.{greatest_number, greatest_nesting}
 use Rattle.plcs_grammar.specs.Over.{OverLimit}
-use Rattle.phrase_parser.specs.Recognizer.{Kind, Shape, kind_of, next, may_end, level_of}
+use Rattle.phrase_parser.specs.declared.check.kind.Kind.{Kind}
+use Rattle.phrase_parser.specs.Recognizer.{Shape, kind_of, next, may_end, level_of}
 
 -- nothing, the place where the text goes wrong, or what goes past a limit first
 pub data Finding : Type 0 where
@@ -38,11 +39,11 @@ seen_of piece = record { kind = kind_of piece.token; start = piece.start }
 
 -- whether it is a number above the greatest
 abbrev pub is_large : Kind → Bool
-is_large (Kind.number n) = nat_lt greatest_number n
-is_large (Kind.name is_builtin) = false
-is_large Kind.keyword = false
-is_large Kind.constant = false
-is_large (Kind.sign s) = false
+is_large (Kind.Number n) = nat_lt greatest_number n
+is_large (Kind.Name is_builtin) = false
+is_large Kind.Keyword = false
+is_large Kind.Constant = false
+is_large (Kind.Sign s) = false
 
 -- whether the token, which opens the level, goes past a limit
 abbrev pub seen_over : Seen → ℕ → Option OverLimit

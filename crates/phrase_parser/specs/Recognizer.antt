@@ -10,67 +10,36 @@ use Rattle.plcs_grammar.specs.declared.sign.Sign.{Sign}
 use Rattle.plcs_grammar.specs.Token.{Token}
 use Rattle.plcs_grammar.specs.Builtin.{is_builtin_name}
 use Rattle.phrase_parser.specs.Machine.{prefix_of, infix_of}
-
--- what is looked at of a token: whether a name is a built-in function's, the number as it is kept, the sign
-pub data Kind : Type 0 where
-  name : Bool → Kind
-  keyword : Kind
-  number : ℕ → Kind
-  constant : Kind
-  sign : Sign → Kind
+use Rattle.phrase_parser.specs.declared.check.kind.Kind.{Kind}
+use Rattle.phrase_parser.specs.declared.check.shape.Ground.{Ground}
+use Rattle.phrase_parser.specs.declared.check.shape.Bracket.{Bracket}
+use Rattle.phrase_parser.specs.declared.check.shape.Last.{Last}
+use Rattle.phrase_parser.specs.declared.check.shape.Role.{Role}
 
 -- what is looked at of the token
 abbrev pub kind_of : Token → Kind
-kind_of (Token.name n) = name (is_builtin_name n)
-kind_of (Token.keyword word) = keyword
-kind_of (Token.number n) = number (min n greatest_kept)
-kind_of (Token.text value) = constant
-kind_of (Token.bit value) = constant
-kind_of (Token.sign s) = sign s
+kind_of (Token.name n) = Kind.Name (is_builtin_name n)
+kind_of (Token.keyword word) = Kind.Keyword
+kind_of (Token.number n) = Kind.Number (min n greatest_kept)
+kind_of (Token.text value) = Kind.Constant
+kind_of (Token.bit value) = Kind.Constant
+kind_of (Token.sign s) = Kind.Sign s
 
--- where an expression stands that stands in no other: alone, in a list, or in the parentheses of a target's subscript, of
--- a variable's subscript or of a call's arguments
-pub data Ground : Type 0 where
-  whole : Ground
-  listed : Ground
-  target_index : Ground
-  variable_index : Ground
-  call_list : Ground
-
--- how many levels are open there
+-- how many levels are open where an expression stands that stands in no other
 abbrev pub ground_level : Ground → ℕ
-ground_level whole = 0
-ground_level listed = 0
-ground_level target_index = 1
-ground_level variable_index = 1
-ground_level call_list = 1
-
--- an open parenthesis in an expression: whether a comma may stand in it, and the level that it opened
-pub record Bracket : Type 0 where
-  pub takes_commas : Bool
-  pub level : ℕ
-
--- what the last token of an expression was; behind a name, which a parenthesis may follow, with the levels open at it
-pub data Last : Type 0 where
-  operand : Last
-  named : Bool → ℕ → Last
-
--- what a name that stands in no expression is for
-pub data Use : Type 0 where
-  target : Use
-  listed_variable : Use
-  callee : Use
-  item : Use
-  listed_name : Use
-  single : Use
+ground_level Ground.Whole = 0
+ground_level Ground.Listed = 0
+ground_level Ground.TargetIndex = 1
+ground_level Ground.VariableIndex = 1
+ground_level Ground.CallList = 1
 
 -- what was read last and what is wanted, without trees
 pub data Shape : Type 0 where
   -- an operand is wanted, in the open parentheses, the innermost first, with so many levels open
   wanted : Ground → List Bracket → ℕ → Shape
   had : Last → Ground → List Bracket → Shape
-  name_wanted : Use → Shape
-  name_had : Use → Shape
+  name_wanted : Role → Shape
+  name_had : Role → Shape
   target_had : Shape
   variable_had : Shape
   call_had : Shape
@@ -87,18 +56,18 @@ inside g (bracket ∷ brackets) = bracket.level
 
 -- a name is read
 abbrev pub next_name : Shape → Bool → Option Shape
-next_name (wanted g brackets level) is_builtin = Some (had (named is_builtin level) g brackets)
-next_name (name_wanted use_of) is_builtin = Some (name_had use_of)
+next_name (wanted g brackets level) is_builtin = Some (had (Last.Named is_builtin level) g brackets)
+next_name (name_wanted role) is_builtin = Some (name_had role)
 next_name shape is_builtin = None
 
 -- a constant is read
 abbrev pub next_constant : Shape → Option Shape
-next_constant (wanted g brackets level) = Some (had operand g brackets)
+next_constant (wanted g brackets level) = Some (had Last.Operand g brackets)
 next_constant shape = None
 
 -- a number is read
 abbrev pub next_number : Shape → ℕ → Option Shape
-next_number (wanted g brackets level) n = Some (had operand g brackets)
+next_number (wanted g brackets level) n = Some (had Last.Operand g brackets)
 next_number size_wanted n = if nat_le 1 n then Some size_had else None
 next_number length_wanted n = if nat_le 1 n && nat_le n longest_text then Some length_had else None
 next_number shape n = None
@@ -110,37 +79,37 @@ bracketed takes_commas g brackets level =
 
 -- a parenthesis is opened behind an operand, which a name alone takes
 abbrev pub next_open_behind : Last → Ground → List Bracket → Option Shape
-next_open_behind operand g brackets = None
-next_open_behind (named is_builtin level) g brackets = Some (bracketed is_builtin g brackets level)
+next_open_behind Last.Operand g brackets = None
+next_open_behind (Last.Named is_builtin level) g brackets = Some (bracketed is_builtin g brackets level)
 
 -- a parenthesis is opened behind a name that stands in no expression
-abbrev pub next_open_name : Use → Option Shape
-next_open_name target = Some (wanted target_index [] 1)
-next_open_name listed_variable = Some (wanted variable_index [] 1)
-next_open_name callee = Some (wanted call_list [] 1)
-next_open_name item = Some size_wanted
-next_open_name listed_name = None
-next_open_name single = None
+abbrev pub next_open_name : Role → Option Shape
+next_open_name Role.Target = Some (wanted Ground.TargetIndex [] 1)
+next_open_name Role.ListedVariable = Some (wanted Ground.VariableIndex [] 1)
+next_open_name Role.Callee = Some (wanted Ground.CallList [] 1)
+next_open_name Role.Item = Some size_wanted
+next_open_name Role.ListedName = None
+next_open_name Role.Single = None
 
 -- a parenthesis is opened
 abbrev pub next_open : Shape → Option Shape
 next_open (wanted g brackets level) = Some (bracketed false g brackets level)
 next_open (had last g brackets) = next_open_behind last g brackets
-next_open (name_had use_of) = next_open_name use_of
+next_open (name_had role) = next_open_name role
 next_open shape = None
 
 -- the parenthesis in which the phrase's own expression stands is closed
 abbrev pub next_close_ground : Ground → Option Shape
-next_close_ground whole = None
-next_close_ground listed = None
-next_close_ground target_index = Some target_had
-next_close_ground variable_index = Some variable_had
-next_close_ground call_list = Some call_had
+next_close_ground Ground.Whole = None
+next_close_ground Ground.Listed = None
+next_close_ground Ground.TargetIndex = Some target_had
+next_close_ground Ground.VariableIndex = Some variable_had
+next_close_ground Ground.CallList = Some call_had
 
 -- the innermost open parenthesis is closed
 abbrev pub next_close_in : Ground → List Bracket → Option Shape
 next_close_in g [] = next_close_ground g
-next_close_in g (bracket ∷ brackets) = Some (had operand g brackets)
+next_close_in g (bracket ∷ brackets) = Some (had Last.Operand g brackets)
 
 -- a parenthesis is closed
 abbrev pub next_close : Shape → Option Shape
@@ -150,11 +119,11 @@ next_close shape = None
 
 -- a comma stands behind the phrase's own expression
 abbrev pub next_comma_ground : Ground → Option Shape
-next_comma_ground whole = None
-next_comma_ground listed = Some (wanted listed [] 0)
-next_comma_ground target_index = None
-next_comma_ground variable_index = None
-next_comma_ground call_list = Some (wanted call_list [] 1)
+next_comma_ground Ground.Whole = None
+next_comma_ground Ground.Listed = Some (wanted Ground.Listed [] 0)
+next_comma_ground Ground.TargetIndex = None
+next_comma_ground Ground.VariableIndex = None
+next_comma_ground Ground.CallList = Some (wanted Ground.CallList [] 1)
 
 -- a comma stands in the innermost open parenthesis
 abbrev pub next_comma_in : Ground → List Bracket → Option Shape
@@ -163,32 +132,32 @@ next_comma_in g (bracket ∷ brackets) =
     if bracket.takes_commas then Some (wanted g (bracket ∷ brackets) bracket.level) else None
 
 -- a comma stands behind a name that stands in no expression
-abbrev pub next_comma_name : Use → Option Shape
-next_comma_name target = None
-next_comma_name listed_variable = Some (name_wanted listed_variable)
-next_comma_name callee = None
-next_comma_name item = Some (name_wanted item)
-next_comma_name listed_name = Some (name_wanted listed_name)
-next_comma_name single = None
+abbrev pub next_comma_name : Role → Option Shape
+next_comma_name Role.Target = None
+next_comma_name Role.ListedVariable = Some (name_wanted Role.ListedVariable)
+next_comma_name Role.Callee = None
+next_comma_name Role.Item = Some (name_wanted Role.Item)
+next_comma_name Role.ListedName = Some (name_wanted Role.ListedName)
+next_comma_name Role.Single = None
 
 -- a comma is read
 abbrev pub next_comma : Shape → Option Shape
 next_comma (had last g brackets) = next_comma_in g brackets
-next_comma (name_had use_of) = next_comma_name use_of
-next_comma variable_had = Some (name_wanted listed_variable)
-next_comma item_had = Some (name_wanted item)
+next_comma (name_had role) = next_comma_name role
+next_comma variable_had = Some (name_wanted Role.ListedVariable)
+next_comma item_had = Some (name_wanted Role.Item)
 next_comma shape = None
 
 -- `=` stands behind a name that stands in no expression
-abbrev pub next_equal_name : Use → Option Shape
-next_equal_name target = Some (wanted whole [] 0)
-next_equal_name use_of = None
+abbrev pub next_equal_name : Role → Option Shape
+next_equal_name Role.Target = Some (wanted Ground.Whole [] 0)
+next_equal_name role = None
 
 -- `=` is read
 abbrev pub next_equal : Shape → Option Shape
 next_equal (had last g brackets) = Some (wanted g brackets (inside g brackets))
-next_equal (name_had use_of) = next_equal_name use_of
-next_equal target_had = Some (wanted whole [] 0)
+next_equal (name_had role) = next_equal_name role
+next_equal target_had = Some (wanted Ground.Whole [] 0)
 next_equal shape = None
 
 -- a sign stands where an operand is wanted, with the operator that it is there
@@ -217,11 +186,11 @@ next_sign shape s = next_operator shape s
 
 -- the shape behind one more token, if it can stand there
 abbrev pub next : Shape → Kind → Option Shape
-next shape (name is_builtin) = next_name shape is_builtin
-next shape keyword = None
-next shape (number n) = next_number shape n
-next shape constant = next_constant shape
-next shape (sign s) = next_sign shape s
+next shape (Kind.Name is_builtin) = next_name shape is_builtin
+next shape Kind.Keyword = None
+next shape (Kind.Number n) = next_number shape n
+next shape Kind.Constant = next_constant shape
+next shape (Kind.Sign s) = next_sign shape s
 
 -- the same, where the machine has not stopped
 abbrev pub next_if : Option Shape → Kind → Option Shape
@@ -235,34 +204,34 @@ follow (kind ∷ kinds) shape = follow kinds (next_if shape kind)
 
 -- the shape before all tokens of a phrase; a comment has no tokens
 abbrev pub first_shape : Category → Option Shape
-first_shape Assignment = Some (name_wanted target)
-first_shape Condition = Some (wanted whole [] 0)
-first_shape Expression = Some (wanted whole [] 0)
-first_shape ExpressionList = Some (wanted listed [] 0)
-first_shape VariableList = Some (name_wanted listed_variable)
-first_shape Variable = Some (name_wanted single)
-first_shape CallRef = Some (name_wanted callee)
-first_shape DeclaredList = Some (name_wanted item)
-first_shape ProcedureName = Some (name_wanted single)
-first_shape NameList = Some (name_wanted listed_name)
+first_shape Assignment = Some (name_wanted Role.Target)
+first_shape Condition = Some (wanted Ground.Whole [] 0)
+first_shape Expression = Some (wanted Ground.Whole [] 0)
+first_shape ExpressionList = Some (wanted Ground.Listed [] 0)
+first_shape VariableList = Some (name_wanted Role.ListedVariable)
+first_shape Variable = Some (name_wanted Role.Single)
+first_shape CallRef = Some (name_wanted Role.Callee)
+first_shape DeclaredList = Some (name_wanted Role.Item)
+first_shape ProcedureName = Some (name_wanted Role.Single)
+first_shape NameList = Some (name_wanted Role.ListedName)
 first_shape Length = Some length_wanted
 first_shape CommentText = None
 
 -- whether a phrase may end behind an expression in these open parentheses
 abbrev pub may_end_in : Ground → List Bracket → Bool
-may_end_in whole [] = true
-may_end_in listed [] = true
+may_end_in Ground.Whole [] = true
+may_end_in Ground.Listed [] = true
 may_end_in g brackets = false
 
 -- whether a phrase may end behind a name that stands in no expression
-abbrev pub may_end_name : Use → Bool
-may_end_name target = false
-may_end_name use_of = true
+abbrev pub may_end_name : Role → Bool
+may_end_name Role.Target = false
+may_end_name role = true
 
 -- whether the tokens may be a whole phrase
 abbrev pub may_end : Shape → Bool
 may_end (had last g brackets) = may_end_in g brackets
-may_end (name_had use_of) = may_end_name use_of
+may_end (name_had role) = may_end_name role
 may_end variable_had = true
 may_end call_had = true
 may_end item_had = true
@@ -271,24 +240,24 @@ may_end shape = false
 
 -- the level that a parenthesis opens behind an operand
 abbrev pub level_behind : Last → ℕ
-level_behind operand = 0
-level_behind (named is_builtin level) = level + 1
+level_behind Last.Operand = 0
+level_behind (Last.Named is_builtin level) = level + 1
 
 -- the level that a parenthesis opens behind a name that stands in no expression; an array's size opens none
-abbrev pub level_by_use : Use → ℕ
-level_by_use item = 0
-level_by_use use_of = 1
+abbrev pub level_by_role : Role → ℕ
+level_by_role Role.Item = 0
+level_by_role role = 1
 
 -- the level that the sign opens, or 0
 abbrev pub sign_level : Shape → Sign → ℕ
 sign_level (wanted g brackets level) s = level + 1
 sign_level (had last g brackets) Sign.OpenParenthesis = level_behind last
-sign_level (name_had use_of) Sign.OpenParenthesis = level_by_use use_of
+sign_level (name_had role) Sign.OpenParenthesis = level_by_role role
 sign_level shape s = 0
 
 -- the level that the token opens, or 0
 abbrev pub level_of : Shape → Kind → ℕ
-level_of shape (sign s) = sign_level shape s
+level_of shape (Kind.Sign s) = sign_level shape s
 level_of shape kind = 0
 
 -- the same, where the machine has not stopped

@@ -1,17 +1,12 @@
 -- What the check keeps, as the machine without trees has it.
-use Rattle.std.specs.Prelude.{ℕ, ◌≤◌, List, map, reverse, length, Option, Some, None}
+use Rattle.std.specs.Prelude.{ℕ, ◌≤◌, List, reverse, length, Option, Some, None}
 use Rattle.std.specs.List.{AllByRecursion}
 use Rattle.plcs_grammar.specs.Builtin.{is_builtin_name}
 use Rattle.plcs_grammar.specs.Over.{OverLimit}
 use Rattle.phrase_parser.specs.declared.check.kind.Kind.{Kind}
-use Rattle.phrase_parser.specs.declared.check.kind.Kind.TheVariants as kept
 use Rattle.phrase_parser.specs.declared.check.shape.Ground.{Ground}
-use Rattle.phrase_parser.specs.declared.check.shape.Ground.TheVariants.{Whole, Listed, TargetIndex, VariableIndex, CallList}
 use Rattle.phrase_parser.specs.declared.check.shape.Bracket.{Bracket}
 use Rattle.phrase_parser.specs.declared.check.shape.Last.{Last}
-use Rattle.phrase_parser.specs.declared.check.shape.Last.TheVariants.{Operand, Named}
-use Rattle.phrase_parser.specs.declared.check.shape.Role.{Role}
-use Rattle.phrase_parser.specs.declared.check.shape.Role.TheVariants.{Target, ListedVariable, Callee, Item, ListedName, Single}
 use Rattle.phrase_parser.specs.declared.check.shape.Shape.{Shape}
 use Rattle.phrase_parser.specs.declared.check.shape.Shape.TheVariants.{Wanted, Had, NameWanted, NameHad, TargetHad, VariableHad, CallHad, SizeWanted, SizeHad, ItemHad, LengthWanted, LengthHad}
 use Rattle.phrase_parser.specs.declared.token.TokenKind.{TokenKind}
@@ -27,42 +22,12 @@ use Rattle.phrase_parser.specs.declared.check.finding.Finding.TheVariants as fou
 use Rattle.phrase_parser.specs.Findings as findings
 use Rattle.phrase_parser.specs.Findings.{Seen}
 
--- where an expression stands that stands in no other
-abbrev pub ground_of : Ground → model.Ground
-ground_of Whole = model.Ground.whole
-ground_of Listed = model.Ground.listed
-ground_of TargetIndex = model.Ground.target_index
-ground_of VariableIndex = model.Ground.variable_index
-ground_of CallList = model.Ground.call_list
-
--- an open parenthesis
-abbrev pub bracket_of : Bracket → model.Bracket
-bracket_of bracket = record { takes_commas = bracket.takes_commas; level = bracket.level }
-
--- the innermost first
-abbrev pub brackets_of : List Bracket → List model.Bracket
-brackets_of brackets = reverse (map bracket_of brackets)
-
--- what the last token of an expression was
-abbrev pub last_of : Last → model.Last
-last_of Operand = model.Last.operand
-last_of (Named is_builtin level) = model.Last.named is_builtin level
-
--- what a name that stands in no expression is for
-abbrev pub use_of : Role → model.Use
-use_of Target = model.Use.target
-use_of ListedVariable = model.Use.listed_variable
-use_of Callee = model.Use.callee
-use_of Item = model.Use.item
-use_of ListedName = model.Use.listed_name
-use_of Single = model.Use.single
-
--- what was read last, and what is wanted
+-- what was read last, and what is wanted; the model has the innermost parenthesis first
 abbrev pub shape_of : Shape → model.Shape
-shape_of (Wanted nesting level) = model.Shape.wanted (ground_of nesting.place) (brackets_of nesting.brackets.items) level
-shape_of (Had last nesting) = model.Shape.had (last_of last) (ground_of nesting.place) (brackets_of nesting.brackets.items)
-shape_of (NameWanted role) = model.Shape.name_wanted (use_of role)
-shape_of (NameHad role) = model.Shape.name_had (use_of role)
+shape_of (Wanted nesting level) = model.Shape.wanted nesting.place (reverse nesting.brackets.items) level
+shape_of (Had last nesting) = model.Shape.had last nesting.place (reverse nesting.brackets.items)
+shape_of (NameWanted role) = model.Shape.name_wanted role
+shape_of (NameHad role) = model.Shape.name_had role
 shape_of TargetHad = model.Shape.target_had
 shape_of VariableHad = model.Shape.variable_had
 shape_of CallHad = model.Shape.call_had
@@ -77,22 +42,14 @@ abbrev pub shape_if : Option Shape → Option model.Shape
 shape_if None = None
 shape_if (Some shape) = Some (shape_of shape)
 
--- what is looked at of a token
-abbrev pub kind_of : Kind → model.Kind
-kind_of (kept.Name is_builtin) = model.Kind.name is_builtin
-kind_of kept.Keyword = model.Kind.keyword
-kind_of (kept.Number n) = model.Kind.number n
-kind_of kept.Constant = model.Kind.constant
-kind_of (kept.Sign sign) = model.Kind.sign sign
-
 -- what is looked at of a token whose bytes are these
-abbrev pub kind_from : TokenKind → List ℕ → model.Kind
-kind_from token.Name bytes = model.Kind.name (is_builtin_name bytes)
-kind_from token.Keyword bytes = model.Kind.keyword
-kind_from (token.Number n) bytes = model.Kind.number n
-kind_from token.Text bytes = model.Kind.constant
-kind_from (token.Bit value) bytes = model.Kind.constant
-kind_from (token.Sign sign) bytes = model.Kind.sign sign
+abbrev pub kind_from : TokenKind → List ℕ → Kind
+kind_from token.Name bytes = Kind.Name (is_builtin_name bytes)
+kind_from token.Keyword bytes = Kind.Keyword
+kind_from (token.Number n) bytes = Kind.Number n
+kind_from token.Text bytes = Kind.Constant
+kind_from (token.Bit value) bytes = Kind.Constant
+kind_from (token.Sign sign) bytes = Kind.Sign sign
 
 -- what is looked at of a token that stands in the text
 abbrev pub seen_in : List ℕ → Placed → Seen
@@ -103,20 +60,20 @@ abbrev pub deepest_level : ℕ
 deepest_level = 4294967294
 
 -- no level is over the limit
-abbrev pub LastWithin : ℕ → model.Last → Type 0
-LastWithin limit model.Last.operand = Unit {0}
-LastWithin limit (model.Last.named is_builtin level) = level ≤ limit
+abbrev pub LastWithin : ℕ → Last → Type 0
+LastWithin limit Last.Operand = Unit {0}
+LastWithin limit (Last.Named is_builtin level) = level ≤ limit
 
 -- the same for the open parentheses of an expression
-abbrev pub NestingWithin : ℕ → model.Ground → List model.Bracket → Type 0
+abbrev pub NestingWithin : ℕ → Ground → List Bracket → Type 0
 NestingWithin limit at brackets = (model.ground_level at ≤ limit) × AllByRecursion (λ bracket. bracket.level ≤ limit) brackets
 
 -- the same for all that is open in a shape
 abbrev pub Within : ℕ → model.Shape → Type 0
 Within limit (model.Shape.wanted at brackets level) = (level ≤ limit) × NestingWithin limit at brackets
 Within limit (model.Shape.had last at brackets) = LastWithin limit last × NestingWithin limit at brackets
-Within limit (model.Shape.name_wanted use_of) = Unit {0}
-Within limit (model.Shape.name_had use_of) = Unit {0}
+Within limit (model.Shape.name_wanted role) = Unit {0}
+Within limit (model.Shape.name_had role) = Unit {0}
 Within limit model.Shape.target_had = Unit {0}
 Within limit model.Shape.variable_had = Unit {0}
 Within limit model.Shape.call_had = Unit {0}

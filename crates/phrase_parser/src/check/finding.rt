@@ -1,7 +1,7 @@
 ghost use Rattle.std.specs.Prelude.{◌≡◌};
 ghost use Rattle.phrase_parser.specs.Recognizer.{may_end};
 ghost use Rattle.phrase_parser.specs.Findings.{is_large, seen_over, finding_of, found_at_end};
-ghost use Rattle.phrase_parser.specs.Shapes.{shape_of, kind_of, over_if, as_found};
+ghost use Rattle.phrase_parser.specs.Shapes.{shape_of, over_if, as_found};
 
 use crate::check::kind::Kind;
 use crate::check::shape::Shape;
@@ -28,7 +28,7 @@ pub enum Finding {
 
 /// Whether the token is a number that is too large.
 fn is_large(kind: Kind) -> bool
-    ensures { result ≡ is_large (kind_of kind) }
+    ensures { result ≡ is_large kind }
 {
     match kind {
         Kind::Number(n) => n > GREATEST_NUMBER,
@@ -38,7 +38,7 @@ fn is_large(kind: Kind) -> bool
 
 /// Whether the token with this place, which opens the level, goes past a limit.
 pub fn over_at(kind: Kind, start: usize, level: u32) -> Option<Over>
-    ensures { over_if result ≡ seen_over (record { kind = kind_of kind; start = start }) level }
+    ensures { over_if result ≡ seen_over (record { kind = kind; start = start }) level }
 {
     if is_large(kind) {
         Some(Over::NumberTooLarge(start))

@@ -1,6 +1,6 @@
 ghost use Rattle.std.specs.Prelude.{◌≡◌, ◌≤◌, length};
 ghost use Rattle.phrase_parser.specs.TokenIn.{bytes_in};
-ghost use Rattle.phrase_parser.specs.Shapes.{kind_of, kind_from};
+ghost use Rattle.phrase_parser.specs.Shapes.{kind_from};
 
 use crate::token::{Placed, TokenKind};
 use plcs_grammar::{Builtin, Sign};
@@ -25,7 +25,7 @@ pub enum Kind {
 pub fn kind_at(text: &[u8], token: &Placed) -> Kind
     requires ordered { token.now.start ≤ token.now.end }
     requires within { token.now.end ≤ length text.now }
-    ensures { kind_of result ≡ kind_from token.now.kind (bytes_in text.now token.now) }
+    ensures { result ≡ kind_from token.now.kind (bytes_in text.now token.now) }
 {
     match token.kind {
         TokenKind::Name => Kind::Name(Builtin::read(&text[token.start..token.end]).is_some()),

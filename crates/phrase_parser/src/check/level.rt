@@ -1,6 +1,6 @@
 ghost use Rattle.std.specs.Prelude.{◌≡◌};
-ghost use Rattle.phrase_parser.specs.Recognizer.{level_behind, level_by_use, sign_level, level_of};
-ghost use Rattle.phrase_parser.specs.Shapes.{last_of, use_of, shape_of, kind_of, LastWithin, Within, deepest_level};
+ghost use Rattle.phrase_parser.specs.Recognizer.{level_behind, level_by_role, sign_level, level_of};
+ghost use Rattle.phrase_parser.specs.Shapes.{shape_of, LastWithin, Within, deepest_level};
 
 use crate::check::kind::Kind;
 use crate::check::shape::{Last, Role, Shape};
@@ -8,8 +8,8 @@ use plcs_grammar::Sign;
 
 /// The level that a parenthesis opens behind an operand, or 0.
 fn level_behind(last: Last) -> u32
-    requires { LastWithin deepest_level (last_of last) }
-    ensures { result ≡ level_behind (last_of last) }
+    requires { LastWithin deepest_level last }
+    ensures { result ≡ level_behind last }
 {
     match last {
         Last::Operand => 0,
@@ -20,7 +20,7 @@ fn level_behind(last: Last) -> u32
 /// The level that a parenthesis opens behind a name that stands in no expression, or 0: an array's size
 /// opens none.
 fn level_by_role(role: Role) -> u32
-    ensures { result ≡ level_by_use (use_of role) }
+    ensures { result ≡ level_by_role role }
 {
     match role {
         Role::Item => 0,
@@ -44,7 +44,7 @@ fn sign_level(shape: &Shape, sign: Sign) -> u32
 /// The level that the token opens, or 0.
 pub fn level_of(shape: &Shape, kind: Kind) -> u32
     requires { Within deepest_level (shape_of shape.now) }
-    ensures { result ≡ level_of (shape_of shape.now) (kind_of kind) }
+    ensures { result ≡ level_of (shape_of shape.now) kind }
 {
     match kind {
         Kind::Sign(sign) => sign_level(shape, sign),

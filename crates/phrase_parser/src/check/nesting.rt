@@ -1,6 +1,6 @@
-ghost use Rattle.std.specs.Prelude.{◌≡◌, ◌≤◌, IfOk, []};
+ghost use Rattle.std.specs.Prelude.{◌≡◌, ◌≤◌, IfOk, [], reverse};
 ghost use Rattle.phrase_parser.specs.Recognizer.{ground_level, inside, bracketed, next_close_ground, next_close_in, next_comma_ground, next_comma_in, may_end_in};
-ghost use Rattle.phrase_parser.specs.Shapes.{ground_of, brackets_of, shape_of, shape_if, deepest_level};
+ghost use Rattle.phrase_parser.specs.Shapes.{shape_of, shape_if, deepest_level};
 
 use crate::check::shape::{Bracket, Ground, Last, Nesting, Shape};
 use std::alloc::{AllocError, Global};
@@ -18,7 +18,7 @@ impl Nesting {
 
 /// How many levels are open where the expression begins.
 fn ground_level(place: Ground) -> u32
-    ensures { result ≡ ground_level (ground_of place) }
+    ensures { result ≡ ground_level place }
 {
     match place {
         Ground::Whole | Ground::Listed => 0,
@@ -28,7 +28,7 @@ fn ground_level(place: Ground) -> u32
 
 /// How many levels the open parentheses opened.
 pub fn inside(nesting: &Nesting) -> u32
-    ensures { result ≡ inside (ground_of nesting.now.place) (brackets_of nesting.now.brackets.items) }
+    ensures { result ≡ inside nesting.now.place (reverse nesting.now.brackets.items) }
 {
     match nesting.brackets.last() {
         Some(bracket) => bracket.level,
@@ -40,7 +40,7 @@ pub fn inside(nesting: &Nesting) -> u32
 #[tactic(auto, using(crate::proofs::OpenBrackets::brackets_push))]
 pub fn bracketed(nesting: Nesting, takes_commas: bool, level: u32) -> Result<Shape, AllocError>
     requires { level ≤ deepest_level }
-    ensures { IfOk result (λ s. shape_of s ≡ bracketed takes_commas (ground_of nesting.place) (brackets_of nesting.brackets.items) level) }
+    ensures { IfOk result (λ s. shape_of s ≡ bracketed takes_commas nesting.place (reverse nesting.brackets.items) level) }
 {
     let Nesting {
         place,
@@ -56,7 +56,7 @@ pub fn bracketed(nesting: Nesting, takes_commas: bool, level: u32) -> Result<Sha
 
 /// The parenthesis in which the phrase's own expression stands is closed.
 fn closed_ground(place: Ground) -> Option<Shape>
-    ensures { shape_if result ≡ next_close_ground (ground_of place) }
+    ensures { shape_if result ≡ next_close_ground place }
 {
     match place {
         Ground::Whole | Ground::Listed => None,
@@ -69,7 +69,7 @@ fn closed_ground(place: Ground) -> Option<Shape>
 /// A parenthesis is closed.
 #[tactic(auto, using(crate::proofs::OpenBrackets::brackets_push))]
 pub fn closed(nesting: Nesting) -> Option<Shape>
-    ensures { shape_if result ≡ next_close_in (ground_of nesting.place) (brackets_of nesting.brackets.items) }
+    ensures { shape_if result ≡ next_close_in nesting.place (reverse nesting.brackets.items) }
 {
     let Nesting {
         place,
@@ -83,7 +83,7 @@ pub fn closed(nesting: Nesting) -> Option<Shape>
 
 /// A comma stands in no parenthesis of the phrase's own expression.
 fn comma_ground(alloc: Global, place: Ground) -> Option<Shape>
-    ensures { shape_if result ≡ next_comma_ground (ground_of place) }
+    ensures { shape_if result ≡ next_comma_ground place }
 {
     match place {
         Ground::Listed => Some(Shape::Wanted(Nesting::of(alloc, place), 0)),
@@ -95,7 +95,7 @@ fn comma_ground(alloc: Global, place: Ground) -> Option<Shape>
 /// A comma is read.
 #[tactic(auto, using(crate::proofs::OpenBrackets::brackets_push))]
 pub fn comma(alloc: Global, nesting: Nesting) -> Result<Option<Shape>, AllocError>
-    ensures { IfOk result (λ s. shape_if s ≡ next_comma_in (ground_of nesting.place) (brackets_of nesting.brackets.items)) }
+    ensures { IfOk result (λ s. shape_if s ≡ next_comma_in nesting.place (reverse nesting.brackets.items)) }
 {
     let Nesting {
         place,
@@ -113,7 +113,7 @@ pub fn comma(alloc: Global, nesting: Nesting) -> Result<Option<Shape>, AllocErro
 
 /// Whether a phrase may end where all that is open is this.
 pub fn may_end_in(nesting: &Nesting) -> bool
-    ensures { result ≡ may_end_in (ground_of nesting.now.place) (brackets_of nesting.now.brackets.items) }
+    ensures { result ≡ may_end_in nesting.now.place (reverse nesting.now.brackets.items) }
 {
     match nesting.place {
         Ground::Whole | Ground::Listed => nesting.brackets.is_empty(),

@@ -1,6 +1,6 @@
-ghost use Rattle.std.specs.Prelude.{◌≡◌, IfOk, []};
+ghost use Rattle.std.specs.Prelude.{◌≡◌, IfOk, [], reverse};
 ghost use Rattle.phrase_parser.specs.Recognizer.{next_name, next_constant, next_number, next_open_name, next_open, next_close, next_comma_name, next_comma, next_equal_name, next_equal, next_operator, next_sign, next, first_shape, may_end, inside, Shape as model};
-ghost use Rattle.phrase_parser.specs.Shapes.{ground_of, brackets_of, use_of, shape_of, shape_if, kind_of, Within, deepest_level};
+ghost use Rattle.phrase_parser.specs.Shapes.{shape_of, shape_if, Within, deepest_level};
 
 use crate::check::kind::Kind;
 use crate::check::nesting::{bracketed, closed, comma, inside, may_end_in};
@@ -12,7 +12,7 @@ use std::alloc::{AllocError, Global};
 
 /// An operand is wanted, and nothing is open but the phrase's own expression.
 fn wanted(alloc: Global, place: Ground, level: u32) -> Shape
-    ensures { shape_of result ≡ model.wanted (ground_of place) [] level }
+    ensures { shape_of result ≡ model.wanted place [] level }
 {
     Shape::Wanted(Nesting::of(alloc, place), level)
 }
@@ -52,7 +52,7 @@ fn next_number(shape: Shape, n: u32) -> Option<Shape>
 
 /// A parenthesis is opened behind a name that stands in no expression.
 fn next_open_name(alloc: Global, role: Role) -> Option<Shape>
-    ensures { shape_if result ≡ next_open_name (use_of role) }
+    ensures { shape_if result ≡ next_open_name role }
 {
     match role {
         Role::Target => Some(wanted(alloc, Ground::TargetIndex, 1)),
@@ -91,7 +91,7 @@ fn next_close(shape: Shape) -> Option<Shape>
 
 /// A comma stands behind a name that stands in no expression.
 fn next_comma_name(role: Role) -> Option<Shape>
-    ensures { shape_if result ≡ next_comma_name (use_of role) }
+    ensures { shape_if result ≡ next_comma_name role }
 {
     match role {
         Role::ListedVariable | Role::Item | Role::ListedName => Some(Shape::NameWanted(role)),
@@ -114,7 +114,7 @@ fn next_comma(alloc: Global, shape: Shape) -> Result<Option<Shape>, AllocError>
 
 /// `=` stands behind a name that stands in no expression.
 fn next_equal_name(alloc: Global, role: Role) -> Option<Shape>
-    ensures { shape_if result ≡ next_equal_name (use_of role) }
+    ensures { shape_if result ≡ next_equal_name role }
 {
     match role {
         Role::Target => Some(wanted(alloc, Ground::Whole, 0)),
@@ -124,7 +124,7 @@ fn next_equal_name(alloc: Global, role: Role) -> Option<Shape>
 
 /// An operand is wanted behind an operator.
 fn behind_operator(nesting: Nesting) -> Shape
-    ensures { shape_of result ≡ model.wanted (ground_of nesting.place) (brackets_of nesting.brackets.items) (inside (ground_of nesting.place) (brackets_of nesting.brackets.items)) }
+    ensures { shape_of result ≡ model.wanted nesting.place (reverse nesting.brackets.items) (inside nesting.place (reverse nesting.brackets.items)) }
 {
     let level = inside(&nesting);
     Shape::Wanted(nesting, level)
@@ -187,7 +187,7 @@ fn next_sign(alloc: Global, shape: Shape, sign: Sign) -> Result<Option<Shape>, A
 /// What is wanted behind one more token, if it can stand there.
 pub fn next(alloc: Global, shape: Shape, kind: Kind) -> Result<Option<Shape>, AllocError>
     requires { Within deepest_level (shape_of shape) }
-    ensures { IfOk result (λ s. shape_if s ≡ next (shape_of shape) (kind_of kind)) }
+    ensures { IfOk result (λ s. shape_if s ≡ next (shape_of shape) kind) }
 {
     match kind {
         Kind::Name(is_builtin) => Ok(next_name(shape, is_builtin)),

@@ -1,13 +1,13 @@
 use Rattle.std.proofs.Common.{◌∙◌, sym, ap, length}
 use Rattle.phrase_parser.specs.declared.token.TokenKind.TheVariants.{Name}
-use Rattle.phrase_parser.specs.Shapes.{shape_of, shape_if, kind_of, over_if}
+use Rattle.phrase_parser.specs.Shapes.{shape_of, shape_if, over_if}
 use Rattle.phrase_parser.proofs.FindingsGoOn.{or_as, go_on, still_within}
 use Rattle.phrase_parser.proofs.check.check.Goals as goal
 
 pub loop-token-preserved : goal.loop-token-preserved
 loop-token-preserved c =
     let shape = shape_of c.loop-token.shape in
-    let kind = kind_of c.kind_at-kind.result in
+    let kind = c.kind_at-kind.result in
     let n = sym c.in_ok-behind.ensures ∙ ap shape_if c.in-Some.is in
     record {
       found =
