@@ -33,7 +33,8 @@ pub fn check(
     requires first { Within 0 (shape_of first) }
     requires within { All (LiesIn text.now) tokens.now }
     requires few { length tokens.now ≤ 4294967295 }
-    ensures { IfOk result (λ f. as_found f ≡ findings (map (seen_in text.now) tokens.now) stop (length text.now) (shape_of first) None) }
+    ensures { IfOk result
+        (λ f. as_found f ≡ findings (map (seen_in text.now) tokens.now) stop (length text.now) (shape_of first) None) }
 {
     let mut shape = first;
     let mut over = None;

@@ -35,7 +35,8 @@ pub fn parse(alloc: Global, category: Category, text: &[u8]) -> Result<Phrase, P
     // So is what goes past a limit first.
     ensures over { (over : OverLimit) → IsOver category text.now over → OnlyFault result (over_fault over) }
     // And so is the place where a text without a reading goes wrong.
-    ensures syntax { (place : ℕ) → ¬ (Outline category text.now) → SyntaxAt category text.now place → OnlyFault result (Syntax place) }
+    ensures syntax { (place : ℕ) → ¬ (Outline category text.now) → SyntaxAt category text.now place
+        → OnlyFault result (Syntax place) }
 {
     answer(alloc, category, text)
 }

@@ -19,7 +19,8 @@ pub fn with_expr(done: Vec<Expr>, expr: Expr) -> Result<Vec<Expr>, AllocError>
 /// The variables with one more.
 #[tactic(auto, using(crate::proofs::FrameStacks::references_of_push))]
 pub fn with_variable(done: Vec<VarRef>, variable: VarRef) -> Result<Vec<VarRef>, AllocError>
-    ensures { IfOk result (λ all. map reference_of all.items ≡ map reference_of done.items ++ (reference_of variable ∷ [])) }
+    ensures { IfOk result
+        (λ all. map reference_of all.items ≡ map reference_of done.items ++ (reference_of variable ∷ [])) }
 {
     let mut all = done;
     all.push(variable)?;

@@ -43,7 +43,8 @@ pub enum Joined {
 
 /// The operand, joined with the frame if that is an operator of the level or a higher one.
 fn join(alloc: Global, frame: Frame, level: u8, operand: Expr) -> Result<Joined, AllocError>
-    ensures { IfOk result (λ j. (s : OpenStack) → reduced (pushed frame s) level (tree_of operand) ≡ rest_of j s level) }
+    ensures { IfOk result
+        (λ j. (s : OpenStack) → reduced (pushed frame s) level (tree_of operand) ≡ rest_of j s level) }
 {
     match frame {
         Frame::Prefix(op) => Ok(Joined::Operand(unary(alloc, op, operand)?)),

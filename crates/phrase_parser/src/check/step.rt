@@ -124,7 +124,9 @@ fn next_equal_name(alloc: Global, role: Role) -> Option<Shape>
 
 /// An operand is wanted behind an operator.
 fn behind_operator(nesting: Nesting) -> Shape
-    ensures { shape_of result ≡ model.wanted nesting.place (reverse nesting.brackets.items) (inside nesting.place (reverse nesting.brackets.items)) }
+    ensures { shape_of result
+        ≡ model.wanted nesting.place (reverse nesting.brackets.items)
+        (inside nesting.place (reverse nesting.brackets.items)) }
 {
     let level = inside(&nesting);
     Shape::Wanted(nesting, level)
