@@ -1,6 +1,7 @@
 -- The tokens of each phrase are read as the phrase, which is the only one.
 use Rattle.std.proofs.Common.{◌≡◌, refl, ℕ, ◌&&◌, leb, le-leb, List, [], ◌∷◌, ◌++◌, Option, Some, None, ap, sym, subst, ◌∙◌, le_refl, lit≤}
 use Rattle.std.specs.Option.{option_or}
+use Rattle.std.specs.List.{AllByRecursion}
 use Rattle.std.proofs.lemmas.Bool.{cond-true, and_from}
 use Rattle.plcs_base.specs.Text.{longest_text}
 use Rattle.plcs_grammar.specs.declared.category.Category.{Category}
@@ -14,20 +15,19 @@ use Rattle.plcs_grammar.specs.Opened.{opened as levels, reference_opened as refe
 use Rattle.plcs_grammar.specs.Over.{first_over, over_at}
 use Rattle.phrase_parser.specs.Machine.{Base, Stack, State, Role, Operand, step, step_if, run, start, closed_at, ended_at, ended, ended_if}
 use Rattle.phrase_parser.specs.Trace.{depth, opens, trace}
+use Rattle.phrase_parser.proofs.AllOfLists.{all_append}
 use Rattle.phrase_parser.proofs.TreeSpelling.{spell, spell_reference, Fits, FitsReference, FitsAll}
 use Rattle.phrase_parser.proofs.PhraseSpelling.{spell_phrase, spell_name, spell_item, spell_sized, FitsPhrase, FitsItem, FitsSize, FitsCall, AnyName, FitsListed, form_spelled}
-use Rattle.phrase_parser.proofs.MachineRuns.{Goes, there, by, joins, goes_runs, goes_opens}
+use Rattle.phrase_parser.proofs.MachineRuns.{Goes, there, by, joins, goes_runs, goes_opens, run_append, run_none}
 use Rattle.phrase_parser.proofs.ListedItems.{Listing, levels_more, levels_listed, reads_listed}
 use Rattle.phrase_parser.proofs.TreesRead.{Holds, arrives, arrives_all}
 
 -- each is 0
 abbrev pub NoLevels : List ℕ → Type 0
-NoLevels [] = Unit {0}
-NoLevels (l ∷ ls) = (l ≡ 0) × NoLevels ls
+NoLevels levels = AllByRecursion (λ level. level ≡ 0) levels
 
 no_levels_append : (xs ys : List ℕ) → NoLevels xs → NoLevels ys → NoLevels (xs ++ ys)
-no_levels_append [] ys h k = k
-no_levels_append (x ∷ xs) ys h k = (h.0, no_levels_append xs ys h.1 k)
+no_levels_append xs ys h k = all_append (λ level. level ≡ 0) xs ys h k
 
 -- tokens that open no level are over no other limit than those of which no level is told
 pub over_none : (pieces : List Piece) (ls : List ℕ) → NoLevels ls → first_over pieces ls ≡ first_over pieces []
@@ -353,16 +353,6 @@ traced_over c pieces p h = (runs_form c (tokens_of pieces) p h).3 pieces
 -- tokens are one phrase of a category at most
 pub unique : (c : Category) (ks : List Token) (p q : Reading) → Form c ks p → Form c ks q → p ≡ q
 unique c ks p q h k = let a = complete c ks p h in let b = complete c ks q k in cc
-
--- tokens and more of them
-pub run_append : (xs ys : List Token) (s : Option State) → run (xs ++ ys) s ≡ run ys (run xs s)
-run_append [] ys s = refl
-run_append (x ∷ xs) ys s = run_append xs ys (step_if s x)
-
--- a machine that stopped stays so
-pub run_none : (ks : List Token) → run ks None ≡ None
-run_none [] = refl
-run_none (k ∷ ks) = run_none ks
 
 runs_before : (more : List Token) (s : Option State) (z : State) → run more s ≡ Some z → (y : State) × (s ≡ Some y)
 runs_before more None z e = let n = run_none more in absurd (cc)

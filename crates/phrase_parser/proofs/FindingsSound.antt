@@ -17,7 +17,7 @@ use Rattle.phrase_parser.proofs.KeptNumbers.{kept_above}
 use Rattle.phrase_parser.proofs.Limits.{none_over}
 use Rattle.phrase_parser.proofs.RecognizedTokens.{kinds_of, taken_begins, refused_begins, whole_form, part_form, levels_over}
 
--- the shape behind pieces, and the first of them over a limit
+-- the shape behind the pieces, if they can stand there
 abbrev pub follow_pieces : List Piece → Option Shape → Option Shape
 follow_pieces pieces shape = follow (kinds_of (tokens_of pieces)) shape
 

@@ -9,6 +9,7 @@ mod CutSoFar
 mod ConstantValues
 mod CutPieces
 -- ---- the machine reads exactly the forms of the grammar
+mod AllOfLists
 mod BuiltinNames
 mod TreeSpelling
 mod PhraseSpelling

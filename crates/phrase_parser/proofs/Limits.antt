@@ -13,6 +13,7 @@ use Rattle.plcs_grammar.specs.Form.{Form}
 use Rattle.plcs_grammar.specs.Limit.{greatest_number, greatest_nesting, nesting, reference_nesting, deepest, deepest_reference, arguments_nesting, phrase_nesting, numbers, reference_numbers, numbers_of_all, size_numbers, phrase_numbers, IsWithinLimits}
 use Rattle.plcs_grammar.specs.Opened.{opened, reference_opened, opened_by_all, opened_behind, references_behind, opened_by_references, opened_by_call, phrase_opened}
 use Rattle.plcs_grammar.specs.Over.{OverLimit, is_too_large, over_at, first_over}
+use Rattle.phrase_parser.proofs.AllOfLists.{all_append, append_all}
 use Rattle.phrase_parser.proofs.TreeSpelling.{spell, spell_reference, spell_all, spell_behind}
 use Rattle.phrase_parser.proofs.PhraseSpelling.{spell_name, spell_item, spell_sized, spell_call, spell_more, spell_listed, spell_phrase, form_spelled}
 
@@ -136,12 +137,10 @@ abbrev pub Small : List ℕ → Type 0
 Small ns = AllByRecursion (λ n. n ≤ greatest_number) ns
 
 small_append : (xs ys : List ℕ) → Small xs → Small ys → Small (xs ++ ys)
-small_append [] ys h k = k
-small_append (x ∷ xs) ys h k = (h.0, small_append xs ys h.1 k)
+small_append xs ys h k = all_append (λ n. n ≤ greatest_number) xs ys h k
 
 append_small : (xs ys : List ℕ) → Small (xs ++ ys) → Small xs × Small ys
-append_small [] ys h = (tt, h)
-append_small (x ∷ xs) ys h = let r = append_small xs ys h.1 in ((h.0, r.0), r.1)
+append_small xs ys h = append_all (λ n. n ≤ greatest_number) xs ys h
 
 -- the greater of two keeps a limit where both do
 max_under : (a b d k : ℕ) → max a b + d ≤ k → (a + d ≤ k) × (b + d ≤ k)
@@ -325,8 +324,8 @@ listed_names_plain [] = tt
 listed_names_plain (name ∷ rest) = (tt, names_plain rest)
 
 -- the numbers of a phrase are small, and it is nested no deeper than the limit
-abbrev pub Kept : Reading → Type 0
-Kept p = Small (phrase_numbers p) × (phrase_nesting p ≤ greatest_nesting)
+abbrev pub KeepsLimits : Reading → Type 0
+KeepsLimits p = Small (phrase_numbers p) × (phrase_nesting p ≤ greatest_nesting)
 
 call_fine : (name : List ℕ) (passed : Trees) → Small (numbers_of_all passed) → arguments_nesting passed ≤ greatest_nesting
     → AllFine (spell_call name passed) (opened_by_call passed)
@@ -361,7 +360,7 @@ fine_listed_references (reference ∷ rest) h =
     )
 
 -- a phrase within the limits has no token that goes past one
-phrase_fine : (p : Reading) → Kept p → AllFine (spell_phrase p) (phrase_opened p)
+phrase_fine : (p : Reading) → KeepsLimits p → AllFine (spell_phrase p) (phrase_opened p)
 phrase_fine (Reading.assignment target value) h =
     let s = append_small (reference_numbers target) (numbers value) h.0 in
     let m = max_under (reference_nesting target) (nesting value) 0 greatest_nesting (outside _ _ h.1) in
@@ -381,7 +380,7 @@ phrase_fine (Reading.greatest_length n) h = (h.0.0, tt)
 phrase_fine (Reading.comment bytes) h = tt
 
 -- a phrase none of whose tokens goes past a limit is within the limits
-fine_phrase : (p : Reading) → AllFine (spell_phrase p) (phrase_opened p) → Kept p
+fine_phrase : (p : Reading) → AllFine (spell_phrase p) (phrase_opened p) → KeepsLimits p
 fine_phrase (Reading.assignment target value) h =
     let p = append_fine _ _ (even_reference target 0) h in
     let q = fine_reference target 0 zero-le p.0 in

@@ -1,7 +1,7 @@
--- Runs of the machine that do not stop, with the levels that their tokens open.
-use Rattle.std.proofs.Common.{◌≡◌, refl, ℕ, List, [], ◌∷◌, ◌++◌, Some, ap, ◌∙◌}
+-- Runs of the machine: those that do not stop, with the levels that their tokens open, and those that do.
+use Rattle.std.proofs.Common.{◌≡◌, refl, ℕ, List, [], ◌∷◌, ◌++◌, Option, Some, None, ap, ◌∙◌}
 use Rattle.plcs_grammar.specs.Token.{Token}
-use Rattle.phrase_parser.specs.Machine.{State, step, run}
+use Rattle.phrase_parser.specs.Machine.{State, step, step_if, run}
 use Rattle.phrase_parser.specs.Trace.{opens, trace}
 
 -- the tokens lead from one state to another, and open the levels
@@ -26,3 +26,13 @@ pub goes_opens : {a z : State} {ks : List Token} {ls : List ℕ} → Goes a ks l
 goes_opens there = refl
 goes_opens (by {s = s} {k = k} {ks = ks} {l = l} e o p) =
     ap (λ n. n ∷ trace ks (step s k)) o ∙ ap (λ r. l ∷ trace ks r) e ∙ ap (λ r. l ∷ r) (goes_opens p)
+
+-- tokens and more of them
+pub run_append : (xs ys : List Token) (s : Option State) → run (xs ++ ys) s ≡ run ys (run xs s)
+run_append [] ys s = refl
+run_append (x ∷ xs) ys s = run_append xs ys (step_if s x)
+
+-- a machine that stopped stays so
+pub run_none : (ks : List Token) → run ks None ≡ None
+run_none [] = refl
+run_none (k ∷ ks) = run_none ks

@@ -20,7 +20,8 @@ use Rattle.phrase_parser.specs.Recognizer.{Shape, first_shape}
 use Rattle.phrase_parser.specs.Findings.{Finding, seen_of, findings}
 use Rattle.phrase_parser.specs.Answers.{Answers, Only, OnlyFault, over_fault}
 use Rattle.phrase_parser.proofs.OneCut.{one_cut}
-use Rattle.phrase_parser.proofs.Completeness.{complete, unique, run_none}
+use Rattle.phrase_parser.proofs.Completeness.{complete, unique}
+use Rattle.phrase_parser.proofs.MachineRuns.{run_none}
 use Rattle.phrase_parser.proofs.Limits.{within}
 use Rattle.phrase_parser.proofs.FindingsComplete.{finds_wrong}
 

@@ -15,7 +15,8 @@ use Rattle.phrase_parser.specs.Trace.{opens, opens_by_role, opens_before, opens_
 use Rattle.phrase_parser.specs.Recognizer
 use Rattle.phrase_parser.specs.declared.check.kind.Kind.{Kind}
 use Rattle.phrase_parser.specs.Recognizer.{kind_of, Shape, next, follow, first_shape, may_end, level_of, follow_levels}
-use Rattle.phrase_parser.proofs.Completeness.{run_none, complete, traced_over, alive}
+use Rattle.phrase_parser.proofs.Completeness.{complete, traced_over, alive}
+use Rattle.phrase_parser.proofs.MachineRuns.{run_none}
 use Rattle.phrase_parser.proofs.ConsumedTokens.{Sound}
 use Rattle.phrase_parser.proofs.Soundness.{AfterIf, step_after, has_read, IsFreshIf, start_fresh}
 use Rattle.phrase_parser.proofs.ViablePrefixes.{viable, stopped, sound, no_form}

@@ -19,7 +19,7 @@ use Rattle.phrase_parser.specs.Machine.{Base, Stack, Role, State, Operand, tree_
 use Rattle.phrase_parser.proofs.TreeSpelling.{spell, spell_reference, spell_all, Fits, FitsReference, FitsAll}
 use Rattle.phrase_parser.proofs.PhraseSpelling.{spell_name, spell_item, spell_phrase, FitsPhrase, FitsItem, AnyName}
 use Rattle.phrase_parser.proofs.BuiltinNames.{builtin_found, builtin_missing}
-use Rattle.phrase_parser.proofs.Completeness.{run_none}
+use Rattle.phrase_parser.proofs.MachineRuns.{run_none}
 use Rattle.phrase_parser.proofs.TreesRead.{above_none}
 use Rattle.phrase_parser.proofs.ConsumedTokens.{spell_before, all_push, before_push, call_push, behind_fits, all_fit, call_fits, spell_each, listed_last, each_last, listed_comma, each_fits, listed_fits, listed_each, flat_stack, flat, hole, SoundStack, SoundRole, Sound, stack_category, state_category}
 

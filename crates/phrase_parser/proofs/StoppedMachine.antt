@@ -7,7 +7,7 @@ use Rattle.phrase_parser.specs.declared.builder.fault.BuildError.TheVariants.{Ou
 use Rattle.phrase_parser.specs.declared.token.Placed.{Placed}
 use Rattle.phrase_parser.specs.Machine.{State, step, run, ended_if}
 use Rattle.phrase_parser.specs.Gives.{Fails}
-use Rattle.phrase_parser.proofs.Completeness.{run_none}
+use Rattle.phrase_parser.proofs.MachineRuns.{run_none}
 
 -- what fails at a state fails behind all tokens
 pub fails_behind : (e : BuildError) (tokens : List Token) (s : Option State) → Fails e s → Fails e (ended_if (run tokens s))

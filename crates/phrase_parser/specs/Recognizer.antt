@@ -37,15 +37,20 @@ ground_level Ground.CallList = 1
 pub data Shape : Type 0 where
   -- an operand is wanted, in the open parentheses, the innermost first, with so many levels open
   wanted : Ground → List Bracket → ℕ → Shape
+  -- a part of an expression that may end there was read
   had : Last → Ground → List Bracket → Shape
+  -- a name is wanted, or was read
   name_wanted : Role → Shape
   name_had : Role → Shape
+  -- the parenthesis behind a target's subscript, a variable's subscript or a call's arguments was read
   target_had : Shape
   variable_had : Shape
   call_had : Shape
+  -- the size of an array is wanted, or it or the parenthesis behind it was read
   size_wanted : Shape
   size_had : Shape
   item_had : Shape
+  -- a length is wanted, or was read
   length_wanted : Shape
   length_had : Shape
 

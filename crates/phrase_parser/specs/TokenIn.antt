@@ -35,7 +35,8 @@ pub record IsConstant (bytes : List ℕ) : Type 0 where
   pub whole : bytes ≡ quoted value
   pub content : IsConstantText value
 
--- the bytes are a token of the kind, and a number is one that an expression can hold
+-- what the builder needs of a token of the kind: a name's bytes are a name, a character constant's are one, and a number
+-- is one that an expression can hold
 abbrev pub IsOfKind : TokenKind → List ℕ → Type 0
 IsOfKind kind.Name bytes = IsName bytes
 IsOfKind kind.Keyword bytes = Unit {0}
@@ -44,7 +45,7 @@ IsOfKind kind.Text bytes = IsConstant bytes
 IsOfKind (kind.Bit value) bytes = Unit {0}
 IsOfKind (kind.Sign s) bytes = Unit {0}
 
--- the token lies in the text, and is there what its kind says
+-- the token lies in the text, and has what the builder needs of its kind
 pub record IsPlacedIn (text : List ℕ) (placed : Placed) : Type 0 where
   pub ordered : placed.start ≤ placed.end
   pub within : placed.end ≤ length text

@@ -7,7 +7,9 @@ use std::alloc::{AllocError, AllocFailed};
 #[derive(Clone, Copy, Debug, PartialEq, Eq)]
 pub enum PhraseFault {
     /// The text has no reading, even with numbers of any size and any nesting. The place is the start of
-    /// the first token that can't stand there, or the byte where no token can be made, or the text's length.
+    /// the first token that can't stand there or the byte where no token can be made, whichever comes
+    /// first, else the text's length. A comment's text is refused at its length where it is all blank, at
+    /// 0 where it is `{comment}`, and else at its first `*/` or byte that isn't printable.
     Syntax(u32),
     /// The number at this place is greater than 2147483647, and nothing before it goes past a limit.
     NumberTooLarge(u32),

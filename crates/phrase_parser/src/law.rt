@@ -6,7 +6,8 @@ pub fn one_reading()
     ensures { OneReading }
 {}
 
-/// The canonical text of a phrase that some text reads as reads as that same phrase, so the phrase is well formed.
+/// For every phrase that some text reads as, its canonical text reads as that same phrase, so it is well
+/// formed.
 pub fn canonical_text_reads()
     ensures { CanonicalTextReads }
 {}

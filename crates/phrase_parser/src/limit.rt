@@ -1,5 +1,7 @@
 //! The limits of phrases.
 
+use plcs_base::LONGEST_TEXT;
+
 /// The greatest number that a phrase may have.
 pub const GREATEST_NUMBER: u32 = 2147483647;
 
@@ -7,4 +9,4 @@ pub const GREATEST_NUMBER: u32 = 2147483647;
 pub const GREATEST_NESTING: u32 = 32;
 
 /// The greatest length that a text can be declared with.
-pub const GREATEST_LENGTH: u32 = 256;
+pub const GREATEST_LENGTH: u32 = LONGEST_TEXT as u32;

@@ -50,7 +50,8 @@ const RULES: [Row; 32] = [
     (CommentText, b"a\tb*/", Err(Syntax(1))),
 ];
 
-/// For each category its empty text, a keyword in it, one token too few and one too many.
+/// For each category of tokens its empty text, a keyword in it, one token too few and one too many; and
+/// texts of comments.
 const CATEGORIES: [Row; 48] = [
     (Assignment, b"", Err(Syntax(0))),
     (Assignment, b"x = DO", Err(Syntax(4))),
@@ -102,7 +103,7 @@ const CATEGORIES: [Row; 48] = [
     (CommentText, b" a  b ", Ok(b"a  b")),
 ];
 
-/// Each category read, with its canonical text.
+/// Each category whose phrases are tokens, read, with its canonical text.
 const READ: [Row; 11] = [
     (Assignment, b"a ( 1 )=-x", Ok(b"a(1) = -x")),
     (Condition, b"^(a|b)&c", Ok(b"^( a | b ) & c")),
@@ -476,7 +477,7 @@ fn fault_of(rt: &impl Abort, alloc: Global, text: &[u8]) -> Option<PhraseFault> 
     parse(alloc, Expression, text).err()
 }
 
-/// What a nested text has in its middle, how many are nested, and the fault.
+/// How many are nested, the opening, the middle and the closing of the text, and its fault.
 type NestedRow = (
     u32,
     &'static [u8],

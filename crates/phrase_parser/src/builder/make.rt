@@ -52,7 +52,7 @@ pub fn subscripted(alloc: Global, name: Name, index: Expr) -> Result<VarRef, All
     Ok(boxed_subscript(name, Box::new(alloc, index)?))
 }
 
-/// The variable with the subscript.
+/// The variable with the subscript, which is in its box already.
 fn boxed_subscript(name: Name, index: Box<Expr>) -> VarRef
     ensures { reference_of result ≡ Reference.subscripted name (tree_of index.value) }
 {

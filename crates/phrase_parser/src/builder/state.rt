@@ -4,12 +4,19 @@ use plcs_grammar::{Builtin, Expr, InfixOp, Item, PrefixOp, VarRef};
 /// What an expression that stands in no other is for, with what of the phrase stands before it.
 #[derive(Drop)]
 pub enum Base {
+    /// A whole condition.
     Condition,
+    /// A whole expression.
     Expression,
+    /// One of a list of expressions, behind these.
     Expressions(Vec<Expr>),
+    /// What is assigned to the variable.
     Assigned(VarRef),
+    /// The subscript of an assignment's target.
     TargetSubscript(Name),
+    /// The subscript of a variable of a list, behind these.
     VariableSubscript(Vec<VarRef>, Name),
+    /// One of the arguments of a call, behind these.
     CallArguments(Name, Vec<Expr>),
 }
 
@@ -40,25 +47,38 @@ pub struct Stack {
 /// An operand that is no operator with operands of its own.
 #[derive(Drop)]
 pub enum Primary {
+    /// A number.
     Number(i32),
+    /// A character constant.
     Text(Box<TextValue>),
+    /// A bit constant.
     Bit(bool),
     /// A name, behind which a parenthesis may still open.
     Name(Name),
+    /// A variable with its subscript.
     Subscripted(Name, Box<Expr>),
+    /// A call of a built-in function, with its arguments.
     Call(Builtin, Vec<Expr>),
+    /// An expression in parentheses.
     Parenthesized(Box<Expr>),
 }
 
 /// What a name that stands in no expression is for, with what of the phrase stands before it.
 #[derive(Drop)]
 pub enum Role {
+    /// The target of an assignment.
     Target,
+    /// A variable of a list, behind these.
     Variables(Vec<VarRef>),
+    /// The procedure that is called.
     Callee,
+    /// A name of a declaration, behind these.
     Items(Vec<Item>),
+    /// A parameter, behind these.
     Names(Vec<Name>),
+    /// The variable of a loop.
     Variable,
+    /// The name of a procedure where it stands.
     Procedure,
 }
 

@@ -11,7 +11,9 @@ use crate::limit::{GREATEST_NESTING, GREATEST_NUMBER};
 /// What goes past its limit, and the place of it.
 #[derive(Clone, Copy)]
 pub enum Over {
+    /// A number that is too large.
     NumberTooLarge(usize),
+    /// A token that opens one level too many.
     TooDeep(usize),
 }
 

@@ -81,7 +81,7 @@ pub fn closed(nesting: Nesting) -> Option<Shape>
     }
 }
 
-/// A comma stands in no parenthesis of the phrase's own expression.
+/// A comma stands behind the phrase's own expression.
 fn comma_ground(alloc: Global, place: Ground) -> Option<Shape>
     ensures { shape_if result ≡ next_comma_ground place }
 {

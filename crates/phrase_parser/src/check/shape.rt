@@ -64,7 +64,9 @@ pub enum Shape {
     Wanted(Nesting, u32),
     /// A part of an expression that may end there was read.
     Had(Last, Nesting),
+    /// A name is wanted.
     NameWanted(Role),
+    /// A name was read.
     NameHad(Role),
     /// The parenthesis behind a target's subscript was read.
     TargetHad,
@@ -72,10 +74,14 @@ pub enum Shape {
     VariableHad,
     /// The parenthesis behind a call's arguments was read.
     CallHad,
+    /// The size of an array is wanted.
     SizeWanted,
+    /// The size of an array was read.
     SizeHad,
     /// The parenthesis behind an array's size was read.
     ItemHad,
+    /// A length is wanted.
     LengthWanted,
+    /// A length was read.
     LengthHad,
 }
