@@ -11,7 +11,7 @@ keywords =
     ∷ codes "OPTIONS" ∷ codes "OTHERWISE" ∷ codes "PROCEDURE" ∷ codes "PUT" ∷ codes "RETURN" ∷ codes "SELECT"
     ∷ codes "SKIP" ∷ codes "THEN" ∷ codes "TO" ∷ codes "UNTIL" ∷ codes "VARYING" ∷ codes "WHEN" ∷ codes "WHILE" ∷ []
 
--- one of the keywords, case by case
+-- whether the bytes are one of the keywords; capitals and small letters differ
 unfoldable pub is_keyword : List ℕ → Bool
 is_keyword bytes = list_any (bytes_eq bytes) keywords
 

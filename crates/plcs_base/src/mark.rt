@@ -1,6 +1,10 @@
 use crate::place::PhraseAt;
 
 /// What is wrong with a phrase: its first offence.
+///
+/// A procedure's heading is effective where all its parts are filled, its name is neither a built-in
+/// function's nor `main`, and no earlier effective heading has it. Which items are effective,
+/// `Scope` says.
 #[derive(Clone, Copy, Debug, PartialEq, Eq)]
 pub enum MarkKind {
     /// A name without a type.

@@ -4,6 +4,10 @@ use crate::place::Slot;
 /// The effective items of a program's procedures.
 ///
 /// They are a finite map from the slots of procedures to lists of items.
+///
+/// An item is effective unless its name is a built-in function's, an earlier effective item of the
+/// procedure has its name, or its cells and those of the earlier effective items are over 2,000
+/// together. A declaration of texts without a length declares nothing.
 pub trait Scope {
     ghost use Rattle.std.specs.Prelude.{◌≡◌};
     ghost use Rattle.plcs_base.specs.Scope.{ItemMap, item_at};

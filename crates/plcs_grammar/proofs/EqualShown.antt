@@ -9,7 +9,7 @@ use Rattle.plcs_grammar.specs.Canon.{canon, canon_reference, Canon}
 use Rattle.plcs_grammar.proofs.Putting.{puts_same}
 
 module _ {Out : Type 0} {puts : Out → ℕ → Out → Type 0} {before after : Out} where
-  -- the text of a tree is that of an expression with this plain form
+  -- the text of an equal tree
   pub shown_tree : (t u : Tree) → t ≡ u → PutsAll puts before (canon u) after → PutsAll puts before (canon t) after
   shown_tree t u is done = puts_same (sym (ap canon is)) done
 
@@ -17,7 +17,7 @@ module _ {Out : Type 0} {puts : Out → ℕ → Out → Type 0} {before after : 
       → PutsAll puts before (canon_reference r) after
   shown_reference r s is done = puts_same (sym (ap canon_reference is)) done
 
-  -- the same of an equal expression
+  -- the text of an equal expression
   pub shown_expr : (e f : Expr) → e ≡ f → PutsAll puts before (canon (tree_of e)) after
       → PutsAll puts before (canon (tree_of f)) after
   shown_expr e f is done = puts_same (ap (λ e. canon (tree_of e)) is) done

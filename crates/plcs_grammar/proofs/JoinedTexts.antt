@@ -1,30 +1,30 @@
 -- The text of a list, item by item.
-use Rattle.std.proofs.Common.{ℕ, ◌+◌, ◌<◌, ◌≡◌, List, [], ◌∷◌, ◌++◌, length, take, get_or, map, codes, refl, sym, ap, ◌∙◌, append_assoc, arith}
+use Rattle.std.proofs.Common.{ℕ, ◌+◌, ◌<◌, ◌≡◌, List, [], ◌∷◌, ◌++◌, length, take, get_or, map, refl, sym, ap, ◌∙◌, append_assoc, arith}
 use Rattle.std.proofs.lemmas.List.{append-nil, take_more, length-take-le}
 use Rattle.plcs_grammar.specs.declared.expr.Expr.{Expr}
 use Rattle.plcs_grammar.specs.PlainForm.{tree_of, trees_of}
-use Rattle.plcs_grammar.specs.Canon.{canon, canon_list, canon_behind, canon_call, parenthesized_bytes, joined, more_joined}
+use Rattle.plcs_grammar.specs.Canon.{canon, canon_list, canon_behind, canon_call, parenthesized_bytes, comma, joined, more_joined}
 use Rattle.plcs_grammar.specs.Separator.{separator}
 
 -- one item more
 pub more_joined_push : {X : Type 0} (bytes_of : X → List ℕ) (xs : List X) (x : X)
-    → more_joined bytes_of (xs ++ (x ∷ [])) ≡ more_joined bytes_of xs ++ (codes ", " ++ bytes_of x)
-more_joined_push bytes_of [] x = ap (λ z. codes ", " ++ z) (append-nil (bytes_of x))
+    → more_joined bytes_of (xs ++ (x ∷ [])) ≡ more_joined bytes_of xs ++ (comma ++ bytes_of x)
+more_joined_push bytes_of [] x = ap (λ z. comma ++ z) (append-nil (bytes_of x))
 more_joined_push bytes_of (y ∷ ys) x =
-    ap (λ z. codes ", " ++ (bytes_of y ++ z)) (more_joined_push bytes_of ys x)
-    ∙ ap (λ z. codes ", " ++ z) (sym (append_assoc (bytes_of y) (more_joined bytes_of ys) (codes ", " ++ bytes_of x)))
+    ap (λ z. comma ++ (bytes_of y ++ z)) (more_joined_push bytes_of ys x)
+    ∙ ap (λ z. comma ++ z) (sym (append_assoc (bytes_of y) (more_joined bytes_of ys) (comma ++ bytes_of x)))
 
 pub joined_push : {X : Type 0} (bytes_of : X → List ℕ) (xs : List X) (x : X)
     → joined bytes_of (xs ++ (x ∷ [])) ≡ joined bytes_of xs ++ (separator (length xs) ++ bytes_of x)
 joined_push bytes_of [] x = append-nil (bytes_of x)
 joined_push bytes_of (y ∷ ys) x =
     ap (λ z. bytes_of y ++ z) (more_joined_push bytes_of ys x)
-    ∙ sym (append_assoc (bytes_of y) (more_joined bytes_of ys) (codes ", " ++ bytes_of x))
+    ∙ sym (append_assoc (bytes_of y) (more_joined bytes_of ys) (comma ++ bytes_of x))
 
 -- expressions, as any other items
 pub behind_is : (es : List Expr) → more_joined (λ e. canon (tree_of e)) es ≡ canon_behind (trees_of es)
 behind_is [] = refl
-behind_is (e ∷ es) = ap (λ z. codes ", " ++ (canon (tree_of e) ++ z)) (behind_is es)
+behind_is (e ∷ es) = ap (λ z. comma ++ (canon (tree_of e) ++ z)) (behind_is es)
 
 pub list_is : (es : List Expr) → joined (λ e. canon (tree_of e)) es ≡ canon_list (trees_of es)
 list_is [] = refl
@@ -43,7 +43,7 @@ joined_next bytes_of xs i x inside is =
 pub more_joined_map : {X Y : Type 0} (bytes_of : Y → List ℕ) (f : X → Y) (xs : List X)
     → more_joined (λ x. bytes_of (f x)) xs ≡ more_joined bytes_of (map f xs)
 more_joined_map bytes_of f [] = refl
-more_joined_map bytes_of f (x ∷ xs) = ap (λ z. codes ", " ++ (bytes_of (f x) ++ z)) (more_joined_map bytes_of f xs)
+more_joined_map bytes_of f (x ∷ xs) = ap (λ z. comma ++ (bytes_of (f x) ++ z)) (more_joined_map bytes_of f xs)
 
 pub joined_map : {X Y : Type 0} (bytes_of : Y → List ℕ) (f : X → Y) (xs : List X)
     → joined (λ x. bytes_of (f x)) xs ≡ joined bytes_of (map f xs)

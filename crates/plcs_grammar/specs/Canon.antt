@@ -2,6 +2,7 @@
 use Rattle.std.specs.Prelude.{ℕ, List, [], ◌∷◌, ◌++◌, codes, decimal, Option, Some, None}
 use Rattle.std.specs.Fmt.{signed_decimal}
 use Rattle.plcs_grammar.specs.declared.item.Item.{Item}
+use Rattle.plcs_grammar.specs.declared.sign.Sign.{Sign}
 use Rattle.plcs_grammar.specs.declared.category.Category.{Category}
 use Rattle.plcs_grammar.specs.Builtin.{builtin_name}
 use Rattle.plcs_grammar.specs.Sign.{sign_bytes, prefix_sign, infix_sign}
@@ -13,6 +14,14 @@ use Rattle.plcs_grammar.specs.Reads.{Reads}
 abbrev pub parenthesized_bytes : List ℕ → List ℕ
 parenthesized_bytes bytes = codes "(" ++ (bytes ++ codes ")")
 
+-- a text behind a sign that has a blank on each side
+abbrev pub behind_sign : Sign → List ℕ → List ℕ
+behind_sign sign bytes = codes " " ++ (sign_bytes sign ++ (codes " " ++ bytes))
+
+-- what stands between the items of a list
+abbrev pub comma : List ℕ
+comma = codes ", "
+
 abbrev mutual
   -- the canonical text of an expression
   pub canon : Tree → List ℕ
@@ -21,7 +30,7 @@ abbrev mutual
   canon (Tree.bit value) = bit_bytes value
   canon (Tree.variable reference) = canon_reference reference
   canon (Tree.unary op a) = sign_bytes (prefix_sign op) ++ canon a
-  canon (Tree.binary op a b) = canon a ++ (codes " " ++ (sign_bytes (infix_sign op) ++ (codes " " ++ canon b)))
+  canon (Tree.binary op a b) = canon a ++ behind_sign (infix_sign op) (canon b)
   canon (Tree.builtin function arguments) = builtin_name function ++ parenthesized_bytes (canon_list arguments)
   canon (Tree.parenthesized a) = codes "( " ++ (canon a ++ codes " )")
 
@@ -38,13 +47,13 @@ abbrev mutual
   -- the same for those behind the first, each behind its comma
   pub canon_behind : Trees → List ℕ
   canon_behind Trees.nil = []
-  canon_behind (Trees.cons a rest) = codes ", " ++ (canon a ++ canon_behind rest)
+  canon_behind (Trees.cons a rest) = comma ++ (canon a ++ canon_behind rest)
 
 module _ {X : Type 0} (bytes_of : X → List ℕ) where
   -- their texts, each behind a comma and a blank
   abbrev pub more_joined : List X → List ℕ
   more_joined [] = []
-  more_joined (x ∷ xs) = codes ", " ++ (bytes_of x ++ more_joined xs)
+  more_joined (x ∷ xs) = comma ++ (bytes_of x ++ more_joined xs)
 
   -- their texts, joined by a comma and a blank
   abbrev pub joined : List X → List ℕ
@@ -67,7 +76,7 @@ canon_call name (Trees.cons a rest) = name ++ parenthesized_bytes (canon_list (T
 
 -- the canonical text of a phrase
 abbrev pub Canon : Reading → List ℕ
-Canon (Reading.assignment target value) = canon_reference target ++ (codes " = " ++ canon value)
+Canon (Reading.assignment target value) = canon_reference target ++ behind_sign Sign.Equal (canon value)
 Canon (Reading.condition e) = canon e
 Canon (Reading.expression e) = canon e
 Canon (Reading.expression_list es) = canon_list es
@@ -79,6 +88,10 @@ Canon (Reading.procedure_name name) = name
 Canon (Reading.name_list names) = joined (λ name. name) names
 Canon (Reading.greatest_length n) = decimal n
 Canon (Reading.comment bytes) = bytes
+
+-- the length of a canonical text is told up to this one
+abbrev pub longest_shown : ℕ
+longest_shown = 4294967295
 
 -- the phrase is what its canonical text reads as
 abbrev pub IsWellFormed : Category → Reading → Type 0

@@ -1,9 +1,9 @@
 -- A chain of operators, seen along its left operands.
-use Rattle.std.specs.Prelude.{ℕ, zero, suc, List, [], ◌++◌, codes}
+use Rattle.std.specs.Prelude.{ℕ, zero, suc, List, [], ◌++◌}
 use Rattle.plcs_grammar.specs.declared.operator.InfixOp.{InfixOp}
-use Rattle.plcs_grammar.specs.Sign.{sign_bytes, infix_sign}
 use Rattle.plcs_grammar.specs.Reading.{Tree}
-use Rattle.plcs_grammar.specs.Canon.{canon}
+use Rattle.plcs_grammar.specs.Sign.{infix_sign}
+use Rattle.plcs_grammar.specs.Canon.{behind_sign, canon}
 
 -- what is reached by going to the left operand so many times, or as far as there is one
 abbrev pub leftmost : Tree → ℕ → Tree
@@ -19,9 +19,9 @@ leftmost (Tree.parenthesized a) times = Tree.parenthesized a
 
 -- an operator with a blank on each side, and its right operand
 abbrev pub operator_text : InfixOp → Tree → List ℕ
-operator_text op b = codes " " ++ (sign_bytes (infix_sign op) ++ (codes " " ++ canon b))
+operator_text op b = behind_sign (infix_sign op) (canon b)
 
--- the canonical text of what stands to the right of that operand
+-- the canonical text of the last so many operators, each with its right operand: what stands behind `leftmost`
 abbrev pub chain_text : Tree → ℕ → List ℕ
 chain_text (Tree.number z) operators = []
 chain_text (Tree.text value) operators = []

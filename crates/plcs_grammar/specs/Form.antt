@@ -6,11 +6,7 @@ use Rattle.plcs_grammar.specs.declared.item.Item.{Item}
 use Rattle.plcs_grammar.specs.declared.sign.Sign.{Sign}
 use Rattle.plcs_grammar.specs.Token.{Token}
 use Rattle.plcs_grammar.specs.Reading.{Trees, Reading, category_of}
-use Rattle.plcs_grammar.specs.Level.{Level, IsReference, Joined, in_parentheses}
-
--- the tokens are the name alone
-abbrev pub IsNameToken : List ℕ → List Token → Type 0
-IsNameToken name tokens = tokens ≡ Token.name name ∷ []
+use Rattle.plcs_grammar.specs.Level.{Level, IsNameToken, IsReference, Joined, in_parentheses}
 
 -- the tokens are a declared name, with the size of an array, which is at least 1, or without one
 abbrev pub IsSizedName : List ℕ → Option ℕ → List Token → Type 0

@@ -33,6 +33,10 @@ abbrev pub IsNoCall : Reference → Type 0
 IsNoCall (Reference.simple name) = Unit {0}
 IsNoCall (Reference.subscripted name index) = IsTrue (not (is_builtin_name name))
 
+-- the tokens are the name alone
+abbrev pub IsNameToken : List ℕ → List Token → Type 0
+IsNameToken name tokens = tokens ≡ Token.name name ∷ []
+
 -- the tokens in parentheses
 abbrev pub in_parentheses : List Token → List Token
 in_parentheses tokens = Token.sign Sign.OpenParenthesis ∷ (tokens ++ (Token.sign Sign.CloseParenthesis ∷ []))
@@ -57,7 +61,7 @@ abbrev mutual
 
   -- the tokens are the variable: a name, or a name and a subscript in parentheses
   pub IsReference : Reference → List Token → Type 0
-  IsReference (Reference.simple name) tokens = tokens ≡ Token.name name ∷ []
+  IsReference (Reference.simple name) tokens = IsNameToken name tokens
   IsReference (Reference.subscripted name index) tokens =
       (inner : List Token) × (tokens ≡ Token.name name ∷ in_parentheses inner) × Level index 1 inner
 

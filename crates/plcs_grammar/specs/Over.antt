@@ -19,7 +19,7 @@ is_too_large (Token.text value) = false
 is_too_large (Token.bit value) = false
 is_too_large (Token.sign s) = false
 
--- whether the token, which opens the level, goes past a limit
+-- the limit that the token goes past, if it does one; the level is the one that it opens, or 0
 abbrev pub over_at : Piece → ℕ → Option OverLimit
 over_at piece level =
     if is_too_large piece.token then Some (OverLimit.number_too_large piece.start)

@@ -22,18 +22,26 @@ abbrev pub begins_with : (ℕ → Bool) → List ℕ → Bool
 begins_with test [] = false
 begins_with test (byte ∷ rest) = test byte
 
+-- the quote
+abbrev pub quote : ℕ
+quote = 39
+
 -- whether the byte is a quote
 abbrev pub is_quote : ℕ → Bool
-is_quote byte = byte == 39
+is_quote byte = byte == quote
+
+-- a byte as it is written between quotes: a quote twice
+abbrev pub doubled : ℕ → List ℕ
+doubled byte = if is_quote byte then quote ∷ quote ∷ [] else byte ∷ []
 
 -- the bytes with each quote written twice
 abbrev pub with_quotes_doubled : List ℕ → List ℕ
 with_quotes_doubled [] = []
-with_quotes_doubled (byte ∷ rest) = (if is_quote byte then 39 ∷ 39 ∷ [] else byte ∷ []) ++ with_quotes_doubled rest
+with_quotes_doubled (byte ∷ rest) = doubled byte ++ with_quotes_doubled rest
 
 -- the bytes between quotes
 abbrev pub quoted : List ℕ → List ℕ
-quoted bytes = 39 ∷ (with_quotes_doubled bytes ++ (39 ∷ []))
+quoted bytes = quote ∷ (with_quotes_doubled bytes ++ (quote ∷ []))
 
 -- how a bit constant is written
 abbrev pub bit_bytes : Bool → List ℕ
@@ -52,11 +60,11 @@ numeral_value digits = number_from_digits 10 (map (λ digit. digit - 48) digits)
 abbrev pub EndsWord : List ℕ → Type 0
 EndsWord behind = IsTrue (not (begins_with is_name_byte behind))
 
--- what a character constant may be a value of: at most 256 bytes, each from 32 to 126
+-- what may be the value of a character constant: at most 256 bytes, each from 32 to 126
 abbrev pub IsConstantText : List ℕ → Type 0
 IsConstantText bytes = IsTextValue bytes × IsTrue (list_all is_printable bytes)
 
--- the bytes, with what stands behind them, are the token
+-- the bytes are the token, where these others stand behind them
 abbrev pub IsToken : Token → List ℕ → List ℕ → Type 0
 IsToken (name n) bytes behind = (bytes ≡ n) × IsName n × EndsWord behind
 IsToken (keyword word) bytes behind = (bytes ≡ word) × IsTrue (is_keyword word) × EndsWord behind

@@ -1,6 +1,6 @@
 ghost use Rattle.std.specs.Prelude.{◌≡◌, ◌+◌, min, length};
 ghost use Rattle.plcs_grammar.specs.PlainForm.{reading_of};
-ghost use Rattle.plcs_grammar.specs.Canon.{Canon};
+ghost use Rattle.plcs_grammar.specs.Canon.{Canon, longest_shown};
 
 use crate::phrase::Phrase;
 use crate::show_phrase::show;
@@ -13,7 +13,7 @@ struct LengthOut {
 }
 
 impl ByteOut for LengthOut {
-    ghost puts = { λ before byte after. after.count ≡ min (before.count + 1) 4294967295 };
+    ghost puts = { λ before byte after. after.count ≡ min (before.count + 1) longest_shown };
 
     fn put(&mut self, _byte: u8) {
         self.count = self.count.saturating_add(1);
@@ -22,7 +22,7 @@ impl ByteOut for LengthOut {
 
 /// The length of a phrase's canonical text in bytes, or 4294967295 where it is longer.
 pub fn shown_len(phrase: &Phrase) -> u32
-    ensures { result ≡ min (length (Canon (reading_of phrase.now))) 4294967295 }
+    ensures { result ≡ min (length (Canon (reading_of phrase.now))) longest_shown }
 {
     let mut out = LengthOut { count: 0 };
     show(phrase, &mut out);

@@ -89,7 +89,8 @@ pub(crate) fn show_variable<O: ByteOut>(variable: &VarRef, out: &mut O)
     }
 }
 
-/// Puts the canonical texts of expressions, joined by commas.
+/// Puts the canonical texts of expressions, joined by commas. It is `show_joined` for expressions, which
+/// stands in the cycle.
 #[cycle(show_expr)]
 pub(crate) fn show_exprs<O: ByteOut>(exprs: &[Expr], out: &mut O)
     ensures { PutsAll O.puts out.old (canon_list (trees_of exprs.now)) out.new }
