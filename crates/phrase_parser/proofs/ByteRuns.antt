@@ -1,11 +1,7 @@
--- Runs of bytes of one class at the front of a text, and which of them are words.
-use Rattle.std.proofs.Common.{◌≡◌, ℕ, suc, ◌+◌, ◌≤◌, Bool, true, false, not, List, [], ◌∷◌, ◌++◌, length, take, drop, refl, ap, ◌∙◌, inl, inr, arith}
-use Rattle.std.specs.Prelude.{nat_le, bytes_eq}
-use Rattle.std.specs.List.{list_all, list_any, prefix_len}
-use Rattle.std.proofs.lemmas.Bool.{and_parts, and_from, or_left, or_cases, cond-true, cond-false, cond_both, leb-true}
-use Rattle.std.proofs.lemmas.Slice.Eq.{bytes_eq-Decides}
-use Rattle.plcs_base.specs.Byte.{is_letter, is_name_byte}
-use Rattle.plcs_base.specs.Name.{keywords, is_keyword, is_word, is_name, IsName, longest_name}
+-- Runs of bytes of one class at the front of a text.
+use Rattle.std.proofs.Common.{◌≡◌, ℕ, suc, ◌+◌, ◌≤◌, Bool, true, false, List, [], ◌∷◌, ◌++◌, length, take, drop, refl, ap, ◌∙◌, arith}
+use Rattle.std.specs.List.{list_all, prefix_len}
+use Rattle.std.proofs.lemmas.Bool.{and_parts, and_from, cond-true, cond-false, cond_both}
 use Rattle.plcs_grammar.specs.Token.{begins_with}
 
 -- one byte more is taken
@@ -54,48 +50,3 @@ pub run_first : (p : ℕ → Bool) (x : ℕ) (xs : List ℕ) → p x ≡ true
     → take (prefix_len p (x ∷ xs)) (x ∷ xs) ≡ x ∷ take (prefix_len p xs) xs
 run_first p x xs h =
     ap (λ (k : ℕ). take k (x ∷ xs)) (cond-true (p x) (1 + prefix_len p xs) 0 h) ∙ take_one_more x xs (prefix_len p xs)
-
--- a letter may follow in a name
-pub letter_is_name_byte : (byte : ℕ) → is_letter byte ≡ true → is_name_byte byte ≡ true
-letter_is_name_byte byte h = or_left (is_letter byte) _ h
-
--- each byte of a word may follow in a name
-pub word_bytes : (w : List ℕ) → is_word w ≡ true → list_all is_name_byte w ≡ true
-word_bytes [] h = refl
-word_bytes (first ∷ rest) h =
-    let parts = and_parts (is_letter first) (list_all is_name_byte rest) h in
-    and_from (is_name_byte first) (list_all is_name_byte rest) (letter_is_name_byte first parts.0) parts.1
-
--- what holds of each listed word holds of one that is found among them
-listed_word : (test : List ℕ → Bool) (w : List ℕ) (words : List (List ℕ)) → list_all test words ≡ true
-    → list_any (bytes_eq w) words ≡ true → test w ≡ true
-listed_word test w [] all found = absurd cc
-listed_word test w (u ∷ words) all found =
-    let parts = and_parts (test u) (list_all test words) all in
-    elim (or_cases (bytes_eq w u) (list_any (bytes_eq w) words) found) [
-      | inl same ↦ ap test ((bytes_eq-Decides w u).0 same) ∙ parts.0
-      | inr other ↦ listed_word test w words parts.1 other
-    ]
-
--- a keyword is a word
-pub keyword_word : (w : List ℕ) → is_keyword w ≡ true → is_word w ≡ true
-unfolding is_keyword
-keyword_word w h = listed_word is_word w keywords refl h
-
--- a keyword has at most 31 bytes
-pub keyword_short : (w : List ℕ) → is_keyword w ≡ true → length w ≤ longest_name
-unfolding is_keyword
-keyword_short w h = leb-true (length w) longest_name (listed_word (λ u. nat_le (length u) longest_name) w keywords refl h)
-
--- a name is a word
-pub name_word : (w : List ℕ) → IsName w → is_word w ≡ true
-name_word w h = (and_parts (is_word w) _ h).0
-
--- a name has at most 31 bytes
-pub name_short : (w : List ℕ) → IsName w → length w ≤ longest_name
-name_short w h =
-    leb-true (length w) longest_name (and_parts (nat_le (length w) longest_name) (not (is_keyword w)) (and_parts (is_word w) _ h).1).0
-
--- a short word that is no name is a keyword
-pub word_no_name : (w : List ℕ) → is_word w ≡ true → nat_le (length w) longest_name ≡ true → is_name w ≡ false → is_keyword w ≡ true
-word_no_name w word short h = grind (arith, word, short, h)

@@ -16,13 +16,13 @@ use Rattle.plcs_grammar.specs.Builtin.{builtin_name}
 use Rattle.plcs_grammar.specs.Level.{priority, tightest, in_parentheses}
 use Rattle.plcs_grammar.specs.Limit.{greatest_number}
 use Rattle.plcs_grammar.specs.Canon.{canon, canon_reference, canon_list, canon_behind, parenthesized_bytes}
-use Rattle.phrase_parser.proofs.ByteRuns.{name_word}
 use Rattle.phrase_parser.proofs.Numerals.{decimal_numeral}
 use Rattle.phrase_parser.proofs.LongestFront.{EndsSign, is_second}
 use Rattle.phrase_parser.proofs.CutPieces.{IsSound}
 use Rattle.phrase_parser.proofs.Limits.{NumberFits}
 use Rattle.phrase_parser.proofs.TreeSpelling.{spell, spell_reference, spell_all, spell_behind, Fits, FitsReference, FitsAll, FitsBehind}
 use Rattle.phrase_parser.proofs.LexedTexts.{Lexed, Safe, safe_sign, lexed_empty, lexed_append, lexed_blank, lexed_name, lexed_number, lexed_text, lexed_bit, lexed_sign}
+use Rattle.phrase_parser.proofs.Words.{name_word}
 
 -- a name is a name, a constant can be a value, and a number is no larger than the greatest
 abbrev pub AllWritable : List Token → Type 0

@@ -1,78 +1,24 @@
 -- A comment's text is refused exactly where it isn't one.
-use Rattle.std.proofs.Common.{◌≡◌, inl, inr, refl, ℕ, ◌+◌, ◌≤◌, Bool, true, false, cond, ◌||◌, not, List, [], ◌∷◌, ◌++◌, take, drop, reverse, length, Some, None, ap, sym, ◌∙◌, append_assoc, zero-le, arith}
+use Rattle.std.proofs.Common.{◌≡◌, inl, inr, refl, ℕ, ◌+◌, ◌≤◌, Bool, true, false, cond, ◌||◌, not, List, [], ◌∷◌, ◌++◌, drop, length, Some, None, ap, sym, ◌∙◌, append_assoc, zero-le, arith}
 use Rattle.std.specs.Prelude.{nat_eq, bytes_eq}
-use Rattle.std.specs.List.{list_all, starts_with, prefix_len}
+use Rattle.std.specs.List.{list_all, starts_with}
 use Rattle.std.proofs.lemmas.Bool.{not-false, and_parts, and_from, or_right, or_parts, or_from, cond-true, cond-false, cond_both, false_from_ne_true, not_from_true}
 use Rattle.std.proofs.lemmas.Bool.Decides.{Decides-eqb}
 use Rattle.std.proofs.lemmas.Slice.Eq.{bytes_eq-Decides, starts_is}
-use Rattle.std.proofs.lemmas.List.{reverse-append, reverse-reverse, take-append-drop}
 use Rattle.plcs_base.specs.Byte.{is_printable}
-use Rattle.plcs_grammar.specs.Cuts.{is_blank, blanks, unblanked, tokens_of}
+use Rattle.plcs_grammar.specs.Cuts.{tokens_of}
 use Rattle.std.proofs.lemmas.List.Elements.{All-from_recursion}
 use Rattle.plcs_grammar.specs.declared.category.Category.TheVariants.{CommentText}
 use Rattle.plcs_grammar.specs.Reading.{Reading}
 use Rattle.plcs_grammar.specs.Reads.{Outline, Reads}
 use Rattle.phrase_parser.specs.declared.fault.PhraseFault.TheVariants.{Syntax}
 use Rattle.phrase_parser.specs.Answers.{FaultSays}
-use Rattle.phrase_parser.proofs.ByteRuns.{drop_one_more}
-use Rattle.phrase_parser.proofs.TrimmedTexts.{trimmed_first}
+use Rattle.phrase_parser.proofs.TrimmedTexts.{trimmed_keeps, surrounded}
 use Rattle.phrase_parser.proofs.OneAnswer.{comment_no_form}
 use Rattle.plcs_grammar.specs.Comment.{trimmed, comment_end, comment_placeholder, comment_offence, comment_syntax, IsCommentText}
 
 absurd_true : (b : Bool) → b ≡ false → b ≡ true → ⊥
 absurd_true b e h = absurd (cc)
-
--- a byte that is no blank stays, with all behind it
-unblanked_keeps : (front : List ℕ) (byte : ℕ) (rest : List ℕ) → is_blank byte ≡ false
-    → (left : List ℕ) × (unblanked (front ++ (byte ∷ rest)) ≡ left ++ (byte ∷ rest))
-unblanked_keeps [] byte rest h =
-    ([], ap (λ k. drop k (byte ∷ rest)) (cond-false (is_blank byte) (1 + prefix_len is_blank rest) 0 h))
-unblanked_keeps (b ∷ front) byte rest h =
-    cond_both (is_blank b) (1 + prefix_len is_blank (front ++ (byte ∷ rest))) 0
-    (λ k. (left : List ℕ) × (drop k (b ∷ (front ++ (byte ∷ rest))) ≡ left ++ (byte ∷ rest)))
-    (λ e. let r = unblanked_keeps front byte rest h in
-    (r.0, drop_one_more b (front ++ (byte ∷ rest)) (prefix_len is_blank (front ++ (byte ∷ rest))) ∙ r.1))
-    (λ e. (b ∷ front, refl))
-
--- two bytes that are no blanks stay side by side in the trimmed text
-trimmed_keeps : (front : List ℕ) (a b : ℕ) (rest : List ℕ) → is_blank a ≡ false → is_blank b ≡ false
-    → (left right : List ℕ) × (trimmed (front ++ (a ∷ b ∷ rest)) ≡ left ++ (a ∷ b ∷ right))
-trimmed_keeps front a b rest h k =
-    let r = unblanked_keeps front a (b ∷ rest) h in
-    let turned : reverse (r.0 ++ (a ∷ b ∷ rest)) ≡ reverse rest ++ (b ∷ a ∷ reverse r.0) =
-    reverse-append r.0 (a ∷ b ∷ rest) ∙ ap (λ z. z ++ reverse r.0) (reverse-append (a ∷ b ∷ []) rest)
-    ∙ append_assoc (reverse rest) (b ∷ a ∷ []) (reverse r.0) in
-    let q = unblanked_keeps (reverse rest) b (a ∷ reverse r.0) k in (
-      r.0,
-      reverse q.0,
-      ap (λ z. reverse (unblanked (reverse z))) r.1 ∙ ap (λ z. reverse (unblanked z)) turned ∙ ap reverse q.1
-          ∙ reverse-append q.0 (b ∷ a ∷ reverse r.0)
-          ∙ ap (λ z. z ++ reverse q.0) (reverse-append (b ∷ a ∷ []) (reverse r.0) ∙ ap (λ z. z ++ (a ∷ b ∷ [])) (reverse-reverse r.0))
-          ∙ append_assoc r.0 (a ∷ b ∷ []) (reverse q.0),
-    )
-
--- the text is its trimmed text between blanks
-surrounded : (x : List ℕ) → (left right : List ℕ) × (x ≡ left ++ (trimmed x ++ right))
-surrounded x =
-    let first = trimmed_first x in
-    (take (blanks x) x, first.0, sym (take-append-drop (blanks x) x) ∙ ap (λ z. take (blanks x) x ++ z) first.1)
-
--- a blank at the end is left out
-pub trim_last : (front : List ℕ) → reverse (unblanked (reverse (front ++ (32 ∷ [])))) ≡ reverse (unblanked (reverse front))
-trim_last front =
-    ap (λ z. reverse (unblanked z)) (reverse-append front (32 ∷ []))
-    ∙ ap reverse (drop_one_more 32 (reverse front) (prefix_len is_blank (reverse front)))
-
--- and nothing else
-trim_done_if : (rest back : List ℕ) → reverse rest ≡ back → ((front : List ℕ) → rest ≡ front ++ (32 ∷ []) → ⊥) → unblanked back ≡ back
-trim_done_if rest [] e free = refl
-trim_done_if rest (b ∷ back) e free =
-    let turned : rest ≡ reverse back ++ (b ∷ []) = sym (reverse-reverse rest) ∙ ap reverse e ∙ reverse-append (b ∷ []) back in
-    let other = false_from_ne_true (is_blank b) (λ t. free (reverse back) (turned ∙ ap (λ z. reverse back ++ (z ∷ [])) ((Decides-eqb b 32).0 t))) in
-    ap (λ k. drop k (b ∷ back)) (cond-false (is_blank b) (1 + prefix_len is_blank back) 0 other)
-
-pub trim_done : (rest : List ℕ) → ((front : List ℕ) → rest ≡ front ++ (32 ∷ []) → ⊥) → reverse (unblanked (reverse rest)) ≡ rest
-trim_done rest free = ap reverse (trim_done_if rest (reverse rest) refl free) ∙ reverse-reverse rest
 
 -- whether the comment's end begins here
 abbrev ends : List ℕ → Bool
@@ -113,7 +59,7 @@ free_no_offence (b ∷ rest) place all free =
     (or_from (not (is_printable b)) (ends (b ∷ rest)) (not_from_true (is_printable b) parts.0) here)
     ∙ free_no_offence rest (place + 1) parts.1 (λ front behind e. free (b ∷ front) behind (ap (λ z. b ∷ z) e))
 
--- the comment's end stands in a text where it stands in the trimmed one
+-- where a text isn't refused, no comment's end stands in its trimmed text
 no_end_if : (x : List ℕ) → comment_offence 0 x ≡ None → (front back : List ℕ) → trimmed x ≡ front ++ (comment_end ++ back) → ⊥
 no_end_if x e front back t =
     let s = surrounded x in

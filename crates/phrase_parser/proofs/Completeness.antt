@@ -13,7 +13,7 @@ use Rattle.plcs_grammar.specs.Reading.{Tree, Trees, Reference, Reading, category
 use Rattle.plcs_grammar.specs.Form.{Form, Begins}
 use Rattle.plcs_grammar.specs.Opened.{opened as levels, reference_opened as reference_levels, opened_by_all as levels_of_all, references_behind, phrase_opened}
 use Rattle.plcs_grammar.specs.Over.{first_over, over_at}
-use Rattle.phrase_parser.specs.Machine.{Base, Stack, State, Role, Operand, step, step_if, run, start, closed_at, ended_at, ended, ended_if}
+use Rattle.phrase_parser.specs.Machine.{Base, Stack, State, Role, Operand, step, run, start, closed_at, ended_at, ended, ended_if}
 use Rattle.phrase_parser.specs.Trace.{depth, opens, trace}
 use Rattle.phrase_parser.proofs.AllOfLists.{all_append}
 use Rattle.phrase_parser.proofs.TreeSpelling.{spell, spell_reference, Fits, FitsReference, FitsAll}

@@ -1,14 +1,12 @@
 -- What the cut of a text says of its pieces: they stand in order, and the bytes between their places are their tokens.
 use Rattle.std.proofs.Common.{◌≡◌, ℕ, ◌+◌, ◌-◌, ◌<◌, ◌≤◌, List, [], ◌∷◌, ◌++◌, length, take, drop, refl, sym, ap, ◌∙◌, subst, arith, Option, Some}
 use Rattle.std.specs.Prelude.{IsTrue, slice_range}
+use Rattle.std.specs.List.{AllByRecursion}
 use Rattle.std.proofs.lemmas.List.{take_at, drop_at, drop-drop, length-append, length-drop}
 use Rattle.std.proofs.lemmas.List.Sums.{prefix_len-le-length}
 use Rattle.plcs_base.specs.Name.{IsName, is_keyword}
 use Rattle.plcs_grammar.specs.Token.{Token, IsToken, IsConstantText}
 use Rattle.plcs_grammar.specs.Cuts.{Piece, Cuts, blanks, unblanked, is_blank, tokens_of}
-use Rattle.phrase_parser.specs.TokenIn.{inside}
-use Rattle.phrase_parser.proofs.ConstantValues.{undoubled_inside}
-use Rattle.phrase_parser.specs.Unquoted.{undoubled}
 use Rattle.phrase_parser.proofs.OneCut.{token_not_empty}
 
 -- what a token of a text is, whatever stands round it: a name is a name, and a constant can be a value
@@ -22,8 +20,7 @@ IsSound (Token.sign s) = Unit {0}
 
 -- each token of a list is sound
 abbrev pub AllSound : List Token → Type 0
-AllSound [] = Unit {0}
-AllSound (token ∷ tokens) = IsSound token × AllSound tokens
+AllSound tokens = AllByRecursion IsSound tokens
 
 -- what bytes make is sound
 pub token_sound : (token : Token) (bytes behind : List ℕ) → IsToken token bytes behind → IsSound token
@@ -102,8 +99,3 @@ cut_stands text (piece ∷ pieces) place x stop at (bytes, behind, first, start,
           (subst (λ (y : List ℕ). IsToken piece.token bytes y) after first.is_token),
       cut_stands text pieces piece.end behind stop after rest,
     )
-
--- the value of a character constant is what stands between its quotes, with one quote for each two
-pub constant_value : (value bytes behind : List ℕ) → IsToken (Token.text value) bytes behind
-    → undoubled (inside bytes) ≡ value
-constant_value value bytes behind is = ap (λ (b : List ℕ). undoubled (inside b)) is.0 ∙ undoubled_inside value

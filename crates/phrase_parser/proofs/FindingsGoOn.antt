@@ -1,5 +1,5 @@
 -- One more token that can stand there leaves the rest to be found in the tokens behind it.
-use Rattle.std.proofs.Common.{◌≡◌, refl, ℕ, suc, ◌+◌, ◌<◌, length, map, drop, List, ◌∷◌, Option, Some, None, ap, sym, subst, ◌∙◌, arith}
+use Rattle.std.proofs.Common.{◌≡◌, refl, ℕ, suc, ◌+◌, ◌<◌, length, map, drop, List, ◌∷◌, Option, Some, None, ap, sym, ◌∙◌, arith}
 use Rattle.std.specs.Prelude.{get_or}
 use Rattle.std.specs.Option.{option_or}
 use Rattle.std.proofs.Math.Seq.{drop-cons}
@@ -9,8 +9,7 @@ use Rattle.phrase_parser.specs.declared.token.Placed.{Placed}
 use Rattle.phrase_parser.specs.declared.check.kind.Kind.{Kind}
 use Rattle.phrase_parser.specs.Recognizer.{Shape, next, level_of}
 use Rattle.phrase_parser.specs.Findings.{Seen, found_at, seen_over, findings}
-use Rattle.phrase_parser.specs.Shapes.{seen_in, over_if, Within}
-use Rattle.phrase_parser.proofs.ShapeLevels.{WithinIf, next_within}
+use Rattle.phrase_parser.specs.Shapes.{seen_in, over_if}
 
 pub or_as : (a b : Option Over) → over_if (option_or a b) ≡ option_or (over_if a) (over_if b)
 or_as None b = refl
@@ -37,6 +36,3 @@ module _ (text : List ℕ) (stop : Option ℕ) (end : ℕ) where
       ∙ ap (λ z. findings (map (seen_in text) (drop (suc i) tokens)) stop end behind (option_or over z)) (sym later_is)
       ∙ ap (λ z. findings (map (seen_in text) (drop (suc i) tokens)) stop end behind z) (sym b)
       ∙ ap (λ j. findings (map (seen_in text) (drop j tokens)) stop end behind both) (sym one))
-
-pub still_within : (n : ℕ) (shape behind : Shape) (kind : Kind) → next shape kind ≡ Some behind → Within n shape → Within (n + 1) behind
-still_within n shape behind kind e h = subst (WithinIf (n + 1)) e (next_within n shape kind h)

@@ -15,8 +15,9 @@ use Rattle.phrase_parser.specs.declared.front.Front.{Front}
 use Rattle.phrase_parser.specs.declared.token.TokenKind.TheVariants as kind
 use Rattle.phrase_parser.specs.Kept.{kept_kind}
 use Rattle.phrase_parser.specs.Front.{front_of, word_front, number_front, constant_of, constant_front, bit_constant, bit_value, closing, sign_of, sign_kept, sign_front, single_sign, double_sign, double_at, ends_word}
-use Rattle.phrase_parser.proofs.ByteRuns.{run_all, run_ends, run_begins, run_first, letter_is_name_byte, word_no_name}
+use Rattle.phrase_parser.proofs.ByteRuns.{run_all, run_ends, run_begins, run_first}
 use Rattle.phrase_parser.proofs.QuotedTexts.{closing_tells, quoted_append, length_quoted}
+use Rattle.phrase_parser.proofs.Words.{letter_is_name_byte, word_no_name}
 
 -- a token begins the text, of which the front keeps the kind and the length
 pub record Tells (x : List ℕ) (front : Front) : Type 0 where

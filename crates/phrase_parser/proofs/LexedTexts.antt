@@ -14,11 +14,12 @@ use Rattle.plcs_grammar.specs.Cuts.{Piece, Cuts, blanks, unblanked, is_blank, to
 use Rattle.phrase_parser.specs.declared.front.Front.{Front}
 use Rattle.phrase_parser.specs.Kept.{kept_kind}
 use Rattle.phrase_parser.specs.Front.{front_of}
-use Rattle.phrase_parser.proofs.ByteRuns.{run_none, name_word, keyword_word}
+use Rattle.phrase_parser.proofs.ByteRuns.{run_none}
 use Rattle.phrase_parser.proofs.LongestFront.{EndsSign, is_second, name_found, number_found, text_found, bit_found, sign_found}
 use Rattle.phrase_parser.proofs.FrontTokens.{found_tells}
 use Rattle.phrase_parser.proofs.OneCut.{found_first}
 use Rattle.phrase_parser.proofs.Numerals.{decimal_numeral}
+use Rattle.phrase_parser.proofs.Words.{name_word, keyword_word}
 
 -- with y behind it, x is cut into the tokens, wherever it stands and whatever follows
 pub record Lexed (x : List ℕ) (tokens : List Token) (y : List ℕ) : Type 0 where

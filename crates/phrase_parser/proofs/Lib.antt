@@ -1,5 +1,6 @@
 -- ---- tokens of a text
 mod ByteRuns
+mod Words
 mod QuotedTexts
 mod Numerals
 mod FrontTokens
@@ -37,7 +38,7 @@ mod ShapeLevels
 mod FindingsGoOn
 -- ---- the builder
 mod FrameStacks
-mod StoppedMachine
+mod FailedSteps
 -- ---- comments
 mod TrimmedTexts
 mod CommentRefusals

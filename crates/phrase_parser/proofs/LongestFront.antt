@@ -16,9 +16,10 @@ use Rattle.phrase_parser.specs.declared.token.TokenKind.{TokenKind}
 use Rattle.phrase_parser.specs.declared.token.TokenKind.TheVariants as kind
 use Rattle.phrase_parser.specs.Kept.{kept_kind, greatest_kept}
 use Rattle.phrase_parser.specs.Front.{front_of, word_of, word_front, number_of, number_front, constant_of, constant_front, bit_constant, closing, sign_of, sign_front, double_at, ends_word}
-use Rattle.phrase_parser.proofs.ByteRuns.{run_append, run_none, run_begins, word_bytes, keyword_word, keyword_short, name_word, name_short}
+use Rattle.phrase_parser.proofs.ByteRuns.{run_append, run_none, run_begins}
 use Rattle.phrase_parser.proofs.QuotedTexts.{quoted_read, quoted_append}
 use Rattle.phrase_parser.proofs.FrontTokens.{BeginsBit, bit_tells, bit_read}
+use Rattle.phrase_parser.proofs.Words.{word_bytes, keyword_word, keyword_short, name_word, name_short}
 
 -- what is found is longer, or as long and of the same kind
 abbrev pub Covers : TokenKind → ℕ → Option Front → Type 0

@@ -1,21 +1,21 @@
 -- A text has one longest token at its front, and is cut in one way.
 use Rattle.std.proofs.Common.{◌≡◌, ℕ, ◌≤◌, true, false, List, [], ◌∷◌, ◌++◌, length, take, drop, refl, sym, ap, ◌∙◌, subst, inl, inr, arith, Option, Some, None}
-use Rattle.std.proofs.lemmas.Bool.{cond_both, cond-false, eqb-true, false≢true}
+use Rattle.std.proofs.lemmas.Bool.{false≢true}
 use Rattle.std.proofs.lemmas.Option.{same_Some}
-use Rattle.std.proofs.lemmas.List.{take_at, drop_at, length-append, same_from_push}
+use Rattle.std.proofs.lemmas.List.{take_at, drop_at, length-append}
 use Rattle.plcs_base.specs.Name.{is_word, IsName}
 use Rattle.plcs_grammar.specs.declared.sign.Sign.{Sign}
 use Rattle.plcs_grammar.specs.Sign.{sign_bytes}
-use Rattle.plcs_grammar.specs.Token.{Token, IsToken, First, NoToken, is_quote, quoted, with_quotes_doubled}
+use Rattle.plcs_grammar.specs.Token.{Token, IsToken, First, NoToken}
 use Rattle.plcs_grammar.specs.Cuts.{Piece, Cuts, unblanked}
 use Rattle.phrase_parser.specs.declared.front.Front.{Front}
 use Rattle.phrase_parser.specs.declared.token.TokenKind.{TokenKind}
 use Rattle.phrase_parser.specs.Kept.{kept_kind}
 use Rattle.phrase_parser.specs.Front.{front_of}
-use Rattle.phrase_parser.specs.Unquoted.{undoubled, undoubled_behind}
-use Rattle.phrase_parser.proofs.ByteRuns.{name_word, keyword_word}
 use Rattle.phrase_parser.proofs.FrontTokens.{Tells, found_tells}
 use Rattle.phrase_parser.proofs.LongestFront.{Covers, token_covered}
+use Rattle.phrase_parser.proofs.Words.{name_word, keyword_word}
+use Rattle.phrase_parser.proofs.ConstantValues.{one_value}
 
 covers_at : (k : TokenKind) (n : ℕ) (front : Front) → Covers k n (Some front) → n ≤ front.length
 covers_at k n front (inl less) = omega (arith, less)
@@ -73,21 +73,6 @@ empty_no_token (Token.sign s) behind is = empty_no_sign s is
 pub token_not_empty : (token : Token) (bytes behind : List ℕ) → IsToken token bytes behind → 1 ≤ length bytes
 token_not_empty token [] behind is = absurd (empty_no_token token behind is)
 token_not_empty token (byte ∷ rest) behind is = omega arith
-
--- doubling quotes and taking one of each two changes nothing
-pub undoubled_doubled : (value : List ℕ) → undoubled (with_quotes_doubled value) ≡ value
-undoubled_doubled [] = refl
-undoubled_doubled (byte ∷ value) =
-    cond_both (is_quote byte) (39 ∷ 39 ∷ []) (byte ∷ []) (λ (front : List ℕ). undoubled (front ++ with_quotes_doubled value) ≡ byte ∷ value)
-    (λ quote. ap (λ (rest : List ℕ). 39 ∷ rest) (undoubled_doubled value) ∙ ap (λ (b : ℕ). b ∷ value) (sym (eqb-true byte 39 quote)))
-    (λ plain. ap (λ (rest : List ℕ). byte ∷ rest)
-    (cond-false (is_quote byte) (undoubled_behind (with_quotes_doubled value)) (undoubled (with_quotes_doubled value)) plain ∙ undoubled_doubled value))
-
--- a character constant has one value
-pub one_value : (v w : List ℕ) → quoted v ≡ quoted w → v ≡ w
-one_value v w h =
-    let inner = same_from_push (with_quotes_doubled v) (with_quotes_doubled w) 39 39 (ap (λ (x : List ℕ). drop 1 x) h) in
-    sym (undoubled_doubled v) ∙ ap undoubled inner.0 ∙ undoubled_doubled w
 
 -- bytes are one token of a kind
 pub one_token : (j k : Token) (bytes behind : List ℕ) → IsToken j bytes behind → IsToken k bytes behind

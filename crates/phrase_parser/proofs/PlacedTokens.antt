@@ -2,6 +2,7 @@
 use Rattle.std.proofs.Common.{◌≡◌, refl, ℕ, ◌+◌, ◌≤◌, min, length, map, drop, List, [], ◌∷◌, Option, ap, sym, subst, ◌∙◌, arith, All}
 use Rattle.std.specs.Prelude.{slice_range}
 use Rattle.std.specs.List.{AllByRecursion}
+use Rattle.std.proofs.lemmas.List.{length-map}
 use Rattle.std.proofs.lemmas.List.Elements.{All-from_recursion}
 use Rattle.plcs_grammar.specs.declared.category.Category.{Category}
 use Rattle.plcs_base.specs.Name.{IsName}
@@ -15,9 +16,11 @@ use Rattle.phrase_parser.specs.Kept.{kept_kind, kept, greatest_kept}
 use Rattle.phrase_parser.specs.Recognizer as model
 use Rattle.phrase_parser.specs.Findings.{seen_of}
 use Rattle.phrase_parser.specs.Shapes.{kind_from, seen_in, LiesIn}
-use Rattle.phrase_parser.specs.TokenIn.{token_from, token_in, IsOfKind, IsPlacedIn}
+use Rattle.phrase_parser.specs.TokenIn.{token_from, token_in, IsOfKind, IsPlacedIn, between_quotes}
 use Rattle.phrase_parser.proofs.Limits.{NumberFits, AllFine, within, none_fine}
-use Rattle.phrase_parser.proofs.CutPieces.{InOrder, cut_in_order, StandIn, cut_stands, constant_value}
+use Rattle.phrase_parser.proofs.CutPieces.{InOrder, cut_in_order, StandIn, cut_stands}
+use Rattle.phrase_parser.proofs.ConstantValues.{undoubled_between}
+use Rattle.phrase_parser.specs.Unquoted.{undoubled}
 
 -- what the check looks at of a token is what is kept of it
 kind_as : (token : Token) (bytes behind : List ℕ) → IsToken token bytes behind → kind_from (kept_kind token) bytes ≡ model.kind_of token
@@ -53,13 +56,9 @@ pub cut_lies : (text : List ℕ) (pieces : List Piece) (stop : Option ℕ) → C
 cut_lies text pieces stop cut =
     All-from_recursion _ (map kept pieces) (in_order_lie text pieces 0 (subst (λ n. InOrder 0 pieces n) (omega arith) (cut_in_order pieces 0 text stop cut))).0
 
-kept_length : (pieces : List Piece) → length (map kept pieces) ≡ length pieces
-kept_length [] = refl
-kept_length (piece ∷ pieces) = omega (arith, kept_length pieces)
-
 pub cut_few : (text : List ℕ) (pieces : List Piece) (stop : Option ℕ) → Cuts pieces 0 text stop → length (map kept pieces) ≤ length text
 cut_few text pieces stop cut =
-    omega (arith, kept_length pieces, (in_order_lie text pieces 0 (subst (λ n. InOrder 0 pieces n) (omega arith) (cut_in_order pieces 0 text stop cut))).1)
+    omega (arith, length-map pieces kept, (in_order_lie text pieces 0 (subst (λ n. InOrder 0 pieces n) (omega arith) (cut_in_order pieces 0 text stop cut))).1)
 
 -- a number that an expression can hold is kept as it is
 abbrev pub AllFit : List Piece → Type 0
@@ -72,7 +71,7 @@ token_as : (token : Token) (bytes behind : List ℕ) → IsToken token bytes beh
 token_as (Token.name n) bytes behind is f = ap Token.name is.0
 token_as (Token.keyword word) bytes behind is f = ap Token.keyword is.0
 token_as (Token.number n) bytes behind is f = ap Token.number (small_kept n f)
-token_as (Token.text value) bytes behind is f = ap Token.text (constant_value value bytes behind is)
+token_as (Token.text value) bytes behind is f = ap Token.text (ap (λ (b : List ℕ). undoubled (between_quotes b)) is.0 ∙ undoubled_between value)
 token_as (Token.bit value) bytes behind is f = refl
 token_as (Token.sign s) bytes behind is f = refl
 

@@ -18,8 +18,8 @@ use Rattle.phrase_parser.specs.Recognizer.{kind_of, Shape, next, follow, first_s
 use Rattle.phrase_parser.proofs.Completeness.{complete, traced_over, alive}
 use Rattle.phrase_parser.proofs.MachineRuns.{run_none}
 use Rattle.phrase_parser.proofs.ConsumedTokens.{Sound}
-use Rattle.phrase_parser.proofs.Soundness.{AfterIf, step_after, has_read, IsFreshIf, start_fresh}
-use Rattle.phrase_parser.proofs.ViablePrefixes.{viable, stopped, sound, no_form}
+use Rattle.phrase_parser.proofs.Soundness.{AfterIf, step_after, has_read, IsFreshIf, start_fresh, sound}
+use Rattle.phrase_parser.proofs.ViablePrefixes.{viable, stopped, no_form}
 use Rattle.phrase_parser.proofs.Simulation.{use_of, last_of, shape_of, shape_if, simulates, ends_as}
 
 -- what is looked at of each token

@@ -1,5 +1,5 @@
 -- The levels of a shape are no more than the tokens before it.
-use Rattle.std.proofs.Common.{ℕ, ◌+◌, ◌≤◌, Bool, true, false, cond, List, [], ◌∷◌, Option, Some, None, arith, zero-le}
+use Rattle.std.proofs.Common.{◌≡◌, subst, ℕ, ◌+◌, ◌≤◌, Bool, true, false, cond, List, [], ◌∷◌, Option, Some, None, arith, zero-le}
 use Rattle.std.specs.List.{AllByRecursion}
 use Rattle.plcs_grammar.specs.declared.operator.PrefixOp.{PrefixOp}
 use Rattle.plcs_grammar.specs.declared.operator.InfixOp.{InfixOp}
@@ -9,7 +9,7 @@ use Rattle.phrase_parser.specs.declared.check.kind.Kind.{Kind}
 use Rattle.phrase_parser.specs.declared.check.shape.Ground.{Ground}
 use Rattle.phrase_parser.specs.declared.check.shape.Bracket.{Bracket}
 use Rattle.phrase_parser.specs.declared.check.shape.Last.{Last}
-use Rattle.phrase_parser.specs.declared.check.shape.Role.{Role as Use}
+use Rattle.phrase_parser.specs.declared.check.shape.Role.{Role}
 use Rattle.phrase_parser.specs.Recognizer.{Shape, inside, next_name, next_constant, next_number, next_open_behind, next_open_name, next_open, next_close_in, next_close, next_comma_in, next_comma_name, next_comma, next_equal_name, next_equal, next_prefix, next_infix, next_operator, next_sign, next}
 use Rattle.phrase_parser.specs.Shapes.{LastWithin, NestingWithin, Within}
 
@@ -67,10 +67,10 @@ next_open_behind_within : (n : ℕ) (last : Last) (g : Ground) (brackets : List 
 next_open_behind_within n Last.Operand g brackets e h = tt
 next_open_behind_within n (Last.Named b level) g brackets e h = bracketed_within n b g brackets level e h
 
-next_open_name_within : (n : ℕ) (u : Use) → WithinIf (n + 1) (next_open_name u)
-next_open_name_within n Use.Target = (omega arith, (omega arith, tt))
-next_open_name_within n Use.ListedVariable = (omega arith, (omega arith, tt))
-next_open_name_within n Use.Callee = (omega arith, (omega arith, tt))
+next_open_name_within : (n : ℕ) (u : Role) → WithinIf (n + 1) (next_open_name u)
+next_open_name_within n Role.Target = (omega arith, (omega arith, tt))
+next_open_name_within n Role.ListedVariable = (omega arith, (omega arith, tt))
+next_open_name_within n Role.Callee = (omega arith, (omega arith, tt))
 next_open_name_within n u = tt
 
 next_open_within : (n : ℕ) (s : Shape) → Within n s → WithinIf (n + 1) (next_open s)
@@ -99,8 +99,8 @@ next_comma_in_within n Ground.VariableIndex [] h = tt
 next_comma_in_within n Ground.CallList [] h = (h.0, (h.0, tt))
 next_comma_in_within n g (b ∷ brackets) h = if_within n b.takes_commas (Shape.wanted g (b ∷ brackets) b.level) (h.1.0, h)
 
-next_comma_name_within : (n : ℕ) (u : Use) → WithinIf n (next_comma_name u)
-next_comma_name_within n Use.Target = tt
+next_comma_name_within : (n : ℕ) (u : Role) → WithinIf n (next_comma_name u)
+next_comma_name_within n Role.Target = tt
 next_comma_name_within n u = tt
 
 next_comma_within : (n : ℕ) (s : Shape) → Within n s → WithinIf n (next_comma s)
@@ -112,8 +112,8 @@ inside_within : (n : ℕ) (g : Ground) (brackets : List Bracket) → NestingWith
 inside_within n g [] h = h.0
 inside_within n g (b ∷ brackets) h = h.1.0
 
-next_equal_name_within : (n : ℕ) (u : Use) → WithinIf n (next_equal_name u)
-next_equal_name_within n Use.Target = (zero-le, (zero-le, tt))
+next_equal_name_within : (n : ℕ) (u : Role) → WithinIf n (next_equal_name u)
+next_equal_name_within n Role.Target = (zero-le, (zero-le, tt))
 next_equal_name_within n u = tt
 
 next_equal_within : (n : ℕ) (s : Shape) → Within n s → WithinIf n (next_equal s)
@@ -157,3 +157,7 @@ next_within n s Kind.Keyword h = tt
 next_within n s (Kind.Number k) h = if_more n (next_number s k) (next_number_within n s k h)
 next_within n s Kind.Constant h = if_more n (next_constant s) (next_constant_within n s h)
 next_within n s (Kind.Sign sign) h = next_sign_within n s sign h
+
+-- so the levels are no more than the tokens
+pub still_within : (n : ℕ) (shape behind : Shape) (kind : Kind) → next shape kind ≡ Some behind → Within n shape → Within (n + 1) behind
+still_within n shape behind kind e h = subst (WithinIf (n + 1)) e (next_within n shape kind h)

@@ -1,4 +1,5 @@
--- Each token that the machine takes is one more that it has read, and what it has read keeps its levels.
+-- The machine reads nothing but what the tokens are: each token that it takes is one more that it has read, and what it
+-- has read keeps its levels.
 use Rattle.std.proofs.Common.{◌≡◌, refl, ℕ, ◌≤◌, leb, ◌&&◌, leb-true, leb-false, List, [], ◌∷◌, ◌++◌, Option, Some, None, ap, sym, subst, ◌∙◌, arith, append_assoc, append-nil, le_refl}
 use Rattle.std.proofs.lemmas.Bool.{cond_both, and_parts}
 use Rattle.plcs_base.specs.Text.{longest_text}
@@ -15,13 +16,14 @@ use Rattle.plcs_grammar.specs.Reading.{Tree, Trees, Reference, Reading, category
 use Rattle.plcs_grammar.specs.Builtin.{builtin_name, builtin_of}
 use Rattle.plcs_grammar.specs.Level.{priority, in_parentheses}
 use Rattle.phrase_parser.specs.Machine
-use Rattle.phrase_parser.specs.Machine.{Base, Stack, Role, State, Operand, tree_push, reduced, joined, step, run, start, ended, ended_at, ended_base, ended_by_role, prefix_of, infix_of}
+use Rattle.phrase_parser.specs.Machine.{Base, Stack, Role, State, Operand, tree_push, reduced, joined, step, run, start, ended, ended_at, ended_base, ended_by_role, prefix_of, infix_of, ended_if}
 use Rattle.phrase_parser.proofs.TreeSpelling.{spell, spell_reference, spell_all, Fits, FitsReference, FitsAll}
-use Rattle.phrase_parser.proofs.PhraseSpelling.{spell_name, spell_item, spell_phrase, FitsPhrase, FitsItem, AnyName}
+use Rattle.phrase_parser.proofs.PhraseSpelling.{spell_name, spell_item, spell_phrase, FitsPhrase, FitsItem, AnyName, form_from}
 use Rattle.phrase_parser.proofs.BuiltinNames.{builtin_found, builtin_missing}
 use Rattle.phrase_parser.proofs.MachineRuns.{run_none}
 use Rattle.phrase_parser.proofs.TreesRead.{above_none}
 use Rattle.phrase_parser.proofs.ConsumedTokens.{spell_before, all_push, before_push, call_push, behind_fits, all_fit, call_fits, spell_each, listed_last, each_last, listed_comma, each_fits, listed_fits, listed_each, flat_stack, flat, hole, SoundStack, SoundRole, Sound, stack_category, state_category}
+use Rattle.plcs_grammar.specs.Form.{Form}
 
 abbrev pub comma : Token
 comma = Token.sign Sign.Comma
@@ -511,3 +513,19 @@ has_read_if c (Some first) ks s f e =
 -- the tokens from the start of a category are those that were read
 pub has_read : (c : Category) (ks : List Token) (s : State) → run ks (start c) ≡ Some s → HasRead c ks s
 has_read c ks s e = has_read_if c (start c) ks s (start_fresh c) e
+
+sound_if : (c : Category) (ks : List Token) (s : State) (p : Reading) (end : Option Reading) → HasRead c ks s → IsWholeIf s end
+    → end ≡ Some p → Form c ks p
+sound_if c ks s p None r w e = absurd (cc)
+sound_if c ks s p (Some q) r w e =
+    let same : q ≡ p = cc in
+    subst (λ z. Form c ks z) same (form_from c ks q (w.category ∙ r.category) w.fits (sym r.tokens ∙ w.tokens))
+
+sound_run : (c : Category) (ks : List Token) (p : Reading) (end : Option State) → run ks (start c) ≡ end
+    → ended_if end ≡ Some p → Form c ks p
+sound_run c ks p None h e = absurd (cc)
+sound_run c ks p (Some s) h e = let r = has_read c ks s h in sound_if c ks s p (ended s) r (ended_whole s r.sound) e
+
+-- what the machine reads tokens as is what they are
+pub sound : (c : Category) (ks : List Token) (p : Reading) → ended_if (run ks (start c)) ≡ Some p → Form c ks p
+sound c ks p e = sound_run c ks p (run ks (start c)) refl e

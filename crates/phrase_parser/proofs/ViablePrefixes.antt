@@ -1,5 +1,5 @@
 -- Tokens that the machine takes can be finished to a phrase: what is open is closed, and what is wanted is added.
-use Rattle.std.proofs.Common.{◌≡◌, refl, ℕ, pos, List, [], ◌∷◌, ◌++◌, Option, Some, None, ap, sym, subst, ◌∙◌, append_assoc, append-nil, le_refl, lit≤}
+use Rattle.std.proofs.Common.{◌≡◌, refl, ℕ, pos, List, [], ◌∷◌, ◌++◌, Some, None, ap, sym, subst, ◌∙◌, append_assoc, append-nil, le_refl, lit≤}
 use Rattle.plcs_grammar.specs.declared.category.Category.{Category}
 use Rattle.plcs_grammar.specs.declared.item.Item.{Item}
 use Rattle.plcs_grammar.specs.declared.sign.Sign.{Sign}
@@ -8,12 +8,12 @@ use Rattle.plcs_grammar.specs.Token.{Token}
 use Rattle.plcs_grammar.specs.Reading.{Tree, Trees, Reference, Reading, category_of}
 use Rattle.plcs_grammar.specs.Builtin.{builtin_name}
 use Rattle.plcs_grammar.specs.Form.{Form, Begins}
-use Rattle.phrase_parser.specs.Machine.{Base, Stack, Role, State, tree_push, run, start, ended, ended_if}
+use Rattle.phrase_parser.specs.Machine.{Base, Stack, Role, State, tree_push, run, start, ended_if}
 use Rattle.phrase_parser.proofs.TreeSpelling.{spell, spell_reference, Fits, FitsReference}
 use Rattle.phrase_parser.proofs.PhraseSpelling.{spell_name, spell_item, spell_call, spell_listed, spell_phrase, FitsPhrase, FitsItem, AnyName, form_from}
 use Rattle.phrase_parser.proofs.Completeness.{complete, alive}
 use Rattle.phrase_parser.proofs.ConsumedTokens.{spell_before, all_push, call_push, all_fit, call_fits, spell_each, listed_last, listed_fits, flat_base, flat_stack, flat_role, flat, hole, SoundBase, SoundStack, SoundRole, Sound, base_category, stack_category, role_category, state_category}
-use Rattle.phrase_parser.proofs.Soundness.{close, open_, regroup, arguments_tokens, IsWholeIf, ended_whole, HasRead, has_read}
+use Rattle.phrase_parser.proofs.Soundness.{close, open_, regroup, arguments_tokens, has_read}
 
 abbrev equal : Token
 equal = Token.sign Sign.Equal
@@ -134,22 +134,6 @@ pub viable : (c : Category) (ks : List Token) (s : State) → run ks (start c) �
 viable c ks s e =
     let r = has_read c ks s e in
     subst (λ d. Begins d ks) r.category (begins_as (state_category s) (flat s) ks r.tokens (begins s r.sound))
-
-sound_if : (c : Category) (ks : List Token) (s : State) (p : Reading) (end : Option Reading) → HasRead c ks s → IsWholeIf s end
-    → end ≡ Some p → Form c ks p
-sound_if c ks s p None r w e = absurd (cc)
-sound_if c ks s p (Some q) r w e =
-    let same : q ≡ p = cc in
-    subst (λ z. Form c ks z) same (form_from c ks q (w.category ∙ r.category) w.fits (sym r.tokens ∙ w.tokens))
-
-sound_run : (c : Category) (ks : List Token) (p : Reading) (end : Option State) → run ks (start c) ≡ end
-    → ended_if end ≡ Some p → Form c ks p
-sound_run c ks p None h e = absurd (cc)
-sound_run c ks p (Some s) h e = let r = has_read c ks s h in sound_if c ks s p (ended s) r (ended_whole s r.sound) e
-
--- what the machine reads tokens as is what they are
-pub sound : (c : Category) (ks : List Token) (p : Reading) → ended_if (run ks (start c)) ≡ Some p → Form c ks p
-sound c ks p e = sound_run c ks p (run ks (start c)) refl e
 
 -- where the machine has stopped no phrase begins
 pub stopped : (c : Category) (ks : List Token) → run ks (start c) ≡ None → Begins c ks → ⊥

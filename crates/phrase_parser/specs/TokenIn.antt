@@ -9,15 +9,15 @@ use Rattle.phrase_parser.specs.declared.token.TokenKind.TheVariants as kind
 use Rattle.phrase_parser.specs.declared.token.Placed.{Placed}
 
 -- what stands between the first byte and the last
-abbrev pub inside : List ℕ → List ℕ
-inside bytes = slice_range bytes 1 (length bytes - 1)
+abbrev pub between_quotes : List ℕ → List ℕ
+between_quotes bytes = slice_range bytes 1 (length bytes - 1)
 
 -- the token of the kind that the bytes are
 abbrev pub token_from : TokenKind → List ℕ → Token
 token_from kind.Name bytes = Token.name bytes
 token_from kind.Keyword bytes = Token.keyword bytes
 token_from (kind.Number n) bytes = Token.number n
-token_from kind.Text bytes = Token.text (undoubled (inside bytes))
+token_from kind.Text bytes = Token.text (undoubled (between_quotes bytes))
 token_from (kind.Bit value) bytes = Token.bit value
 token_from (kind.Sign s) bytes = Token.sign s
 

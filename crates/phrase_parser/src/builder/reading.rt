@@ -3,7 +3,7 @@ ghost use Rattle.plcs_base.specs.Name.{IsName};
 ghost use Rattle.plcs_base.specs.Text.{IsTextValue};
 ghost use Rattle.plcs_grammar.specs.Token.{is_quote};
 ghost use Rattle.phrase_parser.specs.Unquoted.{undoubled, undoubled_behind};
-ghost use Rattle.phrase_parser.specs.TokenIn.{IsConstant, inside};
+ghost use Rattle.phrase_parser.specs.TokenIn.{IsConstant, between_quotes};
 
 use arrayvec::ArrayVec;
 use plcs_base::{LONGEST_TEXT, Name, TextValue};
@@ -20,7 +20,7 @@ pub fn name_of(bytes: &[u8]) -> Name
 #[tactic(auto, using(crate::proofs::ConstantValues::constant_long, crate::proofs::ConstantValues::constant_short))]
 pub fn constant_value(bytes: &[u8]) -> TextValue
     requires { IsConstant bytes.now }
-    ensures { result ≡ undoubled (inside bytes.now) }
+    ensures { result ≡ undoubled (between_quotes bytes.now) }
 {
     undoubled(&bytes[1..bytes.len() - 1])
 }

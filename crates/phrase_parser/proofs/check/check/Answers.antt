@@ -1,7 +1,8 @@
 use Rattle.std.proofs.Common.{◌∙◌, sym, ap, length}
 use Rattle.phrase_parser.specs.declared.token.TokenKind.TheVariants.{Name}
 use Rattle.phrase_parser.specs.Shapes.{shape_of, shape_if, over_if}
-use Rattle.phrase_parser.proofs.FindingsGoOn.{or_as, go_on, still_within}
+use Rattle.phrase_parser.proofs.FindingsGoOn.{or_as, go_on}
+use Rattle.phrase_parser.proofs.ShapeLevels.{still_within}
 use Rattle.phrase_parser.proofs.check.check.Goals as goal
 
 pub loop-token-preserved : goal.loop-token-preserved

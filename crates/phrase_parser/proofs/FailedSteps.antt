@@ -1,4 +1,4 @@
--- Where the machine stops, the tokens are no phrase.
+-- What a step of the builder fails with, the whole fails with.
 use Rattle.std.proofs.Common.{◌≡◌, ℕ, ◌<◌, ◌+◌, List, map, drop, length, get_or, Option, Some, sym, ap, ◌∙◌}
 use Rattle.std.proofs.lemmas.List.{at_drop_more}
 use Rattle.plcs_grammar.specs.Token.{Token}
