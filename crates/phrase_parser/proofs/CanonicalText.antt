@@ -40,7 +40,7 @@ module _ {X : Type 0} (bytes_of : X → List ℕ) (f : X → List Token) (Fit : 
       → Lexed (more_joined bytes_of xs) (spell_more f xs) behind
   more_lexed [] fits writable behind safe = lexed_empty behind
   more_lexed (x ∷ xs) fits writable behind safe =
-      let parts = writable_split (f x) (spell_more f xs) writable.2 in
+      let parts = writable_split (f x) (spell_more f xs) writable.1 in
       lexed_behind_comma (bytes_of x ++ more_joined bytes_of xs) (f x ++ spell_more f xs) behind
       (lexed_append (bytes_of x) (more_joined bytes_of xs) (f x) (spell_more f xs) behind
       (each x fits.0 parts.0 (more_joined bytes_of xs ++ behind) (more_safe xs behind safe))
@@ -59,20 +59,20 @@ module _ {X : Type 0} (bytes_of : X → List ℕ) (f : X → List Token) (Fit : 
 -- the canonical text of a declared name
 sized_lexed : (name : List ℕ) (size : Option ℕ) → AllWritable (spell_sized name size) → (behind : List ℕ) → Safe behind
     → Lexed (canon_sized name size) (spell_sized name size) behind
-sized_lexed name None writable behind safe = lexed_name name behind writable.0 safe
+sized_lexed name None writable behind safe = lexed_name name behind writable.0.0 safe
 sized_lexed name (Some size) writable behind safe =
-    let inner = inner_writable (Token.number size ∷ []) writable.2 in
-    lexed_called name (decimal size) (Token.number size ∷ []) behind writable.0 (number_ends_sign size (41 ∷ behind) inner.1)
-    (lexed_number size (41 ∷ behind) (small_number size inner.1) refl) safe
+    let inner = inner_writable (Token.number size ∷ []) writable.1 in
+    lexed_called name (decimal size) (Token.number size ∷ []) behind writable.0.0 (number_ends_sign size (41 ∷ behind) inner.0.1)
+    (lexed_number size (41 ∷ behind) (small_number size inner.0.1) refl) safe
 
 -- that of a call
 call_lexed : (name : List ℕ) (passed : Trees) → FitsCall passed → AllWritable (spell_call name passed) → (behind : List ℕ) → Safe behind
     → Lexed (canon_call name passed) (spell_call name passed) behind
-call_lexed name Trees.nil fits writable behind safe = lexed_name name behind writable.0 safe
+call_lexed name Trees.nil fits writable behind safe = lexed_name name behind writable.0.0 safe
 call_lexed name (Trees.cons a rest) fits writable behind safe =
     let passed = Trees.cons a rest in
-    let inner = inner_writable (spell_all passed) writable.2 in
-    lexed_called name (canon_list passed) (spell_all passed) behind writable.0 (list_ends_sign passed fits inner (41 ∷ behind))
+    let inner = inner_writable (spell_all passed) writable.1 in
+    lexed_called name (canon_list passed) (spell_all passed) behind writable.0.0 (list_ends_sign passed fits inner (41 ∷ behind))
     (list_lexed passed fits inner (41 ∷ behind) refl) safe
 
 -- the canonical text of a phrase is cut into the phrase's tokens
@@ -83,20 +83,20 @@ phrase_lexed (Reading.assignment target value) fits writable behind safe =
     let right = 32 ∷ 61 ∷ 32 ∷ canon value in
     lexed_append (canon_reference target) right (spell_reference target) (Token.sign Sign.Equal ∷ spell value) behind
     (reference_lexed target fits.0 parts.0 (right ++ behind) refl)
-    (lexed_behind_sign Sign.Equal (canon value) (spell value) behind (canon_lexed value 1 fits.1 parts.1.2 behind safe))
+    (lexed_behind_sign Sign.Equal (canon value) (spell value) behind (canon_lexed value 1 fits.1 parts.1.1 behind safe))
 phrase_lexed (Reading.condition e) fits writable behind safe = canon_lexed e 1 fits writable behind safe
 phrase_lexed (Reading.expression e) fits writable behind safe = canon_lexed e 1 fits writable behind safe
 phrase_lexed (Reading.expression_list es) fits writable behind safe = list_lexed es fits writable behind safe
 phrase_lexed (Reading.variable_list targets) fits writable behind safe =
     joined_lexed canon_reference spell_reference FitsReference reference_lexed targets fits writable behind safe
-phrase_lexed (Reading.variable_name name) fits writable behind safe = lexed_name name behind writable.0 safe
+phrase_lexed (Reading.variable_name name) fits writable behind safe = lexed_name name behind writable.0.0 safe
 phrase_lexed (Reading.call name passed) fits writable behind safe = call_lexed name passed fits writable behind safe
 phrase_lexed (Reading.declared_list items) fits writable behind safe =
     joined_lexed canon_item spell_item FitsItem (λ item fit w y s. sized_lexed item.name item.size w y s) items fits writable behind safe
-phrase_lexed (Reading.procedure_name name) fits writable behind safe = lexed_name name behind writable.0 safe
+phrase_lexed (Reading.procedure_name name) fits writable behind safe = lexed_name name behind writable.0.0 safe
 phrase_lexed (Reading.name_list names) fits writable behind safe =
-    joined_lexed (λ name. name) spell_name AnyName (λ name fit w y s. lexed_name name y w.0 s) names fits writable behind safe
-phrase_lexed (Reading.greatest_length n) fits writable behind safe = lexed_number n behind (small_number n writable.1) safe
+    joined_lexed (λ name. name) spell_name AnyName (λ name fit w y s. lexed_name name y w.0.0 s) names fits writable behind safe
+phrase_lexed (Reading.greatest_length n) fits writable behind safe = lexed_number n behind (small_number n writable.0.1) safe
 phrase_lexed (Reading.comment bytes) fits writable behind safe = absurd fits
 
 -- so it is for each phrase that can be written
@@ -106,8 +106,8 @@ writable_lexed p writable behind safe = phrase_lexed p writable.fits writable.to
 -- sound tokens within the limits can be written
 sound_fine_writable : (tokens : List Token) (levels : List ℕ) → AllSound tokens → AllFine tokens levels → AllWritable tokens
 sound_fine_writable [] levels sound fine = tt
-sound_fine_writable (token ∷ tokens) [] sound fine = (sound.0, fine.0, sound_fine_writable tokens [] sound.1 fine.1)
-sound_fine_writable (token ∷ tokens) (level ∷ levels) sound fine = (sound.0, fine.0, sound_fine_writable tokens levels sound.1 fine.2)
+sound_fine_writable (token ∷ tokens) [] sound fine = ((sound.0, fine.0), sound_fine_writable tokens [] sound.1 fine.1)
+sound_fine_writable (token ∷ tokens) (level ∷ levels) sound fine = ((sound.0, fine.0), sound_fine_writable tokens levels sound.1 fine.2)
 
 -- a phrase that a text is cut as, within the limits, can be written
 pub cut_writable : (c : Category) (x : List ℕ) (pieces : List Piece) (p : Reading) → IsCutAs c x pieces p → IsWithinLimits p → IsWritable p

@@ -1,7 +1,7 @@
 -- The canonical text of an expression is cut into the expression's tokens.
 use Rattle.std.proofs.Common.{◌≡◌, ℕ, ◌≤◌, ◌<◌, ◌^◌, pos, negsuc, Bool, true, false, List, [], ◌∷◌, ◌++◌, refl, sym, subst, append_assoc, arith}
 use Rattle.std.specs.Prelude.{decimal}
-use Rattle.std.specs.List.{list_all}
+use Rattle.std.specs.List.{list_all, AllByRecursion}
 use Rattle.std.proofs.lemmas.Bool.{and_parts, false≢true}
 use Rattle.std.proofs.lemmas.Bool.Decides.{nat_tests}
 use Rattle.plcs_base.specs.Byte.{is_letter, is_digit, is_name_byte}
@@ -23,18 +23,19 @@ use Rattle.phrase_parser.proofs.Limits.{NumberFits}
 use Rattle.phrase_parser.proofs.TreeSpelling.{spell, spell_reference, spell_all, spell_behind, Fits, FitsReference, FitsAll, FitsBehind}
 use Rattle.phrase_parser.proofs.LexedTexts.{Lexed, Safe, safe_sign, lexed_empty, lexed_append, lexed_blank, lexed_name, lexed_number, lexed_text, lexed_bit, lexed_sign}
 use Rattle.phrase_parser.proofs.Words.{name_word}
+use Rattle.phrase_parser.proofs.AllOfLists.{append_all}
 
 -- a name is a name, a constant can be a value, and a number is no larger than the greatest
+abbrev pub CanBeWritten : Token → Type 0
+CanBeWritten token = IsSound token × NumberFits token
+
+-- each token of a list is so
 abbrev pub AllWritable : List Token → Type 0
-AllWritable [] = Unit {0}
-AllWritable (token ∷ tokens) = IsSound token × NumberFits token × AllWritable tokens
+AllWritable tokens = AllByRecursion CanBeWritten tokens
 
 -- what holds of all tokens holds of those of a front and of those behind it
 pub writable_split : (front back : List Token) → AllWritable (front ++ back) → AllWritable front × AllWritable back
-writable_split [] back h = (tt, h)
-writable_split (token ∷ front) back h =
-    let further = writable_split front back h.2 in
-    ((h.0, h.1, further.0), further.1)
+writable_split front back h = append_all CanBeWritten front back h
 
 -- a number within the limit is below 2 ^ 64
 pub small_number : (n : ℕ) → n ≤ greatest_number → n < 2 ^ 64
@@ -80,7 +81,7 @@ ends_sign_more x y behind h = subst EndsSign (sym (append_assoc x y behind)) h
 mutual
   -- an expression's canonical text ends a sign in front of it
   pub canon_ends_sign : (t : Tree) (level : ℕ) → Fits t level → AllWritable (spell t) → (behind : List ℕ) → EndsSign (canon t ++ behind)
-  canon_ends_sign (Tree.number (pos n)) level fits writable behind = number_ends_sign n behind writable.1
+  canon_ends_sign (Tree.number (pos n)) level fits writable behind = number_ends_sign n behind writable.0.1
   canon_ends_sign (Tree.number (negsuc n)) level fits writable behind = absurd fits
   canon_ends_sign (Tree.text value) level fits writable behind = refl
   canon_ends_sign (Tree.bit value) level fits writable behind = bit_ends_sign value behind
@@ -93,16 +94,16 @@ mutual
       (canon_ends_sign a (priority op) fits.1 (writable_split (spell a) (Token.sign (infix_sign op) ∷ spell b) writable).0 (right ++ behind))
   canon_ends_sign (Tree.builtin function arguments) level fits writable behind =
       ends_sign_more (builtin_name function) (parenthesized_bytes (canon_list arguments)) behind
-      (name_ends_sign (builtin_name function) (parenthesized_bytes (canon_list arguments) ++ behind) (name_word (builtin_name function) writable.0))
+      (name_ends_sign (builtin_name function) (parenthesized_bytes (canon_list arguments) ++ behind) (name_word (builtin_name function) writable.0.0))
   canon_ends_sign (Tree.parenthesized a) level fits writable behind = refl
 
   -- and so does a variable's
   pub reference_ends_sign : (reference : Reference) → AllWritable (spell_reference reference) → (behind : List ℕ)
       → EndsSign (canon_reference reference ++ behind)
-  reference_ends_sign (Reference.simple name) writable behind = name_ends_sign name behind (name_word name writable.0)
+  reference_ends_sign (Reference.simple name) writable behind = name_ends_sign name behind (name_word name writable.0.0)
   reference_ends_sign (Reference.subscripted name index) writable behind =
       ends_sign_more name (parenthesized_bytes (canon index)) behind
-      (name_ends_sign name (parenthesized_bytes (canon index) ++ behind) (name_word name writable.0))
+      (name_ends_sign name (parenthesized_bytes (canon index) ++ behind) (name_word name writable.0.0))
 
 -- and so do those of expressions joined by commas
 pub list_ends_sign : (ts : Trees) → FitsAll ts → AllWritable (spell_all ts) → (behind : List ℕ) → EndsSign (canon_list ts ++ behind)
@@ -144,29 +145,29 @@ behind_safe (Trees.cons a rest) behind safe = refl
 
 -- what is in parentheses can be written where the whole can
 pub inner_writable : (tokens : List Token) → AllWritable (in_parentheses tokens) → AllWritable tokens
-inner_writable tokens h = (writable_split tokens (Token.sign Sign.CloseParenthesis ∷ []) h.2).0
+inner_writable tokens h = (writable_split tokens (Token.sign Sign.CloseParenthesis ∷ []) h.1).0
 
 mutual
   -- an expression's canonical text, where what follows is safe
   pub canon_lexed : (t : Tree) (level : ℕ) → Fits t level → AllWritable (spell t) → (behind : List ℕ) → Safe behind → Lexed (canon t) (spell t) behind
-  canon_lexed (Tree.number (pos n)) level fits writable behind safe = lexed_number n behind (small_number n writable.1) safe
+  canon_lexed (Tree.number (pos n)) level fits writable behind safe = lexed_number n behind (small_number n writable.0.1) safe
   canon_lexed (Tree.number (negsuc n)) level fits writable behind safe = absurd fits
-  canon_lexed (Tree.text value) level fits writable behind safe = lexed_text value behind writable.0 safe
+  canon_lexed (Tree.text value) level fits writable behind safe = lexed_text value behind writable.0.0 safe
   canon_lexed (Tree.bit value) level fits writable behind safe = lexed_bit value behind safe
   canon_lexed (Tree.variable reference) level fits writable behind safe = reference_lexed reference fits.1 writable behind safe
   canon_lexed (Tree.unary op a) level fits writable behind safe =
       lexed_append (sign_bytes (prefix_sign op)) (canon a) (Token.sign (prefix_sign op) ∷ []) (spell a) behind
-      (lexed_sign (prefix_sign op) (canon a ++ behind) (canon_ends_sign a tightest fits writable.2 behind))
-      (canon_lexed a tightest fits writable.2 behind safe)
+      (lexed_sign (prefix_sign op) (canon a ++ behind) (canon_ends_sign a tightest fits writable.1 behind))
+      (canon_lexed a tightest fits writable.1 behind safe)
   canon_lexed (Tree.binary op a b) level fits writable behind safe =
       let parts = writable_split (spell a) (Token.sign (infix_sign op) ∷ spell b) writable in
       let right = 32 ∷ (sign_bytes (infix_sign op) ++ (32 ∷ canon b)) in
       lexed_append (canon a) right (spell a) (Token.sign (infix_sign op) ∷ spell b) behind
       (canon_lexed a (priority op) fits.1 parts.0 (right ++ behind) refl)
-      (lexed_behind_sign (infix_sign op) (canon b) (spell b) behind (canon_lexed b _ fits.2 parts.1.2 behind safe))
+      (lexed_behind_sign (infix_sign op) (canon b) (spell b) behind (canon_lexed b _ fits.2 parts.1.1 behind safe))
   canon_lexed (Tree.builtin function arguments) level fits writable behind safe =
-      let inner = inner_writable (spell_all arguments) writable.2 in
-      lexed_called (builtin_name function) (canon_list arguments) (spell_all arguments) behind writable.0
+      let inner = inner_writable (spell_all arguments) writable.1 in
+      lexed_called (builtin_name function) (canon_list arguments) (spell_all arguments) behind writable.0.0
       (list_ends_sign arguments fits inner (41 ∷ behind))
       (list_lexed arguments fits inner (41 ∷ behind) refl) safe
   canon_lexed (Tree.parenthesized a) level fits writable behind safe =
@@ -183,10 +184,10 @@ mutual
   -- a variable's
   pub reference_lexed : (reference : Reference) → FitsReference reference → AllWritable (spell_reference reference) → (behind : List ℕ)
       → Safe behind → Lexed (canon_reference reference) (spell_reference reference) behind
-  reference_lexed (Reference.simple name) fits writable behind safe = lexed_name name behind writable.0 safe
+  reference_lexed (Reference.simple name) fits writable behind safe = lexed_name name behind writable.0.0 safe
   reference_lexed (Reference.subscripted name index) fits writable behind safe =
-      let inner = inner_writable (spell index) writable.2 in
-      lexed_called name (canon index) (spell index) behind writable.0 (canon_ends_sign index 1 fits inner (41 ∷ behind))
+      let inner = inner_writable (spell index) writable.1 in
+      lexed_called name (canon index) (spell index) behind writable.0.0 (canon_ends_sign index 1 fits inner (41 ∷ behind))
       (canon_lexed index 1 fits inner (41 ∷ behind) refl) safe
 
   -- that of expressions joined by commas
@@ -203,7 +204,7 @@ mutual
       → Lexed (canon_behind ts) (spell_behind ts) behind
   behind_lexed Trees.nil fits writable behind safe = lexed_empty behind
   behind_lexed (Trees.cons a rest) fits writable behind safe =
-      let parts = writable_split (spell a) (spell_behind rest) writable.2 in
+      let parts = writable_split (spell a) (spell_behind rest) writable.1 in
       lexed_behind_comma (canon a ++ canon_behind rest) (spell a ++ spell_behind rest) behind
       (lexed_append (canon a) (canon_behind rest) (spell a) (spell_behind rest) behind
       (canon_lexed a 1 fits.0 parts.0 (canon_behind rest ++ behind) (behind_safe rest behind safe))

@@ -76,6 +76,7 @@ abbrev variable_has : List Reference → Reference → State
 variable_has done (Reference.simple name) = State.name_had (Role.variables done) name
 variable_has done (Reference.subscripted name index) = State.variable_had (done ++ (Reference.subscripted name index ∷ []))
 
+-- the levels that a variable of a list opens
 abbrev variable_levels : Reference → List ℕ
 variable_levels reference = reference_levels reference 0
 
@@ -103,6 +104,7 @@ variable_ends : (done : List Reference) (reference : Reference)
 variable_ends done (Reference.simple name) = refl
 variable_ends done (Reference.subscripted name index) = refl
 
+-- variables as a list
 abbrev variables_listing : Listing Reference spell_reference variable_levels FitsReference
 variables_listing = record {
   wants = λ done. State.name_wanted (Role.variables done);
@@ -121,13 +123,16 @@ abbrev item_has_sized : List Item → List ℕ → Option ℕ → State
 item_has_sized done name None = State.name_had (Role.items done) name
 item_has_sized done name (Some size) = State.item_had (done ++ (record { name = name; size = Some size } ∷ []))
 
+-- the state behind an item
 abbrev item_has : List Item → Item → State
 item_has done item = item_has_sized done item.name item.size
 
+-- the levels that an item opens: none
 abbrev sized_levels : Option ℕ → List ℕ
 sized_levels None = 0 ∷ []
 sized_levels (Some size) = 0 ∷ 0 ∷ 0 ∷ 0 ∷ []
 
+-- the same for the whole item
 abbrev item_levels : Item → List ℕ
 item_levels item = sized_levels item.size
 
@@ -153,6 +158,7 @@ sized_ends : (done : List Item) (name : List ℕ) (size : Option ℕ)
 sized_ends done name None = refl
 sized_ends done name (Some size) = refl
 
+-- items as a list
 abbrev items_listing : Listing Item spell_item item_levels FitsItem
 items_listing = record {
   wants = λ done. State.name_wanted (Role.items done);
@@ -170,6 +176,7 @@ sized_none (Some size) = (refl, (refl, (refl, (refl, tt))))
 abbrev name_levels : List ℕ → List ℕ
 name_levels name = 0 ∷ []
 
+-- names as a list
 abbrev names_listing : Listing (List ℕ) spell_name name_levels AnyName
 names_listing = record {
   wants = λ done. State.name_wanted (Role.names done);

@@ -30,7 +30,7 @@ between_quotes_quoted value =
     let n : suc (length (w ++ (39 ∷ []))) - 1 - 1 ≡ length w = omega (arith, length-append w (39 ∷ [])) in
     ap (λ (k : ℕ). take k (w ++ (39 ∷ []))) n ∙ take-append_seam w (39 ∷ [])
 
--- the value of a constant is what stands between_quotes with each doubled quote once
+-- the value of a constant is what stands between its quotes, with one quote for each two
 pub undoubled_between : (value : List ℕ) → undoubled (between_quotes (quoted value)) ≡ value
 undoubled_between value = ap undoubled (between_quotes_quoted value) ∙ undoubled_doubled value
 

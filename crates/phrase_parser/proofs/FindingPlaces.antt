@@ -12,17 +12,21 @@ use Rattle.phrase_parser.specs.Shapes.{over_place}
 use Rattle.phrase_parser.proofs.CutPieces.{InOrder, cut_in_order, stop_within}
 
 module _ (limit : ℕ) where
+  -- what goes past a limit does so within the text
   abbrev pub OverWithin : OverLimit → Type 0
   OverWithin over = over_place over ≤ limit
 
+  -- the same, if something does
   abbrev pub OverIf : Option OverLimit → Type 0
   OverIf None = Unit {0}
   OverIf (Some over) = OverWithin over
 
+  -- the text stops being tokens within it, if it does
   abbrev pub StopIf : Option ℕ → Type 0
   StopIf None = Unit {0}
   StopIf (Some stop) = stop ≤ limit
 
+  -- what is found lies within the text
   abbrev pub FindingWithin : Finding → Type 0
   FindingWithin Finding.fine = Unit {0}
   FindingWithin (Finding.syntax_at place) = place ≤ limit

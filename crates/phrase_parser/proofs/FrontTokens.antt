@@ -97,6 +97,7 @@ number_front_tells first rest front digit h =
 
 -- constants
 
+-- the digit of a bit
 abbrev bit_byte : Bool → ℕ
 bit_byte false = 48
 bit_byte true = 49

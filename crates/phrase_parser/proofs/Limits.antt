@@ -157,6 +157,7 @@ outside n k h = omega arith
 from_outside : (n k : ℕ) → n + 0 ≤ k → n ≤ k
 from_outside n k h = omega arith
 
+-- a closing parenthesis goes past no limit
 abbrev fine_close : AllFine (Token.sign Sign.CloseParenthesis ∷ []) (0 ∷ [])
 fine_close = (tt, zero-le, tt)
 

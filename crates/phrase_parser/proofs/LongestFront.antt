@@ -26,6 +26,7 @@ abbrev pub Covers : TokenKind → ℕ → Option Front → Type 0
 Covers k n None = ⊥
 Covers k n (Some front) = (n < front.length) ⊎ ((n ≡ front.length) × (k ≡ front.kind))
 
+-- a token of the kind and of so many bytes
 abbrev front_with : TokenKind → ℕ → Front
 front_with k n = record { kind = k; length = n }
 

@@ -11,6 +11,7 @@ use Rattle.std.proofs.lemmas.List.Folds.{list_all-append}
 use Rattle.plcs_base.specs.Byte.{is_digit}
 use Rattle.plcs_grammar.specs.Token.{numeral_value, IsNumeral}
 
+-- the number that a digit writes
 abbrev value_of_digit : ℕ → ℕ
 value_of_digit digit = digit - 48
 
@@ -35,6 +36,7 @@ digit_byte : (k : ℕ) → k < 10 → is_digit (48 + k) ≡ true
 digit_byte k h =
     and_from (nat_le 48 (48 + k)) (nat_le (48 + k) 57) (le-leb 48 (48 + k) (omega arith)) (le-leb (48 + k) 57 (omega arith))
 
+-- the digits write the number
 abbrev Writes : ℕ → List ℕ → Type 0
 Writes n digits = IsNumeral digits × (numeral_value digits ≡ n)
 

@@ -7,12 +7,8 @@ use Rattle.std.proofs.lemmas.Option.{cond_some, none-some}
 use Rattle.std.proofs.lemmas.Bool.{and_parts, and_from, cond-true, cond-false, cond_both, leb-true, le-leb, eqb-true}
 use Rattle.plcs_base.specs.Text.{longest_text}
 use Rattle.plcs_base.specs.Byte.{is_printable}
-use Rattle.plcs_grammar.specs.Token.{begins_with, is_quote, with_quotes_doubled, quoted}
+use Rattle.plcs_grammar.specs.Token.{begins_with, is_quote, doubled, with_quotes_doubled, quoted}
 use Rattle.phrase_parser.specs.Front.{closing, closing_at_quote, end_if_short}
-
--- what a byte is between quotes
-abbrev doubled : ℕ → List ℕ
-doubled byte = cond (is_quote byte) (39 ∷ 39 ∷ []) (byte ∷ [])
 
 -- a constant that is read up to here, and of whose value so much, ends there
 pub record ClosesAt (read content : ℕ) (x : List ℕ) (end : ℕ) : Type 0 where

@@ -25,12 +25,15 @@ use Rattle.phrase_parser.proofs.TreesRead.{above_none}
 use Rattle.phrase_parser.proofs.ConsumedTokens.{spell_before, all_push, before_push, call_push, behind_fits, all_fit, call_fits, spell_each, listed_last, each_last, listed_comma, each_fits, listed_fits, listed_each, flat_stack, flat, hole, SoundStack, SoundRole, Sound, stack_category, state_category}
 use Rattle.plcs_grammar.specs.Form.{Form}
 
+-- the comma
 abbrev pub comma : Token
 comma = Token.sign Sign.Comma
 
+-- the closing parenthesis
 abbrev pub close : Token
 close = Token.sign Sign.CloseParenthesis
 
+-- the opening parenthesis
 abbrev pub open_ : Token
 open_ = Token.sign Sign.OpenParenthesis
 
@@ -325,6 +328,7 @@ abbrev PrefixIs : Sign → Option PrefixOp → Type 0
 PrefixIs sign None = Unit {0}
 PrefixIs sign (Some op) = prefix_sign op ≡ sign
 
+-- the same for an operator between operands
 abbrev InfixIs : Sign → Option InfixOp → Type 0
 InfixIs sign None = Unit {0}
 InfixIs sign (Some op) = infix_sign op ≡ sign

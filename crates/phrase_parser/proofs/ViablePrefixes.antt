@@ -15,6 +15,7 @@ use Rattle.phrase_parser.proofs.Completeness.{complete, alive}
 use Rattle.phrase_parser.proofs.ConsumedTokens.{spell_before, all_push, call_push, all_fit, call_fits, spell_each, listed_last, listed_fits, flat_base, flat_stack, flat_role, flat, hole, SoundBase, SoundStack, SoundRole, Sound, base_category, stack_category, role_category, state_category}
 use Rattle.phrase_parser.proofs.Soundness.{close, open_, regroup, arguments_tokens, has_read}
 
+-- the sign of an assignment
 abbrev equal : Token
 equal = Token.sign Sign.Equal
 

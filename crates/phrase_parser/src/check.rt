@@ -10,7 +10,7 @@ mod shape;
 mod step;
 
 pub use crate::check::finding::{Finding, Over};
-use crate::check::finding::{found_at_end, over_at};
+use crate::check::finding::{found_at_end, seen_over};
 use crate::check::kind::kind_at;
 use crate::check::level::level_of;
 pub use crate::check::shape::Shape;
@@ -45,7 +45,7 @@ pub fn check(
             return Ok(Finding::SyntaxAt(token.start));
         };
         shape = behind;
-        over = over.or(over_at(kind, token.start, level));
+        over = over.or(seen_over(kind, token.start, level));
     }
     Ok(found_at_end(stop, text.len(), &shape, over))
 }

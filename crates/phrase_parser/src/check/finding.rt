@@ -39,7 +39,7 @@ fn is_large(kind: Kind) -> bool
 }
 
 /// Whether the token with this place, which opens the level, goes past a limit.
-pub fn over_at(kind: Kind, start: usize, level: u32) -> Option<Over>
+pub fn seen_over(kind: Kind, start: usize, level: u32) -> Option<Over>
     ensures { over_if result ≡ seen_over (record { kind = kind; start = start }) level }
 {
     if is_large(kind) {

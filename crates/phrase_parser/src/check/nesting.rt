@@ -55,7 +55,7 @@ pub fn bracketed(nesting: Nesting, takes_commas: bool, level: u32) -> Result<Sha
 }
 
 /// The parenthesis in which the phrase's own expression stands is closed.
-fn closed_ground(place: Ground) -> Option<Shape>
+fn next_close_ground(place: Ground) -> Option<Shape>
     ensures { shape_if result ≡ next_close_ground place }
 {
     match place {
@@ -68,7 +68,7 @@ fn closed_ground(place: Ground) -> Option<Shape>
 
 /// A parenthesis is closed.
 #[tactic(auto, using(crate::proofs::OpenBrackets::brackets_push))]
-pub fn closed(nesting: Nesting) -> Option<Shape>
+pub fn next_close_in(nesting: Nesting) -> Option<Shape>
     ensures { shape_if result ≡ next_close_in nesting.place (reverse nesting.brackets.items) }
 {
     let Nesting {
@@ -77,12 +77,12 @@ pub fn closed(nesting: Nesting) -> Option<Shape>
     } = nesting;
     match brackets.pop() {
         Some(_) => Some(Shape::Had(Last::Operand, Nesting { place, brackets })),
-        None => closed_ground(place),
+        None => next_close_ground(place),
     }
 }
 
 /// A comma stands behind the phrase's own expression.
-fn comma_ground(alloc: Global, place: Ground) -> Option<Shape>
+fn next_comma_ground(alloc: Global, place: Ground) -> Option<Shape>
     ensures { shape_if result ≡ next_comma_ground place }
 {
     match place {
@@ -94,7 +94,7 @@ fn comma_ground(alloc: Global, place: Ground) -> Option<Shape>
 
 /// A comma is read.
 #[tactic(auto, using(crate::proofs::OpenBrackets::brackets_push))]
-pub fn comma(alloc: Global, nesting: Nesting) -> Result<Option<Shape>, AllocError>
+pub fn next_comma_in(alloc: Global, nesting: Nesting) -> Result<Option<Shape>, AllocError>
     ensures { IfOk result (λ s. shape_if s ≡ next_comma_in nesting.place (reverse nesting.brackets.items)) }
 {
     let Nesting {
@@ -102,7 +102,7 @@ pub fn comma(alloc: Global, nesting: Nesting) -> Result<Option<Shape>, AllocErro
         mut brackets,
     } = nesting;
     let Some(bracket) = brackets.pop() else {
-        return Ok(comma_ground(alloc, place));
+        return Ok(next_comma_ground(alloc, place));
     };
     if !bracket.takes_commas {
         return Ok(None);

@@ -3,7 +3,7 @@ ghost use Rattle.phrase_parser.specs.Recognizer.{next_name, next_constant, next_
 ghost use Rattle.phrase_parser.specs.Shapes.{shape_of, shape_if, Within, deepest_level};
 
 use crate::check::kind::Kind;
-use crate::check::nesting::{bracketed, closed, comma, inside, may_end_in};
+use crate::check::nesting::{bracketed, inside, may_end_in, next_close_in, next_comma_in};
 use crate::check::shape::{Ground, Last, Nesting, Role, Shape};
 use crate::limit::GREATEST_LENGTH;
 use crate::sign::{infix_of, prefix_of};
@@ -83,7 +83,7 @@ fn next_close(shape: Shape) -> Option<Shape>
     ensures { shape_if result ≡ next_close (shape_of shape) }
 {
     match shape {
-        Shape::Had(_, nesting) => closed(nesting),
+        Shape::Had(_, nesting) => next_close_in(nesting),
         Shape::SizeHad => Some(Shape::ItemHad),
         _ => None,
     }
@@ -104,7 +104,7 @@ fn next_comma(alloc: Global, shape: Shape) -> Result<Option<Shape>, AllocError>
     ensures { IfOk result (λ s. shape_if s ≡ next_comma (shape_of shape)) }
 {
     match shape {
-        Shape::Had(_, nesting) => comma(alloc, nesting),
+        Shape::Had(_, nesting) => next_comma_in(alloc, nesting),
         Shape::NameHad(role) => Ok(next_comma_name(role)),
         Shape::VariableHad => Ok(Some(Shape::NameWanted(Role::ListedVariable))),
         Shape::ItemHad => Ok(Some(Shape::NameWanted(Role::Item))),

@@ -14,8 +14,8 @@ loop-token-preserved c =
       found =
           go_on c.args.text.now c.args.stop (length c.args.text.now) c.args.tokens.now c.loop-token.token-index
           (record { kind = Name; start = 0; end = 0 }) shape (shape_of c.in-Some.behind) kind c.level_of-level.result
-          (over_if c.loop-token.over) (over_if c.over_at.result) (over_if c.or-over.result) c.loop-token-test.true c.kind_at-kind.ensures
-          n c.level_of-level.ensures c.over_at.ensures (ap over_if c.or-over.ensures ∙ or_as c.loop-token.over c.over_at.result)
+          (over_if c.loop-token.over) (over_if c.seen_over.result) (over_if c.or-over.result) c.loop-token-test.true c.kind_at-kind.ensures
+          n c.level_of-level.ensures c.seen_over.ensures (ap over_if c.or-over.ensures ∙ or_as c.loop-token.over c.seen_over.result)
           ∙ c.loop-token.invariant.found;
       within = still_within c.loop-token.token-index shape (shape_of c.in-Some.behind) kind n c.loop-token.invariant.within;
     }
