@@ -16,8 +16,8 @@ use Rattle.phrase_parser.specs.Kept.{kept, AreTokens}
 use Rattle.phrase_parser.specs.Machine.{run, start, ended_if}
 use Rattle.phrase_parser.specs.Recognizer.{Shape, first_shape}
 use Rattle.phrase_parser.specs.Findings.{seen_of, findings}
-use Rattle.phrase_parser.specs.Shapes.{seen_in, as_found, over_of, over_place, LiesIn}
-use Rattle.phrase_parser.specs.TokenIn.{token_in, IsPlacedIn}
+use Rattle.phrase_parser.specs.Shapes.{seen_in, as_found, over_of, over_place}
+use Rattle.phrase_parser.specs.TokenIn.{token_in, IsPlacedIn, LiesIn}
 use Rattle.phrase_parser.specs.Answers.{FaultSays, Answers, IsBuilt, over_fault}
 use Rattle.phrase_parser.proofs.PlacedTokens.{cut_seen, cut_lies, cut_few, cut_tokens, cut_placed}
 use Rattle.phrase_parser.proofs.FindingPlaces.{FindingWithin, places_within}

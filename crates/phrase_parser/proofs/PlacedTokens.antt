@@ -15,8 +15,8 @@ use Rattle.plcs_grammar.specs.Opened.{phrase_opened}
 use Rattle.phrase_parser.specs.Kept.{kept_kind, kept, greatest_kept}
 use Rattle.phrase_parser.specs.Recognizer as model
 use Rattle.phrase_parser.specs.Findings.{seen_of}
-use Rattle.phrase_parser.specs.Shapes.{kind_from, seen_in, LiesIn}
-use Rattle.phrase_parser.specs.TokenIn.{token_from, token_in, IsOfKind, IsPlacedIn, between_quotes}
+use Rattle.phrase_parser.specs.Shapes.{kind_from, seen_in}
+use Rattle.phrase_parser.specs.TokenIn.{token_from, token_in, IsOfKind, IsPlacedIn, between_quotes, LiesIn}
 use Rattle.phrase_parser.proofs.Limits.{NumberFits, AllFine, within, none_fine}
 use Rattle.phrase_parser.proofs.CutPieces.{InOrder, cut_in_order, StandIn, cut_stands}
 use Rattle.phrase_parser.proofs.ConstantValues.{undoubled_between}
@@ -99,8 +99,7 @@ placed_in : (text : List ℕ) (pieces : List Piece) → StandIn text pieces → 
 placed_in text [] h l f = tt
 placed_in text (piece ∷ pieces) h l f = (
   record {
-    ordered = l.0.ordered;
-    within = l.0.within;
+    lies = l.0;
     kind = kind_stands piece.token (slice_range text piece.start piece.end) (drop piece.end text) h.0 f.0;
   },
   placed_in text pieces h.1 l.1 f.1,

@@ -98,6 +98,7 @@ sign_levels (State.had s t) sign z e = had_level s t sign z e
 sign_levels (State.name_had role name) sign z e = role_sign_level role sign
 sign_levels s sign z e = refl
 
+-- the token is no sign
 abbrev NoSign : Token → Type 0
 NoSign (Token.sign sign) = ⊥
 NoSign k = Unit {0}

@@ -1,5 +1,5 @@
 -- What the check keeps, as the machine without trees has it.
-use Rattle.std.specs.Prelude.{ℕ, ◌≤◌, List, reverse, length, Option, Some, None}
+use Rattle.std.specs.Prelude.{ℕ, ◌≤◌, List, reverse, Option, Some, None}
 use Rattle.std.specs.List.{AllByRecursion}
 use Rattle.plcs_grammar.specs.Builtin.{is_builtin_name}
 use Rattle.plcs_grammar.specs.Over.{OverLimit}
@@ -103,8 +103,3 @@ abbrev pub as_found : Finding → findings.Finding
 as_found Fine = findings.Finding.fine
 as_found (SyntaxAt place) = findings.Finding.syntax_at place
 as_found (found.Over over) = findings.Finding.over (over_of over)
-
--- the token's bytes lie in the text
-pub record LiesIn (text : List ℕ) (placed : Placed) : Type 0 where
-  pub ordered : placed.start ≤ placed.end
-  pub within : placed.end ≤ length text

@@ -45,8 +45,12 @@ IsOfKind kind.Text bytes = IsConstant bytes
 IsOfKind (kind.Bit value) bytes = Unit {0}
 IsOfKind (kind.Sign s) bytes = Unit {0}
 
--- the token lies in the text, and has what the builder needs of its kind
-pub record IsPlacedIn (text : List ℕ) (placed : Placed) : Type 0 where
+-- the token's bytes lie in the text
+pub record LiesIn (text : List ℕ) (placed : Placed) : Type 0 where
   pub ordered : placed.start ≤ placed.end
   pub within : placed.end ≤ length text
+
+-- the token lies in the text, and has what the builder needs of its kind
+pub record IsPlacedIn (text : List ℕ) (placed : Placed) : Type 0 where
+  pub lies : LiesIn text placed
   pub kind : IsOfKind placed.kind (bytes_in text placed)

@@ -1,6 +1,7 @@
 ghost use Rattle.std.specs.Prelude.{◌≡◌, ◌<◌, ◌≤◌, length, map, All, IfOk, None};
 ghost use Rattle.phrase_parser.specs.Findings.{findings};
-ghost use Rattle.phrase_parser.specs.Shapes.{shape_of, seen_in, as_found, Within, LiesIn};
+ghost use Rattle.phrase_parser.specs.TokenIn.{LiesIn};
+ghost use Rattle.phrase_parser.specs.Shapes.{shape_of, seen_in, as_found, Within};
 
 mod finding;
 mod kind;

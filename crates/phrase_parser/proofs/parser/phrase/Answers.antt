@@ -1,7 +1,7 @@
 use Rattle.std.proofs.Common.{length, sym, ap, subst, arith, map, All}
 use Rattle.phrase_parser.specs.Machine.{start, run, ended_if}
-use Rattle.phrase_parser.specs.Shapes.{shape_of, LiesIn}
-use Rattle.phrase_parser.specs.TokenIn.{token_in, IsPlacedIn}
+use Rattle.phrase_parser.specs.Shapes.{shape_of}
+use Rattle.phrase_parser.specs.TokenIn.{token_in, IsPlacedIn, LiesIn}
 use Rattle.phrase_parser.specs.Answers.{IsBuilt, FaultSays}
 use Rattle.phrase_parser.specs.declared.check.finding.Finding.TheVariants.{Fine, SyntaxAt, Over}
 use Rattle.phrase_parser.proofs.CheckAnswers.{tokens_lie, tokens_few, told_known, read_whole, built_answers}
