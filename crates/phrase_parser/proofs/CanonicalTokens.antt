@@ -11,7 +11,7 @@ use Rattle.plcs_grammar.specs.declared.operator.PrefixOp.TheVariants as before
 use Rattle.plcs_grammar.specs.declared.sign.Sign.{Sign}
 use Rattle.plcs_grammar.specs.Sign.{sign_bytes, prefix_sign, infix_sign}
 use Rattle.plcs_grammar.specs.Token.{Token, IsNumeral, bit_bytes}
-use Rattle.plcs_grammar.specs.Reading.{Tree, Trees, Reference}
+use Rattle.plcs_grammar.specs.PlainPhrase.{PlainExpr, PlainExprs, PlainVarRef}
 use Rattle.plcs_grammar.specs.Builtin.{builtin_name}
 use Rattle.plcs_grammar.specs.Level.{priority, tightest, in_parentheses}
 use Rattle.plcs_grammar.specs.Limit.{greatest_number}
@@ -20,7 +20,7 @@ use Rattle.phrase_parser.proofs.Numerals.{decimal_numeral}
 use Rattle.phrase_parser.proofs.LongestFront.{EndsSign, is_second}
 use Rattle.phrase_parser.proofs.CutPieces.{IsSound}
 use Rattle.phrase_parser.proofs.Limits.{NumberFits}
-use Rattle.phrase_parser.proofs.TreeSpelling.{spell, spell_reference, spell_all, spell_behind, Fits, FitsReference, FitsAll, FitsBehind}
+use Rattle.phrase_parser.proofs.ExprSpelling.{spell, spell_reference, spell_all, spell_behind, Fits, FitsReference, FitsAll, FitsBehind}
 use Rattle.phrase_parser.proofs.LexedTexts.{Lexed, Safe, safe_sign, lexed_empty, lexed_append, lexed_blank, lexed_name, lexed_number, lexed_text, lexed_bit, lexed_sign}
 use Rattle.phrase_parser.proofs.Words.{name_word}
 use Rattle.phrase_parser.proofs.AllOfLists.{append_all}
@@ -80,35 +80,35 @@ ends_sign_more x y behind h = subst EndsSign (sym (append_assoc x y behind)) h
 
 mutual
   -- an expression's canonical text ends a sign in front of it
-  pub canon_ends_sign : (t : Tree) (level : ℕ) → Fits t level → AllWritable (spell t) → (behind : List ℕ) → EndsSign (canon t ++ behind)
-  canon_ends_sign (Tree.number (pos n)) level fits writable behind = number_ends_sign n behind writable.0.1
-  canon_ends_sign (Tree.number (negsuc n)) level fits writable behind = absurd fits
-  canon_ends_sign (Tree.text value) level fits writable behind = refl
-  canon_ends_sign (Tree.bit value) level fits writable behind = bit_ends_sign value behind
-  canon_ends_sign (Tree.variable reference) level fits writable behind = reference_ends_sign reference writable behind
-  canon_ends_sign (Tree.unary op a) level fits writable behind =
+  pub canon_ends_sign : (t : PlainExpr) (level : ℕ) → Fits t level → AllWritable (spell t) → (behind : List ℕ) → EndsSign (canon t ++ behind)
+  canon_ends_sign (PlainExpr.number (pos n)) level fits writable behind = number_ends_sign n behind writable.0.1
+  canon_ends_sign (PlainExpr.number (negsuc n)) level fits writable behind = absurd fits
+  canon_ends_sign (PlainExpr.text value) level fits writable behind = refl
+  canon_ends_sign (PlainExpr.bit value) level fits writable behind = bit_ends_sign value behind
+  canon_ends_sign (PlainExpr.variable reference) level fits writable behind = reference_ends_sign reference writable behind
+  canon_ends_sign (PlainExpr.unary op a) level fits writable behind =
       ends_sign_more (sign_bytes (prefix_sign op)) (canon a) behind (prefix_ends_sign op (canon a ++ behind))
-  canon_ends_sign (Tree.binary op a b) level fits writable behind =
+  canon_ends_sign (PlainExpr.binary op a b) level fits writable behind =
       let right = 32 ∷ (sign_bytes (infix_sign op) ++ (32 ∷ canon b)) in
       ends_sign_more (canon a) right behind
       (canon_ends_sign a (priority op) fits.1 (writable_split (spell a) (Token.sign (infix_sign op) ∷ spell b) writable).0 (right ++ behind))
-  canon_ends_sign (Tree.builtin function arguments) level fits writable behind =
+  canon_ends_sign (PlainExpr.builtin function arguments) level fits writable behind =
       ends_sign_more (builtin_name function) (parenthesized_bytes (canon_list arguments)) behind
       (name_ends_sign (builtin_name function) (parenthesized_bytes (canon_list arguments) ++ behind) (name_word (builtin_name function) writable.0.0))
-  canon_ends_sign (Tree.parenthesized a) level fits writable behind = refl
+  canon_ends_sign (PlainExpr.parenthesized a) level fits writable behind = refl
 
   -- and so does a variable's
-  pub reference_ends_sign : (reference : Reference) → AllWritable (spell_reference reference) → (behind : List ℕ)
+  pub reference_ends_sign : (reference : PlainVarRef) → AllWritable (spell_reference reference) → (behind : List ℕ)
       → EndsSign (canon_reference reference ++ behind)
-  reference_ends_sign (Reference.simple name) writable behind = name_ends_sign name behind (name_word name writable.0.0)
-  reference_ends_sign (Reference.subscripted name index) writable behind =
+  reference_ends_sign (PlainVarRef.simple name) writable behind = name_ends_sign name behind (name_word name writable.0.0)
+  reference_ends_sign (PlainVarRef.subscripted name index) writable behind =
       ends_sign_more name (parenthesized_bytes (canon index)) behind
       (name_ends_sign name (parenthesized_bytes (canon index) ++ behind) (name_word name writable.0.0))
 
 -- and so do those of expressions joined by commas
-pub list_ends_sign : (ts : Trees) → FitsAll ts → AllWritable (spell_all ts) → (behind : List ℕ) → EndsSign (canon_list ts ++ behind)
-list_ends_sign Trees.nil fits writable behind = absurd fits
-list_ends_sign (Trees.cons a rest) fits writable behind =
+pub list_ends_sign : (ts : PlainExprs) → FitsAll ts → AllWritable (spell_all ts) → (behind : List ℕ) → EndsSign (canon_list ts ++ behind)
+list_ends_sign PlainExprs.nil fits writable behind = absurd fits
+list_ends_sign (PlainExprs.cons a rest) fits writable behind =
     ends_sign_more (canon a) (canon_behind rest) behind
     (canon_ends_sign a 1 fits.0 (writable_split (spell a) (spell_behind rest) writable).0 (canon_behind rest ++ behind))
 
@@ -139,9 +139,9 @@ lexed_behind_sign s x tokens behind a =
     (lexed_blank x tokens behind a))
 
 -- behind an expression in a list stands a comma, or what stands behind the list
-behind_safe : (ts : Trees) (behind : List ℕ) → Safe behind → Safe (canon_behind ts ++ behind)
-behind_safe Trees.nil behind safe = safe
-behind_safe (Trees.cons a rest) behind safe = refl
+behind_safe : (ts : PlainExprs) (behind : List ℕ) → Safe behind → Safe (canon_behind ts ++ behind)
+behind_safe PlainExprs.nil behind safe = safe
+behind_safe (PlainExprs.cons a rest) behind safe = refl
 
 -- what is in parentheses can be written where the whole can
 pub inner_writable : (tokens : List Token) → AllWritable (in_parentheses tokens) → AllWritable tokens
@@ -149,28 +149,28 @@ inner_writable tokens h = (writable_split tokens (Token.sign Sign.CloseParenthes
 
 mutual
   -- an expression's canonical text, where what follows is safe
-  pub canon_lexed : (t : Tree) (level : ℕ) → Fits t level → AllWritable (spell t) → (behind : List ℕ) → Safe behind → Lexed (canon t) (spell t) behind
-  canon_lexed (Tree.number (pos n)) level fits writable behind safe = lexed_number n behind (small_number n writable.0.1) safe
-  canon_lexed (Tree.number (negsuc n)) level fits writable behind safe = absurd fits
-  canon_lexed (Tree.text value) level fits writable behind safe = lexed_text value behind writable.0.0 safe
-  canon_lexed (Tree.bit value) level fits writable behind safe = lexed_bit value behind safe
-  canon_lexed (Tree.variable reference) level fits writable behind safe = reference_lexed reference fits.1 writable behind safe
-  canon_lexed (Tree.unary op a) level fits writable behind safe =
+  pub canon_lexed : (t : PlainExpr) (level : ℕ) → Fits t level → AllWritable (spell t) → (behind : List ℕ) → Safe behind → Lexed (canon t) (spell t) behind
+  canon_lexed (PlainExpr.number (pos n)) level fits writable behind safe = lexed_number n behind (small_number n writable.0.1) safe
+  canon_lexed (PlainExpr.number (negsuc n)) level fits writable behind safe = absurd fits
+  canon_lexed (PlainExpr.text value) level fits writable behind safe = lexed_text value behind writable.0.0 safe
+  canon_lexed (PlainExpr.bit value) level fits writable behind safe = lexed_bit value behind safe
+  canon_lexed (PlainExpr.variable reference) level fits writable behind safe = reference_lexed reference fits.1 writable behind safe
+  canon_lexed (PlainExpr.unary op a) level fits writable behind safe =
       lexed_append (sign_bytes (prefix_sign op)) (canon a) (Token.sign (prefix_sign op) ∷ []) (spell a) behind
       (lexed_sign (prefix_sign op) (canon a ++ behind) (canon_ends_sign a tightest fits writable.1 behind))
       (canon_lexed a tightest fits writable.1 behind safe)
-  canon_lexed (Tree.binary op a b) level fits writable behind safe =
+  canon_lexed (PlainExpr.binary op a b) level fits writable behind safe =
       let parts = writable_split (spell a) (Token.sign (infix_sign op) ∷ spell b) writable in
       let right = 32 ∷ (sign_bytes (infix_sign op) ++ (32 ∷ canon b)) in
       lexed_append (canon a) right (spell a) (Token.sign (infix_sign op) ∷ spell b) behind
       (canon_lexed a (priority op) fits.1 parts.0 (right ++ behind) refl)
       (lexed_behind_sign (infix_sign op) (canon b) (spell b) behind (canon_lexed b _ fits.2 parts.1.1 behind safe))
-  canon_lexed (Tree.builtin function arguments) level fits writable behind safe =
+  canon_lexed (PlainExpr.builtin function arguments) level fits writable behind safe =
       let inner = inner_writable (spell_all arguments) writable.1 in
       lexed_called (builtin_name function) (canon_list arguments) (spell_all arguments) behind writable.0.0
       (list_ends_sign arguments fits inner (41 ∷ behind))
       (list_lexed arguments fits inner (41 ∷ behind) refl) safe
-  canon_lexed (Tree.parenthesized a) level fits writable behind safe =
+  canon_lexed (PlainExpr.parenthesized a) level fits writable behind safe =
       let right = 32 ∷ 41 ∷ [] in
       lexed_append (40 ∷ []) (32 ∷ (canon a ++ right)) (Token.sign Sign.OpenParenthesis ∷ [])
       (spell a ++ (Token.sign Sign.CloseParenthesis ∷ [])) behind
@@ -182,28 +182,28 @@ mutual
       (lexed_sign Sign.CloseParenthesis behind (safe_sign behind safe)))))
 
   -- a variable's
-  pub reference_lexed : (reference : Reference) → FitsReference reference → AllWritable (spell_reference reference) → (behind : List ℕ)
+  pub reference_lexed : (reference : PlainVarRef) → FitsReference reference → AllWritable (spell_reference reference) → (behind : List ℕ)
       → Safe behind → Lexed (canon_reference reference) (spell_reference reference) behind
-  reference_lexed (Reference.simple name) fits writable behind safe = lexed_name name behind writable.0.0 safe
-  reference_lexed (Reference.subscripted name index) fits writable behind safe =
+  reference_lexed (PlainVarRef.simple name) fits writable behind safe = lexed_name name behind writable.0.0 safe
+  reference_lexed (PlainVarRef.subscripted name index) fits writable behind safe =
       let inner = inner_writable (spell index) writable.1 in
       lexed_called name (canon index) (spell index) behind writable.0.0 (canon_ends_sign index 1 fits inner (41 ∷ behind))
       (canon_lexed index 1 fits inner (41 ∷ behind) refl) safe
 
   -- that of expressions joined by commas
-  pub list_lexed : (ts : Trees) → FitsAll ts → AllWritable (spell_all ts) → (behind : List ℕ) → Safe behind → Lexed (canon_list ts) (spell_all ts) behind
-  list_lexed Trees.nil fits writable behind safe = absurd fits
-  list_lexed (Trees.cons a rest) fits writable behind safe =
+  pub list_lexed : (ts : PlainExprs) → FitsAll ts → AllWritable (spell_all ts) → (behind : List ℕ) → Safe behind → Lexed (canon_list ts) (spell_all ts) behind
+  list_lexed PlainExprs.nil fits writable behind safe = absurd fits
+  list_lexed (PlainExprs.cons a rest) fits writable behind safe =
       let parts = writable_split (spell a) (spell_behind rest) writable in
       lexed_append (canon a) (canon_behind rest) (spell a) (spell_behind rest) behind
       (canon_lexed a 1 fits.0 parts.0 (canon_behind rest ++ behind) (behind_safe rest behind safe))
       (behind_lexed rest fits.1 parts.1 behind safe)
 
   -- that of expressions, each behind a comma
-  pub behind_lexed : (ts : Trees) → FitsBehind ts → AllWritable (spell_behind ts) → (behind : List ℕ) → Safe behind
+  pub behind_lexed : (ts : PlainExprs) → FitsBehind ts → AllWritable (spell_behind ts) → (behind : List ℕ) → Safe behind
       → Lexed (canon_behind ts) (spell_behind ts) behind
-  behind_lexed Trees.nil fits writable behind safe = lexed_empty behind
-  behind_lexed (Trees.cons a rest) fits writable behind safe =
+  behind_lexed PlainExprs.nil fits writable behind safe = lexed_empty behind
+  behind_lexed (PlainExprs.cons a rest) fits writable behind safe =
       let parts = writable_split (spell a) (spell_behind rest) writable.1 in
       lexed_behind_comma (canon a ++ canon_behind rest) (spell a ++ spell_behind rest) behind
       (lexed_append (canon a) (canon_behind rest) (spell a) (spell_behind rest) behind

@@ -3,8 +3,8 @@ use Rattle.std.proofs.Common.{◌≡◌, ℕ, ◌≤◌, List, map, length, Opti
 use Rattle.std.specs.Prelude.{is_some, IsTrue}
 use Rattle.plcs_grammar.specs.declared.category.Category.{Category}
 use Rattle.plcs_grammar.specs.declared.phrase.Phrase.{Phrase}
-use Rattle.plcs_grammar.specs.Reading.{Reading}
-use Rattle.plcs_grammar.specs.PlainForm.{reading_of}
+use Rattle.plcs_grammar.specs.PlainPhrase.{PlainPhrase}
+use Rattle.plcs_grammar.specs.PlainForm.{plain_phrase}
 use Rattle.plcs_grammar.specs.Cuts.{Piece, Cuts}
 use Rattle.plcs_grammar.specs.Reads.{Reads}
 use Rattle.phrase_parser.specs.declared.check.finding.Finding.{Finding}
@@ -31,7 +31,7 @@ tokens_few items stop x h = subst (λ z. length z ≤ length x) (sym h.2) (cut_f
 
 -- tokens that are a phrase within the limits, which the text reads as
 pub record IsRead (c : Category) (x : List ℕ) (items : List Placed) : Type 0 where
-  pub phrase : Reading
+  pub phrase : PlainPhrase
   pub built : ended_if (run (map (token_in x) items) (start c)) ≡ Some phrase
   pub reads : Reads c x phrase
   pub placed : All (IsPlacedIn x) items
@@ -70,9 +70,9 @@ pub read_whole : (c : Category) (x : List ℕ) (items : List Placed) → IsRead 
 read_whole c x items h = ap is_some h.built
 
 -- and answered
-built_if : (c : Category) (x : List ℕ) (answer : Result Phrase PhraseFault) (wanted : Option Reading) (phrase : Reading)
+built_if : (c : Category) (x : List ℕ) (answer : Result Phrase PhraseFault) (wanted : Option PlainPhrase) (phrase : PlainPhrase)
     → IsBuilt answer wanted → wanted ≡ Some phrase → Reads c x phrase → Answers c x answer
-built_if c x (Ok p) wanted phrase b e h = let same : phrase ≡ reading_of p = cc in subst (Reads c x) same h
+built_if c x (Ok p) wanted phrase b e h = let same : phrase ≡ plain_phrase p = cc in subst (Reads c x) same h
 built_if c x (Err f) wanted phrase b e h = subst (FaultSays c x) (sym b) tt
 
 pub built_answers : (c : Category) (x : List ℕ) (items : List Placed) (answer : Result Phrase PhraseFault) → IsRead c x items

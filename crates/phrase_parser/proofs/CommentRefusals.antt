@@ -9,7 +9,7 @@ use Rattle.plcs_base.specs.Byte.{is_printable}
 use Rattle.plcs_grammar.specs.Cuts.{tokens_of}
 use Rattle.std.proofs.lemmas.List.Elements.{All-from_recursion}
 use Rattle.plcs_grammar.specs.declared.category.Category.TheVariants.{CommentText}
-use Rattle.plcs_grammar.specs.Reading.{Reading}
+use Rattle.plcs_grammar.specs.PlainPhrase.{PlainPhrase}
 use Rattle.plcs_grammar.specs.Reads.{Outline, Reads}
 use Rattle.phrase_parser.specs.declared.fault.PhraseFault.TheVariants.{Syntax}
 use Rattle.phrase_parser.specs.Answers.{FaultSays}
@@ -120,9 +120,9 @@ comment_within x at e =
     (λ u k. omega (arith, offence_within x 0 at k))) e
 
 -- what the comment's text says of the whole text
-pub comment_reads : (x bytes : List ℕ) → comment_syntax x ≡ None → bytes ≡ trimmed x → Reads CommentText x (Reading.comment bytes)
+pub comment_reads : (x bytes : List ℕ) → comment_syntax x ≡ None → bytes ≡ trimmed x → Reads CommentText x (PlainPhrase.comment bytes)
 comment_reads x bytes e same = (
-  inr (record { category_is = refl; text = comment_allowed x e; phrase_is = ap (λ z. Reading.comment z) same }),
+  inr (record { category_is = refl; text = comment_allowed x e; phrase_is = ap (λ z. PlainPhrase.comment z) same }),
   record { numbers_fit = All-from_recursion _ [] tt; nesting_fits = zero-le },
 )
 

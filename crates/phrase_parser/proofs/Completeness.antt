@@ -9,18 +9,18 @@ use Rattle.plcs_grammar.specs.declared.item.Item.{Item}
 use Rattle.plcs_grammar.specs.declared.sign.Sign.{Sign}
 use Rattle.plcs_grammar.specs.Token.{Token}
 use Rattle.plcs_grammar.specs.Cuts.{Piece, tokens_of}
-use Rattle.plcs_grammar.specs.Reading.{Tree, Trees, Reference, Reading, category_of}
+use Rattle.plcs_grammar.specs.PlainPhrase.{PlainExpr, PlainExprs, PlainVarRef, PlainPhrase, category_of}
 use Rattle.plcs_grammar.specs.Form.{Form, Begins}
 use Rattle.plcs_grammar.specs.Opened.{opened as levels, reference_opened as reference_levels, opened_by_all as levels_of_all, references_behind, phrase_opened}
 use Rattle.plcs_grammar.specs.Over.{first_over, over_at}
 use Rattle.phrase_parser.specs.Machine.{Base, Stack, State, Role, Operand, step, run, start, closed_at, ended_at, ended, ended_if}
 use Rattle.phrase_parser.specs.Trace.{depth, opens, trace}
 use Rattle.phrase_parser.proofs.AllOfLists.{all_append}
-use Rattle.phrase_parser.proofs.TreeSpelling.{spell, spell_reference, Fits, FitsReference, FitsAll}
+use Rattle.phrase_parser.proofs.ExprSpelling.{spell, spell_reference, Fits, FitsReference, FitsAll}
 use Rattle.phrase_parser.proofs.PhraseSpelling.{spell_phrase, spell_name, spell_item, spell_sized, FitsPhrase, FitsItem, FitsSize, FitsCall, AnyName, FitsListed, form_spelled}
 use Rattle.phrase_parser.proofs.MachineRuns.{Goes, there, by, joins, goes_runs, goes_opens, run_append, run_none}
 use Rattle.phrase_parser.proofs.ListedItems.{Listing, levels_more, levels_listed, reads_listed}
-use Rattle.phrase_parser.proofs.TreesRead.{Holds, arrives, arrives_all}
+use Rattle.phrase_parser.proofs.ExprsRead.{Holds, arrives, arrives_all}
 
 -- each is 0
 abbrev pub NoLevels : List ℕ → Type 0
@@ -38,7 +38,7 @@ over_none (piece ∷ pieces) (l ∷ ls) h =
     ∙ ap (λ r. option_or (over_at piece 0) r) (over_none pieces ls h.1)
 
 -- the tokens lead from the first state of the phrase's category to one that ends as the phrase
-pub record Reaches (p : Reading) : Type 0 where
+pub record Reaches (p : PlainPhrase) : Type 0 where
   pub first : State
   pub end : State
   pub traced : List ℕ
@@ -48,7 +48,7 @@ pub record Reaches (p : Reading) : Type 0 where
   pub agrees : (pieces : List Piece) → first_over pieces traced ≡ first_over pieces (phrase_opened p)
 
 -- an expression that stands in no other is read
-at_base : (b : Base) (t : Tree) → Fits t 1
+at_base : (b : Base) (t : PlainExpr) → Fits t 1
     → (z : State) × Goes (State.wanted (Stack.base b)) (spell t) (levels t (depth (Stack.base b))) z
     × (ended z ≡ ended_at (Stack.base b) t) × (step z (Token.sign Sign.CloseParenthesis) ≡ closed_at (Stack.base b) t)
     × (opens z (Token.sign Sign.CloseParenthesis) ≡ 0)
@@ -62,50 +62,50 @@ at_base b t f =
     )
 
 -- a target is read, and `=` and what follows behind it
-behind_target : (reference : Reference) (ks : List Token) (ls : List ℕ) (z : State) → FitsReference reference
+behind_target : (reference : PlainVarRef) (ks : List Token) (ls : List ℕ) (z : State) → FitsReference reference
     → Goes (State.wanted (Stack.base (Base.assigned reference))) ks ls z
     → Goes (State.name_wanted Role.target) (spell_reference reference ++ (Token.sign Sign.Equal ∷ ks))
     (reference_levels reference 0 ++ (0 ∷ ls)) z
-behind_target (Reference.simple name) ks ls z f q = by refl refl (by refl refl q)
-behind_target (Reference.subscripted name index) ks ls z f q =
+behind_target (PlainVarRef.simple name) ks ls z f q = by refl refl (by refl refl q)
+behind_target (PlainVarRef.subscripted name index) ks ls z f q =
     let r = at_base (Base.target_subscript name) index f in
     by refl refl (by refl refl (joins (joins r.1 (by r.3 r.4 there)) (by refl refl q)))
 
 -- how variables are listed
-abbrev variable_has : List Reference → Reference → State
-variable_has done (Reference.simple name) = State.name_had (Role.variables done) name
-variable_has done (Reference.subscripted name index) = State.variable_had (done ++ (Reference.subscripted name index ∷ []))
+abbrev variable_has : List PlainVarRef → PlainVarRef → State
+variable_has done (PlainVarRef.simple name) = State.name_had (Role.variables done) name
+variable_has done (PlainVarRef.subscripted name index) = State.variable_had (done ++ (PlainVarRef.subscripted name index ∷ []))
 
 -- the levels that a variable of a list opens
-abbrev variable_levels : Reference → List ℕ
+abbrev variable_levels : PlainVarRef → List ℕ
 variable_levels reference = reference_levels reference 0
 
-variable_reads : (done : List Reference) (reference : Reference) → FitsReference reference
+variable_reads : (done : List PlainVarRef) (reference : PlainVarRef) → FitsReference reference
     → Goes (State.name_wanted (Role.variables done)) (spell_reference reference) (variable_levels reference)
     (variable_has done reference)
-variable_reads done (Reference.simple name) f = by refl refl there
-variable_reads done (Reference.subscripted name index) f =
+variable_reads done (PlainVarRef.simple name) f = by refl refl there
+variable_reads done (PlainVarRef.subscripted name index) f =
     let r = at_base (Base.variable_subscript done name) index f in
     by refl refl (by refl refl (joins r.1 (by r.3 r.4 there)))
 
-variable_comma : (done : List Reference) (reference : Reference)
+variable_comma : (done : List PlainVarRef) (reference : PlainVarRef)
     → step (variable_has done reference) (Token.sign Sign.Comma)
     ≡ Some (State.name_wanted (Role.variables (done ++ (reference ∷ []))))
-variable_comma done (Reference.simple name) = refl
-variable_comma done (Reference.subscripted name index) = refl
+variable_comma done (PlainVarRef.simple name) = refl
+variable_comma done (PlainVarRef.subscripted name index) = refl
 
-variable_opens : (done : List Reference) (reference : Reference)
+variable_opens : (done : List PlainVarRef) (reference : PlainVarRef)
     → opens (variable_has done reference) (Token.sign Sign.Comma) ≡ 0
-variable_opens done (Reference.simple name) = refl
-variable_opens done (Reference.subscripted name index) = refl
+variable_opens done (PlainVarRef.simple name) = refl
+variable_opens done (PlainVarRef.subscripted name index) = refl
 
-variable_ends : (done : List Reference) (reference : Reference)
-    → ended (variable_has done reference) ≡ Some (Reading.variable_list (done ++ (reference ∷ [])))
-variable_ends done (Reference.simple name) = refl
-variable_ends done (Reference.subscripted name index) = refl
+variable_ends : (done : List PlainVarRef) (reference : PlainVarRef)
+    → ended (variable_has done reference) ≡ Some (PlainPhrase.variable_list (done ++ (reference ∷ [])))
+variable_ends done (PlainVarRef.simple name) = refl
+variable_ends done (PlainVarRef.subscripted name index) = refl
 
 -- variables as a list
-abbrev variables_listing : Listing Reference spell_reference variable_levels FitsReference
+abbrev variables_listing : Listing PlainVarRef spell_reference variable_levels FitsReference
 variables_listing = record {
   wants = λ done. State.name_wanted (Role.variables done);
   has = variable_has;
@@ -114,7 +114,7 @@ variables_listing = record {
   none = variable_opens;
 }
 
-variables_levels : (targets : List Reference) → levels_more variable_levels targets ≡ references_behind targets
+variables_levels : (targets : List PlainVarRef) → levels_more variable_levels targets ≡ references_behind targets
 variables_levels [] = refl
 variables_levels (reference ∷ rest) = ap (λ z. 0 ∷ (variable_levels reference ++ z)) (variables_levels rest)
 
@@ -154,7 +154,7 @@ sized_opens done name None = refl
 sized_opens done name (Some size) = refl
 
 sized_ends : (done : List Item) (name : List ℕ) (size : Option ℕ)
-    → ended (item_has_sized done name size) ≡ Some (Reading.declared_list (done ++ (record { name = name; size = size } ∷ [])))
+    → ended (item_has_sized done name size) ≡ Some (PlainPhrase.declared_list (done ++ (record { name = name; size = size } ∷ [])))
 sized_ends done name None = refl
 sized_ends done name (Some size) = refl
 
@@ -195,7 +195,7 @@ module _ {X : Type 0} (g : X → List ℕ) (h : (x : X) → NoLevels (g x)) wher
   listed_none [] = tt
   listed_none (x ∷ xs) = no_levels_append (g x) (levels_more g xs) (h x) (more_none xs)
 
-reaches_expression : (p : Reading) (b : Base) (t : Tree) → Fits t 1 → start (category_of p) ≡ Some (State.wanted (Stack.base b))
+reaches_expression : (p : PlainPhrase) (b : Base) (t : PlainExpr) → Fits t 1 → start (category_of p) ≡ Some (State.wanted (Stack.base b))
     → spell_phrase p ≡ spell t → ended_at (Stack.base b) t ≡ Some p → depth (Stack.base b) ≡ 0 → phrase_opened p ≡ levels t 0
     → Reaches p
 reaches_expression p b t f begins tokens ends zero opens =
@@ -210,7 +210,7 @@ reaches_expression p b t f begins tokens ends zero opens =
       agrees = λ pieces. ap (λ d. first_over pieces (levels t d)) zero ∙ ap (first_over pieces) (sym opens);
     }
 
-reaches_variables : (targets : List Reference) → FitsListed FitsReference targets → Reaches (Reading.variable_list targets)
+reaches_variables : (targets : List PlainVarRef) → FitsListed FitsReference targets → Reaches (PlainPhrase.variable_list targets)
 reaches_variables [] f = absurd f
 reaches_variables (reference ∷ rest) f =
     let r = reads_listed spell_reference variable_levels FitsReference variables_listing (reference ∷ rest) f in
@@ -220,12 +220,12 @@ reaches_variables (reference ∷ rest) f =
       traced = levels_listed variable_levels (reference ∷ rest);
       begins = refl;
       goes = r.goes;
-      ends = variable_ends r.front r.last ∙ ap (λ z. Some (Reading.variable_list z)) r.whole;
+      ends = variable_ends r.front r.last ∙ ap (λ z. Some (PlainPhrase.variable_list z)) r.whole;
       agrees = λ pieces. ap (λ z. first_over pieces (variable_levels reference ++ z)) (variables_levels rest);
     }
 
-reaches_call : (name : List ℕ) (passed : Trees) → FitsCall passed → Reaches (Reading.call name passed)
-reaches_call name Trees.nil f = record {
+reaches_call : (name : List ℕ) (passed : PlainExprs) → FitsCall passed → Reaches (PlainPhrase.call name passed)
+reaches_call name PlainExprs.nil f = record {
   first = State.name_wanted Role.callee;
   end = State.name_had Role.callee name;
   traced = 0 ∷ [];
@@ -234,14 +234,14 @@ reaches_call name Trees.nil f = record {
   ends = refl;
   agrees = λ pieces. refl;
 }
-reaches_call name (Trees.cons a rest) f =
-    let h : Trees → Stack = λ done. Stack.base (Base.call_arguments name done) in
+reaches_call name (PlainExprs.cons a rest) f =
+    let h : PlainExprs → Stack = λ done. Stack.base (Base.call_arguments name done) in
     let holds : Holds h 1 = record { ends = λ done t. refl; comma = λ done t. refl; blocks = λ done. tt; deep = λ done. refl } in
-    let r = arrives_all (Trees.cons a rest) h 1 holds Trees.nil f in
+    let r = arrives_all (PlainExprs.cons a rest) h 1 holds PlainExprs.nil f in
     record {
       first = State.name_wanted Role.callee;
-      end = State.call_had name (Trees.cons a rest);
-      traced = 0 ∷ 1 ∷ (levels_of_all (Trees.cons a rest) 1 ++ (0 ∷ []));
+      end = State.call_had name (PlainExprs.cons a rest);
+      traced = 0 ∷ 1 ∷ (levels_of_all (PlainExprs.cons a rest) 1 ++ (0 ∷ []));
       begins = refl;
       goes = by refl refl (by refl refl (joins r.goes
           (by (ap (λ (o : Operand). closed_at o.0 o.1) r.same ∙ ap (λ z. Some (State.call_had name z)) r.whole) refl there)));
@@ -249,24 +249,24 @@ reaches_call name (Trees.cons a rest) f =
       agrees = λ pieces. refl;
     }
 
-reaches_expressions : (es : Trees) → FitsAll es → Reaches (Reading.expression_list es)
+reaches_expressions : (es : PlainExprs) → FitsAll es → Reaches (PlainPhrase.expression_list es)
 reaches_expressions es f =
-    let h : Trees → Stack = λ done. Stack.base (Base.expressions done) in
+    let h : PlainExprs → Stack = λ done. Stack.base (Base.expressions done) in
     let holds : Holds h 0 = record { ends = λ done t. refl; comma = λ done t. refl; blocks = λ done. tt; deep = λ done. refl } in
-    let r = arrives_all es h 0 holds Trees.nil f in
+    let r = arrives_all es h 0 holds PlainExprs.nil f in
     record {
-      first = State.wanted (h Trees.nil);
+      first = State.wanted (h PlainExprs.nil);
       end = State.had r.stack r.top;
       traced = levels_of_all es 0;
       begins = refl;
       goes = r.goes;
-      ends = ap (λ (o : Operand). ended_at o.0 o.1) r.same ∙ ap (λ z. Some (Reading.expression_list z)) r.whole;
+      ends = ap (λ (o : Operand). ended_at o.0 o.1) r.same ∙ ap (λ z. Some (PlainPhrase.expression_list z)) r.whole;
       agrees = λ pieces. refl;
     }
 
 -- each phrase whose parts keep what they have to is read
-pub reaches : (p : Reading) → FitsPhrase p → Reaches p
-reaches (Reading.assignment target value) f =
+pub reaches : (p : PlainPhrase) → FitsPhrase p → Reaches p
+reaches (PlainPhrase.assignment target value) f =
     let r = at_base (Base.assigned target) value f.1 in
     record {
       first = State.name_wanted Role.target;
@@ -277,11 +277,11 @@ reaches (Reading.assignment target value) f =
       ends = r.2;
       agrees = λ pieces. refl;
     }
-reaches (Reading.condition e) f = reaches_expression (Reading.condition e) Base.condition e f refl refl refl refl refl
-reaches (Reading.expression e) f = reaches_expression (Reading.expression e) Base.expression e f refl refl refl refl refl
-reaches (Reading.expression_list es) f = reaches_expressions es f
-reaches (Reading.variable_list targets) f = reaches_variables targets f
-reaches (Reading.variable_name name) f = record {
+reaches (PlainPhrase.condition e) f = reaches_expression (PlainPhrase.condition e) Base.condition e f refl refl refl refl refl
+reaches (PlainPhrase.expression e) f = reaches_expression (PlainPhrase.expression e) Base.expression e f refl refl refl refl refl
+reaches (PlainPhrase.expression_list es) f = reaches_expressions es f
+reaches (PlainPhrase.variable_list targets) f = reaches_variables targets f
+reaches (PlainPhrase.variable_name name) f = record {
   first = State.name_wanted Role.variable;
   end = State.name_had Role.variable name;
   traced = 0 ∷ [];
@@ -290,8 +290,8 @@ reaches (Reading.variable_name name) f = record {
   ends = refl;
   agrees = λ pieces. over_none pieces (0 ∷ []) (refl, tt);
 }
-reaches (Reading.call name passed) f = reaches_call name passed f
-reaches (Reading.declared_list items) f =
+reaches (PlainPhrase.call name passed) f = reaches_call name passed f
+reaches (PlainPhrase.declared_list items) f =
     let r = reads_listed spell_item item_levels FitsItem items_listing items f in
     record {
       first = State.name_wanted (Role.items []);
@@ -299,10 +299,10 @@ reaches (Reading.declared_list items) f =
       traced = levels_listed item_levels items;
       begins = refl;
       goes = r.goes;
-      ends = sized_ends r.front r.last.name r.last.size ∙ ap (λ z. Some (Reading.declared_list z)) r.whole;
+      ends = sized_ends r.front r.last.name r.last.size ∙ ap (λ z. Some (PlainPhrase.declared_list z)) r.whole;
       agrees = λ pieces. over_none pieces (levels_listed item_levels items) (listed_none item_levels (λ item. sized_none item.size) items);
     }
-reaches (Reading.procedure_name name) f = record {
+reaches (PlainPhrase.procedure_name name) f = record {
   first = State.name_wanted Role.procedure;
   end = State.name_had Role.procedure name;
   traced = 0 ∷ [];
@@ -311,7 +311,7 @@ reaches (Reading.procedure_name name) f = record {
   ends = refl;
   agrees = λ pieces. over_none pieces (0 ∷ []) (refl, tt);
 }
-reaches (Reading.name_list names) f =
+reaches (PlainPhrase.name_list names) f =
     let r = reads_listed spell_name name_levels AnyName names_listing names f in
     record {
       first = State.name_wanted (Role.names []);
@@ -319,10 +319,10 @@ reaches (Reading.name_list names) f =
       traced = levels_listed name_levels names;
       begins = refl;
       goes = r.goes;
-      ends = ap (λ z. Some (Reading.name_list z)) r.whole;
+      ends = ap (λ z. Some (PlainPhrase.name_list z)) r.whole;
       agrees = λ pieces. over_none pieces (levels_listed name_levels names) (listed_none name_levels (λ name. (refl, tt)) names);
     }
-reaches (Reading.greatest_length n) f = record {
+reaches (PlainPhrase.greatest_length n) f = record {
   first = State.length_wanted;
   end = State.length_had n;
   traced = 0 ∷ [];
@@ -331,10 +331,10 @@ reaches (Reading.greatest_length n) f = record {
   ends = refl;
   agrees = λ pieces. over_none pieces (0 ∷ []) (refl, tt);
 }
-reaches (Reading.comment bytes) f = absurd f
+reaches (PlainPhrase.comment bytes) f = absurd f
 
 -- where the machine comes to over the tokens of a phrase, and the levels that it opens
-runs_form : (c : Category) (ks : List Token) (p : Reading) → Form c ks p
+runs_form : (c : Category) (ks : List Token) (p : PlainPhrase) → Form c ks p
     → (z : State) × (run ks (start c) ≡ Some z) × (ended z ≡ Some p)
     × ((pieces : List Piece) → first_over pieces (trace ks (start c)) ≡ first_over pieces (phrase_opened p))
 runs_form c ks p h =
@@ -349,16 +349,16 @@ runs_form c ks p h =
     )
 
 -- the tokens of a phrase are read as the phrase
-pub complete : (c : Category) (ks : List Token) (p : Reading) → Form c ks p → ended_if (run ks (start c)) ≡ Some p
+pub complete : (c : Category) (ks : List Token) (p : PlainPhrase) → Form c ks p → ended_if (run ks (start c)) ≡ Some p
 complete c ks p h = let r = runs_form c ks p h in ap ended_if r.1 ∙ r.2
 
 -- by the levels that the machine opens, the first token over a limit is the phrase's
-pub traced_over : (c : Category) (pieces : List Piece) (p : Reading) → Form c (tokens_of pieces) p
+pub traced_over : (c : Category) (pieces : List Piece) (p : PlainPhrase) → Form c (tokens_of pieces) p
     → first_over pieces (trace (tokens_of pieces) (start c)) ≡ first_over pieces (phrase_opened p)
 traced_over c pieces p h = (runs_form c (tokens_of pieces) p h).3 pieces
 
 -- tokens are one phrase of a category at most
-pub unique : (c : Category) (ks : List Token) (p q : Reading) → Form c ks p → Form c ks q → p ≡ q
+pub unique : (c : Category) (ks : List Token) (p q : PlainPhrase) → Form c ks p → Form c ks q → p ≡ q
 unique c ks p q h k = let a = complete c ks p h in let b = complete c ks q k in cc
 
 runs_before : (more : List Token) (s : Option State) (z : State) → run more s ≡ Some z → (y : State) × (s ≡ Some y)

@@ -6,59 +6,59 @@ use Rattle.plcs_grammar.specs.declared.category.Category.TheVariants.{Assignment
 use Rattle.plcs_grammar.specs.declared.sign.Sign.{Sign}
 use Rattle.plcs_grammar.specs.Sign.{prefix_sign, infix_sign}
 use Rattle.plcs_grammar.specs.Token.{Token}
-use Rattle.plcs_grammar.specs.Reading.{Tree, Trees}
+use Rattle.plcs_grammar.specs.PlainPhrase.{PlainExpr, PlainExprs}
 use Rattle.plcs_grammar.specs.Builtin.{builtin_name, is_builtin_name}
 use Rattle.plcs_grammar.specs.Level.{priority, tightest, in_parentheses}
-use Rattle.phrase_parser.specs.Machine.{Base, Stack, Role, State, tree_push}
-use Rattle.phrase_parser.proofs.TreeSpelling.{spell, spell_reference, spell_all, spell_behind, Fits, FitsReference, FitsAll, FitsBehind}
+use Rattle.phrase_parser.specs.Machine.{Base, Stack, Role, State, expr_push}
+use Rattle.phrase_parser.proofs.ExprSpelling.{spell, spell_reference, spell_all, spell_behind, Fits, FitsReference, FitsAll, FitsBehind}
 use Rattle.phrase_parser.proofs.PhraseSpelling.{spell_name, spell_item, spell_call, spell_more, spell_listed, EachFits, FitsListed, FitsItem, FitsCall, AnyName}
 
 -- expressions, each with the comma behind it
-abbrev pub spell_before : Trees → List Token
-spell_before Trees.nil = []
-spell_before (Trees.cons a rest) = spell a ++ (Token.sign Sign.Comma ∷ spell_before rest)
+abbrev pub spell_before : PlainExprs → List Token
+spell_before PlainExprs.nil = []
+spell_before (PlainExprs.cons a rest) = spell a ++ (Token.sign Sign.Comma ∷ spell_before rest)
 
-behind_push : (done : Trees) (t : Tree) → spell_behind (tree_push done t) ≡ Token.sign Sign.Comma ∷ (spell_before done ++ spell t)
-behind_push Trees.nil t = ap (λ z. Token.sign Sign.Comma ∷ z) (append-nil (spell t))
-behind_push (Trees.cons a rest) t =
+behind_push : (done : PlainExprs) (t : PlainExpr) → spell_behind (expr_push done t) ≡ Token.sign Sign.Comma ∷ (spell_before done ++ spell t)
+behind_push PlainExprs.nil t = ap (λ z. Token.sign Sign.Comma ∷ z) (append-nil (spell t))
+behind_push (PlainExprs.cons a rest) t =
     ap (λ z. Token.sign Sign.Comma ∷ (spell a ++ z)) (behind_push rest t)
     ∙ ap (λ z. Token.sign Sign.Comma ∷ z) (sym (append_assoc (spell a) (Token.sign Sign.Comma ∷ spell_before rest) (spell t)))
 
 -- one more at the end stands behind the comma of the others
-pub all_push : (done : Trees) (t : Tree) → spell_all (tree_push done t) ≡ spell_before done ++ spell t
-all_push Trees.nil t = append-nil (spell t)
-all_push (Trees.cons a rest) t =
+pub all_push : (done : PlainExprs) (t : PlainExpr) → spell_all (expr_push done t) ≡ spell_before done ++ spell t
+all_push PlainExprs.nil t = append-nil (spell t)
+all_push (PlainExprs.cons a rest) t =
     ap (λ z. spell a ++ z) (behind_push rest t)
     ∙ sym (append_assoc (spell a) (Token.sign Sign.Comma ∷ spell_before rest) (spell t))
 
 -- and with a comma behind it, it is one of them
-pub before_push : (done : Trees) (t : Tree)
-    → spell_before (tree_push done t) ≡ spell_before done ++ (spell t ++ (Token.sign Sign.Comma ∷ []))
-before_push Trees.nil t = refl
-before_push (Trees.cons a rest) t =
+pub before_push : (done : PlainExprs) (t : PlainExpr)
+    → spell_before (expr_push done t) ≡ spell_before done ++ (spell t ++ (Token.sign Sign.Comma ∷ []))
+before_push PlainExprs.nil t = refl
+before_push (PlainExprs.cons a rest) t =
     ap (λ z. spell a ++ (Token.sign Sign.Comma ∷ z)) (before_push rest t)
     ∙ sym (append_assoc (spell a) (Token.sign Sign.Comma ∷ spell_before rest) (spell t ++ (Token.sign Sign.Comma ∷ [])))
 
 -- a call with an argument has its parentheses
-pub call_push : (name : List ℕ) (done : Trees) (t : Tree)
-    → spell_call name (tree_push done t) ≡ Token.name name ∷ in_parentheses (spell_all (tree_push done t))
-call_push name Trees.nil t = refl
-call_push name (Trees.cons a rest) t = refl
+pub call_push : (name : List ℕ) (done : PlainExprs) (t : PlainExpr)
+    → spell_call name (expr_push done t) ≡ Token.name name ∷ in_parentheses (spell_all (expr_push done t))
+call_push name PlainExprs.nil t = refl
+call_push name (PlainExprs.cons a rest) t = refl
 
 -- each of them keeps its levels with one more that does
-pub behind_fits : (done : Trees) (t : Tree) → FitsBehind done → Fits t 1 → FitsBehind (tree_push done t)
-behind_fits Trees.nil t h f = (f, tt)
-behind_fits (Trees.cons a rest) t h f = (h.0, behind_fits rest t h.1 f)
+pub behind_fits : (done : PlainExprs) (t : PlainExpr) → FitsBehind done → Fits t 1 → FitsBehind (expr_push done t)
+behind_fits PlainExprs.nil t h f = (f, tt)
+behind_fits (PlainExprs.cons a rest) t h f = (h.0, behind_fits rest t h.1 f)
 
 -- and there is one
-pub all_fit : (done : Trees) (t : Tree) → FitsBehind done → Fits t 1 → FitsAll (tree_push done t)
-all_fit Trees.nil t h f = (f, tt)
-all_fit (Trees.cons a rest) t h f = (h.0, behind_fits rest t h.1 f)
+pub all_fit : (done : PlainExprs) (t : PlainExpr) → FitsBehind done → Fits t 1 → FitsAll (expr_push done t)
+all_fit PlainExprs.nil t h f = (f, tt)
+all_fit (PlainExprs.cons a rest) t h f = (h.0, behind_fits rest t h.1 f)
 
 -- arguments that keep their levels are those of a call
-pub call_fits : (ts : Trees) → FitsAll ts → FitsCall ts
-call_fits Trees.nil h = absurd h
-call_fits (Trees.cons a rest) h = h
+pub call_fits : (ts : PlainExprs) → FitsAll ts → FitsCall ts
+call_fits PlainExprs.nil h = absurd h
+call_fits (PlainExprs.cons a rest) h = h
 
 module _ {X : Type 0} (f : X → List Token) where
   -- items, each with the comma behind it

@@ -4,7 +4,7 @@ use Rattle.std.specs.Option.{option_or}
 use Rattle.std.proofs.lemmas.Bool.{cond-true, cond-false, false_from_ne_true}
 use Rattle.plcs_grammar.specs.declared.category.Category.{Category}
 use Rattle.plcs_grammar.specs.Cuts.{Piece, tokens_of}
-use Rattle.plcs_grammar.specs.Reading.{Reading}
+use Rattle.plcs_grammar.specs.PlainPhrase.{PlainPhrase}
 use Rattle.plcs_grammar.specs.Form.{Form}
 use Rattle.plcs_grammar.specs.Syntax.{GoesWrong}
 use Rattle.plcs_grammar.specs.Limit.{IsWithinLimits}
@@ -56,7 +56,7 @@ comes_all : (pieces : List Piece) (stop : Option ℕ) (end : ℕ) (shape z : Sha
 comes_all pieces stop end shape z e =
     ap (λ ps. findings (map seen_of ps) stop end shape None) (sym (append-nil pieces)) ∙ comes pieces [] stop end shape z None e
 
-finds_end : (c : Category) (pieces : List Piece) (end : ℕ) (shape : Shape) (p : Reading) → first_shape c ≡ Some shape
+finds_end : (c : Category) (pieces : List Piece) (end : ℕ) (shape : Shape) (p : PlainPhrase) → first_shape c ≡ Some shape
     → Form c (tokens_of pieces) p
     → findings (map seen_of pieces) None end shape None ≡ finding_of (first_over pieces (phrase_opened p))
 finds_end c pieces end shape p e f =
@@ -66,12 +66,12 @@ finds_end c pieces end shape p e f =
     ∙ ap finding_of (sym (ap (over_pieces pieces) e) ∙ levels_over c pieces p f)
 
 -- a phrase within the limits is found fine
-pub finds_fine : (c : Category) (pieces : List Piece) (end : ℕ) (shape : Shape) (p : Reading) → first_shape c ≡ Some shape
+pub finds_fine : (c : Category) (pieces : List Piece) (end : ℕ) (shape : Shape) (p : PlainPhrase) → first_shape c ≡ Some shape
     → Form c (tokens_of pieces) p → IsWithinLimits p → findings (map seen_of pieces) None end shape None ≡ Finding.fine
 finds_fine c pieces end shape p e f w = finds_end c pieces end shape p e f ∙ ap finding_of (within c pieces p f w)
 
 -- the first token of a phrase that goes past a limit is found
-pub finds_over : (c : Category) (pieces : List Piece) (end : ℕ) (shape : Shape) (p : Reading) (o : OverLimit)
+pub finds_over : (c : Category) (pieces : List Piece) (end : ℕ) (shape : Shape) (p : PlainPhrase) (o : OverLimit)
     → first_shape c ≡ Some shape → Form c (tokens_of pieces) p → first_over pieces (phrase_opened p) ≡ Some o
     → findings (map seen_of pieces) None end shape None ≡ Finding.over o
 finds_over c pieces end shape p o e f w = finds_end c pieces end shape p e f ∙ ap finding_of w

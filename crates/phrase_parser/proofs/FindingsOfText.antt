@@ -1,7 +1,7 @@
 -- What the check finds in the tokens of a text says what the text is.
 use Rattle.std.proofs.Common.{◌≡◌, inl, inr, refl, ℕ, List, map, Option, Some, None, ap, sym, subst, ◌∙◌, length}
 use Rattle.plcs_grammar.specs.declared.category.Category.{Category}
-use Rattle.plcs_grammar.specs.Reading.{Reading}
+use Rattle.plcs_grammar.specs.PlainPhrase.{PlainPhrase}
 use Rattle.plcs_grammar.specs.Cuts.{Piece, Cuts, tokens_of}
 use Rattle.plcs_grammar.specs.Form.{Form}
 use Rattle.plcs_grammar.specs.Opened.{phrase_opened}
@@ -21,7 +21,7 @@ use Rattle.phrase_parser.proofs.PlacedTokens.{AllFit, form_fit}
 use Rattle.phrase_parser.proofs.FindingsComplete.{finds_fine, finds_over, finds_wrong}
 
 -- what is found in a phrase is no place of wrong syntax
-form_found : (c : Category) (pieces : List Piece) (end place : ℕ) (shape : Shape) (p : Reading) (over : Option OverLimit)
+form_found : (c : Category) (pieces : List Piece) (end place : ℕ) (shape : Shape) (p : PlainPhrase) (over : Option OverLimit)
     → first_shape c ≡ Some shape → Form c (tokens_of pieces) p → first_over pieces (phrase_opened p) ≡ over
     → findings (map seen_of pieces) None end shape None ≡ Finding.syntax_at place → ⊥
 form_found c pieces end place shape p None e f o w =
@@ -44,7 +44,7 @@ no_outline c x pieces stop shape place e cut h (p, inr k) =
 
 -- what a finding says of the text
 abbrev pub SaysOfText : Category → List ℕ → List Piece → Finding → Type 0
-SaysOfText c x pieces Finding.fine = (p : Reading) × (ended_if (run (tokens_of pieces) (start c)) ≡ Some p) × Reads c x p × AllFit pieces
+SaysOfText c x pieces Finding.fine = (p : PlainPhrase) × (ended_if (run (tokens_of pieces) (start c)) ≡ Some p) × Reads c x p × AllFit pieces
 SaysOfText c x pieces (Finding.syntax_at place) = FaultSays c x (Syntax place)
 SaysOfText c x pieces (Finding.over o) = FaultSays c x (over_fault o)
 

@@ -5,7 +5,7 @@ use Rattle.std.proofs.lemmas.Bool.{cond_both}
 use Rattle.plcs_grammar.specs.declared.category.Category.{Category}
 use Rattle.plcs_grammar.specs.Token.{Token}
 use Rattle.plcs_grammar.specs.Cuts.{Piece, tokens_of}
-use Rattle.plcs_grammar.specs.Reading.{Reading}
+use Rattle.plcs_grammar.specs.PlainPhrase.{PlainPhrase}
 use Rattle.plcs_grammar.specs.Form.{Form, Begins}
 use Rattle.plcs_grammar.specs.Syntax.{GoesWrong}
 use Rattle.plcs_grammar.specs.Limit.{greatest_number, greatest_nesting, IsWithinLimits}
@@ -138,14 +138,14 @@ says c stop end (piece ∷ pieces) front shape found e =
 
 -- what a finding says of all pieces of a text
 abbrev pub SaysOfPieces : Category → List Piece → Option ℕ → ℕ → Finding → Type 0
-SaysOfPieces c pieces stop end Finding.fine = (stop ≡ None) × (p : Reading) × Form c (tokens_of pieces) p × IsWithinLimits p
+SaysOfPieces c pieces stop end Finding.fine = (stop ≡ None) × (p : PlainPhrase) × Form c (tokens_of pieces) p × IsWithinLimits p
 SaysOfPieces c pieces stop end (Finding.syntax_at place) = GoesWrong c pieces end stop place
 SaysOfPieces c pieces stop end (Finding.over o) =
-    (stop ≡ None) × (p : Reading) × Form c (tokens_of pieces) p × (first_over pieces (phrase_opened p) ≡ Some o)
+    (stop ≡ None) × (p : PlainPhrase) × Form c (tokens_of pieces) p × (first_over pieces (phrase_opened p) ≡ Some o)
 
 ends_form : (c : Category) (pieces : List Piece) (stop : Option ℕ) (shape : Shape) (first : Option OverLimit)
     → first_shape c ≡ Some shape → Ends pieces stop shape None first
-    → (p : Reading) × Form c (tokens_of pieces) p × (first_over pieces (phrase_opened p) ≡ first)
+    → (p : PlainPhrase) × Form c (tokens_of pieces) p × (first_over pieces (phrase_opened p) ≡ first)
 ends_form c pieces stop shape first e h =
     let r = whole_form c (tokens_of pieces) h.end (ap (follow_pieces pieces) e ∙ h.leads) h.may in
     (r.0, r.1, sym (levels_over c pieces r.0 r.1) ∙ ap (over_pieces pieces) e ∙ h.over)

@@ -3,10 +3,10 @@ use Rattle.std.proofs.Common.{◌≡◌, refl, ap, ◌∙◌, List, [], ◌∷�
 use Rattle.std.proofs.lemmas.List.{map-append}
 use Rattle.plcs_grammar.specs.declared.expr.Expr.{Expr}
 use Rattle.plcs_grammar.specs.declared.expr.VarRef.{VarRef}
-use Rattle.plcs_grammar.specs.Reading.{Tree, Trees}
-use Rattle.plcs_grammar.specs.PlainForm.{tree_of, trees_of, trees_from, reference_of}
+use Rattle.plcs_grammar.specs.PlainPhrase.{PlainExpr, PlainExprs}
+use Rattle.plcs_grammar.specs.PlainForm.{plain_expr, plain_exprs, exprs_from, plain_var_ref}
 use Rattle.phrase_parser.specs.Machine as machine
-use Rattle.phrase_parser.specs.Machine.{tree_push, ended_at}
+use Rattle.phrase_parser.specs.Machine.{expr_push, ended_at}
 use Rattle.phrase_parser.specs.declared.builder.state.Frame.{Frame}
 use Rattle.phrase_parser.specs.declared.builder.state.Frame.TheVariants as frame
 use Rattle.phrase_parser.specs.Views.{pushed, stack_on}
@@ -17,20 +17,20 @@ stack_on_push s [] f = refl
 stack_on_push s (g ∷ gs) f = stack_on_push (pushed g s) gs f
 
 -- the expressions with one more
-trees_from_push : (ts : List Tree) (t : Tree) → trees_from (ts ++ (t ∷ [])) ≡ tree_push (trees_from ts) t
-trees_from_push [] t = refl
-trees_from_push (x ∷ xs) t = ap (λ (rest : Trees). Trees.cons x rest) (trees_from_push xs t)
+exprs_from_push : (ts : List PlainExpr) (t : PlainExpr) → exprs_from (ts ++ (t ∷ [])) ≡ expr_push (exprs_from ts) t
+exprs_from_push [] t = refl
+exprs_from_push (x ∷ xs) t = ap (λ (rest : PlainExprs). PlainExprs.cons x rest) (exprs_from_push xs t)
 
-pub trees_of_push : (es : List Expr) (e : Expr) → trees_of (es ++ (e ∷ [])) ≡ tree_push (trees_of es) (tree_of e)
-trees_of_push es e = ap trees_from (map-append tree_of es (e ∷ [])) ∙ trees_from_push (map tree_of es) (tree_of e)
+pub exprs_of_push : (es : List Expr) (e : Expr) → plain_exprs (es ++ (e ∷ [])) ≡ expr_push (plain_exprs es) (plain_expr e)
+exprs_of_push es e = ap exprs_from (map-append plain_expr es (e ∷ [])) ∙ exprs_from_push (map plain_expr es) (plain_expr e)
 
 -- the variables with one more
 pub references_of_push : (vs : List VarRef) (v : VarRef)
-    → map reference_of (vs ++ (v ∷ [])) ≡ map reference_of vs ++ (reference_of v ∷ [])
-references_of_push vs v = map-append reference_of vs (v ∷ [])
+    → map plain_var_ref (vs ++ (v ∷ [])) ≡ map plain_var_ref vs ++ (plain_var_ref v ∷ [])
+references_of_push vs v = map-append plain_var_ref vs (v ∷ [])
 
 -- nothing ends where a frame is open
-pub ended_at_open : (f : Frame) (s : machine.Stack) (t : Tree) → ended_at (pushed f s) t ≡ None
+pub ended_at_open : (f : Frame) (s : machine.Stack) (t : PlainExpr) → ended_at (pushed f s) t ≡ None
 ended_at_open (frame.Prefix op) s t = refl
 ended_at_open (frame.Left a op) s t = refl
 ended_at_open frame.Parenthesis s t = refl

@@ -12,10 +12,10 @@ mod CutPieces
 -- ---- the machine reads exactly the forms of the grammar
 mod AllOfLists
 mod BuiltinNames
-mod TreeSpelling
+mod ExprSpelling
 mod PhraseSpelling
 mod MachineRuns
-mod TreesRead
+mod ExprsRead
 mod ListedItems
 mod Completeness
 mod ConsumedTokens

@@ -8,13 +8,13 @@ use Rattle.plcs_grammar.specs.declared.category.Category.{Category}
 use Rattle.plcs_grammar.specs.declared.sign.Sign.{Sign}
 use Rattle.plcs_grammar.specs.Token.{Token}
 use Rattle.plcs_grammar.specs.Cuts.{Piece, tokens_of}
-use Rattle.plcs_grammar.specs.Reading.{Tree, Trees, Reference, Reading}
+use Rattle.plcs_grammar.specs.PlainPhrase.{PlainExpr, PlainExprs, PlainVarRef, PlainPhrase}
 use Rattle.plcs_grammar.specs.Form.{Form}
 use Rattle.plcs_grammar.specs.Limit.{greatest_number, greatest_nesting, nesting, reference_nesting, deepest, deepest_reference, arguments_nesting, phrase_nesting, numbers, reference_numbers, numbers_of_all, size_numbers, phrase_numbers, IsWithinLimits}
 use Rattle.plcs_grammar.specs.Opened.{opened, reference_opened, opened_by_all, opened_behind, references_behind, opened_by_references, opened_by_call, phrase_opened}
 use Rattle.plcs_grammar.specs.Over.{OverLimit, is_too_large, over_at, first_over}
 use Rattle.phrase_parser.proofs.AllOfLists.{all_append, append_all}
-use Rattle.phrase_parser.proofs.TreeSpelling.{spell, spell_reference, spell_all, spell_behind}
+use Rattle.phrase_parser.proofs.ExprSpelling.{spell, spell_reference, spell_all, spell_behind}
 use Rattle.phrase_parser.proofs.PhraseSpelling.{spell_name, spell_item, spell_sized, spell_call, spell_more, spell_listed, spell_phrase, form_spelled}
 
 -- a token that is a number is no larger than the greatest
@@ -100,27 +100,27 @@ even_append done q = q
 even_append (more p) q = more (even_append p q)
 
 mutual
-  even_tree : (t : Tree) (d : ℕ) → Even (spell t) (opened t d)
-  even_tree (Tree.number z) d = more done
-  even_tree (Tree.text value) d = more done
-  even_tree (Tree.bit value) d = more done
-  even_tree (Tree.variable reference) d = even_reference reference d
-  even_tree (Tree.unary op a) d = more (even_tree a (d + 1))
-  even_tree (Tree.binary op a b) d = even_append (even_tree a d) (more (even_tree b d))
-  even_tree (Tree.builtin function ts) d = more (more (even_append (even_all ts (d + 1)) (more done)))
-  even_tree (Tree.parenthesized a) d = more (even_append (even_tree a (d + 1)) (more done))
+  even_expr : (t : PlainExpr) (d : ℕ) → Even (spell t) (opened t d)
+  even_expr (PlainExpr.number z) d = more done
+  even_expr (PlainExpr.text value) d = more done
+  even_expr (PlainExpr.bit value) d = more done
+  even_expr (PlainExpr.variable reference) d = even_reference reference d
+  even_expr (PlainExpr.unary op a) d = more (even_expr a (d + 1))
+  even_expr (PlainExpr.binary op a b) d = even_append (even_expr a d) (more (even_expr b d))
+  even_expr (PlainExpr.builtin function ts) d = more (more (even_append (even_all ts (d + 1)) (more done)))
+  even_expr (PlainExpr.parenthesized a) d = more (even_append (even_expr a (d + 1)) (more done))
 
-  even_reference : (reference : Reference) (d : ℕ) → Even (spell_reference reference) (reference_opened reference d)
-  even_reference (Reference.simple name) d = more done
-  even_reference (Reference.subscripted name index) d = more (more (even_append (even_tree index (d + 1)) (more done)))
+  even_reference : (reference : PlainVarRef) (d : ℕ) → Even (spell_reference reference) (reference_opened reference d)
+  even_reference (PlainVarRef.simple name) d = more done
+  even_reference (PlainVarRef.subscripted name index) d = more (more (even_append (even_expr index (d + 1)) (more done)))
 
-  even_all : (ts : Trees) (d : ℕ) → Even (spell_all ts) (opened_by_all ts d)
-  even_all Trees.nil d = done
-  even_all (Trees.cons a rest) d = even_append (even_tree a d) (even_behind rest d)
+  even_all : (ts : PlainExprs) (d : ℕ) → Even (spell_all ts) (opened_by_all ts d)
+  even_all PlainExprs.nil d = done
+  even_all (PlainExprs.cons a rest) d = even_append (even_expr a d) (even_behind rest d)
 
-  even_behind : (ts : Trees) (d : ℕ) → Even (spell_behind ts) (opened_behind ts d)
-  even_behind Trees.nil d = done
-  even_behind (Trees.cons a rest) d = more (even_append (even_tree a d) (even_behind rest d))
+  even_behind : (ts : PlainExprs) (d : ℕ) → Even (spell_behind ts) (opened_behind ts d)
+  even_behind PlainExprs.nil d = done
+  even_behind (PlainExprs.cons a rest) d = more (even_append (even_expr a d) (even_behind rest d))
 
 fine_append : {xs : List Token} {ls : List ℕ} (ys : List Token) (ms : List ℕ) → Even xs ls → AllFine xs ls → AllFine ys ms
     → AllFine (xs ++ ys) (ls ++ ms)
@@ -163,98 +163,98 @@ fine_close = (tt, zero-le, tt)
 
 mutual
   -- an expression within the limits, so many levels in, has no token that goes past one
-  pub tree_fine : (t : Tree) (d : ℕ) → Small (numbers t) → nesting t + d ≤ greatest_nesting → AllFine (spell t) (opened t d)
-  tree_fine (Tree.number z) d h n = (h.0, zero-le, tt)
-  tree_fine (Tree.text value) d h n = (tt, zero-le, tt)
-  tree_fine (Tree.bit value) d h n = (tt, zero-le, tt)
-  tree_fine (Tree.variable reference) d h n = reference_fine reference d h n
-  tree_fine (Tree.unary op a) d h n = (tt, omega arith, tree_fine a (d + 1) h (omega arith))
-  tree_fine (Tree.binary op a b) d h n =
+  pub expr_fine : (t : PlainExpr) (d : ℕ) → Small (numbers t) → nesting t + d ≤ greatest_nesting → AllFine (spell t) (opened t d)
+  expr_fine (PlainExpr.number z) d h n = (h.0, zero-le, tt)
+  expr_fine (PlainExpr.text value) d h n = (tt, zero-le, tt)
+  expr_fine (PlainExpr.bit value) d h n = (tt, zero-le, tt)
+  expr_fine (PlainExpr.variable reference) d h n = reference_fine reference d h n
+  expr_fine (PlainExpr.unary op a) d h n = (tt, omega arith, expr_fine a (d + 1) h (omega arith))
+  expr_fine (PlainExpr.binary op a b) d h n =
       let s = append_small (numbers a) (numbers b) h in
       let m = max_under (nesting a) (nesting b) d greatest_nesting n in
-      fine_append _ _ (even_tree a d) (tree_fine a d s.0 m.0) (tt, zero-le, tree_fine b d s.1 m.1)
-  tree_fine (Tree.builtin function ts) d h n =
+      fine_append _ _ (even_expr a d) (expr_fine a d s.0 m.0) (tt, zero-le, expr_fine b d s.1 m.1)
+  expr_fine (PlainExpr.builtin function ts) d h n =
       (tt, zero-le, (tt, omega arith, fine_append _ _ (even_all ts (d + 1)) (all_fine ts (d + 1) h (omega arith)) fine_close))
-  tree_fine (Tree.parenthesized a) d h n =
-      (tt, omega arith, fine_append _ _ (even_tree a (d + 1)) (tree_fine a (d + 1) h (omega arith)) fine_close)
+  expr_fine (PlainExpr.parenthesized a) d h n =
+      (tt, omega arith, fine_append _ _ (even_expr a (d + 1)) (expr_fine a (d + 1) h (omega arith)) fine_close)
 
   -- the same for a variable
-  pub reference_fine : (reference : Reference) (d : ℕ) → Small (reference_numbers reference)
+  pub reference_fine : (reference : PlainVarRef) (d : ℕ) → Small (reference_numbers reference)
       → reference_nesting reference + d ≤ greatest_nesting → AllFine (spell_reference reference) (reference_opened reference d)
-  reference_fine (Reference.simple name) d h n = (tt, zero-le, tt)
-  reference_fine (Reference.subscripted name index) d h n =
-      (tt, zero-le, (tt, omega arith, fine_append _ _ (even_tree index (d + 1)) (tree_fine index (d + 1) h (omega arith)) fine_close))
+  reference_fine (PlainVarRef.simple name) d h n = (tt, zero-le, tt)
+  reference_fine (PlainVarRef.subscripted name index) d h n =
+      (tt, zero-le, (tt, omega arith, fine_append _ _ (even_expr index (d + 1)) (expr_fine index (d + 1) h (omega arith)) fine_close))
 
   -- the same for expressions joined by commas
-  pub all_fine : (ts : Trees) (d : ℕ) → Small (numbers_of_all ts) → deepest ts + d ≤ greatest_nesting
+  pub all_fine : (ts : PlainExprs) (d : ℕ) → Small (numbers_of_all ts) → deepest ts + d ≤ greatest_nesting
       → AllFine (spell_all ts) (opened_by_all ts d)
-  all_fine Trees.nil d h n = tt
-  all_fine (Trees.cons a rest) d h n =
+  all_fine PlainExprs.nil d h n = tt
+  all_fine (PlainExprs.cons a rest) d h n =
       let s = append_small (numbers a) (numbers_of_all rest) h in
       let m = max_under (nesting a) (deepest rest) d greatest_nesting n in
-      fine_append _ _ (even_tree a d) (tree_fine a d s.0 m.0) (behind_fine rest d s.1 m.1)
+      fine_append _ _ (even_expr a d) (expr_fine a d s.0 m.0) (behind_fine rest d s.1 m.1)
 
-  behind_fine : (ts : Trees) (d : ℕ) → Small (numbers_of_all ts) → deepest ts + d ≤ greatest_nesting
+  behind_fine : (ts : PlainExprs) (d : ℕ) → Small (numbers_of_all ts) → deepest ts + d ≤ greatest_nesting
       → AllFine (spell_behind ts) (opened_behind ts d)
-  behind_fine Trees.nil d h n = tt
-  behind_fine (Trees.cons a rest) d h n =
+  behind_fine PlainExprs.nil d h n = tt
+  behind_fine (PlainExprs.cons a rest) d h n =
       let s = append_small (numbers a) (numbers_of_all rest) h in
       let m = max_under (nesting a) (deepest rest) d greatest_nesting n in
-      (tt, zero-le, fine_append _ _ (even_tree a d) (tree_fine a d s.0 m.0) (behind_fine rest d s.1 m.1))
+      (tt, zero-le, fine_append _ _ (even_expr a d) (expr_fine a d s.0 m.0) (behind_fine rest d s.1 m.1))
 
 mutual
   -- an expression none of whose tokens goes past a limit is within the limits
-  pub fine_tree : (t : Tree) (d : ℕ) → d ≤ greatest_nesting → AllFine (spell t) (opened t d)
+  pub fine_expr : (t : PlainExpr) (d : ℕ) → d ≤ greatest_nesting → AllFine (spell t) (opened t d)
       → Small (numbers t) × (nesting t + d ≤ greatest_nesting)
-  fine_tree (Tree.number z) d le h = ((h.0, tt), omega arith)
-  fine_tree (Tree.text value) d le h = (tt, omega arith)
-  fine_tree (Tree.bit value) d le h = (tt, omega arith)
-  fine_tree (Tree.variable reference) d le h = fine_reference reference d le h
-  fine_tree (Tree.unary op a) d le h = let r = fine_tree a (d + 1) h.1 h.2 in (r.0, omega (arith, r.1))
-  fine_tree (Tree.binary op a b) d le h =
-      let p = append_fine _ _ (even_tree a d) h in
-      let q = fine_tree a d le p.0 in
-      let r = fine_tree b d le p.1.2 in
+  fine_expr (PlainExpr.number z) d le h = ((h.0, tt), omega arith)
+  fine_expr (PlainExpr.text value) d le h = (tt, omega arith)
+  fine_expr (PlainExpr.bit value) d le h = (tt, omega arith)
+  fine_expr (PlainExpr.variable reference) d le h = fine_reference reference d le h
+  fine_expr (PlainExpr.unary op a) d le h = let r = fine_expr a (d + 1) h.1 h.2 in (r.0, omega (arith, r.1))
+  fine_expr (PlainExpr.binary op a b) d le h =
+      let p = append_fine _ _ (even_expr a d) h in
+      let q = fine_expr a d le p.0 in
+      let r = fine_expr b d le p.1.2 in
       (small_append (numbers a) (numbers b) q.0 r.0, under_max (nesting a) (nesting b) d greatest_nesting q.1 r.1)
-  fine_tree (Tree.builtin function ts) d le h =
+  fine_expr (PlainExpr.builtin function ts) d le h =
       let p = append_fine _ _ (even_all ts (d + 1)) h.2.2 in
       let r = fine_all ts (d + 1) h.2.1 p.0 in
       (r.0, omega (arith, r.1))
-  fine_tree (Tree.parenthesized a) d le h =
-      let p = append_fine _ _ (even_tree a (d + 1)) h.2 in
-      let r = fine_tree a (d + 1) h.1 p.0 in
+  fine_expr (PlainExpr.parenthesized a) d le h =
+      let p = append_fine _ _ (even_expr a (d + 1)) h.2 in
+      let r = fine_expr a (d + 1) h.1 p.0 in
       (r.0, omega (arith, r.1))
 
   -- the same for a variable
-  pub fine_reference : (reference : Reference) (d : ℕ) → d ≤ greatest_nesting
+  pub fine_reference : (reference : PlainVarRef) (d : ℕ) → d ≤ greatest_nesting
       → AllFine (spell_reference reference) (reference_opened reference d)
       → Small (reference_numbers reference) × (reference_nesting reference + d ≤ greatest_nesting)
-  fine_reference (Reference.simple name) d le h = (tt, omega arith)
-  fine_reference (Reference.subscripted name index) d le h =
-      let p = append_fine _ _ (even_tree index (d + 1)) h.2.2 in
-      let r = fine_tree index (d + 1) h.2.1 p.0 in
+  fine_reference (PlainVarRef.simple name) d le h = (tt, omega arith)
+  fine_reference (PlainVarRef.subscripted name index) d le h =
+      let p = append_fine _ _ (even_expr index (d + 1)) h.2.2 in
+      let r = fine_expr index (d + 1) h.2.1 p.0 in
       (r.0, omega (arith, r.1))
 
   -- the same for expressions joined by commas
-  pub fine_all : (ts : Trees) (d : ℕ) → d ≤ greatest_nesting → AllFine (spell_all ts) (opened_by_all ts d)
+  pub fine_all : (ts : PlainExprs) (d : ℕ) → d ≤ greatest_nesting → AllFine (spell_all ts) (opened_by_all ts d)
       → Small (numbers_of_all ts) × (deepest ts + d ≤ greatest_nesting)
-  fine_all Trees.nil d le h = (tt, omega arith)
-  fine_all (Trees.cons a rest) d le h =
-      let p = append_fine _ _ (even_tree a d) h in
-      let q = fine_tree a d le p.0 in
+  fine_all PlainExprs.nil d le h = (tt, omega arith)
+  fine_all (PlainExprs.cons a rest) d le h =
+      let p = append_fine _ _ (even_expr a d) h in
+      let q = fine_expr a d le p.0 in
       let r = fine_behind rest d le p.1 in
       (small_append (numbers a) (numbers_of_all rest) q.0 r.0, under_max (nesting a) (deepest rest) d greatest_nesting q.1 r.1)
 
-  fine_behind : (ts : Trees) (d : ℕ) → d ≤ greatest_nesting → AllFine (spell_behind ts) (opened_behind ts d)
+  fine_behind : (ts : PlainExprs) (d : ℕ) → d ≤ greatest_nesting → AllFine (spell_behind ts) (opened_behind ts d)
       → Small (numbers_of_all ts) × (deepest ts + d ≤ greatest_nesting)
-  fine_behind Trees.nil d le h = (tt, omega arith)
-  fine_behind (Trees.cons a rest) d le h =
-      let p = append_fine _ _ (even_tree a d) h.2 in
-      let q = fine_tree a d le p.0 in
+  fine_behind PlainExprs.nil d le h = (tt, omega arith)
+  fine_behind (PlainExprs.cons a rest) d le h =
+      let p = append_fine _ _ (even_expr a d) h.2 in
+      let q = fine_expr a d le p.0 in
       let r = fine_behind rest d le p.1 in
       (small_append (numbers a) (numbers_of_all rest) q.0 r.0, under_max (nesting a) (deepest rest) d greatest_nesting q.1 r.1)
 
-references_fine : (targets : List Reference) → Small (flat_map reference_numbers targets) → deepest_reference targets + 0 ≤ greatest_nesting
+references_fine : (targets : List PlainVarRef) → Small (flat_map reference_numbers targets) → deepest_reference targets + 0 ≤ greatest_nesting
     → AllFine (spell_more spell_reference targets) (references_behind targets)
 references_fine [] h n = tt
 references_fine (reference ∷ rest) h n =
@@ -262,7 +262,7 @@ references_fine (reference ∷ rest) h n =
     let m = max_under (reference_nesting reference) (deepest_reference rest) 0 greatest_nesting n in
     (tt, zero-le, fine_append _ _ (even_reference reference 0) (reference_fine reference 0 s.0 m.0) (references_fine rest s.1 m.1))
 
-fine_references : (targets : List Reference) → AllFine (spell_more spell_reference targets) (references_behind targets)
+fine_references : (targets : List PlainVarRef) → AllFine (spell_more spell_reference targets) (references_behind targets)
     → Small (flat_map reference_numbers targets) × (deepest_reference targets + 0 ≤ greatest_nesting)
 fine_references [] h = (tt, zero-le)
 fine_references (reference ∷ rest) h =
@@ -325,23 +325,23 @@ listed_names_plain [] = tt
 listed_names_plain (name ∷ rest) = (tt, names_plain rest)
 
 -- the numbers of a phrase are small, and it is nested no deeper than the limit
-abbrev pub KeepsLimits : Reading → Type 0
+abbrev pub KeepsLimits : PlainPhrase → Type 0
 KeepsLimits p = Small (phrase_numbers p) × (phrase_nesting p ≤ greatest_nesting)
 
-call_fine : (name : List ℕ) (passed : Trees) → Small (numbers_of_all passed) → arguments_nesting passed ≤ greatest_nesting
+call_fine : (name : List ℕ) (passed : PlainExprs) → Small (numbers_of_all passed) → arguments_nesting passed ≤ greatest_nesting
     → AllFine (spell_call name passed) (opened_by_call passed)
-call_fine name Trees.nil h n = (tt, zero-le, tt)
-call_fine name (Trees.cons a rest) h n =
-    (tt, zero-le, (tt, lit≤ tt, fine_append _ _ (even_all (Trees.cons a rest) 1) (all_fine (Trees.cons a rest) 1 h n) fine_close))
+call_fine name PlainExprs.nil h n = (tt, zero-le, tt)
+call_fine name (PlainExprs.cons a rest) h n =
+    (tt, zero-le, (tt, lit≤ tt, fine_append _ _ (even_all (PlainExprs.cons a rest) 1) (all_fine (PlainExprs.cons a rest) 1 h n) fine_close))
 
-fine_call : (name : List ℕ) (passed : Trees) → AllFine (spell_call name passed) (opened_by_call passed)
+fine_call : (name : List ℕ) (passed : PlainExprs) → AllFine (spell_call name passed) (opened_by_call passed)
     → Small (numbers_of_all passed) × (arguments_nesting passed ≤ greatest_nesting)
-fine_call name Trees.nil h = (tt, zero-le)
-fine_call name (Trees.cons a rest) h =
-    let p = append_fine _ _ (even_all (Trees.cons a rest) 1) h.2.2 in
-    fine_all (Trees.cons a rest) 1 (lit≤ tt) p.0
+fine_call name PlainExprs.nil h = (tt, zero-le)
+fine_call name (PlainExprs.cons a rest) h =
+    let p = append_fine _ _ (even_all (PlainExprs.cons a rest) 1) h.2.2 in
+    fine_all (PlainExprs.cons a rest) 1 (lit≤ tt) p.0
 
-listed_references_fine : (targets : List Reference) → Small (flat_map reference_numbers targets) → deepest_reference targets ≤ greatest_nesting
+listed_references_fine : (targets : List PlainVarRef) → Small (flat_map reference_numbers targets) → deepest_reference targets ≤ greatest_nesting
     → AllFine (spell_listed spell_reference targets) (opened_by_references targets)
 listed_references_fine [] h n = tt
 listed_references_fine (reference ∷ rest) h n =
@@ -349,7 +349,7 @@ listed_references_fine (reference ∷ rest) h n =
     let m = max_under (reference_nesting reference) (deepest_reference rest) 0 greatest_nesting (outside _ _ n) in
     fine_append _ _ (even_reference reference 0) (reference_fine reference 0 s.0 m.0) (references_fine rest s.1 m.1)
 
-fine_listed_references : (targets : List Reference) → AllFine (spell_listed spell_reference targets) (opened_by_references targets)
+fine_listed_references : (targets : List PlainVarRef) → AllFine (spell_listed spell_reference targets) (opened_by_references targets)
     → Small (flat_map reference_numbers targets) × (deepest_reference targets ≤ greatest_nesting)
 fine_listed_references [] h = (tt, zero-le)
 fine_listed_references (reference ∷ rest) h =
@@ -361,52 +361,52 @@ fine_listed_references (reference ∷ rest) h =
     )
 
 -- a phrase within the limits has no token that goes past one
-phrase_fine : (p : Reading) → KeepsLimits p → AllFine (spell_phrase p) (phrase_opened p)
-phrase_fine (Reading.assignment target value) h =
+phrase_fine : (p : PlainPhrase) → KeepsLimits p → AllFine (spell_phrase p) (phrase_opened p)
+phrase_fine (PlainPhrase.assignment target value) h =
     let s = append_small (reference_numbers target) (numbers value) h.0 in
     let m = max_under (reference_nesting target) (nesting value) 0 greatest_nesting (outside _ _ h.1) in
-    fine_append _ _ (even_reference target 0) (reference_fine target 0 s.0 m.0) (tt, zero-le, tree_fine value 0 s.1 m.1)
-phrase_fine (Reading.condition e) h = tree_fine e 0 h.0 (outside _ _ h.1)
-phrase_fine (Reading.expression e) h = tree_fine e 0 h.0 (outside _ _ h.1)
-phrase_fine (Reading.expression_list es) h = all_fine es 0 h.0 (outside _ _ h.1)
-phrase_fine (Reading.variable_list targets) h = listed_references_fine targets h.0 h.1
-phrase_fine (Reading.variable_name name) h = (tt, tt)
-phrase_fine (Reading.call name passed) h = call_fine name passed h.0 h.1
-phrase_fine (Reading.declared_list items) h =
+    fine_append _ _ (even_reference target 0) (reference_fine target 0 s.0 m.0) (tt, zero-le, expr_fine value 0 s.1 m.1)
+phrase_fine (PlainPhrase.condition e) h = expr_fine e 0 h.0 (outside _ _ h.1)
+phrase_fine (PlainPhrase.expression e) h = expr_fine e 0 h.0 (outside _ _ h.1)
+phrase_fine (PlainPhrase.expression_list es) h = all_fine es 0 h.0 (outside _ _ h.1)
+phrase_fine (PlainPhrase.variable_list targets) h = listed_references_fine targets h.0 h.1
+phrase_fine (PlainPhrase.variable_name name) h = (tt, tt)
+phrase_fine (PlainPhrase.call name passed) h = call_fine name passed h.0 h.1
+phrase_fine (PlainPhrase.declared_list items) h =
     plain_listed spell_item (λ item. size_numbers item.size) (λ item s. sized_plain item.name item.size s)
     (λ item s. plain_sized item.name item.size s) items h.0
-phrase_fine (Reading.procedure_name name) h = (tt, tt)
-phrase_fine (Reading.name_list names) h = listed_names_plain names
-phrase_fine (Reading.greatest_length n) h = (h.0.0, tt)
-phrase_fine (Reading.comment bytes) h = tt
+phrase_fine (PlainPhrase.procedure_name name) h = (tt, tt)
+phrase_fine (PlainPhrase.name_list names) h = listed_names_plain names
+phrase_fine (PlainPhrase.greatest_length n) h = (h.0.0, tt)
+phrase_fine (PlainPhrase.comment bytes) h = tt
 
 -- a phrase none of whose tokens goes past a limit is within the limits
-fine_phrase : (p : Reading) → AllFine (spell_phrase p) (phrase_opened p) → KeepsLimits p
-fine_phrase (Reading.assignment target value) h =
+fine_phrase : (p : PlainPhrase) → AllFine (spell_phrase p) (phrase_opened p) → KeepsLimits p
+fine_phrase (PlainPhrase.assignment target value) h =
     let p = append_fine _ _ (even_reference target 0) h in
     let q = fine_reference target 0 zero-le p.0 in
-    let r = fine_tree value 0 zero-le p.1.2 in (
+    let r = fine_expr value 0 zero-le p.1.2 in (
       small_append (reference_numbers target) (numbers value) q.0 r.0,
       from_outside _ _ (under_max (reference_nesting target) (nesting value) 0 greatest_nesting q.1 r.1),
     )
-fine_phrase (Reading.condition e) h = let r = fine_tree e 0 zero-le h in (r.0, from_outside _ _ r.1)
-fine_phrase (Reading.expression e) h = let r = fine_tree e 0 zero-le h in (r.0, from_outside _ _ r.1)
-fine_phrase (Reading.expression_list es) h = let r = fine_all es 0 zero-le h in (r.0, from_outside _ _ r.1)
-fine_phrase (Reading.variable_list targets) h = fine_listed_references targets h
-fine_phrase (Reading.variable_name name) h = (tt, zero-le)
-fine_phrase (Reading.call name passed) h = fine_call name passed h
-fine_phrase (Reading.declared_list items) h = (
+fine_phrase (PlainPhrase.condition e) h = let r = fine_expr e 0 zero-le h in (r.0, from_outside _ _ r.1)
+fine_phrase (PlainPhrase.expression e) h = let r = fine_expr e 0 zero-le h in (r.0, from_outside _ _ r.1)
+fine_phrase (PlainPhrase.expression_list es) h = let r = fine_all es 0 zero-le h in (r.0, from_outside _ _ r.1)
+fine_phrase (PlainPhrase.variable_list targets) h = fine_listed_references targets h
+fine_phrase (PlainPhrase.variable_name name) h = (tt, zero-le)
+fine_phrase (PlainPhrase.call name passed) h = fine_call name passed h
+fine_phrase (PlainPhrase.declared_list items) h = (
   listed_plain spell_item (λ item. size_numbers item.size) (λ item s. sized_plain item.name item.size s)
       (λ item s. plain_sized item.name item.size s) items h,
   zero-le,
 )
-fine_phrase (Reading.procedure_name name) h = (tt, zero-le)
-fine_phrase (Reading.name_list names) h = (tt, zero-le)
-fine_phrase (Reading.greatest_length n) h = ((h.0, tt), zero-le)
-fine_phrase (Reading.comment bytes) h = (tt, zero-le)
+fine_phrase (PlainPhrase.procedure_name name) h = (tt, zero-le)
+fine_phrase (PlainPhrase.name_list names) h = (tt, zero-le)
+fine_phrase (PlainPhrase.greatest_length n) h = ((h.0, tt), zero-le)
+fine_phrase (PlainPhrase.comment bytes) h = (tt, zero-le)
 
 -- a phrase within the limits has no token over one
-pub within : (c : Category) (pieces : List Piece) (p : Reading) → Form c (tokens_of pieces) p → IsWithinLimits p
+pub within : (c : Category) (pieces : List Piece) (p : PlainPhrase) → Form c (tokens_of pieces) p → IsWithinLimits p
     → first_over pieces (phrase_opened p) ≡ None
 within c pieces p f w =
     let s = form_spelled c (tokens_of pieces) p f in
@@ -415,7 +415,7 @@ within c pieces p f w =
     (phrase_fine p (recursion_from_All _ (phrase_numbers p) w.numbers_fit, w.nesting_fits)))
 
 -- a phrase with no token over a limit is within the limits
-pub none_over : (c : Category) (pieces : List Piece) (p : Reading) → Form c (tokens_of pieces) p
+pub none_over : (c : Category) (pieces : List Piece) (p : PlainPhrase) → Form c (tokens_of pieces) p
     → first_over pieces (phrase_opened p) ≡ None → IsWithinLimits p
 none_over c pieces p f e =
     let s = form_spelled c (tokens_of pieces) p f in

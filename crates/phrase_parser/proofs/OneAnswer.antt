@@ -4,8 +4,8 @@ use Rattle.plcs_grammar.specs.declared.category.Category.{Category}
 use Rattle.plcs_grammar.specs.declared.category.Category.TheVariants.{Assignment, Condition, Expression, ExpressionList, VariableList, Variable, CallRef, DeclaredList, ProcedureName, NameList, Length, CommentText}
 use Rattle.plcs_grammar.specs.declared.phrase.Phrase.{Phrase}
 use Rattle.plcs_grammar.specs.Token.{Token}
-use Rattle.plcs_grammar.specs.Reading.{Reading}
-use Rattle.plcs_grammar.specs.PlainForm.{reading_of}
+use Rattle.plcs_grammar.specs.PlainPhrase.{PlainPhrase}
+use Rattle.plcs_grammar.specs.PlainForm.{plain_phrase}
 use Rattle.plcs_grammar.specs.Cuts.{Piece, tokens_of}
 use Rattle.plcs_grammar.specs.Form.{Form, Begins}
 use Rattle.plcs_grammar.specs.Limit.{IsWithinLimits}
@@ -26,7 +26,7 @@ use Rattle.phrase_parser.proofs.Limits.{within}
 use Rattle.phrase_parser.proofs.FindingsComplete.{finds_wrong}
 
 -- no tokens are the phrase of a comment, or begin one
-pub comment_no_form : (c : Category) (ks : List Token) (p : Reading) → c ≡ CommentText → Form c ks p → ⊥
+pub comment_no_form : (c : Category) (ks : List Token) (p : PlainPhrase) → c ≡ CommentText → Form c ks p → ⊥
 comment_no_form c ks p e h =
     let a = ap (λ z. ended_if (run ks (start z))) (sym e) ∙ complete c ks p h in
     let b = run_none ks in
@@ -56,19 +56,19 @@ no_shape Length e = absurd (cc)
 no_shape CommentText e = refl
 
 -- a text is cut as one phrase
-one_phrase : (c : Category) (x : List ℕ) (ps qs : List Piece) (p q : Reading) → IsCutAs c x ps p → IsCutAs c x qs q → p ≡ q
+one_phrase : (c : Category) (x : List ℕ) (ps qs : List Piece) (p q : PlainPhrase) → IsCutAs c x ps p → IsCutAs c x qs q → p ≡ q
 one_phrase c x ps qs p q a b =
     let same = one_cut ps qs 0 x None None a.cuts b.cuts in
     unique c (tokens_of ps) p q a.form (subst (λ pieces. Form c (tokens_of pieces) q) (sym same.0) b.form)
 
 -- a text has one reading
-pub one_outline : (c : Category) (x : List ℕ) (p q : Reading) → HasReading c x p → HasReading c x q → p ≡ q
+pub one_outline : (c : Category) (x : List ℕ) (p q : PlainPhrase) → HasReading c x p → HasReading c x q → p ≡ q
 one_outline c x p q (inl (ps, a)) (inl (qs, b)) = one_phrase c x ps qs p q a b
 one_outline c x p q (inl (ps, a)) (inr b) = absurd (comment_no_form c (tokens_of ps) p b.category_is a.form)
 one_outline c x p q (inr a) (inl (qs, b)) = absurd (comment_no_form c (tokens_of qs) q a.category_is b.form)
 one_outline c x p q (inr a) (inr b) = a.phrase_is ∙ sym b.phrase_is
 
-pub one_reading : (c : Category) (x : List ℕ) (p q : Reading) → Reads c x p → Reads c x q → p ≡ q
+pub one_reading : (c : Category) (x : List ℕ) (p q : PlainPhrase) → Reads c x p → Reads c x q → p ≡ q
 one_reading c x p q a b = one_outline c x p q a.0 b.0
 
 -- one thing goes past a limit first
@@ -81,14 +81,14 @@ one_over c x f g (ps, p, a, e) (qs, q, b, k) =
     cc
 
 -- what reads goes past no limit
-pub reads_not_over : (c : Category) (x : List ℕ) (p : Reading) (f : OverLimit) → Reads c x p → IsOver c x f → ⊥
+pub reads_not_over : (c : Category) (x : List ℕ) (p : PlainPhrase) (f : OverLimit) → Reads c x p → IsOver c x f → ⊥
 reads_not_over c x p f (inl (ps, a), w) (qs, q, b, k) =
     let phrase = one_phrase c x qs ps q p b a in
     let none = within c qs q b.form (subst IsWithinLimits (sym phrase) w) in
     absurd (cc)
 reads_not_over c x p f (inr a, w) (qs, q, b, k) = comment_no_form c (tokens_of qs) q a.category_is b.form
 
-pub reads_outline : (c : Category) (x : List ℕ) (p : Reading) → Reads c x p → Outline c x
+pub reads_outline : (c : Category) (x : List ℕ) (p : PlainPhrase) → Reads c x p → Outline c x
 reads_outline c x p h = (p, h.0)
 
 pub over_outline : (c : Category) (x : List ℕ) (f : OverLimit) → IsOver c x f → Outline c x
@@ -115,8 +115,8 @@ one_wrong c x a b (inr k) (inl (qs, t, other, h)) = absurd (comment_not_wrong c 
 one_wrong c x a b (inr j) (inr k) = let e = sym j.1 ∙ k.1 in cc
 
 -- so each fact forces its answer
-pub only : (c : Category) (x : List ℕ) (answer : Result Phrase PhraseFault) (p : Reading) → Answers c x answer → Reads c x p → Only answer p
-only c x (Ok phrase) p says h = one_reading c x (reading_of phrase) p says h
+pub only : (c : Category) (x : List ℕ) (answer : Result Phrase PhraseFault) (p : PlainPhrase) → Answers c x answer → Reads c x p → Only answer p
+only c x (Ok phrase) p says h = one_reading c x (plain_phrase phrase) p says h
 only c x (Err (Syntax at)) p says h = absurd (says.0 (reads_outline c x p h))
 only c x (Err (NumberTooLarge at)) p says h = absurd (reads_not_over c x p (OverLimit.number_too_large at) h says)
 only c x (Err (TooDeep at)) p says h = absurd (reads_not_over c x p (OverLimit.too_deep at) h says)
@@ -124,7 +124,7 @@ only c x (Err OutOfMemory) p says h = refl
 
 pub only_over : (c : Category) (x : List ℕ) (answer : Result Phrase PhraseFault) (over : OverLimit) → Answers c x answer
     → IsOver c x over → OnlyFault answer (over_fault over)
-only_over c x (Ok phrase) over says h = reads_not_over c x (reading_of phrase) over says h
+only_over c x (Ok phrase) over says h = reads_not_over c x (plain_phrase phrase) over says h
 only_over c x (Err (Syntax at)) over says h = absurd (says.0 (over_outline c x over h))
 only_over c x (Err (NumberTooLarge at)) over says h = inl (ap over_fault (one_over c x (OverLimit.number_too_large at) over says h))
 only_over c x (Err (TooDeep at)) over says h = inl (ap over_fault (one_over c x (OverLimit.too_deep at) over says h))
@@ -132,7 +132,7 @@ only_over c x (Err OutOfMemory) over says h = inr refl
 
 pub only_syntax : (c : Category) (x : List ℕ) (answer : Result Phrase PhraseFault) (place : ℕ) → Answers c x answer
     → (Outline c x → ⊥) → SyntaxAt c x place → OnlyFault answer (Syntax place)
-only_syntax c x (Ok phrase) place says none h = none (reads_outline c x (reading_of phrase) says)
+only_syntax c x (Ok phrase) place says none h = none (reads_outline c x (plain_phrase phrase) says)
 only_syntax c x (Err (Syntax at)) place says none h = inl (ap (λ n. Syntax n) (one_wrong c x at place says.1 h))
 only_syntax c x (Err (NumberTooLarge at)) place says none h = absurd (none (over_outline c x (OverLimit.number_too_large at) says))
 only_syntax c x (Err (TooDeep at)) place says none h = absurd (none (over_outline c x (OverLimit.too_deep at) says))

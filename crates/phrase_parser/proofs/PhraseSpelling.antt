@@ -5,10 +5,10 @@ use Rattle.plcs_grammar.specs.declared.category.Category.{Category}
 use Rattle.plcs_grammar.specs.declared.item.Item.{Item}
 use Rattle.plcs_grammar.specs.declared.sign.Sign.{Sign}
 use Rattle.plcs_grammar.specs.Token.{Token}
-use Rattle.plcs_grammar.specs.Reading.{Trees, Reading, category_of}
+use Rattle.plcs_grammar.specs.PlainPhrase.{PlainExprs, PlainPhrase, category_of}
 use Rattle.plcs_grammar.specs.Level.{in_parentheses, IsReference, IsNameToken}
 use Rattle.plcs_grammar.specs.Form.{Form, IsPhrase, IsCall, IsItem, IsSizedName, JoinedBy, MoreBehind}
-use Rattle.phrase_parser.proofs.TreeSpelling.{spell, spell_reference, spell_all, Fits, FitsReference, FitsAll, spelled, spelled_reference, spelled_all, levelled, levelled_reference, levelled_all}
+use Rattle.phrase_parser.proofs.ExprSpelling.{spell, spell_reference, spell_all, Fits, FitsReference, FitsAll, spelled, spelled_reference, spelled_all, levelled, levelled_reference, levelled_all}
 
 module _ {X : Type 0} (f : X → List Token) where
   -- the tokens of each, behind a comma
@@ -87,44 +87,44 @@ abbrev pub FitsItem : Item → Type 0
 FitsItem item = FitsSize item.size
 
 -- the tokens of a call
-abbrev pub spell_call : List ℕ → Trees → List Token
-spell_call name Trees.nil = spell_name name
-spell_call name (Trees.cons a rest) = Token.name name ∷ in_parentheses (spell_all (Trees.cons a rest))
+abbrev pub spell_call : List ℕ → PlainExprs → List Token
+spell_call name PlainExprs.nil = spell_name name
+spell_call name (PlainExprs.cons a rest) = Token.name name ∷ in_parentheses (spell_all (PlainExprs.cons a rest))
 
 -- a call's arguments keep their levels
-abbrev pub FitsCall : Trees → Type 0
-FitsCall Trees.nil = Unit {0}
-FitsCall (Trees.cons a rest) = FitsAll (Trees.cons a rest)
+abbrev pub FitsCall : PlainExprs → Type 0
+FitsCall PlainExprs.nil = Unit {0}
+FitsCall (PlainExprs.cons a rest) = FitsAll (PlainExprs.cons a rest)
 
 -- the tokens of a phrase
-abbrev pub spell_phrase : Reading → List Token
-spell_phrase (Reading.assignment target value) = spell_reference target ++ (Token.sign Sign.Equal ∷ spell value)
-spell_phrase (Reading.condition e) = spell e
-spell_phrase (Reading.expression e) = spell e
-spell_phrase (Reading.expression_list es) = spell_all es
-spell_phrase (Reading.variable_list targets) = spell_listed spell_reference targets
-spell_phrase (Reading.variable_name name) = spell_name name
-spell_phrase (Reading.call name passed) = spell_call name passed
-spell_phrase (Reading.declared_list items) = spell_listed spell_item items
-spell_phrase (Reading.procedure_name name) = spell_name name
-spell_phrase (Reading.name_list names) = spell_listed spell_name names
-spell_phrase (Reading.greatest_length n) = Token.number n ∷ []
-spell_phrase (Reading.comment bytes) = []
+abbrev pub spell_phrase : PlainPhrase → List Token
+spell_phrase (PlainPhrase.assignment target value) = spell_reference target ++ (Token.sign Sign.Equal ∷ spell value)
+spell_phrase (PlainPhrase.condition e) = spell e
+spell_phrase (PlainPhrase.expression e) = spell e
+spell_phrase (PlainPhrase.expression_list es) = spell_all es
+spell_phrase (PlainPhrase.variable_list targets) = spell_listed spell_reference targets
+spell_phrase (PlainPhrase.variable_name name) = spell_name name
+spell_phrase (PlainPhrase.call name passed) = spell_call name passed
+spell_phrase (PlainPhrase.declared_list items) = spell_listed spell_item items
+spell_phrase (PlainPhrase.procedure_name name) = spell_name name
+spell_phrase (PlainPhrase.name_list names) = spell_listed spell_name names
+spell_phrase (PlainPhrase.greatest_length n) = Token.number n ∷ []
+spell_phrase (PlainPhrase.comment bytes) = []
 
 -- the parts of a phrase keep what they have to
-abbrev pub FitsPhrase : Reading → Type 0
-FitsPhrase (Reading.assignment target value) = FitsReference target × Fits value 1
-FitsPhrase (Reading.condition e) = Fits e 1
-FitsPhrase (Reading.expression e) = Fits e 1
-FitsPhrase (Reading.expression_list es) = FitsAll es
-FitsPhrase (Reading.variable_list targets) = FitsListed FitsReference targets
-FitsPhrase (Reading.variable_name name) = Unit {0}
-FitsPhrase (Reading.call name passed) = FitsCall passed
-FitsPhrase (Reading.declared_list items) = FitsListed FitsItem items
-FitsPhrase (Reading.procedure_name name) = Unit {0}
-FitsPhrase (Reading.name_list names) = FitsListed AnyName names
-FitsPhrase (Reading.greatest_length n) = (1 ≤ n) × (n ≤ longest_text)
-FitsPhrase (Reading.comment bytes) = ⊥
+abbrev pub FitsPhrase : PlainPhrase → Type 0
+FitsPhrase (PlainPhrase.assignment target value) = FitsReference target × Fits value 1
+FitsPhrase (PlainPhrase.condition e) = Fits e 1
+FitsPhrase (PlainPhrase.expression e) = Fits e 1
+FitsPhrase (PlainPhrase.expression_list es) = FitsAll es
+FitsPhrase (PlainPhrase.variable_list targets) = FitsListed FitsReference targets
+FitsPhrase (PlainPhrase.variable_name name) = Unit {0}
+FitsPhrase (PlainPhrase.call name passed) = FitsCall passed
+FitsPhrase (PlainPhrase.declared_list items) = FitsListed FitsItem items
+FitsPhrase (PlainPhrase.procedure_name name) = Unit {0}
+FitsPhrase (PlainPhrase.name_list names) = FitsListed AnyName names
+FitsPhrase (PlainPhrase.greatest_length n) = (1 ≤ n) × (n ≤ longest_text)
+FitsPhrase (PlainPhrase.comment bytes) = ⊥
 
 spelled_sized : (name : List ℕ) (size : Option ℕ) (ks : List Token) → IsSizedName name size ks
     → FitsSize size × (ks ≡ spell_sized name size)
@@ -135,60 +135,60 @@ sized_is : (name : List ℕ) (size : Option ℕ) → FitsSize size → IsSizedNa
 sized_is name None f = refl
 sized_is name (Some size) f = (f, refl)
 
-spelled_call : (name : List ℕ) (ts : Trees) (ks : List Token) → IsCall name ts ks → FitsCall ts × (ks ≡ spell_call name ts)
-spelled_call name Trees.nil ks h = (tt, h)
-spelled_call name (Trees.cons a rest) ks h =
-    let r = spelled_all (Trees.cons a rest) h.0 h.2 in
+spelled_call : (name : List ℕ) (ts : PlainExprs) (ks : List Token) → IsCall name ts ks → FitsCall ts × (ks ≡ spell_call name ts)
+spelled_call name PlainExprs.nil ks h = (tt, h)
+spelled_call name (PlainExprs.cons a rest) ks h =
+    let r = spelled_all (PlainExprs.cons a rest) h.0 h.2 in
     (r.0, h.1 ∙ ap (λ z. Token.name name ∷ in_parentheses z) r.1)
 
-call_is : (name : List ℕ) (ts : Trees) → FitsCall ts → IsCall name ts (spell_call name ts)
-call_is name Trees.nil f = refl
-call_is name (Trees.cons a rest) f = (spell_all (Trees.cons a rest), refl, levelled_all (Trees.cons a rest) f)
+call_is : (name : List ℕ) (ts : PlainExprs) → FitsCall ts → IsCall name ts (spell_call name ts)
+call_is name PlainExprs.nil f = refl
+call_is name (PlainExprs.cons a rest) f = (spell_all (PlainExprs.cons a rest), refl, levelled_all (PlainExprs.cons a rest) f)
 
 -- tokens that are a phrase are its tokens, and its parts keep what they have to
-pub spelled_phrase : (p : Reading) (ks : List Token) → IsPhrase p ks → FitsPhrase p × (ks ≡ spell_phrase p)
-spelled_phrase (Reading.assignment target value) ks h =
+pub spelled_phrase : (p : PlainPhrase) (ks : List Token) → IsPhrase p ks → FitsPhrase p × (ks ≡ spell_phrase p)
+spelled_phrase (PlainPhrase.assignment target value) ks h =
     let p = spelled_reference target h.0 h.3 in
     let q = spelled value 1 h.1 h.4 in
     ((p.0, q.0), h.2 ∙ ap₂ (λ a b. a ++ (Token.sign Sign.Equal ∷ b)) p.1 q.1)
-spelled_phrase (Reading.condition e) ks h = spelled e 1 ks h
-spelled_phrase (Reading.expression e) ks h = spelled e 1 ks h
-spelled_phrase (Reading.expression_list es) ks h = spelled_all es ks h
-spelled_phrase (Reading.variable_list targets) ks h =
+spelled_phrase (PlainPhrase.condition e) ks h = spelled e 1 ks h
+spelled_phrase (PlainPhrase.expression e) ks h = spelled e 1 ks h
+spelled_phrase (PlainPhrase.expression_list es) ks h = spelled_all es ks h
+spelled_phrase (PlainPhrase.variable_list targets) ks h =
     spelled_listed IsReference spell_reference FitsReference spelled_reference targets ks h
-spelled_phrase (Reading.variable_name name) ks h = (tt, h)
-spelled_phrase (Reading.call name passed) ks h = spelled_call name passed ks h
-spelled_phrase (Reading.declared_list items) ks h =
+spelled_phrase (PlainPhrase.variable_name name) ks h = (tt, h)
+spelled_phrase (PlainPhrase.call name passed) ks h = spelled_call name passed ks h
+spelled_phrase (PlainPhrase.declared_list items) ks h =
     spelled_listed IsItem spell_item FitsItem (λ item ks h. spelled_sized item.name item.size ks h) items ks h
-spelled_phrase (Reading.procedure_name name) ks h = (tt, h)
-spelled_phrase (Reading.name_list names) ks h =
+spelled_phrase (PlainPhrase.procedure_name name) ks h = (tt, h)
+spelled_phrase (PlainPhrase.name_list names) ks h =
     spelled_listed IsNameToken spell_name AnyName (λ name ks h. (tt, h)) names ks h
-spelled_phrase (Reading.greatest_length n) ks h = ((h.0, h.1), h.2)
-spelled_phrase (Reading.comment bytes) ks h = absurd h
+spelled_phrase (PlainPhrase.greatest_length n) ks h = ((h.0, h.1), h.2)
+spelled_phrase (PlainPhrase.comment bytes) ks h = absurd h
 
 -- the tokens of a phrase whose parts keep what they have to are the phrase
-pub phrase_is : (p : Reading) → FitsPhrase p → IsPhrase p (spell_phrase p)
-phrase_is (Reading.assignment target value) f =
+pub phrase_is : (p : PlainPhrase) → FitsPhrase p → IsPhrase p (spell_phrase p)
+phrase_is (PlainPhrase.assignment target value) f =
     (spell_reference target, spell value, refl, levelled_reference target f.0, levelled value 1 f.1)
-phrase_is (Reading.condition e) f = levelled e 1 f
-phrase_is (Reading.expression e) f = levelled e 1 f
-phrase_is (Reading.expression_list es) f = levelled_all es f
-phrase_is (Reading.variable_list targets) f = listed_is IsReference spell_reference FitsReference levelled_reference targets f
-phrase_is (Reading.variable_name name) f = refl
-phrase_is (Reading.call name passed) f = call_is name passed f
-phrase_is (Reading.declared_list items) f =
+phrase_is (PlainPhrase.condition e) f = levelled e 1 f
+phrase_is (PlainPhrase.expression e) f = levelled e 1 f
+phrase_is (PlainPhrase.expression_list es) f = levelled_all es f
+phrase_is (PlainPhrase.variable_list targets) f = listed_is IsReference spell_reference FitsReference levelled_reference targets f
+phrase_is (PlainPhrase.variable_name name) f = refl
+phrase_is (PlainPhrase.call name passed) f = call_is name passed f
+phrase_is (PlainPhrase.declared_list items) f =
     listed_is IsItem spell_item FitsItem (λ item f. sized_is item.name item.size f) items f
-phrase_is (Reading.procedure_name name) f = refl
-phrase_is (Reading.name_list names) f = listed_is IsNameToken spell_name AnyName (λ name f. refl) names f
-phrase_is (Reading.greatest_length n) f = (f.0, f.1, refl)
-phrase_is (Reading.comment bytes) f = absurd f
+phrase_is (PlainPhrase.procedure_name name) f = refl
+phrase_is (PlainPhrase.name_list names) f = listed_is IsNameToken spell_name AnyName (λ name f. refl) names f
+phrase_is (PlainPhrase.greatest_length n) f = (f.0, f.1, refl)
+phrase_is (PlainPhrase.comment bytes) f = absurd f
 
 -- the form of a category is a phrase of it that keeps what it has to, with its tokens
-pub form_spelled : (c : Category) (ks : List Token) (p : Reading) → Form c ks p
+pub form_spelled : (c : Category) (ks : List Token) (p : PlainPhrase) → Form c ks p
     → (category_of p ≡ c) × FitsPhrase p × (ks ≡ spell_phrase p)
 form_spelled c ks p h = let r = spelled_phrase p ks h.1 in (h.0, r.0, r.1)
 
 -- a phrase that keeps what it has to is the form of its category, with its tokens
-pub form_from : (c : Category) (ks : List Token) (p : Reading) → category_of p ≡ c → FitsPhrase p → ks ≡ spell_phrase p
+pub form_from : (c : Category) (ks : List Token) (p : PlainPhrase) → category_of p ≡ c → FitsPhrase p → ks ≡ spell_phrase p
     → Form c ks p
 form_from c ks p e f s = (e, subst (λ z. IsPhrase p z) (sym s) (phrase_is p f))

@@ -7,7 +7,7 @@ use Rattle.std.proofs.lemmas.List.Elements.{All-from_recursion}
 use Rattle.plcs_grammar.specs.declared.category.Category.{Category}
 use Rattle.plcs_base.specs.Name.{IsName}
 use Rattle.plcs_grammar.specs.Token.{Token, IsToken}
-use Rattle.plcs_grammar.specs.Reading.{Reading}
+use Rattle.plcs_grammar.specs.PlainPhrase.{PlainPhrase}
 use Rattle.plcs_grammar.specs.Cuts.{Piece, Cuts, tokens_of}
 use Rattle.plcs_grammar.specs.Form.{Form}
 use Rattle.plcs_grammar.specs.Limit.{IsWithinLimits, greatest_number}
@@ -118,5 +118,5 @@ fine_fit [] levels h = tt
 fine_fit (piece ∷ pieces) [] h = (h.0, fine_fit pieces [] h.1)
 fine_fit (piece ∷ pieces) (level ∷ levels) h = (h.0, fine_fit pieces levels h.2)
 
-pub form_fit : (c : Category) (pieces : List Piece) (p : Reading) → Form c (tokens_of pieces) p → IsWithinLimits p → AllFit pieces
+pub form_fit : (c : Category) (pieces : List Piece) (p : PlainPhrase) → Form c (tokens_of pieces) p → IsWithinLimits p → AllFit pieces
 form_fit c pieces p form fits = fine_fit pieces (phrase_opened p) (none_fine pieces (phrase_opened p) (within c pieces p form fits))

@@ -5,7 +5,7 @@ use Rattle.plcs_grammar.specs.declared.category.Category.TheVariants.{Assignment
 use Rattle.plcs_grammar.specs.declared.sign.Sign.{Sign}
 use Rattle.plcs_grammar.specs.Token.{Token}
 use Rattle.plcs_grammar.specs.Cuts.{Piece, tokens_of}
-use Rattle.plcs_grammar.specs.Reading.{Tree, Reference, Reading}
+use Rattle.plcs_grammar.specs.PlainPhrase.{PlainExpr, PlainVarRef, PlainPhrase}
 use Rattle.plcs_grammar.specs.Form.{Form, Begins}
 use Rattle.plcs_grammar.specs.Opened.{phrase_opened}
 use Rattle.plcs_grammar.specs.Over.{first_over}
@@ -82,12 +82,12 @@ role_sign_level (Role.names done) sign = refl
 role_sign_level Role.variable sign = refl
 role_sign_level Role.procedure sign = refl
 
-behind_level : (s : Stack) (t : Tree) (z : State) → Machine.opened_behind s t ≡ Some z
+behind_level : (s : Stack) (t : PlainExpr) (z : State) → Machine.opened_behind s t ≡ Some z
     → Recognizer.level_behind (last_of (depth s) t) ≡ depth s + 1
-behind_level s (Tree.variable (Reference.simple name)) z e = refl
+behind_level s (PlainExpr.variable (PlainVarRef.simple name)) z e = refl
 behind_level s t z e = absurd (cc)
 
-had_level : (s : Stack) (t : Tree) (sign : Sign) (z : State) → step (State.had s t) (Token.sign sign) ≡ Some z
+had_level : (s : Stack) (t : PlainExpr) (sign : Sign) (z : State) → step (State.had s t) (Token.sign sign) ≡ Some z
     → Recognizer.sign_level (shape_of (State.had s t)) sign ≡ opens (State.had s t) (Token.sign sign)
 had_level s t Sign.OpenParenthesis z e = behind_level s t z e
 had_level s t sign z e = refl
@@ -167,15 +167,15 @@ no_state : (found : Option State) → shape_if found ≡ None → found ≡ None
 no_state None e = refl
 no_state (Some s) e = absurd (cc)
 
-some_phrase : (found : Option Reading) → is_some found ≡ true → (p : Reading) × (found ≡ Some p)
+some_phrase : (found : Option PlainPhrase) → is_some found ≡ true → (p : PlainPhrase) × (found ≡ Some p)
 some_phrase None e = absurd (cc)
 some_phrase (Some p) e = (p, refl)
 
-no_phrase : (found : Option Reading) → is_some found ≡ false → found ≡ None
+no_phrase : (found : Option PlainPhrase) → is_some found ≡ false → found ≡ None
 no_phrase None e = refl
 no_phrase (Some p) e = absurd (cc)
 
-state_ended : (found : Option State) (p : Reading) → ended_if found ≡ Some p → (s : State) × (found ≡ Some s)
+state_ended : (found : Option State) (p : PlainPhrase) → ended_if found ≡ Some p → (s : State) × (found ≡ Some s)
 state_ended None p e = absurd (cc)
 state_ended (Some s) p e = (s, refl)
 
@@ -198,19 +198,19 @@ ended_as c ks shape e =
 
 -- where tokens may end they are a phrase
 pub whole_form : (c : Category) (ks : List Token) (shape : Shape) → follow (kinds_of ks) (first_shape c) ≡ Some shape
-    → may_end shape ≡ true → (p : Reading) × Form c ks p
+    → may_end shape ≡ true → (p : PlainPhrase) × Form c ks p
 whole_form c ks shape e m =
     let r = some_phrase (ended_if (run ks (start c))) (sym (ended_as c ks shape e) ∙ m) in
     (r.0, sound c ks r.0 r.1)
 
 -- where they may not end they are none
 pub part_form : (c : Category) (ks : List Token) (shape : Shape) → follow (kinds_of ks) (first_shape c) ≡ Some shape
-    → may_end shape ≡ false → (p : Reading) → Form c ks p → ⊥
+    → may_end shape ≡ false → (p : PlainPhrase) → Form c ks p → ⊥
 part_form c ks shape e m p h =
     no_form c ks (no_phrase (ended_if (run ks (start c))) (sym (ended_as c ks shape e) ∙ m)) p h
 
 -- by the levels that they open, the first token over a limit is the phrase's
-pub levels_over : (c : Category) (pieces : List Piece) (p : Reading) → Form c (tokens_of pieces) p
+pub levels_over : (c : Category) (pieces : List Piece) (p : PlainPhrase) → Form c (tokens_of pieces) p
     → first_over pieces (follow_levels (kinds_of (tokens_of pieces)) (first_shape c)) ≡ first_over pieces (phrase_opened p)
 levels_over c pieces p h =
     let ks = tokens_of pieces in
@@ -225,7 +225,7 @@ pub begins_taken : (c : Category) (ks : List Token) → Begins c ks
 begins_taken c ks h = let r = alive c ks h in (shape_of r.0, follows_start c ks ∙ ap shape_if r.1)
 
 -- a phrase is taken, and may end
-pub form_taken : (c : Category) (ks : List Token) (p : Reading) → Form c ks p
+pub form_taken : (c : Category) (ks : List Token) (p : PlainPhrase) → Form c ks p
     → (shape : Shape) × (follow (kinds_of ks) (first_shape c) ≡ Some shape) × (may_end shape ≡ true)
 form_taken c ks p h =
     let r = state_ended (run ks (start c)) p (complete c ks p h) in

@@ -9,7 +9,7 @@ use Rattle.plcs_grammar.specs.declared.operator.InfixOp.TheVariants as between
 use Rattle.plcs_grammar.specs.declared.builtin.Builtin.{Builtin}
 use Rattle.plcs_grammar.specs.declared.sign.Sign.{Sign}
 use Rattle.plcs_grammar.specs.Token.{Token}
-use Rattle.plcs_grammar.specs.Reading.{Tree, Reference}
+use Rattle.plcs_grammar.specs.PlainPhrase.{PlainExpr, PlainVarRef}
 use Rattle.plcs_grammar.specs.Builtin.{is_builtin_name, builtin_of}
 use Rattle.plcs_grammar.specs.Level.{priority, tightest}
 use Rattle.phrase_parser.specs.Machine
@@ -23,7 +23,7 @@ use Rattle.phrase_parser.specs.declared.check.shape.Role.{Role as Use}
 use Rattle.phrase_parser.specs.Recognizer.{kind_of, ground_level, Shape, inside, next, may_end, may_end_in, next_close_in, next_comma_in}
 use Rattle.phrase_parser.proofs.KeptNumbers.{kept_from, kept_to}
 use Rattle.phrase_parser.proofs.BuiltinNames.{builtin_missing, builtin_known}
-use Rattle.phrase_parser.proofs.TreesRead.{above_none, below_tightest}
+use Rattle.phrase_parser.proofs.ExprsRead.{above_none, below_tightest}
 use Rattle.phrase_parser.proofs.ConsumedTokens.{hole, SoundStack, Sound}
 use Rattle.phrase_parser.proofs.Soundness.{Joins, reduced_joins}
 
@@ -56,8 +56,8 @@ brackets_of (Stack.subscript name s) = record { takes_commas = false; level = de
 brackets_of (Stack.arguments function done s) = record { takes_commas = true; level = depth s + 1 } ∷ brackets_of s
 
 -- what an operand shows of itself
-abbrev pub last_of : ℕ → Tree → Last
-last_of level (Tree.variable (Reference.simple name)) = Last.Named (is_builtin_name name) level
+abbrev pub last_of : ℕ → PlainExpr → Last
+last_of level (PlainExpr.variable (PlainVarRef.simple name)) = Last.Named (is_builtin_name name) level
 last_of level t = Last.Operand
 
 -- what a name that stands in no expression is for
@@ -112,21 +112,21 @@ level_inside (Stack.arguments function done s) h le = refl
 abbrev SamePlace : Stack → Operand → Type 0
 SamePlace s o = (ground_of o.0 ≡ ground_of s) × (brackets_of o.0 ≡ brackets_of s)
 
-same_place : (level : ℕ) (s : Stack) (t : Tree) → SamePlace s (reduced s level t)
+same_place : (level : ℕ) (s : Stack) (t : PlainExpr) → SamePlace s (reduced s level t)
 same_place level (Stack.base b) t = (refl, refl)
-same_place level (Stack.prefix op s) t = same_place level s (Tree.unary op t)
+same_place level (Stack.prefix op s) t = same_place level s (PlainExpr.unary op t)
 same_place level (Stack.left a op s) t =
-    cond_both (leb level (priority op)) (reduced s level (Tree.binary op a t)) (Stack.left a op s, t) (SamePlace s)
-    (λ e. same_place level s (Tree.binary op a t)) (λ e. (refl, refl))
+    cond_both (leb level (priority op)) (reduced s level (PlainExpr.binary op a t)) (Stack.left a op s, t) (SamePlace s)
+    (λ e. same_place level s (PlainExpr.binary op a t)) (λ e. (refl, refl))
 same_place level (Stack.parenthesis s) t = (refl, refl)
 same_place level (Stack.subscript name s) t = (refl, refl)
 same_place level (Stack.arguments function done s) t = (refl, refl)
 
-joins_at : (level : ℕ) (s : Stack) (t : Tree) → Sound (State.had s t) → 1 ≤ level → Joins level s t (reduced s level t)
+joins_at : (level : ℕ) (s : Stack) (t : PlainExpr) → Sound (State.had s t) → 1 ≤ level → Joins level s t (reduced s level t)
 joins_at level s t h le = reduced_joins level s t h.0 (h.1 (hole s)) (h.1 level) le
 
 -- behind an operator
-sim_infix : (op : InfixOp) (s : Stack) (t : Tree) → Sound (State.had s t)
+sim_infix : (op : InfixOp) (s : Stack) (t : PlainExpr) → Sound (State.had s t)
     → Shape.wanted (ground_of s) (brackets_of s) (inside (ground_of s) (brackets_of s)) ≡ shape_of (joined op (reduced s (priority op) t))
 sim_infix op s t h =
     let o = reduced s (priority op) t in
@@ -144,9 +144,9 @@ sim_open_name name None s e =
 sim_open_name name (Some function) s e =
     ap (λ b. Some (Recognizer.bracketed b (ground_of s) (brackets_of s) (depth s))) (builtin_known name function e)
 
-sim_open_behind : (s : Stack) (t : Tree)
+sim_open_behind : (s : Stack) (t : PlainExpr)
     → Recognizer.next_open_behind (last_of (depth s) t) (ground_of s) (brackets_of s) ≡ shape_if (Machine.opened_behind s t)
-sim_open_behind s (Tree.variable (Reference.simple name)) = sim_open_name name (builtin_of name) s refl
+sim_open_behind s (PlainExpr.variable (PlainVarRef.simple name)) = sim_open_name name (builtin_of name) s refl
 sim_open_behind s t = refl
 
 sim_open_role : (role : Role) (name : List ℕ) → Recognizer.next_open_name (use_of role) ≡ shape_if (Machine.opened_by_role role name)
@@ -163,7 +163,7 @@ sim_open (State.had s t) = sim_open_behind s t
 sim_open (State.name_had role name) = sim_open_role role name
 sim_open s = refl
 
-sim_close_base : (b : Base) (t : Tree) → Recognizer.next_close_ground (ground_of_base b) ≡ shape_if (Machine.closed_base b t)
+sim_close_base : (b : Base) (t : PlainExpr) → Recognizer.next_close_ground (ground_of_base b) ≡ shape_if (Machine.closed_base b t)
 sim_close_base Base.condition t = refl
 sim_close_base Base.expression t = refl
 sim_close_base (Base.expressions done) t = refl
@@ -172,7 +172,7 @@ sim_close_base (Base.target_subscript name) t = refl
 sim_close_base (Base.variable_subscript done name) t = refl
 sim_close_base (Base.call_arguments name done) t = refl
 
-sim_close_at : (s : Stack) (t : Tree) → hole s ≤ 1
+sim_close_at : (s : Stack) (t : PlainExpr) → hole s ≤ 1
     → next_close_in (ground_of s) (brackets_of s) ≡ shape_if (Machine.closed_at s t)
 sim_close_at (Stack.base b) t le = sim_close_base b t
 sim_close_at (Stack.prefix op s) t le = absurd (omega arith)
@@ -189,7 +189,7 @@ sim_close (State.had s t) h =
 sim_close (State.name_had role name) h = refl
 sim_close s h = refl
 
-sim_comma_base : (b : Base) (t : Tree) → Recognizer.next_comma_ground (ground_of_base b) ≡ shape_if (Machine.separated_base b t)
+sim_comma_base : (b : Base) (t : PlainExpr) → Recognizer.next_comma_ground (ground_of_base b) ≡ shape_if (Machine.separated_base b t)
 sim_comma_base Base.condition t = refl
 sim_comma_base Base.expression t = refl
 sim_comma_base (Base.expressions done) t = refl
@@ -198,7 +198,7 @@ sim_comma_base (Base.target_subscript name) t = refl
 sim_comma_base (Base.variable_subscript done name) t = refl
 sim_comma_base (Base.call_arguments name done) t = refl
 
-sim_comma_at : (s : Stack) (t : Tree) → hole s ≤ 1
+sim_comma_at : (s : Stack) (t : PlainExpr) → hole s ≤ 1
     → next_comma_in (ground_of s) (brackets_of s) ≡ shape_if (Machine.separated_at s t)
 sim_comma_at (Stack.base b) t le = sim_comma_base b t
 sim_comma_at (Stack.prefix op s) t le = absurd (omega arith)
@@ -243,7 +243,7 @@ sim_with_prefix : (s : Stack) (found : Option PrefixOp)
 sim_with_prefix s None = refl
 sim_with_prefix s (Some op) = refl
 
-sim_with_infix : (s : Stack) (t : Tree) (found : Option InfixOp) → Sound (State.had s t)
+sim_with_infix : (s : Stack) (t : PlainExpr) (found : Option InfixOp) → Sound (State.had s t)
     → Recognizer.next_infix (ground_of s) (brackets_of s) found ≡ shape_if (Machine.with_infix s t found)
 sim_with_infix s t None h = refl
 sim_with_infix s t (Some op) h = ap Some (sim_infix op s t h)
@@ -277,7 +277,7 @@ sim_number State.length_wanted n =
     (ap₂ (λ a b. a && b) (kept_from n 1 (lit≤ tt)) (kept_to n longest_text (lit≤ tt)))
 sim_number s n = refl
 
-sim_constant : (s : State) (t : Tree) → last_of 0 t ≡ Last.Operand → ((d : ℕ) → last_of d t ≡ Last.Operand)
+sim_constant : (s : State) (t : PlainExpr) → last_of 0 t ≡ Last.Operand → ((d : ℕ) → last_of d t ≡ Last.Operand)
     → Recognizer.next_constant (shape_of s) ≡ shape_if (Machine.operand s t)
 sim_constant (State.wanted s) t z e = ap (λ l. Some (Shape.had l (ground_of s) (brackets_of s))) (sym (e (depth s)))
 sim_constant s t z e = refl
@@ -287,8 +287,8 @@ pub simulates : (s : State) (k : Token) → Sound s → next (shape_of s) (kind_
 simulates s (Token.name name) h = sim_name s name
 simulates s (Token.keyword word) h = refl
 simulates s (Token.number n) h = sim_number s n
-simulates s (Token.text value) h = sim_constant s (Tree.text value) refl (λ d. refl)
-simulates s (Token.bit value) h = sim_constant s (Tree.bit value) refl (λ d. refl)
+simulates s (Token.text value) h = sim_constant s (PlainExpr.text value) refl (λ d. refl)
+simulates s (Token.bit value) h = sim_constant s (PlainExpr.bit value) refl (λ d. refl)
 simulates s (Token.sign sign) h = sim_sign s sign h
 
 no_end : (g : Ground) (b : Bracket) (bs : List Bracket) → may_end_in g (b ∷ bs) ≡ false
@@ -298,7 +298,7 @@ no_end Ground.TargetIndex b bs = refl
 no_end Ground.VariableIndex b bs = refl
 no_end Ground.CallList b bs = refl
 
-ends_base : (b : Base) (t : Tree) → may_end_in (ground_of_base b) [] ≡ is_some (Machine.ended_base b t)
+ends_base : (b : Base) (t : PlainExpr) → may_end_in (ground_of_base b) [] ≡ is_some (Machine.ended_base b t)
 ends_base Base.condition t = refl
 ends_base Base.expression t = refl
 ends_base (Base.expressions done) t = refl
@@ -307,7 +307,7 @@ ends_base (Base.target_subscript name) t = refl
 ends_base (Base.variable_subscript done name) t = refl
 ends_base (Base.call_arguments name done) t = refl
 
-ends_at : (s : Stack) (t : Tree) → hole s ≤ 1 → may_end_in (ground_of s) (brackets_of s) ≡ is_some (ended_at s t)
+ends_at : (s : Stack) (t : PlainExpr) → hole s ≤ 1 → may_end_in (ground_of s) (brackets_of s) ≡ is_some (ended_at s t)
 ends_at (Stack.base b) t le = ends_base b t
 ends_at (Stack.prefix op s) t le = absurd (omega arith)
 ends_at (Stack.left a op s) t le = absurd (omega (arith, above_none op))

@@ -12,16 +12,16 @@ use Rattle.plcs_grammar.specs.declared.category.Category.TheVariants.{Assignment
 use Rattle.plcs_grammar.specs.declared.sign.Sign.{Sign}
 use Rattle.plcs_grammar.specs.Sign.{prefix_sign, infix_sign}
 use Rattle.plcs_grammar.specs.Token.{Token}
-use Rattle.plcs_grammar.specs.Reading.{Tree, Trees, Reference, Reading, category_of}
+use Rattle.plcs_grammar.specs.PlainPhrase.{PlainExpr, PlainExprs, PlainVarRef, PlainPhrase, category_of}
 use Rattle.plcs_grammar.specs.Builtin.{builtin_name, builtin_of}
 use Rattle.plcs_grammar.specs.Level.{priority, in_parentheses}
 use Rattle.phrase_parser.specs.Machine
-use Rattle.phrase_parser.specs.Machine.{Base, Stack, Role, State, Operand, tree_push, reduced, joined, step, run, start, ended, ended_at, ended_base, ended_by_role, prefix_of, infix_of, ended_if}
-use Rattle.phrase_parser.proofs.TreeSpelling.{spell, spell_reference, spell_all, Fits, FitsReference, FitsAll}
+use Rattle.phrase_parser.specs.Machine.{Base, Stack, Role, State, Operand, expr_push, reduced, joined, step, run, start, ended, ended_at, ended_base, ended_by_role, prefix_of, infix_of, ended_if}
+use Rattle.phrase_parser.proofs.ExprSpelling.{spell, spell_reference, spell_all, Fits, FitsReference, FitsAll}
 use Rattle.phrase_parser.proofs.PhraseSpelling.{spell_name, spell_item, spell_phrase, FitsPhrase, FitsItem, AnyName, form_from}
 use Rattle.phrase_parser.proofs.BuiltinNames.{builtin_found, builtin_missing}
 use Rattle.phrase_parser.proofs.MachineRuns.{run_none}
-use Rattle.phrase_parser.proofs.TreesRead.{above_none}
+use Rattle.phrase_parser.proofs.ExprsRead.{above_none}
 use Rattle.phrase_parser.proofs.ConsumedTokens.{spell_before, all_push, before_push, call_push, behind_fits, all_fit, call_fits, spell_each, listed_last, each_last, listed_comma, each_fits, listed_fits, listed_each, flat_stack, flat, hole, SoundStack, SoundRole, Sound, stack_category, state_category}
 use Rattle.plcs_grammar.specs.Form.{Form}
 
@@ -38,7 +38,7 @@ abbrev pub open_ : Token
 open_ = Token.sign Sign.OpenParenthesis
 
 -- an operand on a stack that came from another, with the operators of a level joined
-pub record Joins (level : ℕ) (s : Stack) (t : Tree) (o : Operand) : Type 0 where
+pub record Joins (level : ℕ) (s : Stack) (t : PlainExpr) (o : Operand) : Type 0 where
   pub sound : SoundStack o.0
   pub fits_hole : Fits o.1 (hole o.0)
   pub fits : Fits o.1 level
@@ -47,7 +47,7 @@ pub record Joins (level : ℕ) (s : Stack) (t : Tree) (o : Operand) : Type 0 whe
   pub category : stack_category o.0 ≡ stack_category s
 
 -- the same, from a stack with the same tokens
-rejoins : (level : ℕ) (s r : Stack) (t u : Tree) (o : Operand) → Joins level s t o → flat_stack s ++ spell t ≡ flat_stack r ++ spell u
+rejoins : (level : ℕ) (s r : Stack) (t u : PlainExpr) (o : Operand) → Joins level s t o → flat_stack s ++ spell t ≡ flat_stack r ++ spell u
     → stack_category s ≡ stack_category r → Joins level r u o
 rejoins level s r t u o j e c = record {
   sound = j.sound;
@@ -59,19 +59,19 @@ rejoins level s r t u o j e c = record {
 }
 
 -- joining what is open keeps the tokens and the levels
-pub reduced_joins : (level : ℕ) (s : Stack) (t : Tree) → SoundStack s → Fits t (hole s) → Fits t level → 1 ≤ level
+pub reduced_joins : (level : ℕ) (s : Stack) (t : PlainExpr) → SoundStack s → Fits t (hole s) → Fits t level → 1 ≤ level
     → Joins level s t (reduced s level t)
 reduced_joins level (Stack.base b) t h f g le =
     record { sound = h; fits_hole = f; fits = g; low = le; tokens = refl; category = refl }
 reduced_joins level (Stack.prefix op s) t h f g le =
-    rejoins level s (Stack.prefix op s) (Tree.unary op t) t (reduced s level (Tree.unary op t))
-    (reduced_joins level s (Tree.unary op t) h f f le)
+    rejoins level s (Stack.prefix op s) (PlainExpr.unary op t) t (reduced s level (PlainExpr.unary op t))
+    (reduced_joins level s (PlainExpr.unary op t) h f f le)
     (sym (append_assoc (flat_stack s) (Token.sign (prefix_sign op) ∷ []) (spell t))) refl
 reduced_joins level (Stack.left a op s) t h f g le =
-    cond_both (leb level (priority op)) (reduced s level (Tree.binary op a t)) (Stack.left a op s, t)
+    cond_both (leb level (priority op)) (reduced s level (PlainExpr.binary op a t)) (Stack.left a op s, t)
     (Joins level (Stack.left a op s) t)
-    (λ e. rejoins level s (Stack.left a op s) (Tree.binary op a t) t (reduced s level (Tree.binary op a t))
-    (reduced_joins level s (Tree.binary op a t) h.2 (h.0, h.1, f) (leb-true level (priority op) e, h.1, f) le)
+    (λ e. rejoins level s (Stack.left a op s) (PlainExpr.binary op a t) t (reduced s level (PlainExpr.binary op a t))
+    (reduced_joins level s (PlainExpr.binary op a t) h.2 (h.0, h.1, f) (leb-true level (priority op) e, h.1, f) le)
     (ap (λ z. flat_stack s ++ z) (sym (append_assoc (spell a) (Token.sign (infix_sign op) ∷ []) (spell t)))
     ∙ sym (append_assoc (flat_stack s) (spell a ++ (Token.sign (infix_sign op) ∷ [])) (spell t))) refl)
     (λ e. let under = leb-false level (priority op) e in
@@ -94,7 +94,7 @@ abbrev pub AfterIf : State → Token → Option State → Type 0
 AfterIf s k None = Unit {0}
 AfterIf s k (Some z) = After s k z
 
-operand_after : (s : State) (k : Token) (t : Tree) → ((level : ℕ) → Fits t level) → spell t ≡ k ∷ [] → Sound s
+operand_after : (s : State) (k : Token) (t : PlainExpr) → ((level : ℕ) → Fits t level) → spell t ≡ k ∷ [] → Sound s
     → AfterIf s k (Machine.operand s t)
 operand_after (State.wanted s) k t f e h =
     record { sound = (h, f); tokens = ap (λ z. flat_stack s ++ z) e; category = refl }
@@ -122,7 +122,7 @@ numbered_after State.length_wanted n h =
     (λ e. tt)
 numbered_after s n h = tt
 
-named_open_after : (name : List ℕ) (found : Option Builtin) (s : Stack) (t : Tree) → builtin_of name ≡ found → SoundStack s
+named_open_after : (name : List ℕ) (found : Option Builtin) (s : Stack) (t : PlainExpr) → builtin_of name ≡ found → SoundStack s
     → spell t ≡ Token.name name ∷ []
     → After (State.had s t) open_ (State.wanted (Machine.named_open name found s))
 named_open_after name None s t e h n = record {
@@ -138,9 +138,9 @@ named_open_after name (Some function) s t e h n = record {
   category = refl;
 }
 
-opened_behind_after : (s : Stack) (t : Tree) → SoundStack s → AfterIf (State.had s t) open_ (Machine.opened_behind s t)
-opened_behind_after s (Tree.variable (Reference.simple name)) h =
-    named_open_after name (builtin_of name) s (Tree.variable (Reference.simple name)) refl h refl
+opened_behind_after : (s : Stack) (t : PlainExpr) → SoundStack s → AfterIf (State.had s t) open_ (Machine.opened_behind s t)
+opened_behind_after s (PlainExpr.variable (PlainVarRef.simple name)) h =
+    named_open_after name (builtin_of name) s (PlainExpr.variable (PlainVarRef.simple name)) refl h refl
 opened_behind_after s t h = tt
 
 opened_by_role_after : (role : Role) (name : List ℕ) → SoundRole role
@@ -170,27 +170,27 @@ pub regroup : {X : Type 0} (a b c d : List X) → a ++ (b ++ (c ++ d)) ≡ ((a +
 regroup a b c d = sym (append_assoc a b (c ++ d)) ∙ sym (append_assoc (a ++ b) c d)
 
 -- the tokens of a call in an expression
-pub arguments_tokens : (a : List Token) (k : Token) (done : Trees) (t : Tree)
-    → a ++ (k ∷ in_parentheses (spell_all (tree_push done t))) ≡ ((a ++ (k ∷ open_ ∷ spell_before done)) ++ spell t) ++ (close ∷ [])
+pub arguments_tokens : (a : List Token) (k : Token) (done : PlainExprs) (t : PlainExpr)
+    → a ++ (k ∷ in_parentheses (spell_all (expr_push done t))) ≡ ((a ++ (k ∷ open_ ∷ spell_before done)) ++ spell t) ++ (close ∷ [])
 arguments_tokens a k done t =
     ap (λ z. a ++ (k ∷ in_parentheses z)) (all_push done t)
     ∙ ap (λ z. a ++ (k ∷ open_ ∷ z)) (append_assoc (spell_before done) (spell t) (close ∷ []))
     ∙ regroup a (k ∷ open_ ∷ spell_before done) (spell t) (close ∷ [])
 
-before_tokens : (a b : List Token) (done : Trees) (t : Tree)
-    → a ++ (b ++ spell_before (tree_push done t)) ≡ ((a ++ (b ++ spell_before done)) ++ spell t) ++ (comma ∷ [])
+before_tokens : (a b : List Token) (done : PlainExprs) (t : PlainExpr)
+    → a ++ (b ++ spell_before (expr_push done t)) ≡ ((a ++ (b ++ spell_before done)) ++ spell t) ++ (comma ∷ [])
 before_tokens a b done t =
     ap (λ z. a ++ (b ++ z)) (before_push done t)
     ∙ ap (λ z. a ++ z) (sym (append_assoc b (spell_before done) (spell t ++ (comma ∷ []))))
     ∙ regroup a (b ++ spell_before done) (spell t) (comma ∷ [])
 
-closed_base_after : (s : Stack) (t u : Tree) (b : Base) → Joins 1 s u (Stack.base b, t)
+closed_base_after : (s : Stack) (t u : PlainExpr) (b : Base) → Joins 1 s u (Stack.base b, t)
     → AfterIf (State.had s u) close (Machine.closed_base b t)
 closed_base_after s t u (Base.target_subscript name) j =
     record { sound = j.fits; tokens = ap (λ z. z ++ (close ∷ [])) j.tokens; category = j.category }
 closed_base_after s t u (Base.variable_subscript done name) j = record {
-  sound = listed_fits FitsReference done (Reference.subscripted name t) j.sound j.fits;
-  tokens = listed_last spell_reference done (Reference.subscripted name t)
+  sound = listed_fits FitsReference done (PlainVarRef.subscripted name t) j.sound j.fits;
+  tokens = listed_last spell_reference done (PlainVarRef.subscripted name t)
       ∙ regroup (spell_each spell_reference done) (Token.name name ∷ open_ ∷ []) (spell t) (close ∷ [])
       ∙ ap (λ z. z ++ (close ∷ [])) j.tokens;
   category = j.category;
@@ -202,7 +202,7 @@ closed_base_after s t u (Base.call_arguments name done) j = record {
 }
 closed_base_after s t u b j = tt
 
-closed_at_after : (s : Stack) (t u : Tree) (r : Stack) → Joins 1 s u (r, t)
+closed_at_after : (s : Stack) (t u : PlainExpr) (r : Stack) → Joins 1 s u (r, t)
     → AfterIf (State.had s u) close (Machine.closed_at r t)
 closed_at_after s t u (Stack.base b) j = closed_base_after s t u b j
 closed_at_after s t u (Stack.prefix op r) j = tt
@@ -235,7 +235,7 @@ closed_after (State.size_had done name n) h = record {
 }
 closed_after s h = tt
 
-separated_base_after : (s : Stack) (t u : Tree) (b : Base) → Joins 1 s u (Stack.base b, t)
+separated_base_after : (s : Stack) (t u : PlainExpr) (b : Base) → Joins 1 s u (Stack.base b, t)
     → AfterIf (State.had s u) comma (Machine.separated_base b t)
 separated_base_after s t u (Base.expressions done) j = record {
   sound = behind_fits done t j.sound j.fits;
@@ -249,7 +249,7 @@ separated_base_after s t u (Base.call_arguments name done) j = record {
 }
 separated_base_after s t u b j = tt
 
-separated_at_after : (s : Stack) (t u : Tree) (r : Stack) → Joins 1 s u (r, t)
+separated_at_after : (s : Stack) (t u : PlainExpr) (r : Stack) → Joins 1 s u (r, t)
     → AfterIf (State.had s u) comma (Machine.separated_at r t)
 separated_at_after s t u (Stack.base b) j = separated_base_after s t u b j
 separated_at_after s t u (Stack.arguments function done r) j = record {
@@ -262,8 +262,8 @@ separated_at_after s t u r j = tt
 separated_by_role_after : (role : Role) (name : List ℕ) → SoundRole role
     → AfterIf (State.name_had role name) comma (Machine.separated_by_role role name)
 separated_by_role_after (Role.variables done) name h = record {
-  sound = each_fits FitsReference done (Reference.simple name) h tt;
-  tokens = each_last spell_reference done (Reference.simple name)
+  sound = each_fits FitsReference done (PlainVarRef.simple name) h tt;
+  tokens = each_last spell_reference done (PlainVarRef.simple name)
       ∙ sym (append_assoc (spell_each spell_reference done) (Token.name name ∷ []) (comma ∷ []));
   category = refl;
 }
@@ -298,7 +298,7 @@ separated_after (State.item_had done) h = record {
 separated_after s h = tt
 
 -- behind an operator, what stands before it is joined
-joined_after : (op : InfixOp) (s : Stack) (t : Tree) (o : Operand) → Joins (priority op) s t o
+joined_after : (op : InfixOp) (s : Stack) (t : PlainExpr) (o : Operand) → Joins (priority op) s t o
     → After (State.had s t) (Token.sign (infix_sign op)) (joined op o)
 joined_after op s t o j = record {
   sound = (j.low, j.fits, j.sound);
@@ -306,7 +306,7 @@ joined_after op s t o j = record {
   category = j.category;
 }
 
-infix_after : (op : InfixOp) (s : Stack) (t : Tree) → Sound (State.had s t)
+infix_after : (op : InfixOp) (s : Stack) (t : PlainExpr) → Sound (State.had s t)
     → After (State.had s t) (Token.sign (infix_sign op)) (joined op (reduced s (priority op) t))
 infix_after op s t h =
     joined_after op s t (reduced s (priority op) t)
@@ -361,7 +361,7 @@ with_prefix_after s sign None e h = tt
 with_prefix_after s sign (Some op) e h =
     record { sound = h; tokens = ap (λ x. flat_stack s ++ (Token.sign x ∷ [])) e; category = refl }
 
-with_infix_after : (s : Stack) (t : Tree) (sign : Sign) (found : Option InfixOp) → InfixIs sign found → Sound (State.had s t)
+with_infix_after : (s : Stack) (t : PlainExpr) (sign : Sign) (found : Option InfixOp) → InfixIs sign found → Sound (State.had s t)
     → AfterIf (State.had s t) (Token.sign sign) (Machine.with_infix s t found)
 with_infix_after s t sign None e h = tt
 with_infix_after s t sign (Some op) e h =
@@ -384,8 +384,8 @@ pub step_after : (s : State) (k : Token) → Sound s → AfterIf s k (step s k)
 step_after s (Token.name name) h = named_after s name h
 step_after s (Token.keyword word) h = tt
 step_after s (Token.number n) h = numbered_after s n h
-step_after s (Token.text value) h = operand_after s (Token.text value) (Tree.text value) (λ level. tt) refl h
-step_after s (Token.bit value) h = operand_after s (Token.bit value) (Tree.bit value) (λ level. tt) refl h
+step_after s (Token.text value) h = operand_after s (Token.text value) (PlainExpr.text value) (λ level. tt) refl h
+step_after s (Token.bit value) h = operand_after s (Token.bit value) (PlainExpr.bit value) (λ level. tt) refl h
 step_after s (Token.sign sign) h = signed_after s sign h
 
 -- a state behind more tokens
@@ -413,17 +413,17 @@ run_behind [] s z h e =
 run_behind (k ∷ ks) s z h e = run_behind_if s z k ks (step s k) (step_after s k h) e (λ r g d. run_behind ks r z g d)
 
 -- a phrase that is read whole
-pub record IsWhole (s : State) (p : Reading) : Type 0 where
+pub record IsWhole (s : State) (p : PlainPhrase) : Type 0 where
   pub fits : FitsPhrase p
   pub tokens : flat s ≡ spell_phrase p
   pub category : category_of p ≡ state_category s
 
 -- where a state ends as a phrase, it has read it whole
-abbrev pub IsWholeIf : State → Option Reading → Type 0
+abbrev pub IsWholeIf : State → Option PlainPhrase → Type 0
 IsWholeIf s None = Unit {0}
 IsWholeIf s (Some p) = IsWhole s p
 
-ended_base_whole : (s : Stack) (t u : Tree) (b : Base) → Joins 1 s u (Stack.base b, t) → IsWholeIf (State.had s u) (ended_base b t)
+ended_base_whole : (s : Stack) (t u : PlainExpr) (b : Base) → Joins 1 s u (Stack.base b, t) → IsWholeIf (State.had s u) (ended_base b t)
 ended_base_whole s t u Base.condition j = record { fits = j.fits; tokens = sym j.tokens; category = j.category }
 ended_base_whole s t u Base.expression j = record { fits = j.fits; tokens = sym j.tokens; category = j.category }
 ended_base_whole s t u (Base.expressions done) j =
@@ -435,15 +435,15 @@ ended_base_whole s t u (Base.assigned reference) j = record {
 }
 ended_base_whole s t u b j = tt
 
-ended_at_whole : (s : Stack) (t u : Tree) (r : Stack) → Joins 1 s u (r, t) → IsWholeIf (State.had s u) (ended_at r t)
+ended_at_whole : (s : Stack) (t u : PlainExpr) (r : Stack) → Joins 1 s u (r, t) → IsWholeIf (State.had s u) (ended_at r t)
 ended_at_whole s t u (Stack.base b) j = ended_base_whole s t u b j
 ended_at_whole s t u r j = tt
 
 ended_by_role_whole : (role : Role) (name : List ℕ) → SoundRole role → IsWholeIf (State.name_had role name) (ended_by_role role name)
 ended_by_role_whole Role.target name h = tt
 ended_by_role_whole (Role.variables done) name h = record {
-  fits = listed_fits FitsReference done (Reference.simple name) h tt;
-  tokens = sym (listed_last spell_reference done (Reference.simple name));
+  fits = listed_fits FitsReference done (PlainVarRef.simple name) h tt;
+  tokens = sym (listed_last spell_reference done (PlainVarRef.simple name));
   category = refl;
 }
 ended_by_role_whole Role.callee name h = record { fits = tt; tokens = refl; category = refl }
@@ -460,7 +460,7 @@ ended_by_role_whole (Role.names done) name h = record {
 ended_by_role_whole Role.variable name h = record { fits = tt; tokens = refl; category = refl }
 ended_by_role_whole Role.procedure name h = record { fits = tt; tokens = refl; category = refl }
 
-call_whole : (name : List ℕ) (passed : Trees) → FitsAll passed → IsWhole (State.call_had name passed) (Reading.call name passed)
+call_whole : (name : List ℕ) (passed : PlainExprs) → FitsAll passed → IsWhole (State.call_had name passed) (PlainPhrase.call name passed)
 call_whole name passed h = record { fits = call_fits passed h; tokens = refl; category = refl }
 
 -- a state that ends as a phrase has read it whole
@@ -518,18 +518,18 @@ has_read_if c (Some first) ks s f e =
 pub has_read : (c : Category) (ks : List Token) (s : State) → run ks (start c) ≡ Some s → HasRead c ks s
 has_read c ks s e = has_read_if c (start c) ks s (start_fresh c) e
 
-sound_if : (c : Category) (ks : List Token) (s : State) (p : Reading) (end : Option Reading) → HasRead c ks s → IsWholeIf s end
+sound_if : (c : Category) (ks : List Token) (s : State) (p : PlainPhrase) (end : Option PlainPhrase) → HasRead c ks s → IsWholeIf s end
     → end ≡ Some p → Form c ks p
 sound_if c ks s p None r w e = absurd (cc)
 sound_if c ks s p (Some q) r w e =
     let same : q ≡ p = cc in
     subst (λ z. Form c ks z) same (form_from c ks q (w.category ∙ r.category) w.fits (sym r.tokens ∙ w.tokens))
 
-sound_run : (c : Category) (ks : List Token) (p : Reading) (end : Option State) → run ks (start c) ≡ end
+sound_run : (c : Category) (ks : List Token) (p : PlainPhrase) (end : Option State) → run ks (start c) ≡ end
     → ended_if end ≡ Some p → Form c ks p
 sound_run c ks p None h e = absurd (cc)
 sound_run c ks p (Some s) h e = let r = has_read c ks s h in sound_if c ks s p (ended s) r (ended_whole s r.sound) e
 
 -- what the machine reads tokens as is what they are
-pub sound : (c : Category) (ks : List Token) (p : Reading) → ended_if (run ks (start c)) ≡ Some p → Form c ks p
+pub sound : (c : Category) (ks : List Token) (p : PlainPhrase) → ended_if (run ks (start c)) ≡ Some p → Form c ks p
 sound c ks p e = sound_run c ks p (run ks (start c)) refl e

@@ -5,11 +5,11 @@ use Rattle.plcs_grammar.specs.declared.item.Item.{Item}
 use Rattle.plcs_grammar.specs.declared.sign.Sign.{Sign}
 use Rattle.plcs_grammar.specs.Sign.{prefix_sign, infix_sign}
 use Rattle.plcs_grammar.specs.Token.{Token}
-use Rattle.plcs_grammar.specs.Reading.{Tree, Trees, Reference, Reading, category_of}
+use Rattle.plcs_grammar.specs.PlainPhrase.{PlainExpr, PlainExprs, PlainVarRef, PlainPhrase, category_of}
 use Rattle.plcs_grammar.specs.Builtin.{builtin_name}
 use Rattle.plcs_grammar.specs.Form.{Form, Begins}
-use Rattle.phrase_parser.specs.Machine.{Base, Stack, Role, State, tree_push, run, start, ended_if}
-use Rattle.phrase_parser.proofs.TreeSpelling.{spell, spell_reference, Fits, FitsReference}
+use Rattle.phrase_parser.specs.Machine.{Base, Stack, Role, State, expr_push, run, start, ended_if}
+use Rattle.phrase_parser.proofs.ExprSpelling.{spell, spell_reference, Fits, FitsReference}
 use Rattle.phrase_parser.proofs.PhraseSpelling.{spell_name, spell_item, spell_call, spell_listed, spell_phrase, FitsPhrase, FitsItem, AnyName, form_from}
 use Rattle.phrase_parser.proofs.Completeness.{complete, alive}
 use Rattle.phrase_parser.proofs.ConsumedTokens.{spell_before, all_push, call_push, all_fit, call_fits, spell_each, listed_last, listed_fits, flat_base, flat_stack, flat_role, flat, hole, SoundBase, SoundStack, SoundRole, Sound, base_category, stack_category, role_category, state_category}
@@ -20,10 +20,10 @@ abbrev equal : Token
 equal = Token.sign Sign.Equal
 
 -- a number, where any operand does
-abbrev anything : Tree
-anything = Tree.number (pos 0)
+abbrev anything : PlainExpr
+anything = PlainExpr.number (pos 0)
 
-begins_by : (c : Category) (p : Reading) (ks more : List Token) → category_of p ≡ c → FitsPhrase p → ks ++ more ≡ spell_phrase p
+begins_by : (c : Category) (p : PlainPhrase) (ks more : List Token) → category_of p ≡ c → FitsPhrase p → ks ++ more ≡ spell_phrase p
     → Begins c ks
 begins_by c p ks more e f s = (more, p, form_from c (ks ++ more) p e f s)
 
@@ -35,77 +35,77 @@ begins_as : (c : Category) (xs ys : List Token) → xs ≡ ys → Begins c xs �
 begins_as c xs ys e h = subst (Begins c) e h
 
 -- a whole phrase begins itself
-begins_whole : (c : Category) (p : Reading) (ks : List Token) → category_of p ≡ c → FitsPhrase p → ks ≡ spell_phrase p → Begins c ks
+begins_whole : (c : Category) (p : PlainPhrase) (ks : List Token) → category_of p ≡ c → FitsPhrase p → ks ≡ spell_phrase p → Begins c ks
 begins_whole c p ks e f s = begins_by c p ks [] e f (append-nil ks ∙ s)
 
 -- an operand at the phrase's own expression
-plug_base : (b : Base) (t : Tree) → SoundBase b → Fits t 1 → Begins (base_category b) (flat_base b ++ spell t)
-plug_base Base.condition t h f = begins_whole _ (Reading.condition t) (spell t) refl f refl
-plug_base Base.expression t h f = begins_whole _ (Reading.expression t) (spell t) refl f refl
+plug_base : (b : Base) (t : PlainExpr) → SoundBase b → Fits t 1 → Begins (base_category b) (flat_base b ++ spell t)
+plug_base Base.condition t h f = begins_whole _ (PlainPhrase.condition t) (spell t) refl f refl
+plug_base Base.expression t h f = begins_whole _ (PlainPhrase.expression t) (spell t) refl f refl
 plug_base (Base.expressions done) t h f =
-    begins_whole _ (Reading.expression_list (tree_push done t)) (spell_before done ++ spell t) refl (all_fit done t h f) (sym (all_push done t))
+    begins_whole _ (PlainPhrase.expression_list (expr_push done t)) (spell_before done ++ spell t) refl (all_fit done t h f) (sym (all_push done t))
 plug_base (Base.assigned reference) t h f =
-    begins_whole _ (Reading.assignment reference t) ((spell_reference reference ++ (equal ∷ [])) ++ spell t) refl (h, f)
+    begins_whole _ (PlainPhrase.assignment reference t) ((spell_reference reference ++ (equal ∷ [])) ++ spell t) refl (h, f)
     (append_assoc (spell_reference reference) (equal ∷ []) (spell t))
 plug_base (Base.target_subscript name) t h f =
-    begins_by _ (Reading.assignment (Reference.subscripted name t) anything) (Token.name name ∷ open_ ∷ spell t)
+    begins_by _ (PlainPhrase.assignment (PlainVarRef.subscripted name t) anything) (Token.name name ∷ open_ ∷ spell t)
     (close ∷ equal ∷ spell anything) refl (f, tt)
     (ap (λ z. Token.name name ∷ open_ ∷ z) (sym (append_assoc (spell t) (close ∷ []) (equal ∷ spell anything))))
 plug_base (Base.variable_subscript done name) t h f =
-    begins_by _ (Reading.variable_list (done ++ (Reference.subscripted name t ∷ [])))
+    begins_by _ (PlainPhrase.variable_list (done ++ (PlainVarRef.subscripted name t ∷ [])))
     ((spell_each spell_reference done ++ (Token.name name ∷ open_ ∷ [])) ++ spell t) (close ∷ []) refl
-    (listed_fits FitsReference done (Reference.subscripted name t) h f)
+    (listed_fits FitsReference done (PlainVarRef.subscripted name t) h f)
     (sym (regroup (spell_each spell_reference done) (Token.name name ∷ open_ ∷ []) (spell t) (close ∷ []))
-    ∙ sym (listed_last spell_reference done (Reference.subscripted name t)))
+    ∙ sym (listed_last spell_reference done (PlainVarRef.subscripted name t)))
 plug_base (Base.call_arguments name done) t h f =
-    begins_by _ (Reading.call name (tree_push done t)) (Token.name name ∷ open_ ∷ (spell_before done ++ spell t)) (close ∷ []) refl
-    (call_fits (tree_push done t) (all_fit done t h f))
+    begins_by _ (PlainPhrase.call name (expr_push done t)) (Token.name name ∷ open_ ∷ (spell_before done ++ spell t)) (close ∷ []) refl
+    (call_fits (expr_push done t) (all_fit done t h f))
     (sym (call_push name done t ∙ arguments_tokens [] (Token.name name) done t))
 
 -- an operand on the stack, with all that is open closed behind it
-pub plug : (s : Stack) (t : Tree) → SoundStack s → Fits t (hole s) → Begins (stack_category s) (flat_stack s ++ spell t)
+pub plug : (s : Stack) (t : PlainExpr) → SoundStack s → Fits t (hole s) → Begins (stack_category s) (flat_stack s ++ spell t)
 plug (Stack.base b) t h f = plug_base b t h f
 plug (Stack.prefix op s) t h f =
-    begins_as _ _ _ (sym (append_assoc (flat_stack s) (Token.sign (prefix_sign op) ∷ []) (spell t))) (plug s (Tree.unary op t) h f)
+    begins_as _ _ _ (sym (append_assoc (flat_stack s) (Token.sign (prefix_sign op) ∷ []) (spell t))) (plug s (PlainExpr.unary op t) h f)
 plug (Stack.left a op s) t h f =
     begins_as _ _ _
     (ap (λ z. flat_stack s ++ z) (sym (append_assoc (spell a) (Token.sign (infix_sign op) ∷ []) (spell t)))
     ∙ sym (append_assoc (flat_stack s) (spell a ++ (Token.sign (infix_sign op) ∷ [])) (spell t)))
-    (plug s (Tree.binary op a t) h.2 (h.0, h.1, f))
+    (plug s (PlainExpr.binary op a t) h.2 (h.0, h.1, f))
 plug (Stack.parenthesis s) t h f =
     begins_front _ ((flat_stack s ++ (open_ ∷ [])) ++ spell t) (close ∷ [])
-    (begins_as _ _ _ (regroup (flat_stack s) (open_ ∷ []) (spell t) (close ∷ [])) (plug s (Tree.parenthesized t) h f))
+    (begins_as _ _ _ (regroup (flat_stack s) (open_ ∷ []) (spell t) (close ∷ [])) (plug s (PlainExpr.parenthesized t) h f))
 plug (Stack.subscript name s) t h f =
     begins_front _ ((flat_stack s ++ (Token.name name ∷ open_ ∷ [])) ++ spell t) (close ∷ [])
     (begins_as _ _ _ (regroup (flat_stack s) (Token.name name ∷ open_ ∷ []) (spell t) (close ∷ []))
-    (plug s (Tree.variable (Reference.subscripted name t)) h.1 (h.0, f)))
+    (plug s (PlainExpr.variable (PlainVarRef.subscripted name t)) h.1 (h.0, f)))
 plug (Stack.arguments function done s) t h f =
     begins_front _ ((flat_stack s ++ (Token.name (builtin_name function) ∷ open_ ∷ spell_before done)) ++ spell t) (close ∷ [])
     (begins_as _ _ _ (arguments_tokens (flat_stack s) (Token.name (builtin_name function)) done t)
-    (plug s (Tree.builtin function (tree_push done t)) h.1 (all_fit done t h.0 f)))
+    (plug s (PlainExpr.builtin function (expr_push done t)) h.1 (all_fit done t h.0 f)))
 
 begins_by_role : (role : Role) (name : List ℕ) → SoundRole role
     → Begins (role_category role) (flat_role role ++ (Token.name name ∷ []))
 begins_by_role Role.target name h =
-    begins_by _ (Reading.assignment (Reference.simple name) anything) (Token.name name ∷ []) (equal ∷ spell anything) refl (tt, tt) refl
+    begins_by _ (PlainPhrase.assignment (PlainVarRef.simple name) anything) (Token.name name ∷ []) (equal ∷ spell anything) refl (tt, tt) refl
 begins_by_role (Role.variables done) name h =
-    begins_whole _ (Reading.variable_list (done ++ (Reference.simple name ∷ []))) (spell_each spell_reference done ++ (Token.name name ∷ []))
-    refl (listed_fits FitsReference done (Reference.simple name) h tt) (sym (listed_last spell_reference done (Reference.simple name)))
-begins_by_role Role.callee name h = begins_whole _ (Reading.call name Trees.nil) (Token.name name ∷ []) refl tt refl
+    begins_whole _ (PlainPhrase.variable_list (done ++ (PlainVarRef.simple name ∷ []))) (spell_each spell_reference done ++ (Token.name name ∷ []))
+    refl (listed_fits FitsReference done (PlainVarRef.simple name) h tt) (sym (listed_last spell_reference done (PlainVarRef.simple name)))
+begins_by_role Role.callee name h = begins_whole _ (PlainPhrase.call name PlainExprs.nil) (Token.name name ∷ []) refl tt refl
 begins_by_role (Role.items done) name h =
-    begins_whole _ (Reading.declared_list (done ++ (record { name = name; size = None } ∷ []))) (spell_each spell_item done ++ (Token.name name ∷ []))
+    begins_whole _ (PlainPhrase.declared_list (done ++ (record { name = name; size = None } ∷ []))) (spell_each spell_item done ++ (Token.name name ∷ []))
     refl (listed_fits FitsItem done (record { name = name; size = None }) h tt)
     (sym (listed_last spell_item done (record { name = name; size = None })))
 begins_by_role (Role.names done) name h =
-    begins_whole _ (Reading.name_list (done ++ (name ∷ []))) (spell_each spell_name done ++ (Token.name name ∷ []))
+    begins_whole _ (PlainPhrase.name_list (done ++ (name ∷ []))) (spell_each spell_name done ++ (Token.name name ∷ []))
     refl (listed_fits AnyName done name h tt) (sym (listed_last spell_name done name))
-begins_by_role Role.variable name h = begins_whole _ (Reading.variable_name name) (Token.name name ∷ []) refl tt refl
-begins_by_role Role.procedure name h = begins_whole _ (Reading.procedure_name name) (Token.name name ∷ []) refl tt refl
+begins_by_role Role.variable name h = begins_whole _ (PlainPhrase.variable_name name) (Token.name name ∷ []) refl tt refl
+begins_by_role Role.procedure name h = begins_whole _ (PlainPhrase.procedure_name name) (Token.name name ∷ []) refl tt refl
 
 begins_sized : (done : List Item) (name : List ℕ) (n : ℕ) → Sound (State.size_had done name n)
     → Begins (state_category (State.size_had done name n)) (flat (State.size_had done name n))
 begins_sized done name n h =
-    begins_by _ (Reading.declared_list (done ++ (record { name = name; size = Some n } ∷ []))) (flat (State.size_had done name n)) (close ∷ [])
+    begins_by _ (PlainPhrase.declared_list (done ++ (record { name = name; size = Some n } ∷ []))) (flat (State.size_had done name n)) (close ∷ [])
     refl (listed_fits FitsItem done (record { name = name; size = Some n }) h.1 h.0)
     (append_assoc (spell_each spell_item done) (Token.name name ∷ open_ ∷ Token.number n ∷ []) (close ∷ [])
     ∙ sym (listed_last spell_item done (record { name = name; size = Some n })))
@@ -117,18 +117,18 @@ begins (State.had s t) h = plug s t h.0 (h.1 (hole s))
 begins (State.name_wanted role) h = begins_front _ (flat_role role) (Token.name [] ∷ []) (begins_by_role role [] h)
 begins (State.name_had role name) h = begins_by_role role name h
 begins (State.target_had reference) h =
-    begins_by _ (Reading.assignment reference anything) (spell_reference reference) (equal ∷ spell anything) refl (h, tt) refl
-begins (State.variable_had done) h = begins_whole _ (Reading.variable_list done) (spell_listed spell_reference done) refl h refl
-begins (State.call_had name passed) h = begins_whole _ (Reading.call name passed) (spell_call name passed) refl (call_fits passed h) refl
+    begins_by _ (PlainPhrase.assignment reference anything) (spell_reference reference) (equal ∷ spell anything) refl (h, tt) refl
+begins (State.variable_had done) h = begins_whole _ (PlainPhrase.variable_list done) (spell_listed spell_reference done) refl h refl
+begins (State.call_had name passed) h = begins_whole _ (PlainPhrase.call name passed) (spell_call name passed) refl (call_fits passed h) refl
 begins (State.size_wanted done name) h =
     begins_front _ (flat (State.size_wanted done name)) (Token.number 1 ∷ [])
     (begins_as _ _ _ (sym (append_assoc (spell_each spell_item done) (Token.name name ∷ open_ ∷ []) (Token.number 1 ∷ [])))
     (begins_sized done name 1 (le_refl _, h)))
 begins (State.size_had done name n) h = begins_sized done name n h
-begins (State.item_had done) h = begins_whole _ (Reading.declared_list done) (spell_listed spell_item done) refl h refl
+begins (State.item_had done) h = begins_whole _ (PlainPhrase.declared_list done) (spell_listed spell_item done) refl h refl
 begins State.length_wanted h =
-    begins_by _ (Reading.greatest_length 1) [] (Token.number 1 ∷ []) refl (le_refl _, lit≤ tt) refl
-begins (State.length_had n) h = begins_whole _ (Reading.greatest_length n) (Token.number n ∷ []) refl h refl
+    begins_by _ (PlainPhrase.greatest_length 1) [] (Token.number 1 ∷ []) refl (le_refl _, lit≤ tt) refl
+begins (State.length_had n) h = begins_whole _ (PlainPhrase.greatest_length n) (Token.number n ∷ []) refl h refl
 
 -- tokens that don't stop the machine begin a phrase of the category
 pub viable : (c : Category) (ks : List Token) (s : State) → run ks (start c) ≡ Some s → Begins c ks
@@ -141,5 +141,5 @@ pub stopped : (c : Category) (ks : List Token) → run ks (start c) ≡ None →
 stopped c ks e h = let r = alive c ks h in let a = r.1 in absurd (cc)
 
 -- where the machine reads no phrase the tokens are none
-pub no_form : (c : Category) (ks : List Token) → ended_if (run ks (start c)) ≡ None → (p : Reading) → Form c ks p → ⊥
+pub no_form : (c : Category) (ks : List Token) → ended_if (run ks (start c)) ≡ None → (p : PlainPhrase) → Form c ks p → ⊥
 no_form c ks e p h = let a = complete c ks p h in absurd (cc)

@@ -2,8 +2,8 @@
 use Rattle.std.specs.Prelude.{◌≡◌, ◌⊎◌, ℕ, List, Option, Some, Result, Ok, Err}
 use Rattle.plcs_grammar.specs.declared.category.Category.{Category}
 use Rattle.plcs_grammar.specs.declared.phrase.Phrase.{Phrase}
-use Rattle.plcs_grammar.specs.Reading.{Reading}
-use Rattle.plcs_grammar.specs.PlainForm.{reading_of}
+use Rattle.plcs_grammar.specs.PlainPhrase.{PlainPhrase}
+use Rattle.plcs_grammar.specs.PlainForm.{plain_phrase}
 use Rattle.plcs_grammar.specs.Over.{OverLimit}
 use Rattle.plcs_grammar.specs.Reads.{Outline, Reads, IsOver}
 use Rattle.plcs_grammar.specs.Syntax.{SyntaxAt}
@@ -19,12 +19,12 @@ FaultSays category x OutOfMemory = Unit {0}
 
 -- what the answer says of the text
 abbrev pub Answers : Category → List ℕ → Result Phrase PhraseFault → Type 0
-Answers category x (Ok phrase) = Reads category x (reading_of phrase)
+Answers category x (Ok phrase) = Reads category x (plain_phrase phrase)
 Answers category x (Err fault) = FaultSays category x fault
 
 -- the answer is the phrase, unless memory ran out
-abbrev pub Only : Result Phrase PhraseFault → Reading → Type 0
-Only (Ok phrase) reading = reading_of phrase ≡ reading
+abbrev pub Only : Result Phrase PhraseFault → PlainPhrase → Type 0
+Only (Ok phrase) reading = plain_phrase phrase ≡ reading
 Only (Err fault) reading = fault ≡ OutOfMemory
 
 -- the answer is the fault, unless memory ran out
@@ -38,6 +38,6 @@ over_fault (OverLimit.number_too_large place) = NumberTooLarge place
 over_fault (OverLimit.too_deep place) = TooDeep place
 
 -- the answer is the phrase that was to be built, unless memory ran out
-abbrev pub IsBuilt : Result Phrase PhraseFault → Option Reading → Type 0
-IsBuilt (Ok phrase) wanted = wanted ≡ Some (reading_of phrase)
+abbrev pub IsBuilt : Result Phrase PhraseFault → Option PlainPhrase → Type 0
+IsBuilt (Ok phrase) wanted = wanted ≡ Some (plain_phrase phrase)
 IsBuilt (Err fault) wanted = fault ≡ OutOfMemory

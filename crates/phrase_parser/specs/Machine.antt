@@ -12,7 +12,7 @@ use Rattle.plcs_grammar.specs.declared.category.Category.{Category}
 use Rattle.plcs_grammar.specs.declared.category.Category.TheVariants.{Assignment, Condition, Expression, ExpressionList, VariableList, Variable, CallRef, DeclaredList, ProcedureName, NameList, Length, CommentText}
 use Rattle.plcs_grammar.specs.declared.sign.Sign.{Sign}
 use Rattle.plcs_grammar.specs.Token.{Token}
-use Rattle.plcs_grammar.specs.Reading.{Tree, Trees, Reference, Reading}
+use Rattle.plcs_grammar.specs.PlainPhrase.{PlainExpr, PlainExprs, PlainVarRef, PlainPhrase}
 use Rattle.plcs_grammar.specs.Builtin.{builtin_of}
 use Rattle.plcs_grammar.specs.Level.{priority}
 
@@ -20,25 +20,25 @@ use Rattle.plcs_grammar.specs.Level.{priority}
 pub data Base : Type 0 where
   condition : Base
   expression : Base
-  expressions : Trees → Base
-  assigned : Reference → Base
+  expressions : PlainExprs → Base
+  assigned : PlainVarRef → Base
   target_subscript : List ℕ → Base
-  variable_subscript : List Reference → List ℕ → Base
-  call_arguments : List ℕ → Trees → Base
+  variable_subscript : List PlainVarRef → List ℕ → Base
+  call_arguments : List ℕ → PlainExprs → Base
 
 -- what is open around an operand, the innermost outside
 pub data Stack : Type 0 where
   base : Base → Stack
   prefix : PrefixOp → Stack → Stack
-  left : Tree → InfixOp → Stack → Stack
+  left : PlainExpr → InfixOp → Stack → Stack
   parenthesis : Stack → Stack
   subscript : List ℕ → Stack → Stack
-  arguments : Builtin → Trees → Stack → Stack
+  arguments : Builtin → PlainExprs → Stack → Stack
 
 -- what a name that stands in no expression is for, with what of the phrase stands before it
 pub data Role : Type 0 where
   target : Role
-  variables : List Reference → Role
+  variables : List PlainVarRef → Role
   callee : Role
   items : List Item → Role
   names : List (List ℕ) → Role
@@ -50,14 +50,14 @@ pub data State : Type 0 where
   -- an operand is wanted
   wanted : Stack → State
   -- an operand that is no operator with its own operands was just read
-  had : Stack → Tree → State
+  had : Stack → PlainExpr → State
   -- a name is wanted, or was just read
   name_wanted : Role → State
   name_had : Role → List ℕ → State
   -- the parenthesis behind a target's subscript, a variable's subscript or a call's arguments was just read
-  target_had : Reference → State
-  variable_had : List Reference → State
-  call_had : List ℕ → Trees → State
+  target_had : PlainVarRef → State
+  variable_had : List PlainVarRef → State
+  call_had : List ℕ → PlainExprs → State
   -- the size of an array is wanted, or it or the parenthesis behind it was just read
   size_wanted : List Item → List ℕ → State
   size_had : List Item → List ℕ → ℕ → State
@@ -68,12 +68,12 @@ pub data State : Type 0 where
 
 -- a stack and the operand on it
 abbrev pub Operand : Type 0
-Operand = Stack × Tree
+Operand = Stack × PlainExpr
 
--- the trees with one more at the end
-abbrev pub tree_push : Trees → Tree → Trees
-tree_push Trees.nil t = Trees.cons t Trees.nil
-tree_push (Trees.cons a rest) t = Trees.cons a (tree_push rest t)
+-- the expressions with one more at the end
+abbrev pub expr_push : PlainExprs → PlainExpr → PlainExprs
+expr_push PlainExprs.nil t = PlainExprs.cons t PlainExprs.nil
+expr_push (PlainExprs.cons a rest) t = PlainExprs.cons a (expr_push rest t)
 
 -- the operator that the sign is before an operand
 abbrev pub prefix_of : Sign → Option PrefixOp
@@ -100,10 +100,10 @@ infix_of Sign.Divide = Some between.Divide
 infix_of sign = None
 
 -- the operand, joined with each open operator of the level or a higher one
-abbrev pub reduced : Stack → ℕ → Tree → Operand
+abbrev pub reduced : Stack → ℕ → PlainExpr → Operand
 reduced (base b) level t = (base b, t)
-reduced (prefix op s) level t = reduced s level (Tree.unary op t)
-reduced (left a op s) level t = if nat_le level (priority op) then reduced s level (Tree.binary op a t) else (left a op s, t)
+reduced (prefix op s) level t = reduced s level (PlainExpr.unary op t)
+reduced (left a op s) level t = if nat_le level (priority op) then reduced s level (PlainExpr.binary op a t) else (left a op s, t)
 reduced (parenthesis s) level t = (parenthesis s, t)
 reduced (subscript name s) level t = (subscript name s, t)
 reduced (arguments function done s) level t = (arguments function done s, t)
@@ -113,19 +113,19 @@ abbrev pub joined : InfixOp → Operand → State
 joined op o = wanted (left o.1 op o.0)
 
 -- a whole operand is read
-abbrev pub operand : State → Tree → Option State
+abbrev pub operand : State → PlainExpr → Option State
 operand (wanted s) t = Some (had s t)
 operand state t = None
 
 -- a name is read
 abbrev pub named : State → List ℕ → Option State
-named (wanted s) name = Some (had s (Tree.variable (Reference.simple name)))
+named (wanted s) name = Some (had s (PlainExpr.variable (PlainVarRef.simple name)))
 named (name_wanted role) name = Some (name_had role name)
 named state name = None
 
 -- a number is read
 abbrev pub numbered : State → ℕ → Option State
-numbered (wanted s) n = Some (had s (Tree.number (pos n)))
+numbered (wanted s) n = Some (had s (PlainExpr.number (pos n)))
 numbered (size_wanted done name) n = if nat_le 1 n then Some (size_had done name n) else None
 numbered length_wanted n = if nat_le 1 n && nat_le n longest_text then Some (length_had n) else None
 numbered state n = None
@@ -133,18 +133,18 @@ numbered state n = None
 -- a parenthesis is opened behind a name in an expression
 abbrev pub named_open : List ℕ → Option Builtin → Stack → Stack
 named_open name None s = subscript name s
-named_open name (Some function) s = arguments function Trees.nil s
+named_open name (Some function) s = arguments function PlainExprs.nil s
 
 -- a parenthesis is opened behind an operand, which a name alone takes
-abbrev pub opened_behind : Stack → Tree → Option State
-opened_behind s (Tree.variable (Reference.simple name)) = Some (wanted (named_open name (builtin_of name) s))
+abbrev pub opened_behind : Stack → PlainExpr → Option State
+opened_behind s (PlainExpr.variable (PlainVarRef.simple name)) = Some (wanted (named_open name (builtin_of name) s))
 opened_behind s t = None
 
 -- a parenthesis is opened behind a name that stands in no expression
 abbrev pub opened_by_role : Role → List ℕ → Option State
 opened_by_role target name = Some (wanted (base (target_subscript name)))
 opened_by_role (variables done) name = Some (wanted (base (variable_subscript done name)))
-opened_by_role callee name = Some (wanted (base (call_arguments name Trees.nil)))
+opened_by_role callee name = Some (wanted (base (call_arguments name PlainExprs.nil)))
 opened_by_role (items done) name = Some (size_wanted done name)
 opened_by_role role name = None
 
@@ -156,20 +156,20 @@ opened (name_had role name) = opened_by_role role name
 opened state = None
 
 -- the parenthesis in which the phrase's own expression stands is closed
-abbrev pub closed_base : Base → Tree → Option State
-closed_base (target_subscript name) t = Some (target_had (Reference.subscripted name t))
-closed_base (variable_subscript done name) t = Some (variable_had (done ++ (Reference.subscripted name t ∷ [])))
-closed_base (call_arguments name done) t = Some (call_had name (tree_push done t))
+abbrev pub closed_base : Base → PlainExpr → Option State
+closed_base (target_subscript name) t = Some (target_had (PlainVarRef.subscripted name t))
+closed_base (variable_subscript done name) t = Some (variable_had (done ++ (PlainVarRef.subscripted name t ∷ [])))
+closed_base (call_arguments name done) t = Some (call_had name (expr_push done t))
 closed_base b t = None
 
 -- a parenthesis is closed behind an expression, the innermost that is open
-abbrev pub closed_at : Stack → Tree → Option State
+abbrev pub closed_at : Stack → PlainExpr → Option State
 closed_at (base b) t = closed_base b t
 closed_at (prefix op s) t = None
 closed_at (left a op s) t = None
-closed_at (parenthesis s) t = Some (had s (Tree.parenthesized t))
-closed_at (subscript name s) t = Some (had s (Tree.variable (Reference.subscripted name t)))
-closed_at (arguments function done s) t = Some (had s (Tree.builtin function (tree_push done t)))
+closed_at (parenthesis s) t = Some (had s (PlainExpr.parenthesized t))
+closed_at (subscript name s) t = Some (had s (PlainExpr.variable (PlainVarRef.subscripted name t)))
+closed_at (arguments function done s) t = Some (had s (PlainExpr.builtin function (expr_push done t)))
 
 -- a parenthesis is closed
 abbrev pub closed : State → Option State
@@ -178,20 +178,20 @@ closed (size_had done name n) = Some (item_had (done ++ (record { name = name; s
 closed state = None
 
 -- a comma stands behind an expression
-abbrev pub separated_base : Base → Tree → Option State
-separated_base (expressions done) t = Some (wanted (base (expressions (tree_push done t))))
-separated_base (call_arguments name done) t = Some (wanted (base (call_arguments name (tree_push done t))))
+abbrev pub separated_base : Base → PlainExpr → Option State
+separated_base (expressions done) t = Some (wanted (base (expressions (expr_push done t))))
+separated_base (call_arguments name done) t = Some (wanted (base (call_arguments name (expr_push done t))))
 separated_base b t = None
 
 -- a comma stands behind an expression, in the innermost parenthesis that is open
-abbrev pub separated_at : Stack → Tree → Option State
+abbrev pub separated_at : Stack → PlainExpr → Option State
 separated_at (base b) t = separated_base b t
-separated_at (arguments function done s) t = Some (wanted (arguments function (tree_push done t) s))
+separated_at (arguments function done s) t = Some (wanted (arguments function (expr_push done t) s))
 separated_at s t = None
 
 -- a comma stands behind a name
 abbrev pub separated_by_role : Role → List ℕ → Option State
-separated_by_role (variables done) name = Some (name_wanted (variables (done ++ (Reference.simple name ∷ []))))
+separated_by_role (variables done) name = Some (name_wanted (variables (done ++ (PlainVarRef.simple name ∷ []))))
 separated_by_role (items done) name = Some (name_wanted (items (done ++ (record { name = name; size = None } ∷ []))))
 separated_by_role (names done) name = Some (name_wanted (names (done ++ (name ∷ []))))
 separated_by_role role name = None
@@ -206,7 +206,7 @@ separated state = None
 
 -- `=` behind a name that stands in no expression
 abbrev pub assigned_by_role : Role → List ℕ → Option State
-assigned_by_role target name = Some (wanted (base (assigned (Reference.simple name))))
+assigned_by_role target name = Some (wanted (base (assigned (PlainVarRef.simple name))))
 assigned_by_role role name = None
 
 -- `=` is read: it assigns to the target of an assignment, and elsewhere it compares
@@ -222,7 +222,7 @@ with_prefix s None = None
 with_prefix s (Some op) = Some (wanted (prefix op s))
 
 -- a sign stands behind an operand, with the operator that it is there
-abbrev pub with_infix : Stack → Tree → Option InfixOp → Option State
+abbrev pub with_infix : Stack → PlainExpr → Option InfixOp → Option State
 with_infix s t None = None
 with_infix s t (Some op) = Some (joined op (reduced s (priority op) t))
 
@@ -245,8 +245,8 @@ abbrev pub step : State → Token → Option State
 step state (Token.name name) = named state name
 step state (Token.keyword word) = None
 step state (Token.number n) = numbered state n
-step state (Token.text value) = operand state (Tree.text value)
-step state (Token.bit value) = operand state (Tree.bit value)
+step state (Token.text value) = operand state (PlainExpr.text value)
+step state (Token.bit value) = operand state (PlainExpr.bit value)
 step state (Token.sign sign) = signed state sign
 
 -- the same, where the machine has not stopped
@@ -264,7 +264,7 @@ abbrev pub start : Category → Option State
 start Assignment = Some (name_wanted target)
 start Condition = Some (wanted (base condition))
 start Expression = Some (wanted (base expression))
-start ExpressionList = Some (wanted (base (expressions Trees.nil)))
+start ExpressionList = Some (wanted (base (expressions PlainExprs.nil)))
 start VariableList = Some (name_wanted (variables []))
 start Variable = Some (name_wanted variable)
 start CallRef = Some (name_wanted callee)
@@ -275,39 +275,39 @@ start Length = Some length_wanted
 start CommentText = None
 
 -- the phrase, if an expression is its last part
-abbrev pub ended_base : Base → Tree → Option Reading
-ended_base condition t = Some (Reading.condition t)
-ended_base expression t = Some (Reading.expression t)
-ended_base (expressions done) t = Some (Reading.expression_list (tree_push done t))
-ended_base (assigned reference) t = Some (Reading.assignment reference t)
+abbrev pub ended_base : Base → PlainExpr → Option PlainPhrase
+ended_base condition t = Some (PlainPhrase.condition t)
+ended_base expression t = Some (PlainPhrase.expression t)
+ended_base (expressions done) t = Some (PlainPhrase.expression_list (expr_push done t))
+ended_base (assigned reference) t = Some (PlainPhrase.assignment reference t)
 ended_base b t = None
 
 -- the phrase, if nothing is open around its last expression
-abbrev pub ended_at : Stack → Tree → Option Reading
+abbrev pub ended_at : Stack → PlainExpr → Option PlainPhrase
 ended_at (base b) t = ended_base b t
 ended_at s t = None
 
 -- the phrase, if a name is its last part
-abbrev pub ended_by_role : Role → List ℕ → Option Reading
+abbrev pub ended_by_role : Role → List ℕ → Option PlainPhrase
 ended_by_role target name = None
-ended_by_role (variables done) name = Some (Reading.variable_list (done ++ (Reference.simple name ∷ [])))
-ended_by_role callee name = Some (Reading.call name Trees.nil)
-ended_by_role (items done) name = Some (Reading.declared_list (done ++ (record { name = name; size = None } ∷ [])))
-ended_by_role (names done) name = Some (Reading.name_list (done ++ (name ∷ [])))
-ended_by_role variable name = Some (Reading.variable_name name)
-ended_by_role procedure name = Some (Reading.procedure_name name)
+ended_by_role (variables done) name = Some (PlainPhrase.variable_list (done ++ (PlainVarRef.simple name ∷ [])))
+ended_by_role callee name = Some (PlainPhrase.call name PlainExprs.nil)
+ended_by_role (items done) name = Some (PlainPhrase.declared_list (done ++ (record { name = name; size = None } ∷ [])))
+ended_by_role (names done) name = Some (PlainPhrase.name_list (done ++ (name ∷ [])))
+ended_by_role variable name = Some (PlainPhrase.variable_name name)
+ended_by_role procedure name = Some (PlainPhrase.procedure_name name)
 
 -- the phrase, if the tokens are all of it
-abbrev pub ended : State → Option Reading
+abbrev pub ended : State → Option PlainPhrase
 ended (had s t) = let o = reduced s 1 t in ended_at o.0 o.1
 ended (name_had role name) = ended_by_role role name
-ended (variable_had done) = Some (Reading.variable_list done)
-ended (call_had name passed) = Some (Reading.call name passed)
-ended (item_had done) = Some (Reading.declared_list done)
-ended (length_had n) = Some (Reading.greatest_length n)
+ended (variable_had done) = Some (PlainPhrase.variable_list done)
+ended (call_had name passed) = Some (PlainPhrase.call name passed)
+ended (item_had done) = Some (PlainPhrase.declared_list done)
+ended (length_had n) = Some (PlainPhrase.greatest_length n)
 ended state = None
 
 -- the same, where the machine has not stopped
-abbrev pub ended_if : Option State → Option Reading
+abbrev pub ended_if : Option State → Option PlainPhrase
 ended_if None = None
 ended_if (Some state) = ended state

@@ -1,6 +1,6 @@
 -- What is left to do with an operand and the frame around it.
 use Rattle.std.specs.Prelude.{ℕ}
-use Rattle.plcs_grammar.specs.PlainForm.{tree_of}
+use Rattle.plcs_grammar.specs.PlainForm.{plain_expr}
 use Rattle.phrase_parser.specs.Machine.{Stack, Operand, reduced}
 use Rattle.phrase_parser.specs.declared.builder.operators.Joined.{Joined}
 use Rattle.phrase_parser.specs.declared.builder.operators.Joined.TheVariants as joined
@@ -8,5 +8,5 @@ use Rattle.phrase_parser.specs.Views.{pushed}
 
 -- an operand is joined further, and a frame that stays open ends it
 abbrev pub rest_of : Joined → Stack → ℕ → Operand
-rest_of (joined.Operand t) s level = reduced s level (tree_of t)
-rest_of (joined.Open f t) s level = (pushed f s, tree_of t)
+rest_of (joined.Operand t) s level = reduced s level (plain_expr t)
+rest_of (joined.Open f t) s level = (pushed f s, plain_expr t)

@@ -1,5 +1,5 @@
 ghost use Rattle.std.specs.Prelude.{◌≡◌, map, All};
-ghost use Rattle.plcs_grammar.specs.PlainForm.{reading_of};
+ghost use Rattle.plcs_grammar.specs.PlainForm.{plain_phrase};
 ghost use Rattle.phrase_parser.specs.Machine.{start, run, ended_if};
 ghost use Rattle.phrase_parser.specs.TokenIn.{IsPlacedIn, token_in};
 ghost use Rattle.phrase_parser.specs.Gives.{Gives};
@@ -37,7 +37,7 @@ pub fn build(
     tokens: &[Placed],
 ) -> Result<Phrase, BuildError>
     requires { All (IsPlacedIn text.now) tokens.now }
-    ensures { Gives reading_of result (ended_if (run (map (token_in text.now) tokens.now) (start category))) }
+    ensures { Gives plain_phrase result (ended_if (run (map (token_in text.now) tokens.now) (start category))) }
 {
     let mut state = start(alloc, category)?;
     for token in tokens {

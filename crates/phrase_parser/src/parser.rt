@@ -1,8 +1,8 @@
 ghost use Rattle.std.specs.Prelude.{◌≡◌, ◌<◌, ◌^◌, ℕ, length, map, All, Some, IfOk, IsTrue, is_some};
 ghost use Rattle.plcs_grammar.specs.Canon.{IsWellFormed};
 ghost use Rattle.plcs_grammar.specs.Over.{OverLimit};
-ghost use Rattle.plcs_grammar.specs.PlainForm.{reading_of};
-ghost use Rattle.plcs_grammar.specs.Reading.{Reading};
+ghost use Rattle.plcs_grammar.specs.PlainForm.{plain_phrase};
+ghost use Rattle.plcs_grammar.specs.PlainPhrase.{PlainPhrase};
 ghost use Rattle.plcs_grammar.specs.Reads.{Outline, Reads, IsOver};
 ghost use Rattle.plcs_grammar.specs.Syntax.{SyntaxAt};
 ghost use Rattle.phrase_parser.specs.declared.fault.PhraseFault.TheVariants.{Syntax};
@@ -29,9 +29,9 @@ pub fn parse(alloc: Global, category: Category, text: &[u8]) -> Result<Phrase, P
     // What each answer says of the text.
     ensures says { Answers category text.now result }
     // The phrase is well formed: its canonical text reads as it.
-    ensures well_formed { IfOk result (λ phrase. IsWellFormed category (reading_of phrase)) }
+    ensures well_formed { IfOk result (λ phrase. IsWellFormed category (plain_phrase phrase)) }
     // What the text reads as is answered, unless memory runs out.
-    ensures only { (phrase : Reading) → Reads category text.now phrase → Only result phrase }
+    ensures only { (phrase : PlainPhrase) → Reads category text.now phrase → Only result phrase }
     // So is what goes past a limit first.
     ensures over { (over : OverLimit) → IsOver category text.now over → OnlyFault result (over_fault over) }
     // And so is the place where a text without a reading goes wrong.

@@ -1,37 +1,37 @@
 -- The text of a chain of operators, from the left to the right.
 use Rattle.std.proofs.Common.{ℕ, zero, suc, ◌+◌, ◌≡◌, ◌++◌, refl, sym, ap, ◌∙◌, append_assoc, add-suc, add-zero}
 use Rattle.std.proofs.lemmas.List.{append-nil}
-use Rattle.plcs_grammar.specs.Reading.{Tree}
+use Rattle.plcs_grammar.specs.PlainPhrase.{PlainExpr}
 use Rattle.plcs_grammar.specs.Canon.{canon}
 use Rattle.plcs_grammar.specs.Chain.{leftmost, chain_text, operator_text}
 
 -- the leftmost operand comes first, and the rest of the chain behind it
-pub chain_whole : (t : Tree) (n : ℕ) → canon (leftmost t n) ++ chain_text t n ≡ canon t
-chain_whole (Tree.number z) n = append-nil _
-chain_whole (Tree.text value) n = append-nil _
-chain_whole (Tree.bit value) n = append-nil _
-chain_whole (Tree.variable reference) n = append-nil _
-chain_whole (Tree.unary op a) n = append-nil _
-chain_whole (Tree.binary op a b) zero = append-nil _
-chain_whole (Tree.binary op a b) (suc n) =
+pub chain_whole : (t : PlainExpr) (n : ℕ) → canon (leftmost t n) ++ chain_text t n ≡ canon t
+chain_whole (PlainExpr.number z) n = append-nil _
+chain_whole (PlainExpr.text value) n = append-nil _
+chain_whole (PlainExpr.bit value) n = append-nil _
+chain_whole (PlainExpr.variable reference) n = append-nil _
+chain_whole (PlainExpr.unary op a) n = append-nil _
+chain_whole (PlainExpr.binary op a b) zero = append-nil _
+chain_whole (PlainExpr.binary op a b) (suc n) =
     sym (append_assoc (canon (leftmost a n)) (chain_text a n) (operator_text op b))
     ∙ ap (λ z. z ++ operator_text op b) (chain_whole a n)
-chain_whole (Tree.builtin function arguments) n = append-nil _
-chain_whole (Tree.parenthesized a) n = append-nil _
+chain_whole (PlainExpr.builtin function arguments) n = append-nil _
+chain_whole (PlainExpr.parenthesized a) n = append-nil _
 
 -- the operators on the left come first, and the others behind them
-pub chain_halves : (t : Tree) (left right : ℕ)
+pub chain_halves : (t : PlainExpr) (left right : ℕ)
     → chain_text (leftmost t right) left ++ chain_text t right ≡ chain_text t (left + right)
-chain_halves (Tree.number z) left right = refl
-chain_halves (Tree.text value) left right = refl
-chain_halves (Tree.bit value) left right = refl
-chain_halves (Tree.variable reference) left right = refl
-chain_halves (Tree.unary op a) left right = refl
-chain_halves (Tree.binary op a b) left zero =
-    append-nil _ ∙ ap (λ n. chain_text (Tree.binary op a b) n) (sym (add-zero left))
-chain_halves (Tree.binary op a b) left (suc right) =
+chain_halves (PlainExpr.number z) left right = refl
+chain_halves (PlainExpr.text value) left right = refl
+chain_halves (PlainExpr.bit value) left right = refl
+chain_halves (PlainExpr.variable reference) left right = refl
+chain_halves (PlainExpr.unary op a) left right = refl
+chain_halves (PlainExpr.binary op a b) left zero =
+    append-nil _ ∙ ap (λ n. chain_text (PlainExpr.binary op a b) n) (sym (add-zero left))
+chain_halves (PlainExpr.binary op a b) left (suc right) =
     sym (append_assoc (chain_text (leftmost a right) left) (chain_text a right) (operator_text op b))
     ∙ ap (λ z. z ++ operator_text op b) (chain_halves a left right)
-    ∙ ap (λ n. chain_text (Tree.binary op a b) n) (sym (add-suc left right))
-chain_halves (Tree.builtin function arguments) left right = refl
-chain_halves (Tree.parenthesized a) left right = refl
+    ∙ ap (λ n. chain_text (PlainExpr.binary op a b) n) (sym (add-suc left right))
+chain_halves (PlainExpr.builtin function arguments) left right = refl
+chain_halves (PlainExpr.parenthesized a) left right = refl

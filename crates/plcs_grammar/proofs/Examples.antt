@@ -4,7 +4,7 @@ use Rattle.std.specs.Fmt.{digits}
 use Rattle.std.specs.Prelude.{IsTrue}
 use Rattle.plcs_base.specs.Name.{IsName, is_keyword}
 use Rattle.plcs_grammar.specs.declared.operator.InfixOp.TheVariants.{Equal, Plus, Times}
-use Rattle.plcs_grammar.specs.Reading.{Tree, Trees, Reference, Reading}
+use Rattle.plcs_grammar.specs.PlainPhrase.{PlainExpr, PlainExprs, PlainVarRef, PlainPhrase}
 use Rattle.plcs_grammar.specs.declared.sign.Sign.{Sign}
 use Rattle.plcs_grammar.specs.Sign.{sign_bytes, infix_sign}
 use Rattle.plcs_grammar.specs.Token.{Token, IsToken, IsNumeral, First, quoted, bit_bytes, numeral_value}
@@ -18,25 +18,25 @@ use Rattle.plcs_grammar.specs.Syntax.{GoesWrong, SyntaxAt}
 use Rattle.plcs_grammar.specs.Canon.{Canon}
 use Rattle.plcs_grammar.specs.declared.category.Category.TheVariants.{Assignment, Condition, Expression, ExpressionList, VariableList, Variable, CallRef, DeclaredList, ProcedureName, NameList, Length, CommentText}
 
-abbrev num : ℕ → Tree
-num n = Tree.number (pos n)
+abbrev num : ℕ → PlainExpr
+num n = PlainExpr.number (pos n)
 
-abbrev var : List ℕ → Tree
-var name = Tree.variable (Reference.simple name)
+abbrev var : List ℕ → PlainExpr
+var name = PlainExpr.variable (PlainVarRef.simple name)
 
 -- `( 1 + 2 ) * 3`
-product_of_sum : Canon (Reading.expression (Tree.binary Times (Tree.parenthesized (Tree.binary Plus (num 1) (num 2))) (num 3)))
+product_of_sum : Canon (PlainPhrase.expression (PlainExpr.binary Times (PlainExpr.parenthesized (PlainExpr.binary Plus (num 1) (num 2))) (num 3)))
     ≡ codes "( 1 + 2 ) * 3"
 unfolding digits
 product_of_sum = refl
 
 -- `p(1, x)`
-call_of_two : Canon (Reading.call (codes "p") (Trees.cons (num 1) (Trees.cons (var (codes "x")) Trees.nil))) ≡ codes "p(1, x)"
+call_of_two : Canon (PlainPhrase.call (codes "p") (PlainExprs.cons (num 1) (PlainExprs.cons (var (codes "x")) PlainExprs.nil))) ≡ codes "p(1, x)"
 unfolding digits
 call_of_two = refl
 
 -- `''''` is the text of one quote
-one_quote : Canon (Reading.expression (Tree.text (codes "'"))) ≡ codes "''''"
+one_quote : Canon (PlainPhrase.expression (PlainExpr.text (codes "'"))) ≡ codes "''''"
 one_quote = refl
 
 leading_zeros : numeral_value (codes "007") ≡ 7
@@ -48,7 +48,7 @@ equals =
     Token.name (codes "a") ∷ Token.sign Sign.Equal ∷ Token.name (codes "b") ∷ Token.sign Sign.Equal ∷ Token.name (codes "c") ∷ []
 
 -- they are `( a = b ) = c` in structure
-left_first : Level (Tree.binary Equal (Tree.binary Equal (var (codes "a")) (var (codes "b"))) (var (codes "c"))) 1 equals
+left_first : Level (PlainExpr.binary Equal (PlainExpr.binary Equal (var (codes "a")) (var (codes "b"))) (var (codes "c"))) 1 equals
 left_first = (
   lit≤ tt,
   Token.name (codes "a") ∷ Token.sign Sign.Equal ∷ Token.name (codes "b") ∷ [],
@@ -60,7 +60,7 @@ left_first = (
 
 -- and not `a = ( b = c )`
 not_right_first : (tokens : List Token)
-    → ¬ (Level (Tree.binary Equal (var (codes "a")) (Tree.binary Equal (var (codes "b")) (var (codes "c")))) 1 tokens)
+    → ¬ (Level (PlainExpr.binary Equal (var (codes "a")) (PlainExpr.binary Equal (var (codes "b")) (var (codes "c")))) 1 tokens)
 not_right_first tokens (low, left, right, cut, a, (high, rest, more, cut_right, b, c)) = absurd (omega (arith, high))
 
 -- a row of tokens of one byte each, from the first place on
@@ -73,25 +73,25 @@ abbrev times : ℕ → Token → List Token → List Token
 times zero token behind = behind
 times (suc n) token behind = token ∷ times n token behind
 
-abbrev nested : ℕ → Tree
+abbrev nested : ℕ → PlainExpr
 nested zero = num 1
-nested (suc n) = Tree.parenthesized (nested n)
+nested (suc n) = PlainExpr.parenthesized (nested n)
 
 abbrev nested_tokens : ℕ → List Token
 nested_tokens n =
     times n (Token.sign Sign.OpenParenthesis) (Token.number 1 ∷ times n (Token.sign Sign.CloseParenthesis) [])
 
 -- the 33rd parenthesis is one too many, and 32 are not
-thirty_three : first_over (placed 0 (nested_tokens 33)) (phrase_opened (Reading.expression (nested 33))) ≡ Some (OverLimit.too_deep 32)
+thirty_three : first_over (placed 0 (nested_tokens 33)) (phrase_opened (PlainPhrase.expression (nested 33))) ≡ Some (OverLimit.too_deep 32)
 thirty_three = refl
 
-thirty_two : first_over (placed 0 (nested_tokens 32)) (phrase_opened (Reading.expression (nested 32))) ≡ None
+thirty_two : first_over (placed 0 (nested_tokens 32)) (phrase_opened (PlainPhrase.expression (nested 32))) ≡ None
 thirty_two = refl
 
 -- an array's size may be too large, and opens no level
 large_size :
     first_over (placed 0 (Token.name (codes "a") ∷ in_parentheses (Token.number 2147483648 ∷ [])))
-    (phrase_opened (Reading.declared_list (record { name = codes "a"; size = Some 2147483648 } ∷ [])))
+    (phrase_opened (PlainPhrase.declared_list (record { name = codes "a"; size = Some 2147483648 } ∷ [])))
     ≡ Some (OverLimit.number_too_large 2)
 large_size = refl
 
@@ -189,34 +189,34 @@ one_piece : Cuts (record { token = Token.sign Sign.CloseParenthesis; start = 2; 
 one_piece = (codes ")", [], record { whole = refl; is_token = refl; longest = one_byte_longest }, refl, refl, refl)
 
 -- no expression is made of no tokens
-no_empty_expression : (e : Tree) → ¬ (Level e 1 [])
-no_empty_expression (Tree.number (pos n)) e = cc
-no_empty_expression (Tree.number (negsuc n)) e = e
-no_empty_expression (Tree.text value) e = cc
-no_empty_expression (Tree.bit value) e = cc
-no_empty_expression (Tree.variable (Reference.simple name)) (own, e) = cc
-no_empty_expression (Tree.variable (Reference.subscripted name index)) (own, (inner, e, level)) = cc
-no_empty_expression (Tree.unary op a) (inner, e, level) = cc
-no_empty_expression (Tree.binary op a b) (low, left, right, e, a_level, b_level) =
+no_empty_expression : (e : PlainExpr) → ¬ (Level e 1 [])
+no_empty_expression (PlainExpr.number (pos n)) e = cc
+no_empty_expression (PlainExpr.number (negsuc n)) e = e
+no_empty_expression (PlainExpr.text value) e = cc
+no_empty_expression (PlainExpr.bit value) e = cc
+no_empty_expression (PlainExpr.variable (PlainVarRef.simple name)) (own, e) = cc
+no_empty_expression (PlainExpr.variable (PlainVarRef.subscripted name index)) (own, (inner, e, level)) = cc
+no_empty_expression (PlainExpr.unary op a) (inner, e, level) = cc
+no_empty_expression (PlainExpr.binary op a b) (low, left, right, e, a_level, b_level) =
     absurd (omega (arith, ap length e, length-append left (Token.sign (infix_sign op) ∷ right)))
-no_empty_expression (Tree.builtin function arguments) (inner, e, joined) = cc
-no_empty_expression (Tree.parenthesized a) (inner, e, level) = cc
+no_empty_expression (PlainExpr.builtin function arguments) (inner, e, joined) = cc
+no_empty_expression (PlainExpr.parenthesized a) (inner, e, level) = cc
 
-no_empty_form : (phrase : Reading) → ¬ (Form Expression [] phrase)
-no_empty_form (Reading.expression e) form = no_empty_expression e form.1
-no_empty_form (Reading.assignment target value) form = let wrong : Assignment ≡ Expression = form.0 in cc
-no_empty_form (Reading.condition e) form = let wrong : Condition ≡ Expression = form.0 in cc
-no_empty_form (Reading.expression_list es) form = let wrong : ExpressionList ≡ Expression = form.0 in cc
-no_empty_form (Reading.variable_list targets) form = let wrong : VariableList ≡ Expression = form.0 in cc
-no_empty_form (Reading.variable_name name) form = let wrong : Variable ≡ Expression = form.0 in cc
-no_empty_form (Reading.call name arguments) form = let wrong : CallRef ≡ Expression = form.0 in cc
-no_empty_form (Reading.declared_list items) form = let wrong : DeclaredList ≡ Expression = form.0 in cc
-no_empty_form (Reading.procedure_name name) form = let wrong : ProcedureName ≡ Expression = form.0 in cc
-no_empty_form (Reading.name_list names) form = let wrong : NameList ≡ Expression = form.0 in cc
-no_empty_form (Reading.greatest_length n) form = let wrong : Length ≡ Expression = form.0 in cc
-no_empty_form (Reading.comment bytes) form = let wrong : CommentText ≡ Expression = form.0 in cc
+no_empty_form : (phrase : PlainPhrase) → ¬ (Form Expression [] phrase)
+no_empty_form (PlainPhrase.expression e) form = no_empty_expression e form.1
+no_empty_form (PlainPhrase.assignment target value) form = let wrong : Assignment ≡ Expression = form.0 in cc
+no_empty_form (PlainPhrase.condition e) form = let wrong : Condition ≡ Expression = form.0 in cc
+no_empty_form (PlainPhrase.expression_list es) form = let wrong : ExpressionList ≡ Expression = form.0 in cc
+no_empty_form (PlainPhrase.variable_list targets) form = let wrong : VariableList ≡ Expression = form.0 in cc
+no_empty_form (PlainPhrase.variable_name name) form = let wrong : Variable ≡ Expression = form.0 in cc
+no_empty_form (PlainPhrase.call name arguments) form = let wrong : CallRef ≡ Expression = form.0 in cc
+no_empty_form (PlainPhrase.declared_list items) form = let wrong : DeclaredList ≡ Expression = form.0 in cc
+no_empty_form (PlainPhrase.procedure_name name) form = let wrong : ProcedureName ≡ Expression = form.0 in cc
+no_empty_form (PlainPhrase.name_list names) form = let wrong : NameList ≡ Expression = form.0 in cc
+no_empty_form (PlainPhrase.greatest_length n) form = let wrong : Length ≡ Expression = form.0 in cc
+no_empty_form (PlainPhrase.comment bytes) form = let wrong : CommentText ≡ Expression = form.0 in cc
 
 -- the empty text goes wrong at its end, which is place 0
 empty_text : SyntaxAt Expression [] 0
 empty_text =
-    inl ([], None, refl, GoesWrong.at_end (Token.number 1 ∷ [], Reading.expression (num 1), (refl, refl)) no_empty_form)
+    inl ([], None, refl, GoesWrong.at_end (Token.number 1 ∷ [], PlainPhrase.expression (num 1), (refl, refl)) no_empty_form)

@@ -2,7 +2,7 @@
 use Rattle.std.proofs.Common.{ℕ, ◌+◌, ◌<◌, ◌≡◌, List, [], ◌∷◌, ◌++◌, length, take, get_or, map, refl, sym, ap, ◌∙◌, append_assoc, arith}
 use Rattle.std.proofs.lemmas.List.{append-nil, take_more, length-take-le}
 use Rattle.plcs_grammar.specs.declared.expr.Expr.{Expr}
-use Rattle.plcs_grammar.specs.PlainForm.{tree_of, trees_of}
+use Rattle.plcs_grammar.specs.PlainForm.{plain_expr, plain_exprs}
 use Rattle.plcs_grammar.specs.Canon.{canon, canon_list, canon_behind, canon_call, parenthesized_bytes, comma, joined, more_joined}
 use Rattle.plcs_grammar.specs.Separator.{separator}
 
@@ -22,13 +22,13 @@ joined_push bytes_of (y ∷ ys) x =
     ∙ sym (append_assoc (bytes_of y) (more_joined bytes_of ys) (comma ++ bytes_of x))
 
 -- expressions, as any other items
-pub behind_is : (es : List Expr) → more_joined (λ e. canon (tree_of e)) es ≡ canon_behind (trees_of es)
+pub behind_is : (es : List Expr) → more_joined (λ e. canon (plain_expr e)) es ≡ canon_behind (plain_exprs es)
 behind_is [] = refl
-behind_is (e ∷ es) = ap (λ z. comma ++ (canon (tree_of e) ++ z)) (behind_is es)
+behind_is (e ∷ es) = ap (λ z. comma ++ (canon (plain_expr e) ++ z)) (behind_is es)
 
-pub list_is : (es : List Expr) → joined (λ e. canon (tree_of e)) es ≡ canon_list (trees_of es)
+pub list_is : (es : List Expr) → joined (λ e. canon (plain_expr e)) es ≡ canon_list (plain_exprs es)
 list_is [] = refl
-list_is (e ∷ es) = ap (λ z. canon (tree_of e) ++ z) (behind_is es)
+list_is (e ∷ es) = ap (λ z. canon (plain_expr e) ++ z) (behind_is es)
 
 -- the item of this number, behind those before it
 pub joined_next : {X : Type 0} (bytes_of : X → List ℕ) (xs : List X) (i : ℕ) (x : X)
@@ -52,6 +52,6 @@ joined_map bytes_of f (x ∷ xs) = ap (λ z. bytes_of (f x) ++ z) (more_joined_m
 
 -- a call with arguments
 pub call_text : (name : List ℕ) (es : List Expr) → 0 < length es
-    → canon_call name (trees_of es) ≡ name ++ parenthesized_bytes (canon_list (trees_of es))
+    → canon_call name (plain_exprs es) ≡ name ++ parenthesized_bytes (canon_list (plain_exprs es))
 call_text name [] some = absurd (omega (arith, some))
 call_text name (e ∷ es) some = refl

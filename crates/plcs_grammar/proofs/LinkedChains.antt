@@ -1,11 +1,11 @@
 -- One operator more in a chain that is taken apart.
 use Rattle.std.proofs.Common.{◌≡◌, List, [], ◌∷◌, ◌++◌, refl, ap}
 use Rattle.plcs_grammar.specs.declared.expr_copy.Link.{Link}
-use Rattle.plcs_grammar.specs.Reading.{Tree}
-use Rattle.plcs_grammar.specs.PlainForm.{tree_of}
+use Rattle.plcs_grammar.specs.PlainPhrase.{PlainExpr}
+use Rattle.plcs_grammar.specs.PlainForm.{plain_expr}
 use Rattle.plcs_grammar.specs.Link.{linked}
 
-pub linked_push : (operand : Tree) (links : List Link) (link : Link)
-    → linked operand (links ++ (link ∷ [])) ≡ linked (Tree.binary link.op operand (tree_of link.right)) links
+pub linked_push : (operand : PlainExpr) (links : List Link) (link : Link)
+    → linked operand (links ++ (link ∷ [])) ≡ linked (PlainExpr.binary link.op operand (plain_expr link.right)) links
 linked_push operand [] link = refl
-linked_push operand (first ∷ links) link = ap (λ t. Tree.binary first.op t (tree_of first.right)) (linked_push operand links link)
+linked_push operand (first ∷ links) link = ap (λ t. PlainExpr.binary first.op t (plain_expr first.right)) (linked_push operand links link)

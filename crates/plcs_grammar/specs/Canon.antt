@@ -7,7 +7,7 @@ use Rattle.plcs_grammar.specs.declared.category.Category.{Category}
 use Rattle.plcs_grammar.specs.Builtin.{builtin_name}
 use Rattle.plcs_grammar.specs.Sign.{sign_bytes, prefix_sign, infix_sign}
 use Rattle.plcs_grammar.specs.Token.{quoted, bit_bytes}
-use Rattle.plcs_grammar.specs.Reading.{Tree, Trees, Reference, Reading}
+use Rattle.plcs_grammar.specs.PlainPhrase.{PlainExpr, PlainExprs, PlainVarRef, PlainPhrase}
 use Rattle.plcs_grammar.specs.Reads.{Reads}
 
 -- the bytes in parentheses, with no blank inside
@@ -24,30 +24,30 @@ comma = codes ", "
 
 abbrev mutual
   -- the canonical text of an expression
-  pub canon : Tree → List ℕ
-  canon (Tree.number z) = signed_decimal z
-  canon (Tree.text value) = quoted value
-  canon (Tree.bit value) = bit_bytes value
-  canon (Tree.variable reference) = canon_reference reference
-  canon (Tree.unary op a) = sign_bytes (prefix_sign op) ++ canon a
-  canon (Tree.binary op a b) = canon a ++ behind_sign (infix_sign op) (canon b)
-  canon (Tree.builtin function arguments) = builtin_name function ++ parenthesized_bytes (canon_list arguments)
-  canon (Tree.parenthesized a) = codes "( " ++ (canon a ++ codes " )")
+  pub canon : PlainExpr → List ℕ
+  canon (PlainExpr.number z) = signed_decimal z
+  canon (PlainExpr.text value) = quoted value
+  canon (PlainExpr.bit value) = bit_bytes value
+  canon (PlainExpr.variable reference) = canon_reference reference
+  canon (PlainExpr.unary op a) = sign_bytes (prefix_sign op) ++ canon a
+  canon (PlainExpr.binary op a b) = canon a ++ behind_sign (infix_sign op) (canon b)
+  canon (PlainExpr.builtin function arguments) = builtin_name function ++ parenthesized_bytes (canon_list arguments)
+  canon (PlainExpr.parenthesized a) = codes "( " ++ (canon a ++ codes " )")
 
   -- the canonical text of a variable
-  pub canon_reference : Reference → List ℕ
-  canon_reference (Reference.simple name) = name
-  canon_reference (Reference.subscripted name index) = name ++ parenthesized_bytes (canon index)
+  pub canon_reference : PlainVarRef → List ℕ
+  canon_reference (PlainVarRef.simple name) = name
+  canon_reference (PlainVarRef.subscripted name index) = name ++ parenthesized_bytes (canon index)
 
   -- the canonical texts of expressions, joined by a comma and a blank
-  pub canon_list : Trees → List ℕ
-  canon_list Trees.nil = []
-  canon_list (Trees.cons a rest) = canon a ++ canon_behind rest
+  pub canon_list : PlainExprs → List ℕ
+  canon_list PlainExprs.nil = []
+  canon_list (PlainExprs.cons a rest) = canon a ++ canon_behind rest
 
   -- the same for those behind the first, each behind its comma
-  pub canon_behind : Trees → List ℕ
-  canon_behind Trees.nil = []
-  canon_behind (Trees.cons a rest) = comma ++ (canon a ++ canon_behind rest)
+  pub canon_behind : PlainExprs → List ℕ
+  canon_behind PlainExprs.nil = []
+  canon_behind (PlainExprs.cons a rest) = comma ++ (canon a ++ canon_behind rest)
 
 module _ {X : Type 0} (bytes_of : X → List ℕ) where
   -- their texts, each behind a comma and a blank
@@ -70,29 +70,29 @@ abbrev pub canon_item : Item → List ℕ
 canon_item item = canon_sized item.name item.size
 
 -- a call without arguments has no parentheses
-abbrev pub canon_call : List ℕ → Trees → List ℕ
-canon_call name Trees.nil = name
-canon_call name (Trees.cons a rest) = name ++ parenthesized_bytes (canon_list (Trees.cons a rest))
+abbrev pub canon_call : List ℕ → PlainExprs → List ℕ
+canon_call name PlainExprs.nil = name
+canon_call name (PlainExprs.cons a rest) = name ++ parenthesized_bytes (canon_list (PlainExprs.cons a rest))
 
 -- the canonical text of a phrase
-abbrev pub Canon : Reading → List ℕ
-Canon (Reading.assignment target value) = canon_reference target ++ behind_sign Sign.Equal (canon value)
-Canon (Reading.condition e) = canon e
-Canon (Reading.expression e) = canon e
-Canon (Reading.expression_list es) = canon_list es
-Canon (Reading.variable_list targets) = joined canon_reference targets
-Canon (Reading.variable_name name) = name
-Canon (Reading.call name arguments) = canon_call name arguments
-Canon (Reading.declared_list items) = joined canon_item items
-Canon (Reading.procedure_name name) = name
-Canon (Reading.name_list names) = joined (λ name. name) names
-Canon (Reading.greatest_length n) = decimal n
-Canon (Reading.comment bytes) = bytes
+abbrev pub Canon : PlainPhrase → List ℕ
+Canon (PlainPhrase.assignment target value) = canon_reference target ++ behind_sign Sign.Equal (canon value)
+Canon (PlainPhrase.condition e) = canon e
+Canon (PlainPhrase.expression e) = canon e
+Canon (PlainPhrase.expression_list es) = canon_list es
+Canon (PlainPhrase.variable_list targets) = joined canon_reference targets
+Canon (PlainPhrase.variable_name name) = name
+Canon (PlainPhrase.call name arguments) = canon_call name arguments
+Canon (PlainPhrase.declared_list items) = joined canon_item items
+Canon (PlainPhrase.procedure_name name) = name
+Canon (PlainPhrase.name_list names) = joined (λ name. name) names
+Canon (PlainPhrase.greatest_length n) = decimal n
+Canon (PlainPhrase.comment bytes) = bytes
 
 -- the length of a canonical text is told up to this one
 abbrev pub longest_shown : ℕ
 longest_shown = 4294967295
 
 -- the phrase is what its canonical text reads as
-abbrev pub IsWellFormed : Category → Reading → Type 0
+abbrev pub IsWellFormed : Category → PlainPhrase → Type 0
 IsWellFormed category phrase = Reads category (Canon phrase) phrase

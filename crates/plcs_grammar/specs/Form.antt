@@ -5,7 +5,7 @@ use Rattle.plcs_grammar.specs.declared.category.Category.{Category}
 use Rattle.plcs_grammar.specs.declared.item.Item.{Item}
 use Rattle.plcs_grammar.specs.declared.sign.Sign.{Sign}
 use Rattle.plcs_grammar.specs.Token.{Token}
-use Rattle.plcs_grammar.specs.Reading.{Trees, Reading, category_of}
+use Rattle.plcs_grammar.specs.PlainPhrase.{PlainExprs, PlainPhrase, category_of}
 use Rattle.plcs_grammar.specs.Level.{Level, IsNameToken, IsReference, Joined, in_parentheses}
 
 -- the tokens are a declared name, with the size of an array, which is at least 1, or without one
@@ -30,32 +30,32 @@ module _ {X : Type 0} (Is : X → List Token → Type 0) where
   JoinedBy (x ∷ xs) tokens = (left right : List Token) × (tokens ≡ left ++ right) × Is x left × MoreBehind xs right
 
 -- the tokens are a call: a name, or a name and arguments in parentheses
-abbrev pub IsCall : List ℕ → Trees → List Token → Type 0
-IsCall name Trees.nil tokens = IsNameToken name tokens
-IsCall name (Trees.cons a rest) tokens =
-    (inner : List Token) × (tokens ≡ Token.name name ∷ in_parentheses inner) × Joined (Trees.cons a rest) inner
+abbrev pub IsCall : List ℕ → PlainExprs → List Token → Type 0
+IsCall name PlainExprs.nil tokens = IsNameToken name tokens
+IsCall name (PlainExprs.cons a rest) tokens =
+    (inner : List Token) × (tokens ≡ Token.name name ∷ in_parentheses inner) × Joined (PlainExprs.cons a rest) inner
 
 -- the tokens are the phrase
-abbrev pub IsPhrase : Reading → List Token → Type 0
-IsPhrase (Reading.assignment target value) tokens =
+abbrev pub IsPhrase : PlainPhrase → List Token → Type 0
+IsPhrase (PlainPhrase.assignment target value) tokens =
     (left right : List Token) × (tokens ≡ left ++ (Token.sign Sign.Equal ∷ right)) × IsReference target left × Level value 1 right
-IsPhrase (Reading.condition e) tokens = Level e 1 tokens
-IsPhrase (Reading.expression e) tokens = Level e 1 tokens
-IsPhrase (Reading.expression_list es) tokens = Joined es tokens
-IsPhrase (Reading.variable_list targets) tokens = JoinedBy IsReference targets tokens
-IsPhrase (Reading.variable_name name) tokens = IsNameToken name tokens
-IsPhrase (Reading.call name arguments) tokens = IsCall name arguments tokens
-IsPhrase (Reading.declared_list items) tokens = JoinedBy IsItem items tokens
-IsPhrase (Reading.procedure_name name) tokens = IsNameToken name tokens
-IsPhrase (Reading.name_list names) tokens = JoinedBy IsNameToken names tokens
-IsPhrase (Reading.greatest_length n) tokens = (1 ≤ n) × (n ≤ longest_text) × (tokens ≡ Token.number n ∷ [])
-IsPhrase (Reading.comment bytes) tokens = ⊥
+IsPhrase (PlainPhrase.condition e) tokens = Level e 1 tokens
+IsPhrase (PlainPhrase.expression e) tokens = Level e 1 tokens
+IsPhrase (PlainPhrase.expression_list es) tokens = Joined es tokens
+IsPhrase (PlainPhrase.variable_list targets) tokens = JoinedBy IsReference targets tokens
+IsPhrase (PlainPhrase.variable_name name) tokens = IsNameToken name tokens
+IsPhrase (PlainPhrase.call name arguments) tokens = IsCall name arguments tokens
+IsPhrase (PlainPhrase.declared_list items) tokens = JoinedBy IsItem items tokens
+IsPhrase (PlainPhrase.procedure_name name) tokens = IsNameToken name tokens
+IsPhrase (PlainPhrase.name_list names) tokens = JoinedBy IsNameToken names tokens
+IsPhrase (PlainPhrase.greatest_length n) tokens = (1 ≤ n) × (n ≤ longest_text) × (tokens ≡ Token.number n ∷ [])
+IsPhrase (PlainPhrase.comment bytes) tokens = ⊥
 
 -- the tokens are the phrase, which is of the category
-abbrev pub Form : Category → List Token → Reading → Type 0
+abbrev pub Form : Category → List Token → PlainPhrase → Type 0
 Form category tokens phrase = (category_of phrase ≡ category) × IsPhrase phrase tokens
 
 -- the tokens, followed by some further ones, are a phrase of the category; the further names and texts may be of any
 -- bytes, since wherever such a one can stand a real one can
 abbrev pub Begins : Category → List Token → Type 0
-Begins category tokens = (more : List Token) × (phrase : Reading) × Form category (tokens ++ more) phrase
+Begins category tokens = (more : List Token) × (phrase : PlainPhrase) × Form category (tokens ++ more) phrase

@@ -6,7 +6,7 @@ use Rattle.plcs_grammar.specs.Builtin.{builtin_name, is_builtin_name}
 use Rattle.plcs_grammar.specs.declared.sign.Sign.{Sign}
 use Rattle.plcs_grammar.specs.Sign.{prefix_sign, infix_sign}
 use Rattle.plcs_grammar.specs.Token.{Token}
-use Rattle.plcs_grammar.specs.Reading.{Tree, Trees, Reference}
+use Rattle.plcs_grammar.specs.PlainPhrase.{PlainExpr, PlainExprs, PlainVarRef}
 
 -- the level that an operator joins, the lowest first
 abbrev pub priority : InfixOp → ℕ
@@ -29,9 +29,9 @@ abbrev pub tightest : ℕ
 tightest = 7
 
 -- a built-in name before a parenthesis is a call's, and no variable's
-abbrev pub IsNoCall : Reference → Type 0
-IsNoCall (Reference.simple name) = Unit {0}
-IsNoCall (Reference.subscripted name index) = IsTrue (not (is_builtin_name name))
+abbrev pub IsNoCall : PlainVarRef → Type 0
+IsNoCall (PlainVarRef.simple name) = Unit {0}
+IsNoCall (PlainVarRef.subscripted name index) = IsTrue (not (is_builtin_name name))
 
 -- the tokens are the name alone
 abbrev pub IsNameToken : List ℕ → List Token → Type 0
@@ -43,36 +43,36 @@ in_parentheses tokens = Token.sign Sign.OpenParenthesis ∷ (tokens ++ (Token.si
 
 abbrev mutual
   -- the tokens are the expression, at this level or a higher one
-  pub Level : Tree → ℕ → List Token → Type 0
-  Level (Tree.number (pos n)) level tokens = tokens ≡ Token.number n ∷ []
-  Level (Tree.number (negsuc n)) level tokens = ⊥
-  Level (Tree.text value) level tokens = tokens ≡ Token.text value ∷ []
-  Level (Tree.bit value) level tokens = tokens ≡ Token.bit value ∷ []
-  Level (Tree.variable reference) level tokens = IsNoCall reference × IsReference reference tokens
-  Level (Tree.unary op a) level tokens =
+  pub Level : PlainExpr → ℕ → List Token → Type 0
+  Level (PlainExpr.number (pos n)) level tokens = tokens ≡ Token.number n ∷ []
+  Level (PlainExpr.number (negsuc n)) level tokens = ⊥
+  Level (PlainExpr.text value) level tokens = tokens ≡ Token.text value ∷ []
+  Level (PlainExpr.bit value) level tokens = tokens ≡ Token.bit value ∷ []
+  Level (PlainExpr.variable reference) level tokens = IsNoCall reference × IsReference reference tokens
+  Level (PlainExpr.unary op a) level tokens =
       (inner : List Token) × (tokens ≡ Token.sign (prefix_sign op) ∷ inner) × Level a tightest inner
-  Level (Tree.binary op a b) level tokens =
+  Level (PlainExpr.binary op a b) level tokens =
       (level ≤ priority op) × (left right : List Token) × (tokens ≡ left ++ (Token.sign (infix_sign op) ∷ right))
       × Level a (priority op) left × Level b (priority op + 1) right
-  Level (Tree.builtin function arguments) level tokens =
+  Level (PlainExpr.builtin function arguments) level tokens =
       (inner : List Token) × (tokens ≡ Token.name (builtin_name function) ∷ in_parentheses inner) × Joined arguments inner
-  Level (Tree.parenthesized a) level tokens =
+  Level (PlainExpr.parenthesized a) level tokens =
       (inner : List Token) × (tokens ≡ in_parentheses inner) × Level a 1 inner
 
   -- the tokens are the variable: a name, or a name and a subscript in parentheses
-  pub IsReference : Reference → List Token → Type 0
-  IsReference (Reference.simple name) tokens = IsNameToken name tokens
-  IsReference (Reference.subscripted name index) tokens =
+  pub IsReference : PlainVarRef → List Token → Type 0
+  IsReference (PlainVarRef.simple name) tokens = IsNameToken name tokens
+  IsReference (PlainVarRef.subscripted name index) tokens =
       (inner : List Token) × (tokens ≡ Token.name name ∷ in_parentheses inner) × Level index 1 inner
 
   -- the tokens are the expressions, one or more, joined by commas
-  pub Joined : Trees → List Token → Type 0
-  Joined Trees.nil tokens = ⊥
-  Joined (Trees.cons a rest) tokens =
+  pub Joined : PlainExprs → List Token → Type 0
+  Joined PlainExprs.nil tokens = ⊥
+  Joined (PlainExprs.cons a rest) tokens =
       (left right : List Token) × (tokens ≡ left ++ right) × Level a 1 left × Behind rest right
 
   -- the tokens are more expressions, each behind a comma
-  pub Behind : Trees → List Token → Type 0
-  Behind Trees.nil tokens = tokens ≡ []
-  Behind (Trees.cons a rest) tokens =
+  pub Behind : PlainExprs → List Token → Type 0
+  Behind PlainExprs.nil tokens = tokens ≡ []
+  Behind (PlainExprs.cons a rest) tokens =
       (left right : List Token) × (tokens ≡ Token.sign Sign.Comma ∷ (left ++ right)) × Level a 1 left × Behind rest right

@@ -1,5 +1,5 @@
 -- ---- phrases as plain data
-pub mod Reading
+pub mod PlainPhrase
 pub mod PlainForm
 -- ---- tokens
 pub mod Sign

@@ -1,10 +1,10 @@
 -- A chain of operators, taken apart from its last operator on.
 use Rattle.std.specs.Prelude.{List, [], ◌∷◌}
 use Rattle.plcs_grammar.specs.declared.expr_copy.Link.{Link}
-use Rattle.plcs_grammar.specs.Reading.{Tree}
-use Rattle.plcs_grammar.specs.PlainForm.{tree_of}
+use Rattle.plcs_grammar.specs.PlainPhrase.{PlainExpr}
+use Rattle.plcs_grammar.specs.PlainForm.{plain_expr}
 
 -- the chain of these operators, the last one first, to the right of the operand
-abbrev pub linked : Tree → List Link → Tree
+abbrev pub linked : PlainExpr → List Link → PlainExpr
 linked operand [] = operand
-linked operand (link ∷ links) = Tree.binary link.op (linked operand links) (tree_of link.right)
+linked operand (link ∷ links) = PlainExpr.binary link.op (linked operand links) (plain_expr link.right)

@@ -6,56 +6,56 @@ use Rattle.plcs_grammar.specs.declared.expr.Expr.TheOpen.{Expr-F, VarRef-F}
 use Rattle.plcs_grammar.specs.declared.expr.VarRef.{VarRef, fold-VarRef}
 use Rattle.plcs_grammar.specs.declared.phrase.Phrase.{Phrase}
 use Rattle.plcs_grammar.specs.declared.phrase.Phrase.TheVariants.{Assignment, Condition, Expression, ExpressionList, VariableList, Variable, CallRef, DeclaredList, ProcedureName, NameList, Length, CommentText}
-use Rattle.plcs_grammar.specs.Reading.{Tree, Trees, Reference, Reading}
+use Rattle.plcs_grammar.specs.PlainPhrase.{PlainExpr, PlainExprs, PlainVarRef, PlainPhrase}
 
 -- a list of expressions as expressions in order
-abbrev pub trees_from : List Tree → Trees
-trees_from [] = Trees.nil
-trees_from (t ∷ ts) = Trees.cons t (trees_from ts)
+abbrev pub exprs_from : List PlainExpr → PlainExprs
+exprs_from [] = PlainExprs.nil
+exprs_from (t ∷ ts) = PlainExprs.cons t (exprs_from ts)
 
 -- a name with the subscript that is there, if one is
-abbrev pub reference_with : List ℕ → Option (Box Tree Global) → Reference
-reference_with name None = Reference.simple name
-reference_with name (Some index) = Reference.subscripted name index.value
+abbrev pub reference_with : List ℕ → Option (Box PlainExpr Global) → PlainVarRef
+reference_with name None = PlainVarRef.simple name
+reference_with name (Some index) = PlainVarRef.subscripted name index.value
 
 -- one level of an expression and of a variable, with what is inside already in plain form
-abbrev pub tree_step : Expr-F Tree Reference → Tree
-tree_step (Expr-F.Number z) = Tree.number z
-tree_step (Expr-F.Text v) = Tree.text v.value
-tree_step (Expr-F.Bit b) = Tree.bit b
-tree_step (Expr-F.Var r) = Tree.variable r
-tree_step (Expr-F.Prefix op a) = Tree.unary op a.value
-tree_step (Expr-F.Infix op a b) = Tree.binary op a.value b.value
-tree_step (Expr-F.Builtin function arguments) = Tree.builtin function (trees_from arguments.items)
-tree_step (Expr-F.Paren a) = Tree.parenthesized a.value
+abbrev pub expr_step : Expr-F PlainExpr PlainVarRef → PlainExpr
+expr_step (Expr-F.Number z) = PlainExpr.number z
+expr_step (Expr-F.Text v) = PlainExpr.text v.value
+expr_step (Expr-F.Bit b) = PlainExpr.bit b
+expr_step (Expr-F.Var r) = PlainExpr.variable r
+expr_step (Expr-F.Prefix op a) = PlainExpr.unary op a.value
+expr_step (Expr-F.Infix op a b) = PlainExpr.binary op a.value b.value
+expr_step (Expr-F.Builtin function arguments) = PlainExpr.builtin function (exprs_from arguments.items)
+expr_step (Expr-F.Paren a) = PlainExpr.parenthesized a.value
 
 -- one level of a variable
-abbrev pub reference_step : VarRef-F Tree Reference → Reference
+abbrev pub reference_step : VarRef-F PlainExpr PlainVarRef → PlainVarRef
 reference_step r = reference_with r.name r.index
 
 -- the plain form of an expression
-abbrev pub tree_of : Expr → Tree
-tree_of = fold-Expr Tree Reference tree_step reference_step
+abbrev pub plain_expr : Expr → PlainExpr
+plain_expr = fold-Expr PlainExpr PlainVarRef expr_step reference_step
 
 -- the plain form of a variable
-abbrev pub reference_of : VarRef → Reference
-reference_of = fold-VarRef Tree Reference tree_step reference_step
+abbrev pub plain_var_ref : VarRef → PlainVarRef
+plain_var_ref = fold-VarRef PlainExpr PlainVarRef expr_step reference_step
 
 -- the plain form of expressions in order
-abbrev pub trees_of : List Expr → Trees
-trees_of es = trees_from (map tree_of es)
+abbrev pub plain_exprs : List Expr → PlainExprs
+plain_exprs es = exprs_from (map plain_expr es)
 
 -- the plain form of a phrase
-abbrev pub reading_of : Phrase → Reading
-reading_of (Assignment target value) = Reading.assignment (reference_of target) (tree_of value)
-reading_of (Condition e) = Reading.condition (tree_of e)
-reading_of (Expression e) = Reading.expression (tree_of e)
-reading_of (ExpressionList es) = Reading.expression_list (trees_of es.items)
-reading_of (VariableList targets) = Reading.variable_list (map reference_of targets.items)
-reading_of (Variable name) = Reading.variable_name name
-reading_of (CallRef name arguments) = Reading.call name (trees_of arguments.items)
-reading_of (DeclaredList items) = Reading.declared_list items.items
-reading_of (ProcedureName name) = Reading.procedure_name name
-reading_of (NameList names) = Reading.name_list names.items
-reading_of (Length n) = Reading.greatest_length n
-reading_of (CommentText bytes) = Reading.comment bytes.items
+abbrev pub plain_phrase : Phrase → PlainPhrase
+plain_phrase (Assignment target value) = PlainPhrase.assignment (plain_var_ref target) (plain_expr value)
+plain_phrase (Condition e) = PlainPhrase.condition (plain_expr e)
+plain_phrase (Expression e) = PlainPhrase.expression (plain_expr e)
+plain_phrase (ExpressionList es) = PlainPhrase.expression_list (plain_exprs es.items)
+plain_phrase (VariableList targets) = PlainPhrase.variable_list (map plain_var_ref targets.items)
+plain_phrase (Variable name) = PlainPhrase.variable_name name
+plain_phrase (CallRef name arguments) = PlainPhrase.call name (plain_exprs arguments.items)
+plain_phrase (DeclaredList items) = PlainPhrase.declared_list items.items
+plain_phrase (ProcedureName name) = PlainPhrase.procedure_name name
+plain_phrase (NameList names) = PlainPhrase.name_list names.items
+plain_phrase (Length n) = PlainPhrase.greatest_length n
+plain_phrase (CommentText bytes) = PlainPhrase.comment bytes.items

@@ -2,7 +2,7 @@
 use Rattle.std.specs.Prelude.{◌≡◌, ◌⊎◌, ℕ, List, Some, None}
 use Rattle.plcs_grammar.specs.declared.category.Category.{Category}
 use Rattle.plcs_grammar.specs.declared.category.Category.TheVariants.{CommentText}
-use Rattle.plcs_grammar.specs.Reading.{Reading}
+use Rattle.plcs_grammar.specs.PlainPhrase.{PlainPhrase}
 use Rattle.plcs_grammar.specs.Cuts.{Piece, Cuts, tokens_of}
 use Rattle.plcs_grammar.specs.Form.{Form}
 use Rattle.plcs_grammar.specs.Comment.{IsCommentText, trimmed}
@@ -11,31 +11,31 @@ use Rattle.plcs_grammar.specs.Opened.{phrase_opened}
 use Rattle.plcs_grammar.specs.Over.{OverLimit, first_over}
 
 -- the whole text is cut into the pieces, and they are the phrase
-pub record IsCutAs (category : Category) (x : List ℕ) (pieces : List Piece) (phrase : Reading) : Type 0 where
+pub record IsCutAs (category : Category) (x : List ℕ) (pieces : List Piece) (phrase : PlainPhrase) : Type 0 where
   pub cuts : Cuts pieces 0 x None
   pub form : Form category (tokens_of pieces) phrase
 
 -- the text is that of the comment
-pub record IsCommentAs (category : Category) (x : List ℕ) (phrase : Reading) : Type 0 where
+pub record IsCommentAs (category : Category) (x : List ℕ) (phrase : PlainPhrase) : Type 0 where
   pub category_is : category ≡ CommentText
   pub text : IsCommentText x
-  pub phrase_is : phrase ≡ Reading.comment (trimmed x)
+  pub phrase_is : phrase ≡ PlainPhrase.comment (trimmed x)
 
 -- the text has this reading in the category, with numbers of any size and any nesting
-abbrev pub HasReading : Category → List ℕ → Reading → Type 0
+abbrev pub HasReading : Category → List ℕ → PlainPhrase → Type 0
 HasReading category x phrase =
     ((pieces : List Piece) × IsCutAs category x pieces phrase) ⊎ IsCommentAs category x phrase
 
 -- the text has a reading
 abbrev pub Outline : Category → List ℕ → Type 0
-Outline category x = (phrase : Reading) × HasReading category x phrase
+Outline category x = (phrase : PlainPhrase) × HasReading category x phrase
 
 -- the text reads as the phrase, within the limits
-abbrev pub Reads : Category → List ℕ → Reading → Type 0
+abbrev pub Reads : Category → List ℕ → PlainPhrase → Type 0
 Reads category x phrase = HasReading category x phrase × IsWithinLimits phrase
 
 -- the text has a reading, and this is what goes past a limit first
 abbrev pub IsOver : Category → List ℕ → OverLimit → Type 0
 IsOver category x over =
-    (pieces : List Piece) × (phrase : Reading) × IsCutAs category x pieces phrase
+    (pieces : List Piece) × (phrase : PlainPhrase) × IsCutAs category x pieces phrase
     × (first_over pieces (phrase_opened phrase) ≡ Some over)

@@ -2,7 +2,7 @@
 use Rattle.std.specs.Prelude.{◌≡◌, ◌⊎◌, ℕ, List, [], ◌∷◌, ◌++◌, length, Option, Some, None}
 use Rattle.plcs_grammar.specs.declared.category.Category.{Category}
 use Rattle.plcs_grammar.specs.declared.category.Category.TheVariants.{CommentText}
-use Rattle.plcs_grammar.specs.Reading.{Reading}
+use Rattle.plcs_grammar.specs.PlainPhrase.{PlainPhrase}
 use Rattle.plcs_grammar.specs.Cuts.{Piece, Cuts, tokens_of}
 use Rattle.plcs_grammar.specs.Form.{Form, Begins}
 use Rattle.plcs_grammar.specs.Comment.{comment_syntax}
@@ -19,7 +19,7 @@ pub data GoesWrong (category : Category) (pieces : List Piece) (end : ℕ) : Opt
   -- at the byte, where all tokens before it can stand
   at_byte : (stop : ℕ) → Begins category (tokens_of pieces) → GoesWrong category pieces end (Some stop) stop
   -- at the end, where all tokens can stand and something is missing
-  at_end : Begins category (tokens_of pieces) → ((phrase : Reading) → ¬ (Form category (tokens_of pieces) phrase))
+  at_end : Begins category (tokens_of pieces) → ((phrase : PlainPhrase) → ¬ (Form category (tokens_of pieces) phrase))
       → GoesWrong category pieces end None end
 
 -- the first place of the text that can't be right; only a text without a reading has one

@@ -1,6 +1,6 @@
 ghost use Rattle.std.specs.Prelude.{◌≡◌, ◌≤◌};
 ghost use Rattle.plcs_grammar.specs.declared.expr.Expr.{size-Expr};
-ghost use Rattle.plcs_grammar.specs.PlainForm.{tree_of};
+ghost use Rattle.plcs_grammar.specs.PlainForm.{plain_expr};
 ghost use Rattle.plcs_grammar.specs.Chain.{leftmost};
 
 use crate::expr::Expr;
@@ -21,7 +21,7 @@ pub(crate) fn count_operators(expr: &Expr) -> u32 {
 
 /// What is reached by going to the left operand so many times, or as far as there is one.
 pub(crate) fn leftmost(expr: &Expr, times: u32) -> &Expr
-    ensures tree { tree_of result.now ≡ leftmost (tree_of expr.now) times }
+    ensures plain { plain_expr result.now ≡ leftmost (plain_expr expr.now) times }
     ensures size { size-Expr result.now ≤ size-Expr expr.now }
 {
     let mut at = expr;

@@ -1,5 +1,5 @@
 ghost use Rattle.std.specs.Prelude.{◌≡◌, IfOk, map};
-ghost use Rattle.plcs_grammar.specs.PlainForm.{reading_of, reference_of};
+ghost use Rattle.plcs_grammar.specs.PlainForm.{plain_phrase, plain_var_ref};
 
 use crate::expr::VarRef;
 use crate::expr_copy::{copy_expr, copy_exprs, copy_name, copy_variable};
@@ -13,7 +13,7 @@ use std::alloc::Global;
 /// It takes memory in proportion to the phrase, and little stack also where a chain of operators is
 /// long.
 pub fn copy_phrase(alloc: Global, phrase: &Phrase) -> Result<Phrase, OutOfMemory>
-    ensures { IfOk result (λ copy. reading_of copy ≡ reading_of phrase.now) }
+    ensures { IfOk result (λ copy. plain_phrase copy ≡ plain_phrase phrase.now) }
 {
     match phrase {
         Phrase::Assignment(target, value) => {
@@ -41,7 +41,7 @@ pub fn copy_phrase(alloc: Global, phrase: &Phrase) -> Result<Phrase, OutOfMemory
 
 /// Copies of variables.
 fn copy_variables(alloc: Global, variables: &[VarRef]) -> Result<Vec<VarRef>, OutOfMemory>
-    ensures { IfOk result (λ copies. map reference_of copies.items ≡ map reference_of variables.now) }
+    ensures { IfOk result (λ copies. map plain_var_ref copies.items ≡ map plain_var_ref variables.now) }
 {
     let mut copies = Vec::new(alloc);
     for variable in variables {

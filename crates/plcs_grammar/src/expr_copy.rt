@@ -1,5 +1,5 @@
 ghost use Rattle.std.specs.Prelude.{◌≡◌, IfOk, map};
-ghost use Rattle.plcs_grammar.specs.PlainForm.{tree_of, reference_of};
+ghost use Rattle.plcs_grammar.specs.PlainForm.{plain_expr, plain_var_ref};
 ghost use Rattle.plcs_grammar.specs.Link.{linked};
 
 use crate::expr::{Expr, VarRef};
@@ -19,7 +19,7 @@ pub(crate) struct Link {
 /// A copy of an expression. A chain of operators is copied in a loop.
 #[cycle(copy_expr)]
 pub(crate) fn copy_expr(alloc: Global, expr: &Expr) -> Result<Expr, OutOfMemory>
-    ensures { IfOk result (λ copy. tree_of copy ≡ tree_of expr.now) }
+    ensures { IfOk result (λ copy. plain_expr copy ≡ plain_expr expr.now) }
 {
     let mut links = Vec::new(alloc);
     let mut at = expr;
@@ -59,7 +59,7 @@ pub(crate) fn copy_expr(alloc: Global, expr: &Expr) -> Result<Expr, OutOfMemory>
 /// A copy of a variable.
 #[cycle(copy_expr)]
 pub(crate) fn copy_variable(alloc: Global, variable: &VarRef) -> Result<VarRef, OutOfMemory>
-    ensures { IfOk result (λ copy. reference_of copy ≡ reference_of variable.now) }
+    ensures { IfOk result (λ copy. plain_var_ref copy ≡ plain_var_ref variable.now) }
 {
     let name = copy_name(&variable.name)?;
     match &variable.index {
@@ -77,7 +77,7 @@ pub(crate) fn copy_variable(alloc: Global, variable: &VarRef) -> Result<VarRef, 
 /// Copies of expressions.
 #[cycle(copy_expr)]
 pub(crate) fn copy_exprs(alloc: Global, exprs: &[Expr]) -> Result<Vec<Expr>, OutOfMemory>
-    ensures { IfOk result (λ copies. map tree_of copies.items ≡ map tree_of exprs.now) }
+    ensures { IfOk result (λ copies. map plain_expr copies.items ≡ map plain_expr exprs.now) }
 {
     let mut copies = Vec::new(alloc);
     for expr in exprs {
@@ -102,7 +102,7 @@ fn copy_text(text: &TextValue) -> Result<TextValue, OutOfMemory>
 
 /// The chain of the operators, the last one first, to the right of the operand.
 fn chained(alloc: Global, operand: Expr, links: Vec<Link>) -> Result<Expr, OutOfMemory>
-    ensures { IfOk result (λ chain. tree_of chain ≡ linked (tree_of operand) links.items) }
+    ensures { IfOk result (λ chain. plain_expr chain ≡ linked (plain_expr operand) links.items) }
 {
     let mut chain = operand;
     let mut links = links;

@@ -1,5 +1,5 @@
 ghost use Rattle.std.specs.Prelude.{◌≡◌, ◌+◌, min, length};
-ghost use Rattle.plcs_grammar.specs.PlainForm.{reading_of};
+ghost use Rattle.plcs_grammar.specs.PlainForm.{plain_phrase};
 ghost use Rattle.plcs_grammar.specs.Canon.{Canon, longest_shown};
 
 use crate::phrase::Phrase;
@@ -22,7 +22,7 @@ impl ByteOut for LengthOut {
 
 /// The length of a phrase's canonical text in bytes, or 4294967295 where it is longer.
 pub fn shown_len(phrase: &Phrase) -> u32
-    ensures { result ≡ min (length (Canon (reading_of phrase.now))) longest_shown }
+    ensures { result ≡ min (length (Canon (plain_phrase phrase.now))) longest_shown }
 {
     let mut out = LengthOut { count: 0 };
     show(phrase, &mut out);

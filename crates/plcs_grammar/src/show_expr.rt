@@ -1,6 +1,6 @@
 ghost use Rattle.std.specs.Prelude.{◌≡◌};
 ghost use Rattle.plcs_base.specs.Put.{PutsAll};
-ghost use Rattle.plcs_grammar.specs.PlainForm.{tree_of, trees_of, reference_of};
+ghost use Rattle.plcs_grammar.specs.PlainForm.{plain_expr, plain_exprs, plain_var_ref};
 ghost use Rattle.plcs_grammar.specs.Canon.{canon, canon_list, canon_reference};
 ghost use Rattle.plcs_grammar.specs.Chain.{chain_text, operator_text};
 
@@ -13,7 +13,7 @@ use plcs_base::ByteOut;
 /// Puts the canonical text of an expression.
 #[cycle(show_expr)]
 pub(crate) fn show_expr<O: ByteOut>(expr: &Expr, out: &mut O)
-    ensures { PutsAll O.puts out.old (canon (tree_of expr.now)) out.new }
+    ensures { PutsAll O.puts out.old (canon (plain_expr expr.now)) out.new }
 {
     match expr {
         Expr::Number(number) => put_number(*number, out),
@@ -49,7 +49,7 @@ pub(crate) fn show_expr<O: ByteOut>(expr: &Expr, out: &mut O)
 /// The chain is halved, so that a long one needs little stack and no memory.
 #[cycle(show_expr)]
 fn show_chain<O: ByteOut>(chain: &Expr, operators: u32, out: &mut O)
-    ensures { PutsAll O.puts out.old (chain_text (tree_of chain.now) operators) out.new }
+    ensures { PutsAll O.puts out.old (chain_text (plain_expr chain.now) operators) out.new }
 {
     match chain {
         Expr::Infix(op, _, right) => {
@@ -68,7 +68,7 @@ fn show_chain<O: ByteOut>(chain: &Expr, operators: u32, out: &mut O)
 /// Puts an operator with a blank on each side, and its right operand.
 #[cycle(show_expr)]
 fn show_operator<O: ByteOut>(right: &Expr, op: InfixOp, out: &mut O)
-    ensures { PutsAll O.puts out.old (operator_text op (tree_of right.now)) out.new }
+    ensures { PutsAll O.puts out.old (operator_text op (plain_expr right.now)) out.new }
 {
     out.put(b' ');
     put_bytes(op.sign().bytes(), out);
@@ -79,7 +79,7 @@ fn show_operator<O: ByteOut>(right: &Expr, op: InfixOp, out: &mut O)
 /// Puts the canonical text of a variable.
 #[cycle(show_expr)]
 pub(crate) fn show_variable<O: ByteOut>(variable: &VarRef, out: &mut O)
-    ensures { PutsAll O.puts out.old (canon_reference (reference_of variable.now)) out.new }
+    ensures { PutsAll O.puts out.old (canon_reference (plain_var_ref variable.now)) out.new }
 {
     put_bytes(variable.name.as_bytes(), out);
     if let Some(index) = &variable.index {
@@ -93,7 +93,7 @@ pub(crate) fn show_variable<O: ByteOut>(variable: &VarRef, out: &mut O)
 /// stands in the cycle.
 #[cycle(show_expr)]
 pub(crate) fn show_exprs<O: ByteOut>(exprs: &[Expr], out: &mut O)
-    ensures { PutsAll O.puts out.old (canon_list (trees_of exprs.now)) out.new }
+    ensures { PutsAll O.puts out.old (canon_list (plain_exprs exprs.now)) out.new }
 {
     for (i, expr) in exprs.iter().enumerate() {
         put_separator(i, out);

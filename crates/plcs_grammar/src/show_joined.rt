@@ -1,6 +1,6 @@
 ghost use Rattle.std.specs.Prelude.{List, ℕ};
 ghost use Rattle.plcs_base.specs.Put.{PutsAll};
-ghost use Rattle.plcs_grammar.specs.PlainForm.{reference_of};
+ghost use Rattle.plcs_grammar.specs.PlainForm.{plain_var_ref};
 ghost use Rattle.plcs_grammar.specs.Canon.{joined, canon_reference, canon_item};
 
 use crate::expr::VarRef;
@@ -27,7 +27,7 @@ impl Shown for Name {
 }
 
 impl Shown for VarRef {
-    ghost shown = { λ variable. canon_reference (reference_of variable) };
+    ghost shown = { λ variable. canon_reference (plain_var_ref variable) };
 
     fn show<O: ByteOut>(&self, out: &mut O) {
         show_variable(self, out);

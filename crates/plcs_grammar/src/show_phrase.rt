@@ -1,5 +1,5 @@
 ghost use Rattle.plcs_base.specs.Put.{PutsAll};
-ghost use Rattle.plcs_grammar.specs.PlainForm.{reading_of, trees_of};
+ghost use Rattle.plcs_grammar.specs.PlainForm.{plain_phrase, plain_exprs};
 ghost use Rattle.plcs_grammar.specs.Canon.{Canon, canon_call};
 
 use crate::expr::Expr;
@@ -13,7 +13,7 @@ use plcs_base::{ByteOut, Name};
 ///
 /// It takes no memory, and little stack also where a chain of operators is long.
 pub fn show<O: ByteOut>(phrase: &Phrase, out: &mut O)
-    ensures { PutsAll O.puts out.old (Canon (reading_of phrase.now)) out.new }
+    ensures { PutsAll O.puts out.old (Canon (plain_phrase phrase.now)) out.new }
 {
     match phrase {
         Phrase::Assignment(target, value) => {
@@ -37,7 +37,7 @@ pub fn show<O: ByteOut>(phrase: &Phrase, out: &mut O)
 
 /// Puts the canonical text of a call.
 fn show_call<O: ByteOut>(name: &Name, arguments: &[Expr], out: &mut O)
-    ensures { PutsAll O.puts out.old (canon_call name.now (trees_of arguments.now)) out.new }
+    ensures { PutsAll O.puts out.old (canon_call name.now (plain_exprs arguments.now)) out.new }
 {
     put_bytes(name.as_bytes(), out);
     if !arguments.is_empty() {

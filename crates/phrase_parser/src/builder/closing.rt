@@ -1,5 +1,5 @@
 ghost use Rattle.std.specs.Prelude.{◌≡◌};
-ghost use Rattle.plcs_grammar.specs.PlainForm.{tree_of};
+ghost use Rattle.plcs_grammar.specs.PlainForm.{plain_expr};
 ghost use Rattle.phrase_parser.specs.Machine.{closed_base, closed_at, closed};
 ghost use Rattle.phrase_parser.specs.Gives.{Gives};
 ghost use Rattle.phrase_parser.specs.Views.{base_of, stack_of, state_of};
@@ -14,7 +14,7 @@ use std::alloc::Global;
 
 /// The parenthesis in which the phrase's own expression stands is closed.
 fn closed_base(alloc: Global, base: Base, expr: Expr) -> Result<State, BuildError>
-    ensures { Gives state_of result (closed_base (base_of base) (tree_of expr)) }
+    ensures { Gives state_of result (closed_base (base_of base) (plain_expr expr)) }
 {
     match base {
         Base::TargetSubscript(name) => Ok(State::TargetHad(subscripted(alloc, name, expr)?)),
@@ -32,7 +32,7 @@ fn closed_base(alloc: Global, base: Base, expr: Expr) -> Result<State, BuildErro
 /// A parenthesis is closed behind an expression.
 #[tactic(auto, using(crate::proofs::FrameStacks::stack_on_push))]
 fn closed_at(alloc: Global, stack: Stack, expr: Expr) -> Result<State, BuildError>
-    ensures { Gives state_of result (closed_at (stack_of stack) (tree_of expr)) }
+    ensures { Gives state_of result (closed_at (stack_of stack) (plain_expr expr)) }
 {
     let Stack { base, mut frames } = stack;
     let Some(frame) = frames.pop() else {

@@ -1,5 +1,5 @@
 ghost use Rattle.std.specs.Prelude.{◌≡◌};
-ghost use Rattle.plcs_grammar.specs.PlainForm.{tree_of, reading_of};
+ghost use Rattle.plcs_grammar.specs.PlainForm.{plain_expr, plain_phrase};
 ghost use Rattle.phrase_parser.specs.Machine.{ended_base, ended_at, ended_by_role, ended};
 ghost use Rattle.phrase_parser.specs.Gives.{Gives};
 ghost use Rattle.phrase_parser.specs.Views.{base_of, stack_of, role_of, state_of};
@@ -15,7 +15,7 @@ use std::alloc::Global;
 
 /// The phrase whose last part is the expression.
 fn ended_base(base: Base, expr: Expr) -> Result<Phrase, BuildError>
-    ensures { Gives reading_of result (ended_base (base_of base) (tree_of expr)) }
+    ensures { Gives plain_phrase result (ended_base (base_of base) (plain_expr expr)) }
 {
     match base {
         Base::Condition => Ok(Phrase::Condition(expr)),
@@ -31,7 +31,7 @@ fn ended_base(base: Base, expr: Expr) -> Result<Phrase, BuildError>
 /// The phrase whose last part is the expression, unless something is still open around it.
 #[tactic(auto, using(crate::proofs::FrameStacks::stack_on_push, crate::proofs::FrameStacks::ended_at_open))]
 fn ended_at(stack: Stack, expr: Expr) -> Result<Phrase, BuildError>
-    ensures { Gives reading_of result (ended_at (stack_of stack) (tree_of expr)) }
+    ensures { Gives plain_phrase result (ended_at (stack_of stack) (plain_expr expr)) }
 {
     let Stack { base, mut frames } = stack;
     match frames.pop() {
@@ -42,7 +42,7 @@ fn ended_at(stack: Stack, expr: Expr) -> Result<Phrase, BuildError>
 
 /// The phrase whose last part is the name.
 fn ended_by_role(alloc: Global, role: Role, name: Name) -> Result<Phrase, BuildError>
-    ensures { Gives reading_of result (ended_by_role (role_of role) name) }
+    ensures { Gives plain_phrase result (ended_by_role (role_of role) name) }
 {
     match role {
         Role::Target => Err(BuildError::Refused),
@@ -57,7 +57,7 @@ fn ended_by_role(alloc: Global, role: Role, name: Name) -> Result<Phrase, BuildE
 
 /// The phrase, if all of it is read.
 pub fn ended(alloc: Global, state: State) -> Result<Phrase, BuildError>
-    ensures { Gives reading_of result (ended (state_of state)) }
+    ensures { Gives plain_phrase result (ended (state_of state)) }
 {
     match state {
         State::Had(stack, primary) => {

@@ -1,15 +1,15 @@
 ghost use Rattle.std.specs.Prelude.{◌≡◌, [], ◌∷◌, ◌++◌, map, IfOk};
-ghost use Rattle.plcs_grammar.specs.PlainForm.{tree_of, trees_of, reference_of};
-ghost use Rattle.phrase_parser.specs.Machine.{tree_push};
+ghost use Rattle.plcs_grammar.specs.PlainForm.{plain_expr, plain_exprs, plain_var_ref};
+ghost use Rattle.phrase_parser.specs.Machine.{expr_push};
 
 use plcs_base::Name;
 use plcs_grammar::{Expr, Item, VarRef};
 use std::alloc::AllocError;
 
 /// The expressions with one more.
-#[tactic(auto, using(crate::proofs::FrameStacks::trees_of_push))]
+#[tactic(auto, using(crate::proofs::FrameStacks::exprs_of_push))]
 pub fn with_expr(done: Vec<Expr>, expr: Expr) -> Result<Vec<Expr>, AllocError>
-    ensures { IfOk result (λ all. trees_of all.items ≡ tree_push (trees_of done.items) (tree_of expr)) }
+    ensures { IfOk result (λ all. plain_exprs all.items ≡ expr_push (plain_exprs done.items) (plain_expr expr)) }
 {
     let mut all = done;
     all.push(expr)?;
@@ -20,7 +20,7 @@ pub fn with_expr(done: Vec<Expr>, expr: Expr) -> Result<Vec<Expr>, AllocError>
 #[tactic(auto, using(crate::proofs::FrameStacks::references_of_push))]
 pub fn with_variable(done: Vec<VarRef>, variable: VarRef) -> Result<Vec<VarRef>, AllocError>
     ensures { IfOk result
-        (λ all. map reference_of all.items ≡ map reference_of done.items ++ (reference_of variable ∷ [])) }
+        (λ all. map plain_var_ref all.items ≡ map plain_var_ref done.items ++ (plain_var_ref variable ∷ [])) }
 {
     let mut all = done;
     all.push(variable)?;

@@ -1,6 +1,6 @@
 ghost use Rattle.std.specs.Prelude.{◌≡◌, IfOk};
 ghost use Rattle.plcs_grammar.specs.Level.{priority};
-ghost use Rattle.plcs_grammar.specs.PlainForm.{tree_of};
+ghost use Rattle.plcs_grammar.specs.PlainForm.{plain_expr};
 ghost use Rattle.phrase_parser.specs.Machine.{reduced, Stack as OpenStack};
 ghost use Rattle.phrase_parser.specs.Reduction.{rest_of};
 ghost use Rattle.phrase_parser.specs.Views.{stack_of, pair_of, pushed};
@@ -44,7 +44,7 @@ pub enum Joined {
 /// The operand, joined with the frame if that is an operator of the level or a higher one.
 fn join(alloc: Global, frame: Frame, level: u8, operand: Expr) -> Result<Joined, AllocError>
     ensures { IfOk result
-        (λ j. (s : OpenStack) → reduced (pushed frame s) level (tree_of operand) ≡ rest_of j s level) }
+        (λ j. (s : OpenStack) → reduced (pushed frame s) level (plain_expr operand) ≡ rest_of j s level) }
 {
     match frame {
         Frame::Prefix(op) => Ok(Joined::Operand(unary(alloc, op, operand)?)),
@@ -67,7 +67,7 @@ pub fn reduced(
     level: u8,
     operand: Expr,
 ) -> Result<(Stack, Expr), AllocError>
-    ensures { IfOk result (λ o. pair_of o ≡ reduced (stack_of stack) level (tree_of operand)) }
+    ensures { IfOk result (λ o. pair_of o ≡ reduced (stack_of stack) level (plain_expr operand)) }
 {
     let Stack { base, mut frames } = stack;
     let mut operand = operand;

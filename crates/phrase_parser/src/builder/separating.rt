@@ -1,5 +1,5 @@
 ghost use Rattle.std.specs.Prelude.{◌≡◌};
-ghost use Rattle.plcs_grammar.specs.PlainForm.{tree_of};
+ghost use Rattle.plcs_grammar.specs.PlainForm.{plain_expr};
 ghost use Rattle.phrase_parser.specs.Machine.{separated_base, separated_at, separated_by_role, separated};
 ghost use Rattle.phrase_parser.specs.Gives.{Gives};
 ghost use Rattle.phrase_parser.specs.Views.{base_of, stack_of, role_of, state_of};
@@ -16,7 +16,7 @@ use std::alloc::Global;
 
 /// A comma stands behind an expression that stands in no other.
 fn separated_base(alloc: Global, base: Base, expr: Expr) -> Result<State, BuildError>
-    ensures { Gives state_of result (separated_base (base_of base) (tree_of expr)) }
+    ensures { Gives state_of result (separated_base (base_of base) (plain_expr expr)) }
 {
     match base {
         Base::Expressions(done) => {
@@ -38,7 +38,7 @@ fn separated_base(alloc: Global, base: Base, expr: Expr) -> Result<State, BuildE
 /// A comma stands behind an expression.
 #[tactic(auto, using(crate::proofs::FrameStacks::stack_on_push))]
 fn separated_at(alloc: Global, stack: Stack, expr: Expr) -> Result<State, BuildError>
-    ensures { Gives state_of result (separated_at (stack_of stack) (tree_of expr)) }
+    ensures { Gives state_of result (separated_at (stack_of stack) (plain_expr expr)) }
 {
     let Stack { base, mut frames } = stack;
     match frames.pop() {

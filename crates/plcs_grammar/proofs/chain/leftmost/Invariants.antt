@@ -1,12 +1,12 @@
 use Rattle.std.proofs.Common.{◌≡◌, ◌≤◌}
 use Rattle.plcs_grammar.specs.declared.expr.Expr.{size-Expr}
-use Rattle.plcs_grammar.specs.PlainForm.{tree_of}
+use Rattle.plcs_grammar.specs.PlainForm.{plain_expr}
 use Rattle.plcs_grammar.specs.Chain.{leftmost}
 use Rattle.plcs_grammar.proofs.chain.leftmost.Given as goal
 
 abbrev pub invariant-loop-left_over : goal.invariant-loop-left_over
 invariant-loop-left_over l =
-    (leftmost (tree_of l.at) l.left_over ≡ leftmost (tree_of l.fn.expr) l.fn.times) × (size-Expr l.at ≤ size-Expr l.fn.expr)
+    (leftmost (plain_expr l.at) l.left_over ≡ leftmost (plain_expr l.fn.expr) l.fn.times) × (size-Expr l.at ≤ size-Expr l.fn.expr)
 
 abbrev pub decreases-loop-left_over : goal.decreases-loop-left_over
 decreases-loop-left_over l = l.left_over

@@ -1,10 +1,10 @@
 use Rattle.std.proofs.Common.{◌≡◌, length}
-use Rattle.plcs_grammar.specs.PlainForm.{tree_of}
+use Rattle.plcs_grammar.specs.PlainForm.{plain_expr}
 use Rattle.plcs_grammar.specs.Link.{linked}
 use Rattle.plcs_grammar.proofs.expr_copy.chained.Given as goal
 
 abbrev pub invariant-loop-last : goal.invariant-loop-last
-invariant-loop-last l = linked (tree_of l.chain) l.links.items ≡ linked (tree_of l.fn.operand) l.fn.links.items
+invariant-loop-last l = linked (plain_expr l.chain) l.links.items ≡ linked (plain_expr l.fn.operand) l.fn.links.items
 
 abbrev pub decreases-loop-last : goal.decreases-loop-last
 decreases-loop-last l = length l.links.items

@@ -1,12 +1,12 @@
 use Rattle.std.proofs.Common.{◌+◌, ◌*◌, take}
 use Rattle.plcs_base.specs.Put.{PutsAll}
-use Rattle.plcs_grammar.specs.PlainForm.{tree_of}
+use Rattle.plcs_grammar.specs.PlainForm.{plain_expr}
 use Rattle.plcs_grammar.specs.Canon.{canon, joined}
 use Rattle.plcs_grammar.proofs.show_expr.+show_expr.Given as goal
 
 abbrev pub invariant-show_exprs-loop-i : goal.invariant-show_exprs-loop-i
 invariant-show_exprs-loop-i g l =
-    PutsAll g.O.ByteOut.puts l.fn.out (joined (λ e. canon (tree_of e)) (take l.i l.exprs)) l.out
+    PutsAll g.O.ByteOut.puts l.fn.out (joined (λ e. canon (plain_expr e)) (take l.i l.exprs)) l.out
 
 abbrev pub decreases-show_expr : goal.decreases-show_expr
 decreases-show_expr g l = goal.size-show_expr g l * 4294967296

@@ -1,5 +1,5 @@
 use Rattle.std.proofs.Common.{ap, ◌∙◌}
-use Rattle.plcs_grammar.specs.PlainForm.{reference_of}
+use Rattle.plcs_grammar.specs.PlainForm.{plain_var_ref}
 use Rattle.plcs_grammar.specs.Canon.{canon_reference, joined}
 use Rattle.plcs_grammar.proofs.Putting.{puts_same, puts_three}
 use Rattle.plcs_grammar.proofs.JoinedTexts.{joined_map}
@@ -12,6 +12,6 @@ returns-in-Assignment g c =
 
 pub returns-in-VariableList : goal.returns-in-VariableList
 returns-in-VariableList g c =
-    let same = ap (joined (λ v. canon_reference (reference_of v))) c.deref-in-VariableList.ensures.value in
+    let same = ap (joined (λ v. canon_reference (plain_var_ref v))) c.deref-in-VariableList.ensures.value in
     shown_phrase _ _ c.in-VariableList.is
-    (puts_same (same ∙ joined_map canon_reference reference_of c.in-VariableList.targets.items) c.show_joined.ensures)
+    (puts_same (same ∙ joined_map canon_reference plain_var_ref c.in-VariableList.targets.items) c.show_joined.ensures)

@@ -9,43 +9,43 @@ use Rattle.plcs_grammar.specs.declared.category.Category.TheVariants.{Assignment
 
 mutual
   -- an expression; a number in it that a text can have is not negative
-  pub data Tree : Type 0 where
-    number : ℤ → Tree
-    text : List ℕ → Tree
-    bit : Bool → Tree
-    variable : Reference → Tree
-    unary : PrefixOp → Tree → Tree
-    binary : InfixOp → Tree → Tree → Tree
-    builtin : Builtin → Trees → Tree
-    parenthesized : Tree → Tree
+  pub data PlainExpr : Type 0 where
+    number : ℤ → PlainExpr
+    text : List ℕ → PlainExpr
+    bit : Bool → PlainExpr
+    variable : PlainVarRef → PlainExpr
+    unary : PrefixOp → PlainExpr → PlainExpr
+    binary : InfixOp → PlainExpr → PlainExpr → PlainExpr
+    builtin : Builtin → PlainExprs → PlainExpr
+    parenthesized : PlainExpr → PlainExpr
 
   -- a variable where it is used: its name, with a subscript or without one
-  pub data Reference : Type 0 where
-    simple : List ℕ → Reference
-    subscripted : List ℕ → Tree → Reference
+  pub data PlainVarRef : Type 0 where
+    simple : List ℕ → PlainVarRef
+    subscripted : List ℕ → PlainExpr → PlainVarRef
 
   -- expressions in order
-  pub data Trees : Type 0 where
-    nil : Trees
-    cons : Tree → Trees → Trees
+  pub data PlainExprs : Type 0 where
+    nil : PlainExprs
+    cons : PlainExpr → PlainExprs → PlainExprs
 
 -- a phrase; names are their bytes, and a call without arguments has none in its list
-pub data Reading : Type 0 where
-  assignment : Reference → Tree → Reading
-  condition : Tree → Reading
-  expression : Tree → Reading
-  expression_list : Trees → Reading
-  variable_list : List Reference → Reading
-  variable_name : List ℕ → Reading
-  call : List ℕ → Trees → Reading
-  declared_list : List Item → Reading
-  procedure_name : List ℕ → Reading
-  name_list : List (List ℕ) → Reading
-  greatest_length : ℕ → Reading
-  comment : List ℕ → Reading
+pub data PlainPhrase : Type 0 where
+  assignment : PlainVarRef → PlainExpr → PlainPhrase
+  condition : PlainExpr → PlainPhrase
+  expression : PlainExpr → PlainPhrase
+  expression_list : PlainExprs → PlainPhrase
+  variable_list : List PlainVarRef → PlainPhrase
+  variable_name : List ℕ → PlainPhrase
+  call : List ℕ → PlainExprs → PlainPhrase
+  declared_list : List Item → PlainPhrase
+  procedure_name : List ℕ → PlainPhrase
+  name_list : List (List ℕ) → PlainPhrase
+  greatest_length : ℕ → PlainPhrase
+  comment : List ℕ → PlainPhrase
 
 -- the category of a phrase
-abbrev pub category_of : Reading → Category
+abbrev pub category_of : PlainPhrase → Category
 category_of (assignment target value) = Assignment
 category_of (condition e) = Condition
 category_of (expression e) = Expression
