@@ -21,6 +21,4 @@ pub mod Syntax
 pub mod Canon
 pub mod Placeholder
 -- ---- what private contracts alone cite
-pub mod Chain
-pub mod Separator
-pub mod Link
+pub mod Private

@@ -1,7 +1,7 @@
 ghost use Rattle.std.specs.Prelude.{if◌then◌else◌, [], ◌∷◌, decimal};
 ghost use Rattle.std.specs.Fmt.{signed_decimal};
 ghost use Rattle.plcs_base.specs.Put.{PutsAll};
-ghost use Rattle.plcs_grammar.specs.Separator.{separator};
+ghost use Rattle.plcs_grammar.specs.Private.Separator.{separator};
 ghost use Rattle.plcs_grammar.specs.Token.{quoted, with_quotes_doubled, bit_bytes};
 
 use plcs_base::ByteOut;

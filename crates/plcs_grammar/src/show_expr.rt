@@ -2,7 +2,7 @@ ghost use Rattle.std.specs.Prelude.{◌≡◌};
 ghost use Rattle.plcs_base.specs.Put.{PutsAll};
 ghost use Rattle.plcs_grammar.specs.PlainForm.{plain_expr, plain_exprs, plain_var_ref};
 ghost use Rattle.plcs_grammar.specs.Canon.{canon, canon_list, canon_reference};
-ghost use Rattle.plcs_grammar.specs.Chain.{chain_text, operator_text};
+ghost use Rattle.plcs_grammar.specs.Private.Chain.{chain_text, operator_text};
 
 use crate::chain::{count_operators, leftmost};
 use crate::expr::{Expr, VarRef};

@@ -1,6 +1,6 @@
 use Rattle.std.proofs.Common.{◌≡◌, sym, ap, arith}
 use Rattle.plcs_base.specs.Put.{puts_nothing}
-use Rattle.plcs_grammar.specs.Separator.{separator}
+use Rattle.plcs_grammar.specs.Private.Separator.{separator}
 use Rattle.plcs_grammar.proofs.Putting.{puts_same}
 use Rattle.plcs_grammar.proofs.put_bytes.put_separator.Goals as goal
 
