@@ -7,6 +7,7 @@ mod NegativeNumbers
 mod DoubledQuotes
 -- ---- canonical texts
 mod PlainFormCases
+mod EqualForms
 mod EqualShown
 mod JoinedTexts
 mod ChainTexts

@@ -70,7 +70,12 @@ fn paren(alloc: Global, inside: Expr) -> Result<Expr, AllocError> {
 
 /// `1 + 1 + .. + 1`, with so many operators.
 fn chain(alloc: Global, operators: u32) -> Result<Expr, AllocError> {
-    let mut sum = Expr::Number(1);
+    chain_from(alloc, 1, operators)
+}
+
+/// The same from another first number.
+fn chain_from(alloc: Global, first: i32, operators: u32) -> Result<Expr, AllocError> {
+    let mut sum = Expr::Number(first);
     for _ in 0..operators {
         sum = infix(alloc, sum, InfixOp::Plus, Expr::Number(1))?;
     }
@@ -204,5 +209,109 @@ fn a_long_chain_is_copied(rt: HostRuntime) -> Result<(), Fail> {
     let copy = copy_phrase(rt.alloc(), &sum).map_err(|_| "a copy")?;
     drop(sum);
     assert!(rt; matches!(&copy, Phrase::Expression(Expr::Infix(_, _, _))));
+    Ok(())
+}
+
+#[test]
+fn long_chains_are_compared(rt: HostRuntime) -> Result<(), Fail> {
+    let alloc = rt.alloc();
+    let sum = Phrase::Expression(chain(alloc, 1_000_000)?);
+    let equal = Phrase::Expression(chain(alloc, 1_000_000)?);
+    let shorter = Phrase::Expression(chain(alloc, 999_999)?);
+    let other_first = Phrase::Expression(chain_from(alloc, 2, 1_000_000)?);
+    assert!(rt; same_phrase(&sum, &equal));
+    assert!(rt; !same_phrase(&sum, &shorter));
+    assert!(rt; !same_phrase(&shorter, &sum));
+    assert!(rt; !same_phrase(&sum, &other_first));
+    Ok(())
+}
+
+/// Phrases that differ from each other, one of each category or more.
+fn unlike(alloc: Global) -> Result<Vec<Phrase>, Fail> {
+    let mut all = Vec::new(alloc);
+    let simple = VarRef {
+        name: name(b"x")?,
+        index: None,
+    };
+    all.push(Phrase::Assignment(simple, variable(b"y")?))?;
+    let target = cell(alloc, b"x", Expr::Number(1))?;
+    all.push(Phrase::Assignment(target, variable(b"y")?))?;
+    all.push(Phrase::Condition(variable(b"x")?))?;
+    all.push(Phrase::Expression(variable(b"x")?))?;
+    all.push(Phrase::Expression(Expr::Bit(true)))?;
+    all.push(Phrase::Expression(text(alloc, b"x")?))?;
+    all.push(Phrase::Expression(paren(alloc, variable(b"x")?)?))?;
+    let negative = Expr::Prefix(PrefixOp::Minus, Box::new(alloc, variable(b"x")?)?);
+    all.push(Phrase::Expression(negative))?;
+    for op in [InfixOp::Plus, InfixOp::Minus] {
+        let both = infix(alloc, variable(b"x")?, op, variable(b"y")?)?;
+        all.push(Phrase::Expression(both))?;
+    }
+    let crossed = infix(alloc, variable(b"y")?, InfixOp::Plus, variable(b"x")?)?;
+    all.push(Phrase::Expression(crossed))?;
+    for function in [Builtin::Min, Builtin::Max] {
+        let arguments = vec![in alloc; variable(b"x")?, Expr::Number(2)]?;
+        all.push(Phrase::Expression(Expr::Builtin(function, arguments)))?;
+    }
+    let fewer = vec![in alloc; variable(b"x")?]?;
+    all.push(Phrase::Expression(Expr::Builtin(Builtin::Max, fewer)))?;
+    Ok(all)
+}
+
+/// More of them.
+fn unlike_lists(alloc: Global) -> Result<Vec<Phrase>, Fail> {
+    let mut all = Vec::new(alloc);
+    all.push(Phrase::ExpressionList(vec![in alloc; variable(b"x")?]?))?;
+    let targets = vec![in alloc; cell(alloc, b"x", Expr::Number(1))?]?;
+    all.push(Phrase::VariableList(targets))?;
+    let targets = vec![in alloc; cell(alloc, b"x", Expr::Number(2))?]?;
+    all.push(Phrase::VariableList(targets))?;
+    all.push(Phrase::Variable(name(b"x")?))?;
+    all.push(Phrase::CallRef(name(b"x")?, Vec::new(alloc)))?;
+    let passed = vec![in alloc; variable(b"x")?]?;
+    all.push(Phrase::CallRef(name(b"x")?, passed))?;
+    for size in [None, Some(1), Some(2)] {
+        let items = vec![in alloc;
+            Item {
+                name: name(b"x")?,
+                size
+            },
+        ]?;
+        all.push(Phrase::DeclaredList(items))?;
+    }
+    all.push(Phrase::ProcedureName(name(b"x")?))?;
+    all.push(Phrase::NameList(vec![in alloc; name(b"x")?]?))?;
+    all.push(Phrase::NameList(vec![in alloc; name(b"x")?, name(b"y")?]?))?;
+    all.push(Phrase::Length(1))?;
+    all.push(Phrase::Length(2))?;
+    all.push(Phrase::CommentText(Vec::from_slice(alloc, b"x")?))?;
+    all.push(Phrase::CommentText(Vec::from_slice(alloc, b"y")?))?;
+    Ok(all)
+}
+
+#[test]
+fn phrases_are_compared(rt: HostRuntime) -> Result<(), Fail> {
+    for all in [unlike(rt.alloc())?, unlike_lists(rt.alloc())?] {
+        for (i, one) in all.iter().enumerate() {
+            let copy = copy_phrase(rt.alloc(), one).map_err(|_| "a copy")?;
+            assert!(rt; same_phrase(one, &copy));
+            for (j, other) in all.iter().enumerate() {
+                assert_eq!(rt; same_phrase(one, other), i == j);
+            }
+        }
+    }
+    Ok(())
+}
+
+#[test]
+fn a_phrase_has_its_category(rt: HostRuntime) -> Result<(), Fail> {
+    let alloc = rt.alloc();
+    let value = Phrase::Expression(variable(b"x")?);
+    assert_eq!(rt; value.category(), Category::Expression);
+    let tested = Phrase::Condition(variable(b"x")?);
+    assert_eq!(rt; tested.category(), Category::Condition);
+    let names = Phrase::NameList(vec![in alloc; name(b"x")?]?);
+    assert_eq!(rt; names.category(), Category::NameList);
+    assert_eq!(rt; Phrase::Length(1).category(), Category::Length);
     Ok(())
 }
