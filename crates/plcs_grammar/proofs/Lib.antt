@@ -1,7 +1,7 @@
 -- ---- the definitions at work
 mod Examples
 -- ---- bytes that are put in turn
-mod Putting
+mod ParenthesizedTexts
 mod CountedBytes
 mod NegativeNumbers
 mod DoubledQuotes

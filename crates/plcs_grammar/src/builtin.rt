@@ -43,7 +43,7 @@ impl Builtin {
     }
 
     /// Its name.
-    pub(crate) fn name(self) -> &'static [u8]
+    pub fn name(self) -> &'static [u8]
         ensures { result.now ≡ builtin_name self }
     {
         match self {

@@ -5,6 +5,7 @@
 mod builtin;
 mod category;
 mod chain;
+mod constant;
 mod copying;
 mod expr;
 mod expr_copy;
@@ -14,7 +15,7 @@ mod length_out;
 mod operator;
 mod phrase;
 mod phrase_equality;
-mod put_bytes;
+mod separator;
 mod show_expr;
 mod show_joined;
 mod show_phrase;
@@ -25,6 +26,7 @@ mod tests;
 
 pub use builtin::Builtin;
 pub use category::Category;
+pub use constant::{put_bit, put_decimal, put_number, put_quoted};
 pub use copying::copy_phrase;
 pub use expr::{Expr, VarRef};
 pub use item::Item;

@@ -47,7 +47,7 @@ pub enum InfixOp {
 
 impl PrefixOp {
     /// Its sign.
-    pub(crate) fn sign(self) -> Sign
+    pub fn sign(self) -> Sign
         ensures { result ≡ prefix_sign self }
     {
         match self {
@@ -60,7 +60,7 @@ impl PrefixOp {
 
 impl InfixOp {
     /// Its sign.
-    pub(crate) fn sign(self) -> Sign
+    pub fn sign(self) -> Sign
         ensures { result ≡ infix_sign self }
     {
         match self {

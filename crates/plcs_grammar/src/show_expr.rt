@@ -5,10 +5,11 @@ ghost use Rattle.plcs_grammar.specs.Canon.{canon, canon_list, canon_reference};
 ghost use Rattle.plcs_grammar.specs.Private.Chain.{chain_text, operator_text};
 
 use crate::chain::{count_operators, leftmost};
+use crate::constant::{put_bit, put_number, put_quoted};
 use crate::expr::{Expr, VarRef};
 use crate::operator::InfixOp;
-use crate::put_bytes::{put_bit, put_bytes, put_number, put_quoted, put_separator};
-use plcs_base::ByteOut;
+use crate::separator::put_separator;
+use plcs_base::{ByteOut, put_bytes};
 
 /// Puts the canonical text of an expression.
 #[cycle(show_expr)]

@@ -42,7 +42,7 @@ pub enum Sign {
 
 impl Sign {
     /// How it is written.
-    pub(crate) fn bytes(self) -> &'static [u8]
+    pub fn bytes(self) -> &'static [u8]
         ensures { result.now ≡ sign_bytes self }
     {
         match self {

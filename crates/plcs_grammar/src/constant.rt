@@ -1,22 +1,13 @@
+//! Numbers, and the constants of phrases, as they are written.
 ghost use Rattle.std.specs.Prelude.{if◌then◌else◌, [], ◌∷◌, decimal};
 ghost use Rattle.std.specs.Fmt.{signed_decimal};
 ghost use Rattle.plcs_base.specs.Put.{PutsAll};
-ghost use Rattle.plcs_grammar.specs.Private.Separator.{separator};
 ghost use Rattle.plcs_grammar.specs.Token.{quoted, with_quotes_doubled, bit_bytes};
 
-use plcs_base::ByteOut;
-
-/// Puts the bytes in order.
-pub(crate) fn put_bytes<O: ByteOut>(bytes: &[u8], out: &mut O)
-    ensures { PutsAll O.puts out.old bytes.now out.new }
-{
-    for byte in bytes {
-        out.put(*byte);
-    }
-}
+use plcs_base::{ByteOut, put_bytes};
 
 /// Puts the digits of a number, without leading zeros.
-pub(crate) fn put_decimal<O: ByteOut>(number: u32, out: &mut O)
+pub fn put_decimal<O: ByteOut>(number: u32, out: &mut O)
     ensures { PutsAll O.puts out.old (decimal number) out.new }
 {
     if number < 10 {
@@ -28,7 +19,7 @@ pub(crate) fn put_decimal<O: ByteOut>(number: u32, out: &mut O)
 }
 
 /// Puts a number, with its sign before it where it is negative.
-pub(crate) fn put_number<O: ByteOut>(number: i32, out: &mut O)
+pub fn put_number<O: ByteOut>(number: i32, out: &mut O)
     ensures { PutsAll O.puts out.old (signed_decimal number) out.new }
 {
     if number < 0 {
@@ -40,7 +31,7 @@ pub(crate) fn put_number<O: ByteOut>(number: i32, out: &mut O)
 }
 
 /// Puts a character constant: the bytes between quotes, with each quote among them doubled.
-pub(crate) fn put_quoted<O: ByteOut>(bytes: &[u8], out: &mut O)
+pub fn put_quoted<O: ByteOut>(bytes: &[u8], out: &mut O)
     ensures { PutsAll O.puts out.old (quoted bytes.now) out.new }
 {
     out.put(b'\'');
@@ -69,17 +60,8 @@ fn put_with_quote_doubled<O: ByteOut>(byte: u8, out: &mut O)
 }
 
 /// Puts a bit constant.
-pub(crate) fn put_bit<O: ByteOut>(bit: bool, out: &mut O)
+pub fn put_bit<O: ByteOut>(bit: bool, out: &mut O)
     ensures { PutsAll O.puts out.old (bit_bytes bit) out.new }
 {
     put_bytes(if bit { b"'1'B" } else { b"'0'B" }, out);
-}
-
-/// Puts what stands before the item of this number, counted from 0, in a list.
-pub(crate) fn put_separator<O: ByteOut>(number: usize, out: &mut O)
-    ensures { PutsAll O.puts out.old (separator number) out.new }
-{
-    if number > 0 {
-        put_bytes(b", ", out);
-    }
 }

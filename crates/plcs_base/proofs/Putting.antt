@@ -1,7 +1,6 @@
 -- Several bytes put in turn.
 use Rattle.std.proofs.Common.{ℕ, List, [], ◌∷◌, ◌++◌, ◌≡◌, subst}
-use Rattle.plcs_base.specs.Put.{PutsAll, puts_nothing, puts_next}
-use Rattle.plcs_grammar.specs.Canon.{parenthesized_bytes}
+use Rattle.plcs_base.specs.Put.{PutsAll, puts_nothing, puts_next, PutsInTurn}
 
 -- some bytes, and then some more
 pub puts_append : {Out : Type 0} {puts : Out → ℕ → Out → Type 0} {before between after : Out} {first second : List ℕ}
@@ -29,8 +28,14 @@ pub puts_three : {Out : Type 0} {puts : Out → ℕ → Out → Type 0} {a b c d
     → PutsAll puts a first b → PutsAll puts b second c → PutsAll puts c third d → PutsAll puts a (first ++ (second ++ third)) d
 puts_three one two three = puts_append one (puts_append two three)
 
--- a text in parentheses, behind a name
-pub puts_parenthesized : {Out : Type 0} {puts : Out → ℕ → Out → Type 0} {a b c d e : Out} {name inner : List ℕ}
-    → PutsAll puts a name b → puts b 40 c → PutsAll puts c inner d → puts d 41 e
-    → PutsAll puts a (name ++ parenthesized_bytes inner) e
-puts_parenthesized before left inside right = puts_append before (puts_next left (puts_behind inside right))
+-- bytes that are put in one go are put in two parts, one after the other
+pub puts_apart : {Out : Type 0} {puts : Out → ℕ → Out → Type 0} {before after : Out} (first second : List ℕ)
+    → PutsAll puts before (first ++ second) after
+    → (between : Out) × PutsAll puts before first between × PutsAll puts between second after
+puts_apart {before = before} [] second done = (before, puts_nothing, done)
+puts_apart (byte ∷ first) second (puts_next one rest) =
+    let parts = puts_apart first second rest in (parts.0, puts_next one parts.1, parts.2)
+
+pub puts_in_turn : {Out : Type 0} (puts : Out → ℕ → Out → Type 0) → PutsInTurn puts
+puts_in_turn puts before after first second =
+    (λ parts. puts_append parts.1 parts.2, λ whole. puts_apart first second whole)
