@@ -11,5 +11,10 @@ mod EqualForms
 mod EqualShown
 mod JoinedTexts
 mod ChainTexts
+mod SolidTexts
+mod FineTokens
+mod ShownPhrases
+mod TrimmedEnds
+mod ShownTexts
 -- ---- copies
 mod LinkedChains

@@ -20,5 +20,6 @@ pub mod Syntax
 -- ---- what is written
 pub mod Canon
 pub mod Placeholder
+pub mod ShownText
 -- ---- what private contracts alone cite
 pub mod Private
