@@ -1,49 +1,12 @@
--- ---- tokens of a text
-mod ByteRuns
-mod Words
-mod QuotedTexts
-mod Numerals
-mod FrontTokens
-mod LongestFront
-mod OneCut
-mod CutSoFar
-mod ConstantValues
-mod CutPieces
--- ---- the machine reads exactly the forms of the grammar
-mod AllOfLists
-mod BuiltinNames
-mod ExprSpelling
-mod PhraseSpelling
-mod MachineRuns
-mod ExprsRead
-mod ListedItems
-mod Completeness
-mod ConsumedTokens
-mod Soundness
-mod ViablePrefixes
-mod Limits
--- ---- the machine without trees, and the check
-mod KeptNumbers
-mod Simulation
-mod RecognizedTokens
-mod FindingsSound
-mod FindingsComplete
-mod PlacedTokens
-mod FindingsOfText
-mod FindingPlaces
-mod CheckAnswers
-mod OperatorTests
-mod OpenBrackets
-mod ShapeLevels
-mod FindingsGoOn
--- ---- the builder
-mod FrameStacks
-mod FailedSteps
--- ---- comments
-mod TrimmedTexts
-mod CommentRefusals
--- ---- the answers, and canonical texts
-mod OneAnswer
-mod LexedTexts
-mod CanonicalTokens
-mod CanonicalText
+-- what `tokens` ensures: the text is cut into its longest tokens
+mod Tokens
+-- `says` and `only` of `parse`: the machine reads the forms of the grammar, and nothing else
+mod Machine
+-- `over` and `syntax` of `parse`: what the check finds is so, and what is so it finds
+mod Findings
+-- what `build` ensures
+mod Frames
+-- what `comment` ensures
+mod Comments
+-- `only`, `well_formed` and the laws
+mod Readings

@@ -1,5 +1,5 @@
 -- What each answer of the parser says of the text, and what a fact about the text makes the answer.
-use Rattle.std.specs.Prelude.{◌≡◌, ◌⊎◌, ℕ, List, Option, Some, Result, Ok, Err}
+use Rattle.std.specs.Prelude.{◌≡◌, ◌⊎◌, ℕ, List, Result, Ok, Err}
 use Rattle.plcs_grammar.specs.declared.category.Category.{Category}
 use Rattle.plcs_grammar.specs.declared.phrase.Phrase.{Phrase}
 use Rattle.plcs_grammar.specs.PlainPhrase.{PlainPhrase}
@@ -36,8 +36,3 @@ OnlyFault (Err answered) fault = (answered ≡ fault) ⊎ (answered ≡ OutOfMem
 abbrev pub over_fault : OverLimit → PhraseFault
 over_fault (OverLimit.number_too_large place) = NumberTooLarge place
 over_fault (OverLimit.too_deep place) = TooDeep place
-
--- the answer is the phrase that was to be built, unless memory ran out
-abbrev pub IsBuilt : Result Phrase PhraseFault → Option PlainPhrase → Type 0
-IsBuilt (Ok phrase) wanted = wanted ≡ Some (plain_phrase phrase)
-IsBuilt (Err fault) wanted = fault ≡ OutOfMemory

@@ -1,18 +1,6 @@
--- ---- what public contracts cite
+-- ---- what each answer says
 pub mod Answers
+-- ---- laws on what texts read as
 pub mod Laws
--- ---- tokens of a text
-pub mod Kept
-pub mod Front
-pub mod Unquoted
-pub mod TokenIn
--- ---- the machine that reads tokens, and the builder
-pub mod Machine
-pub mod Trace
-pub mod Gives
-pub mod Views
-pub mod Reduction
--- ---- the machine without trees, and the check
-pub mod Recognizer
-pub mod Findings
-pub mod Shapes
+-- ---- what private contracts alone cite
+pub mod Private

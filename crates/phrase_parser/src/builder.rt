@@ -1,28 +1,24 @@
+//! The phrase that tokens are, built of them one by one.
 ghost use Rattle.std.specs.Prelude.{◌≡◌, map, All};
 ghost use Rattle.plcs_grammar.specs.PlainForm.{plain_phrase};
-ghost use Rattle.phrase_parser.specs.Machine.{start, run, ended_if};
-ghost use Rattle.phrase_parser.specs.TokenIn.{IsPlacedIn, token_in};
-ghost use Rattle.phrase_parser.specs.Gives.{Gives};
+ghost use Rattle.phrase_parser.specs.Private.Machine.{start, run, phrase_of_if};
+ghost use Rattle.phrase_parser.specs.Private.TokenIn.{IsPlacedIn, token_in};
+ghost use Rattle.phrase_parser.specs.Private.Gives.{Gives};
 
-mod closing;
-mod ending;
+mod base;
+mod expr;
 mod fault;
 mod lists;
-mod make;
-mod opening;
-mod operands;
-mod operators;
-mod reading;
-mod separating;
-mod signs;
+mod primary;
+mod role;
+mod stack;
 mod state;
-mod step;
 #[cfg(test)]
 mod tests;
+mod token_value;
 
-use crate::builder::ending::ended;
 pub use crate::builder::fault::BuildError;
-use crate::builder::step::{start, step};
+use crate::builder::state::{phrase_of, start, step};
 use crate::token::Placed;
 use plcs_grammar::{Category, Phrase};
 use std::alloc::Global;
@@ -37,11 +33,11 @@ pub fn build(
     tokens: &[Placed],
 ) -> Result<Phrase, BuildError>
     requires { All (IsPlacedIn text.now) tokens.now }
-    ensures { Gives plain_phrase result (ended_if (run (map (token_in text.now) tokens.now) (start category))) }
+    ensures { Gives plain_phrase result (phrase_of_if (run (map (token_in text.now) tokens.now) (start category))) }
 {
     let mut state = start(alloc, category)?;
     for token in tokens {
         state = step(alloc, state, text, *token)?;
     }
-    ended(alloc, state)
+    phrase_of(alloc, state)
 }

@@ -1,6 +1,7 @@
+//! Runs of bytes of one class.
 ghost use Rattle.std.specs.Prelude.{◌≡◌, ◌≤◌, length};
 ghost use Rattle.std.specs.List.{prefix_len};
-ghost use Rattle.phrase_parser.specs.Front.{is_in};
+ghost use Rattle.phrase_parser.specs.Private.Front.{is_in};
 
 use plcs_base::{is_digit, is_name_byte};
 

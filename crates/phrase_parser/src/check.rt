@@ -1,22 +1,22 @@
+//! Whether tokens are a phrase within its limits, and else what goes wrong first.
 ghost use Rattle.std.specs.Prelude.{◌≡◌, ◌<◌, ◌≤◌, length, map, All, IfOk, None};
-ghost use Rattle.phrase_parser.specs.Findings.{findings};
-ghost use Rattle.phrase_parser.specs.TokenIn.{LiesIn};
-ghost use Rattle.phrase_parser.specs.Shapes.{shape_of, seen_in, as_found, Within};
+ghost use Rattle.phrase_parser.specs.Private.Findings.{findings};
+ghost use Rattle.phrase_parser.specs.Private.TokenIn.{LiesIn};
+ghost use Rattle.phrase_parser.specs.Private.Shapes.{shape_of, seen_in, as_found, Within};
 
 mod finding;
-mod kind;
-mod level;
+mod ground;
+mod last;
 mod nesting;
+mod purpose;
 mod shape;
-mod step;
+mod token_class;
 
 pub use crate::check::finding::{Finding, Over};
 use crate::check::finding::{found_at_end, seen_over};
-use crate::check::kind::kind_at;
-use crate::check::level::level_of;
-pub use crate::check::shape::Shape;
-pub use crate::check::step::first_shape;
-use crate::check::step::next;
+pub use crate::check::shape::{Shape, first_shape};
+use crate::check::shape::{level_of, next};
+use crate::check::token_class::class_at;
 use crate::token::Placed;
 use std::alloc::{AllocError, Global};
 
@@ -40,13 +40,13 @@ pub fn check(
     let mut shape = first;
     let mut over = None;
     for token in tokens {
-        let kind = kind_at(text, token);
-        let level = level_of(&shape, kind);
-        let Some(behind) = next(alloc, shape, kind)? else {
+        let class = class_at(text, token);
+        let level = level_of(&shape, class);
+        let Some(behind) = next(alloc, shape, class)? else {
             return Ok(Finding::SyntaxAt(token.start));
         };
         shape = behind;
-        over = over.or(seen_over(kind, token.start, level));
+        over = over.or(seen_over(class, token.start, level));
     }
     Ok(found_at_end(stop, text.len(), &shape, over))
 }

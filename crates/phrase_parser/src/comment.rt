@@ -1,3 +1,4 @@
+//! A comment's text, which is no tokens.
 ghost use Rattle.std.specs.Prelude.{◌≡◌, ◌<◌, ◌^◌, length, drop};
 ghost use Rattle.plcs_grammar.specs.Comment.{trimmed, comment_syntax, comment_offence};
 ghost use Rattle.plcs_grammar.specs.declared.category.Category.TheVariants.{CommentText};
@@ -6,11 +7,8 @@ ghost use Rattle.phrase_parser.specs.Answers.{Answers};
 use crate::byte_class::{ByteClass, leading};
 use crate::fault::PhraseFault;
 use plcs_base::is_printable;
-use plcs_grammar::Phrase;
+use plcs_grammar::{Category, Phrase};
 use std::alloc::Global;
-
-/// What stands for a comment's text that isn't there yet.
-const PLACEHOLDER: &[u8] = b"{comment}";
 
 /// The text of a comment, without the blanks at both its ends.
 pub fn comment(alloc: Global, text: &[u8]) -> Result<Phrase, PhraseFault>
@@ -31,7 +29,7 @@ fn comment_syntax(text: &[u8]) -> Option<usize>
     let inner = trimmed(text);
     if inner.is_empty() {
         Some(text.len())
-    } else if inner == PLACEHOLDER {
+    } else if inner == Category::CommentText.placeholder() {
         Some(0)
     } else {
         comment_offence(text)

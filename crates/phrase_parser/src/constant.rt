@@ -1,5 +1,6 @@
+//! Constants at the front of a text.
 ghost use Rattle.std.specs.Prelude.{◌≡◌, drop};
-ghost use Rattle.phrase_parser.specs.Front.{bit_value, bit_constant, closing, ends_word};
+ghost use Rattle.phrase_parser.specs.Private.Front.{bit_value, bit_constant, constant_end, ends_word};
 
 use plcs_base::{LONGEST_TEXT, is_name_byte, is_printable};
 
@@ -37,7 +38,7 @@ fn ends_word(behind: &[u8]) -> bool
 /// How many bytes the character constant has whose opening quote is the first byte of the text. `None`
 /// where it is no token: it isn't closed, holds a byte that isn't printable, or is too long.
 pub fn constant_length(text: &[u8]) -> Option<usize>
-    ensures { result ≡ closing 1 0 (drop 1 text.now) }
+    ensures { result ≡ constant_end 1 0 (drop 1 text.now) }
 {
     let mut end = 1;
     let mut content = 0;

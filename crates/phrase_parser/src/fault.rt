@@ -1,3 +1,4 @@
+//! Why a text is no phrase.
 ghost use Rattle.std.specs.Prelude.{◌≡◌};
 ghost use Rattle.phrase_parser.specs.declared.fault.PhraseFault.TheVariants.{OutOfMemory};
 

@@ -1,7 +1,8 @@
+//! A text cut into tokens.
 ghost use Rattle.std.specs.Prelude.{◌≡◌, ◌+◌, ◌≤◌, drop, length, IfOk};
 ghost use Rattle.plcs_grammar.specs.Cuts.{blanks};
-ghost use Rattle.phrase_parser.specs.Kept.{AreTokens};
-ghost use Rattle.phrase_parser.specs.Front.{front_of, placed_at};
+ghost use Rattle.phrase_parser.specs.Private.Kept.{AreTokens};
+ghost use Rattle.phrase_parser.specs.Private.Front.{front_of, placed_at};
 
 use crate::byte_class::{ByteClass, leading};
 use crate::front::front_of;

@@ -1,3 +1,4 @@
+//! Tokens of texts.
 use crate::lexer::tokens;
 use crate::token::TokenKind;
 use plcs_grammar::Sign;

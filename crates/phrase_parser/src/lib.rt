@@ -13,11 +13,10 @@ mod lexer;
 #[cfg(test)]
 mod lexer_tests;
 mod limit;
+mod operator;
 mod parser;
 #[cfg(test)]
 mod parser_tests;
-#[cfg(test)]
-mod same_phrase;
 mod sign;
 mod token;
 

@@ -1,3 +1,4 @@
+//! The phrase that a text reads as.
 ghost use Rattle.std.specs.Prelude.{◌≡◌, ◌<◌, ◌^◌, ℕ, length, map, All, Some, IfOk, IsTrue, is_some};
 ghost use Rattle.plcs_grammar.specs.Canon.{IsWellFormed};
 ghost use Rattle.plcs_grammar.specs.Over.{OverLimit};
@@ -6,11 +7,12 @@ ghost use Rattle.plcs_grammar.specs.PlainPhrase.{PlainPhrase};
 ghost use Rattle.plcs_grammar.specs.Reads.{Outline, Reads, IsOver};
 ghost use Rattle.plcs_grammar.specs.Syntax.{SyntaxAt};
 ghost use Rattle.phrase_parser.specs.declared.fault.PhraseFault.TheVariants.{Syntax};
-ghost use Rattle.phrase_parser.specs.Machine.{start, run, ended_if};
-ghost use Rattle.phrase_parser.specs.Recognizer.{first_shape};
-ghost use Rattle.phrase_parser.specs.TokenIn.{IsPlacedIn, token_in};
-ghost use Rattle.phrase_parser.specs.Shapes.{shape_of, over_of, over_place};
-ghost use Rattle.phrase_parser.specs.Answers.{Answers, Only, OnlyFault, IsBuilt, over_fault};
+ghost use Rattle.phrase_parser.specs.Private.Built.{IsBuilt};
+ghost use Rattle.phrase_parser.specs.Private.Machine.{start, run, phrase_of_if};
+ghost use Rattle.phrase_parser.specs.Private.Recognizer.{first_shape};
+ghost use Rattle.phrase_parser.specs.Private.TokenIn.{IsPlacedIn, token_in};
+ghost use Rattle.phrase_parser.specs.Private.Shapes.{shape_of, over_of, over_place};
+ghost use Rattle.phrase_parser.specs.Answers.{Answers, Only, OnlyFault, over_fault};
 
 use crate::builder::{BuildError, build};
 use crate::check::{Finding, Over, Shape, check, first_shape};
@@ -90,8 +92,8 @@ fn built(
     tokens: &[Placed],
 ) -> Result<Phrase, PhraseFault>
     requires placed { All (IsPlacedIn text.now) tokens.now }
-    requires whole { IsTrue (is_some (ended_if (run (map (token_in text.now) tokens.now) (start category)))) }
-    ensures { IsBuilt result (ended_if (run (map (token_in text.now) tokens.now) (start category))) }
+    requires whole { IsTrue (is_some (phrase_of_if (run (map (token_in text.now) tokens.now) (start category)))) }
+    ensures { IsBuilt result (phrase_of_if (run (map (token_in text.now) tokens.now) (start category))) }
 {
     match build(alloc, category, text, tokens) {
         Ok(phrase) => Ok(phrase),

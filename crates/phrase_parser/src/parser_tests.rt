@@ -1,12 +1,12 @@
+//! Phrases of texts, and the places of faults.
 ghost use Rattle.std.specs.Prelude.{◌<◌, length};
 
 use crate::PhraseFault::{NumberTooLarge, Syntax, TooDeep};
-use crate::same_phrase::same_phrase;
 use crate::{PhraseFault, parse};
 use arrayvec::ArrayVec;
 use plcs_base::ByteOut;
 use plcs_grammar::Category::*;
-use plcs_grammar::{Category, Expr, InfixOp, Phrase, show};
+use plcs_grammar::{Category, Expr, InfixOp, Phrase, same_phrase, show};
 use std::alloc::{AllocError, Global};
 use std::process::Abort;
 use std::test::Fail;

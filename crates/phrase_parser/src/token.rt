@@ -1,3 +1,4 @@
+//! Tokens where they stand in a text.
 use plcs_grammar::Sign;
 
 /// What kind of token it is. The bytes of names, keywords and character constants are read from the

@@ -1,3 +1,4 @@
+//! Why tokens were not built into a phrase.
 ghost use Rattle.std.specs.Prelude.{◌≡◌};
 ghost use Rattle.phrase_parser.specs.declared.builder.fault.BuildError.TheVariants.{OutOfMemory};
 

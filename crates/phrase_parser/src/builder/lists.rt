@@ -1,13 +1,14 @@
+//! The lists of a phrase, which grow by one.
 ghost use Rattle.std.specs.Prelude.{◌≡◌, [], ◌∷◌, ◌++◌, map, IfOk};
 ghost use Rattle.plcs_grammar.specs.PlainForm.{plain_expr, plain_exprs, plain_var_ref};
-ghost use Rattle.phrase_parser.specs.Machine.{expr_push};
+ghost use Rattle.phrase_parser.specs.Private.Machine.{expr_push};
 
 use plcs_base::Name;
 use plcs_grammar::{Expr, Item, VarRef};
 use std::alloc::AllocError;
 
 /// The expressions with one more.
-#[tactic(auto, using(crate::proofs::FrameStacks::exprs_of_push))]
+#[tactic(auto, using(crate::proofs::Frames::FrameStacks::exprs_of_push))]
 pub fn with_expr(done: Vec<Expr>, expr: Expr) -> Result<Vec<Expr>, AllocError>
     ensures { IfOk result (λ all. plain_exprs all.items ≡ expr_push (plain_exprs done.items) (plain_expr expr)) }
 {
@@ -17,7 +18,7 @@ pub fn with_expr(done: Vec<Expr>, expr: Expr) -> Result<Vec<Expr>, AllocError>
 }
 
 /// The variables with one more.
-#[tactic(auto, using(crate::proofs::FrameStacks::references_of_push))]
+#[tactic(auto, using(crate::proofs::Frames::FrameStacks::references_of_push))]
 pub fn with_variable(done: Vec<VarRef>, variable: VarRef) -> Result<Vec<VarRef>, AllocError>
     ensures { IfOk result
         (λ all. map plain_var_ref all.items ≡ map plain_var_ref done.items ++ (plain_var_ref variable ∷ [])) }

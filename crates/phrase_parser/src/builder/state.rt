@@ -1,86 +1,31 @@
-use plcs_base::{Name, TextValue};
-use plcs_grammar::{Builtin, Expr, InfixOp, Item, PrefixOp, VarRef};
+//! What was read last and what is wanted, and what each token does to it.
 
-/// What an expression that stands in no other is for, with what of the phrase stands before it.
-#[derive(Drop)]
-pub enum Base {
-    /// A whole condition.
-    Condition,
-    /// A whole expression.
-    Expression,
-    /// One of a list of expressions, behind these.
-    Expressions(Vec<Expr>),
-    /// What is assigned to the variable.
-    Assigned(VarRef),
-    /// The subscript of an assignment's target.
-    TargetSubscript(Name),
-    /// The subscript of a variable of a list, behind these.
-    VariableSubscript(Vec<VarRef>, Name),
-    /// One of the arguments of a call, behind these.
-    CallArguments(Name, Vec<Expr>),
-}
+ghost use Rattle.phrase_parser.specs.Private.Machine.{start, step, step_operand, step_name, step_number, behind_infix, step_equal_role, step_equal, step_prefix, step_infix, step_operator, step_sign, step_open_behind, step_open_role, step_open, step_close_stack, step_close, step_comma_stack, step_comma_role, step_comma, phrase_of_stack, phrase_of_role, phrase_of};
+ghost use Rattle.phrase_parser.specs.Private.TokenIn.{IsPlacedIn, token_in};
+ghost use Rattle.phrase_parser.specs.Private.Gives.{Gives};
+ghost use Rattle.phrase_parser.specs.Private.Views.{state_of, primary_of};
+ghost use Rattle.std.specs.Prelude.{◌≤◌};
+ghost use Rattle.plcs_grammar.specs.Limit.{greatest_number};
+ghost use Rattle.plcs_grammar.specs.PlainForm.{plain_phrase};
 
-/// What stands open around an operand.
-#[derive(Drop)]
-pub enum Frame {
-    /// An operator that waits for its operand.
-    Prefix(PrefixOp),
-    /// An operator with its left operand, which waits for its right one.
-    Left(Expr, InfixOp),
-    /// A parenthesis that is no subscript's and no call's.
-    Parenthesis,
-    /// The parenthesis behind the name of a variable.
-    Subscript(Name),
-    /// The parenthesis behind the name of a built-in function, with the arguments that are read.
-    Arguments(Builtin, Vec<Expr>),
-}
-
-/// All that stands open around an operand.
-#[derive(Drop)]
-pub struct Stack {
-    /// What the outermost expression is for.
-    pub base: Base,
-    /// What stands open inside it, the innermost last.
-    pub frames: Vec<Frame>,
-}
-
-/// An operand that is no operator with operands of its own.
-#[derive(Drop)]
-pub enum Primary {
-    /// A number.
-    Number(i32),
-    /// A character constant.
-    Text(Box<TextValue>),
-    /// A bit constant.
-    Bit(bool),
-    /// A name, behind which a parenthesis may still open.
-    Name(Name),
-    /// A variable with its subscript.
-    Subscripted(Name, Box<Expr>),
-    /// A call of a built-in function, with its arguments.
-    Call(Builtin, Vec<Expr>),
-    /// An expression in parentheses.
-    Parenthesized(Box<Expr>),
-}
-
-/// What a name that stands in no expression is for, with what of the phrase stands before it.
-#[derive(Drop)]
-pub enum Role {
-    /// The target of an assignment.
-    Target,
-    /// A variable of a list, behind these.
-    Variables(Vec<VarRef>),
-    /// The procedure that is called.
-    Callee,
-    /// A name of a declaration, behind these.
-    Items(Vec<Item>),
-    /// A parameter, behind these.
-    Names(Vec<Name>),
-    /// The variable of a loop.
-    Variable,
-    /// The name of a procedure where it stands.
-    Procedure,
-}
+use crate::builder::base::{Base, wanted_on};
+use crate::builder::fault::BuildError;
+use crate::builder::lists::with_item;
+use crate::builder::primary::{Primary, constant, expression, number};
+use crate::builder::role::{
+    Role, phrase_of_role, step_comma_role, step_equal_role, step_open_role,
+};
+use crate::builder::stack::{
+    EVERY_LEVEL, Frame, Stack, behind_infix, phrase_of_stack, reduced, step_close_stack,
+    step_comma_stack, step_infix, step_open_behind, step_prefix, with_frame,
+};
+use crate::builder::token_value::{constant_value, name_of};
+use crate::limit::GREATEST_LENGTH;
+use crate::operator::{infix_of, prefix_of, priority};
+use crate::token::{Placed, TokenKind};
+use plcs_base::Name;
+use plcs_grammar::{Category, Expr, InfixOp, Item, Phrase, Sign, VarRef};
+use std::alloc::Global;
 
 /// What was read last, and what is wanted.
 #[derive(Drop)]
@@ -109,4 +54,176 @@ pub enum State {
     LengthWanted,
     /// A length was just read.
     LengthHad(u16),
+}
+
+/// The state before all tokens of a phrase; a comment has no tokens.
+pub fn start(alloc: Global, category: Category) -> Result<State, BuildError>
+    ensures { Gives state_of result (start category) }
+{
+    match category {
+        Category::Assignment => Ok(State::NameWanted(Role::Target)),
+        Category::Condition => Ok(wanted_on(alloc, Base::Condition)),
+        Category::Expression => Ok(wanted_on(alloc, Base::Expression)),
+        Category::ExpressionList => Ok(wanted_on(alloc, Base::Expressions(Vec::new(alloc)))),
+        Category::VariableList => Ok(State::NameWanted(Role::Variables(Vec::new(alloc)))),
+        Category::Variable => Ok(State::NameWanted(Role::Variable)),
+        Category::CallRef => Ok(State::NameWanted(Role::Callee)),
+        Category::DeclaredList => Ok(State::NameWanted(Role::Items(Vec::new(alloc)))),
+        Category::ProcedureName => Ok(State::NameWanted(Role::Procedure)),
+        Category::NameList => Ok(State::NameWanted(Role::Names(Vec::new(alloc)))),
+        Category::Length => Ok(State::LengthWanted),
+        Category::CommentText => Err(BuildError::Refused),
+    }
+}
+
+/// The state behind one more token, if it can stand there.
+pub fn step(alloc: Global, state: State, text: &[u8], token: Placed) -> Result<State, BuildError>
+    requires { IsPlacedIn text.now token }
+    ensures { Gives state_of result (step (state_of state) (token_in text.now token)) }
+{
+    let bytes = &text[token.start..token.end];
+    match token.kind {
+        TokenKind::Name => step_name(state, name_of(bytes)),
+        TokenKind::Keyword => Err(BuildError::Refused),
+        TokenKind::Number(n) => step_number(state, n),
+        TokenKind::Text => step_operand(state, constant(alloc, constant_value(bytes))?),
+        TokenKind::Bit(value) => step_operand(state, Primary::Bit(value)),
+        TokenKind::Sign(sign) => step_sign(alloc, state, sign),
+    }
+}
+
+/// A name is read.
+pub fn step_name(state: State, name: Name) -> Result<State, BuildError>
+    ensures { Gives state_of result (step_name (state_of state) name) }
+{
+    match state {
+        State::Wanted(stack) => Ok(State::Had(stack, Primary::Name(name))),
+        State::NameWanted(role) => Ok(State::NameHad(role, name)),
+        _ => Err(BuildError::Refused),
+    }
+}
+
+/// A number is read.
+pub fn step_number(state: State, n: u32) -> Result<State, BuildError>
+    requires { n ≤ greatest_number }
+    ensures { Gives state_of result (step_number (state_of state) n) }
+{
+    match state {
+        State::Wanted(stack) => Ok(State::Had(stack, number(n))),
+        State::SizeWanted(done, name) if n >= 1 => Ok(State::SizeHad(done, name, n)),
+        State::LengthWanted if n >= 1 && n <= GREATEST_LENGTH => Ok(State::LengthHad(n as u16)),
+        _ => Err(BuildError::Refused),
+    }
+}
+
+/// A whole operand is read.
+pub fn step_operand(state: State, primary: Primary) -> Result<State, BuildError>
+    ensures { Gives state_of result (step_operand (state_of state) (primary_of primary)) }
+{
+    match state {
+        State::Wanted(stack) => Ok(State::Had(stack, primary)),
+        _ => Err(BuildError::Refused),
+    }
+}
+
+/// A sign is read.
+pub fn step_sign(alloc: Global, state: State, sign: Sign) -> Result<State, BuildError>
+    ensures { Gives state_of result (step_sign (state_of state) sign) }
+{
+    match sign {
+        Sign::OpenParenthesis => step_open(alloc, state),
+        Sign::CloseParenthesis => step_close(alloc, state),
+        Sign::Comma => step_comma(alloc, state),
+        Sign::Equal => step_equal(alloc, state),
+        _ => step_operator(alloc, state, sign),
+    }
+}
+
+/// A parenthesis is opened.
+pub fn step_open(alloc: Global, state: State) -> Result<State, BuildError>
+    ensures { Gives state_of result (step_open (state_of state)) }
+{
+    match state {
+        State::Wanted(stack) => Ok(State::Wanted(with_frame(stack, Frame::Parenthesis)?)),
+        State::Had(stack, primary) => step_open_behind(alloc, stack, primary),
+        State::NameHad(role, name) => step_open_role(alloc, role, name),
+        _ => Err(BuildError::Refused),
+    }
+}
+
+/// A parenthesis is closed.
+pub fn step_close(alloc: Global, state: State) -> Result<State, BuildError>
+    ensures { Gives state_of result (step_close (state_of state)) }
+{
+    match state {
+        State::Had(stack, primary) => {
+            let (stack, expr) = reduced(alloc, stack, EVERY_LEVEL, expression(primary))?;
+            step_close_stack(alloc, stack, expr)
+        }
+        State::SizeHad(done, name, size) => {
+            Ok(State::ItemHad(with_item(done, name, Some(size))?))
+        }
+        _ => Err(BuildError::Refused),
+    }
+}
+
+/// A comma is read.
+pub fn step_comma(alloc: Global, state: State) -> Result<State, BuildError>
+    ensures { Gives state_of result (step_comma (state_of state)) }
+{
+    match state {
+        State::Had(stack, primary) => {
+            let (stack, expr) = reduced(alloc, stack, EVERY_LEVEL, expression(primary))?;
+            step_comma_stack(alloc, stack, expr)
+        }
+        State::NameHad(role, name) => step_comma_role(role, name),
+        State::VariableHad(done) => Ok(State::NameWanted(Role::Variables(done))),
+        State::ItemHad(done) => Ok(State::NameWanted(Role::Items(done))),
+        _ => Err(BuildError::Refused),
+    }
+}
+
+/// `=` is read: it assigns to the target of an assignment, and elsewhere it compares.
+fn step_equal(alloc: Global, state: State) -> Result<State, BuildError>
+    ensures { Gives state_of result (step_equal (state_of state)) }
+{
+    match state {
+        State::Had(stack, primary) => {
+            let op = InfixOp::Equal;
+            let (stack, left) = reduced(alloc, stack, priority(op), expression(primary))?;
+            Ok(behind_infix(stack, left, op)?)
+        }
+        State::NameHad(role, name) => step_equal_role(alloc, role, name),
+        State::TargetHad(target) => Ok(wanted_on(alloc, Base::Assigned(target))),
+        _ => Err(BuildError::Refused),
+    }
+}
+
+/// A sign is read that is an operator wherever it stands.
+fn step_operator(alloc: Global, state: State, sign: Sign) -> Result<State, BuildError>
+    ensures { Gives state_of result (step_operator (state_of state) sign) }
+{
+    match state {
+        State::Wanted(stack) => step_prefix(stack, prefix_of(sign)),
+        State::Had(stack, primary) => step_infix(alloc, stack, primary, infix_of(sign)),
+        _ => Err(BuildError::Refused),
+    }
+}
+
+/// The phrase, if all of it is read.
+pub fn phrase_of(alloc: Global, state: State) -> Result<Phrase, BuildError>
+    ensures { Gives plain_phrase result (phrase_of (state_of state)) }
+{
+    match state {
+        State::Had(stack, primary) => {
+            let (stack, expr) = reduced(alloc, stack, EVERY_LEVEL, expression(primary))?;
+            phrase_of_stack(stack, expr)
+        }
+        State::NameHad(role, name) => phrase_of_role(alloc, role, name),
+        State::VariableHad(done) => Ok(Phrase::VariableList(done)),
+        State::CallHad(name, passed) => Ok(Phrase::CallRef(name, passed)),
+        State::ItemHad(done) => Ok(Phrase::DeclaredList(done)),
+        State::LengthHad(length) => Ok(Phrase::Length(length)),
+        _ => Err(BuildError::Refused),
+    }
 }

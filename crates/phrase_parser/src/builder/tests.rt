@@ -1,5 +1,6 @@
+//! Trees that are built of words.
 ghost use Rattle.std.specs.Prelude.{◌≡◌, ◌≤◌, length, All, IfOk, IsTrue};
-ghost use Rattle.phrase_parser.specs.TokenIn.{IsConstant, IsOfKind, IsPlacedIn};
+ghost use Rattle.phrase_parser.specs.Private.TokenIn.{IsConstant, IsOfKind, IsPlacedIn};
 
 use super::{BuildError, build};
 use crate::token::{Placed, TokenKind};

@@ -1,11 +1,11 @@
+//! What is found in the tokens of a text.
 ghost use Rattle.std.specs.Prelude.{◌≡◌};
-ghost use Rattle.phrase_parser.specs.Recognizer.{may_end};
-ghost use Rattle.phrase_parser.specs.Findings.{is_large, seen_over, finding_of, found_at_end};
-ghost use Rattle.phrase_parser.specs.Shapes.{shape_of, over_if, as_found};
+ghost use Rattle.phrase_parser.specs.Private.Recognizer.{may_end};
+ghost use Rattle.phrase_parser.specs.Private.Findings.{is_large, seen_over, finding_of, found_at_end};
+ghost use Rattle.phrase_parser.specs.Private.Shapes.{shape_of, over_if, as_found};
 
-use crate::check::kind::Kind;
-use crate::check::shape::Shape;
-use crate::check::step::may_end;
+use crate::check::shape::{Shape, may_end};
+use crate::check::token_class::TokenClass;
 use crate::limit::{GREATEST_NESTING, GREATEST_NUMBER};
 
 /// What goes past its limit, and the place of it.
@@ -29,20 +29,21 @@ pub enum Finding {
 }
 
 /// Whether the token is a number that is too large.
-fn is_large(kind: Kind) -> bool
-    ensures { result ≡ is_large kind }
+fn is_large(class: TokenClass) -> bool
+    ensures { result ≡ is_large class }
 {
-    match kind {
-        Kind::Number(n) => n > GREATEST_NUMBER,
-        Kind::Name(_) | Kind::Keyword | Kind::Constant | Kind::Sign(_) => false,
+    match class {
+        TokenClass::Number(n) => n > GREATEST_NUMBER,
+        TokenClass::Name(_) | TokenClass::Keyword | TokenClass::Constant | TokenClass::Sign(_) =>
+            false,
     }
 }
 
 /// Whether the token with this place, which opens the level, goes past a limit.
-pub fn seen_over(kind: Kind, start: usize, level: u32) -> Option<Over>
-    ensures { over_if result ≡ seen_over (record { kind = kind; start = start }) level }
+pub fn seen_over(class: TokenClass, start: usize, level: u32) -> Option<Over>
+    ensures { over_if result ≡ seen_over (record { class = class; start = start }) level }
 {
-    if is_large(kind) {
+    if is_large(class) {
         Some(Over::NumberTooLarge(start))
     } else if level > GREATEST_NESTING {
         Some(Over::TooDeep(start))

@@ -2,10 +2,10 @@
 use Rattle.std.proofs.Common.{map}
 use Rattle.std.proofs.lemmas.Result.{err_from_is_err_and}
 use Rattle.phrase_parser.specs.declared.token.TokenKind.TheVariants.{Name}
-use Rattle.phrase_parser.specs.Machine.{start}
-use Rattle.phrase_parser.specs.TokenIn.{token_in}
-use Rattle.phrase_parser.specs.Views.{state_of}
-use Rattle.phrase_parser.proofs.FailedSteps.{fails_behind, fails_at}
+use Rattle.phrase_parser.specs.Private.Machine.{start}
+use Rattle.phrase_parser.specs.Private.TokenIn.{token_in}
+use Rattle.phrase_parser.specs.Private.Views.{state_of}
+use Rattle.phrase_parser.proofs.Frames.FailedSteps.{fails_behind, fails_at}
 use Rattle.phrase_parser.proofs.builder.build.Goals as goal
 
 pub returns-in_err-state : goal.returns-in_err-state

@@ -1,7 +1,7 @@
 use Rattle.std.proofs.Common.{◌≡◌, map, drop, Some}
-use Rattle.phrase_parser.specs.Machine.{start, run}
-use Rattle.phrase_parser.specs.TokenIn.{token_in}
-use Rattle.phrase_parser.specs.Views.{state_of}
+use Rattle.phrase_parser.specs.Private.Machine.{start, run}
+use Rattle.phrase_parser.specs.Private.TokenIn.{token_in}
+use Rattle.phrase_parser.specs.Private.Views.{state_of}
 use Rattle.phrase_parser.proofs.builder.build.Given as goal
 
 abbrev pub invariant-loop-token : goal.invariant-loop-token

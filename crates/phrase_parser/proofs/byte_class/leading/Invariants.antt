@@ -1,6 +1,6 @@
 use Rattle.std.proofs.Common.{length, drop, ◌+◌, ◌-◌, ◌≡◌, ◌≤◌}
 use Rattle.std.specs.List.{prefix_len}
-use Rattle.phrase_parser.specs.Front.{is_in}
+use Rattle.phrase_parser.specs.Private.Front.{is_in}
 use Rattle.phrase_parser.proofs.byte_class.leading.Given as goal
 
 abbrev pub invariant-loop-count : goal.invariant-loop-count

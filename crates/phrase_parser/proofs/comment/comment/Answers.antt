@@ -1,5 +1,5 @@
 use Rattle.std.proofs.Common.{◌∙◌, sym, arith, rules}
-use Rattle.phrase_parser.proofs.CommentRefusals.{comment_within, comment_reads, comment_refused}
+use Rattle.phrase_parser.proofs.Comments.CommentRefusals.{comment_within, comment_reads, comment_refused}
 use Rattle.phrase_parser.proofs.comment.comment.Goals as goal
 
 pub overflow_cast-result : goal.overflow_cast-result

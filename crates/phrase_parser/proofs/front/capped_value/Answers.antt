@@ -1,5 +1,5 @@
 use Rattle.std.proofs.Common.{arith}
-use Rattle.phrase_parser.proofs.Numerals.{numeral_more}
+use Rattle.phrase_parser.proofs.Tokens.Numerals.{numeral_more}
 use Rattle.phrase_parser.proofs.front.capped_value.Goals as goal
 
 pub loop-digit-preserved : goal.loop-digit-preserved

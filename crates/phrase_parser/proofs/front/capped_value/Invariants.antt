@@ -1,5 +1,5 @@
 use Rattle.std.proofs.Common.{◌≡◌, min, take}
-use Rattle.phrase_parser.specs.Kept.{greatest_kept}
+use Rattle.phrase_parser.specs.Private.Kept.{greatest_kept}
 use Rattle.plcs_grammar.specs.Token.{numeral_value}
 use Rattle.phrase_parser.proofs.front.capped_value.Given as goal
 

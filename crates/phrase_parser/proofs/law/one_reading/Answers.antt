@@ -1,4 +1,4 @@
-use Rattle.phrase_parser.proofs.OneAnswer.{one_reading}
+use Rattle.phrase_parser.proofs.Readings.OneAnswer.{one_reading}
 use Rattle.phrase_parser.proofs.law.one_reading.Goals as goal
 
 pub returns : goal.returns

@@ -1,6 +1,6 @@
 use Rattle.std.proofs.Common.{sym, length, arith}
 use Rattle.std.specs.List.{between}
-use Rattle.phrase_parser.proofs.CutSoFar.{front_within}
+use Rattle.phrase_parser.proofs.Tokens.CutSoFar.{front_within}
 use Rattle.phrase_parser.proofs.lexer.token_at.Goals as goal
 
 pub overflow_add-end : goal.overflow_add-end

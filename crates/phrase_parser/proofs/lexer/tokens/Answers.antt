@@ -1,7 +1,7 @@
 use Rattle.std.proofs.Common.{◌∷◌, [], List, sym, subst, refl, ◌∙◌, arith}
 use Rattle.std.proofs.lemmas.Slice.{pushed}
 use Rattle.phrase_parser.specs.declared.token.Placed.{Placed}
-use Rattle.phrase_parser.proofs.CutSoFar.{CutSoFar, nothing_cut, token_within, one_more_cut, all_cut, cut_stops}
+use Rattle.phrase_parser.proofs.Tokens.CutSoFar.{CutSoFar, nothing_cut, token_within, one_more_cut, all_cut, cut_stops}
 use Rattle.phrase_parser.proofs.lexer.tokens.Goals as goal
 
 pub loop-start-init : goal.loop-start-init

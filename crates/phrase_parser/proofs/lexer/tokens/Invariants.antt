@@ -1,5 +1,5 @@
 use Rattle.std.proofs.Common.{length, ◌-◌}
-use Rattle.phrase_parser.proofs.CutSoFar.{CutSoFar}
+use Rattle.phrase_parser.proofs.Tokens.CutSoFar.{CutSoFar}
 use Rattle.phrase_parser.proofs.lexer.tokens.Given as goal
 
 abbrev pub invariant-loop-start : goal.invariant-loop-start

@@ -1,5 +1,5 @@
-use Rattle.phrase_parser.proofs.CanonicalText.{answer_well_formed}
-use Rattle.phrase_parser.proofs.OneAnswer.{only, only_over, only_syntax}
+use Rattle.phrase_parser.proofs.Readings.CanonicalText.{answer_well_formed}
+use Rattle.phrase_parser.proofs.Readings.OneAnswer.{only, only_over, only_syntax}
 use Rattle.phrase_parser.proofs.parser.parse.Goals as goal
 
 pub returns-clause-well_formed : goal.returns-clause-well_formed

@@ -1,10 +1,11 @@
 use Rattle.std.proofs.Common.{length, sym, ap, subst, arith, map, All}
-use Rattle.phrase_parser.specs.Machine.{start, run, ended_if}
-use Rattle.phrase_parser.specs.Shapes.{shape_of}
-use Rattle.phrase_parser.specs.TokenIn.{token_in, IsPlacedIn, LiesIn}
-use Rattle.phrase_parser.specs.Answers.{IsBuilt, FaultSays}
+use Rattle.phrase_parser.specs.Private.Machine.{start, run, phrase_of_if}
+use Rattle.phrase_parser.specs.Private.Shapes.{shape_of}
+use Rattle.phrase_parser.specs.Private.TokenIn.{token_in, IsPlacedIn, LiesIn}
+use Rattle.phrase_parser.specs.Answers.{FaultSays}
+use Rattle.phrase_parser.specs.Private.Built.{IsBuilt}
 use Rattle.phrase_parser.specs.declared.check.finding.Finding.TheVariants.{Fine, SyntaxAt, Over}
-use Rattle.phrase_parser.proofs.CheckAnswers.{tokens_lie, tokens_few, told_known, read_whole, built_answers}
+use Rattle.phrase_parser.proofs.Findings.CheckAnswers.{tokens_lie, tokens_few, told_known, read_whole, built_answers}
 use Rattle.phrase_parser.proofs.parser.phrase.Goals as goal
 
 pub check-requires-clause-within : goal.check-requires-clause-within
@@ -37,7 +38,7 @@ returns-in-Fine c =
     (shape_of c.args.first) c.in_ok-check.field-0 Fine c.deref.ensures.value c.requires.first c.in_ok-tokens.ensures
     c.in_ok-check.ensures c.in-Fine.is in
     built_answers c.args.category c.args.text.now c.in_ok-tokens.tokens.items.items c.built.result read
-    (subst (λ z. IsBuilt c.built.result (ended_if (run (map (token_in c.args.text.now) z) (start c.args.category))))
+    (subst (λ z. IsBuilt c.built.result (phrase_of_if (run (map (token_in c.args.text.now) z) (start c.args.category))))
     c.deref-in-Fine.ensures.value c.built.ensures)
 
 pub overflow_cast-result : goal.overflow_cast-result

@@ -1,7 +1,7 @@
 -- The bytes are those of one constant.
 use Rattle.std.proofs.Common.{◌≡◌, ℕ, List, codes, refl, lit≤, ◌∙◌, sym}
 use Rattle.std.proofs.lemmas.Slice.Eq.{bytes_eq-Decides}
-use Rattle.phrase_parser.specs.TokenIn.{IsConstant}
+use Rattle.phrase_parser.specs.Private.TokenIn.{IsConstant}
 use Rattle.phrase_parser.proofs.builder.tests.is_constant.Goals as goal
 
 constant : (word : List ℕ) → word ≡ codes "'a''b'" → IsConstant word

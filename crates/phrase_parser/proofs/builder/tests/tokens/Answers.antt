@@ -2,7 +2,7 @@
 use Rattle.std.proofs.Common.{◌≡◌, ℕ, List, [], ◌∷◌, ◌++◌, All, arith}
 use Rattle.std.proofs.lemmas.List.Elements.{All-same, All-push}
 use Rattle.phrase_parser.specs.declared.token.Placed.{Placed}
-use Rattle.phrase_parser.specs.TokenIn.{IsPlacedIn}
+use Rattle.phrase_parser.specs.Private.TokenIn.{IsPlacedIn}
 use Rattle.phrase_parser.proofs.builder.tests.tokens.Goals as goal
 
 placed_more : (text : List ℕ) (before after : List Placed) (token : Placed) → after ≡ before ++ (token ∷ [])

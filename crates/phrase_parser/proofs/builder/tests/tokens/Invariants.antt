@@ -1,5 +1,5 @@
 use Rattle.std.proofs.Common.{length, ◌-◌, ◌≤◌, All}
-use Rattle.phrase_parser.specs.TokenIn.{IsPlacedIn}
+use Rattle.phrase_parser.specs.Private.TokenIn.{IsPlacedIn}
 use Rattle.phrase_parser.proofs.builder.tests.tokens.Given as goal
 
 abbrev pub invariant-loop-start : goal.invariant-loop-start

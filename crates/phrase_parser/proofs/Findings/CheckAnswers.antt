@@ -1,0 +1,90 @@
+-- What the check of the tokens of a text answers says what the text is.
+use Rattle.std.proofs.Common.{◌≡◌, ℕ, ◌≤◌, List, map, length, Option, Some, None, Result, Ok, Err, All, ap, sym, subst, ◌∙◌}
+use Rattle.std.specs.Prelude.{is_some, IsTrue}
+use Rattle.plcs_grammar.specs.declared.category.Category.{Category}
+use Rattle.plcs_grammar.specs.declared.phrase.Phrase.{Phrase}
+use Rattle.plcs_grammar.specs.PlainPhrase.{PlainPhrase}
+use Rattle.plcs_grammar.specs.PlainForm.{plain_phrase}
+use Rattle.plcs_grammar.specs.Cuts.{Piece, Cuts}
+use Rattle.plcs_grammar.specs.Reads.{Reads}
+use Rattle.phrase_parser.specs.declared.check.finding.Finding.{Finding}
+use Rattle.phrase_parser.specs.declared.check.finding.Finding.TheVariants.{Fine, SyntaxAt, Over}
+use Rattle.phrase_parser.specs.declared.fault.PhraseFault.{PhraseFault}
+use Rattle.phrase_parser.specs.declared.fault.PhraseFault.TheVariants as fault
+use Rattle.phrase_parser.specs.declared.token.Placed.{Placed}
+use Rattle.phrase_parser.specs.Private.Kept.{kept, AreTokens}
+use Rattle.phrase_parser.specs.Private.Machine.{run, start, phrase_of_if}
+use Rattle.phrase_parser.specs.Private.Recognizer.{Shape, first_shape}
+use Rattle.phrase_parser.specs.Private.Findings.{seen_of, findings}
+use Rattle.phrase_parser.specs.Private.Shapes.{seen_in, as_found, over_of, over_place}
+use Rattle.phrase_parser.specs.Private.TokenIn.{token_in, IsPlacedIn, LiesIn}
+use Rattle.phrase_parser.specs.Answers.{FaultSays, Answers, over_fault}
+use Rattle.phrase_parser.specs.Private.Built.{IsBuilt}
+use Rattle.phrase_parser.proofs.Findings.PlacedTokens.{cut_seen, cut_lies, cut_few, cut_tokens, cut_placed}
+use Rattle.phrase_parser.proofs.Findings.FindingPlaces.{FindingWithin, places_within}
+use Rattle.phrase_parser.proofs.Findings.FindingsOfText.{SaysOfText, finding_says}
+
+pub tokens_lie : (items : List Placed) (stop : Option ℕ) (x : List ℕ) → AreTokens items stop x → All (LiesIn x) items
+tokens_lie items stop x h = subst (λ z. All (LiesIn x) z) (sym h.2) (cut_lies x h.0 stop h.1)
+
+pub tokens_few : (items : List Placed) (stop : Option ℕ) (x : List ℕ) → AreTokens items stop x → length items ≤ length x
+tokens_few items stop x h = subst (λ z. length z ≤ length x) (sym h.2) (cut_few x h.0 stop h.1)
+
+-- tokens that are a phrase within the limits, which the text reads as
+pub record IsRead (c : Category) (x : List ℕ) (items : List Placed) : Type 0 where
+  pub phrase : PlainPhrase
+  pub built : phrase_of_if (run (map (token_in x) items) (start c)) ≡ Some phrase
+  pub reads : Reads c x phrase
+  pub placed : All (IsPlacedIn x) items
+
+-- what an answer of the check says
+abbrev pub CheckSays : Category → List ℕ → List Placed → Finding → Type 0
+CheckSays c x items Fine = IsRead c x items
+CheckSays c x items (SyntaxAt place) = (place ≤ length x) × FaultSays c x (fault.Syntax place)
+CheckSays c x items (Over over) = (over_place (over_of over) ≤ length x) × FaultSays c x (over_fault (over_of over))
+
+told_if : (c : Category) (x : List ℕ) (pieces : List Piece) (stop : Option ℕ) (found : Finding) → Cuts pieces 0 x stop
+    → SaysOfText c x pieces (as_found found) → FindingWithin (length x) (as_found found) → CheckSays c x (map kept pieces) found
+told_if c x pieces stop Fine cut h w =
+    record {
+      phrase = h.0;
+      built = ap (λ z. phrase_of_if (run z (start c))) (cut_tokens x pieces stop cut h.3) ∙ h.1;
+      reads = h.2;
+      placed = cut_placed x pieces stop cut h.3;
+    }
+told_if c x pieces stop (SyntaxAt place) cut h w = (w, h)
+told_if c x pieces stop (Over over) cut h w = (w, h)
+
+pub told : (c : Category) (x : List ℕ) (items : List Placed) (stop : Option ℕ) (shape : Shape) (found : Finding) → first_shape c ≡ Some shape
+    → AreTokens items stop x → as_found found ≡ findings (map (seen_in x) items) stop (length x) shape None → CheckSays c x items found
+told c x items stop shape found e (pieces, cut, same) f =
+    let g : findings (map seen_of pieces) stop (length x) shape None ≡ as_found found =
+    ap (λ z. findings z stop (length x) shape None) (sym (cut_seen x pieces stop cut))
+    ∙ ap (λ z. findings (map (seen_in x) z) stop (length x) shape None) (sym same) ∙ sym f in
+    subst (λ z. CheckSays c x z found) (sym same)
+    (told_if c x pieces stop found cut (subst (SaysOfText c x pieces) g (finding_says c x pieces stop shape e cut))
+    (subst (FindingWithin (length x)) g (places_within x pieces stop shape cut)))
+
+-- the phrase is built
+pub read_whole : (c : Category) (x : List ℕ) (items : List Placed) → IsRead c x items
+    → IsTrue (is_some (phrase_of_if (run (map (token_in x) items) (start c))))
+read_whole c x items h = ap is_some h.built
+
+-- and answered
+built_if : (c : Category) (x : List ℕ) (answer : Result Phrase PhraseFault) (wanted : Option PlainPhrase) (phrase : PlainPhrase)
+    → IsBuilt answer wanted → wanted ≡ Some phrase → Reads c x phrase → Answers c x answer
+built_if c x (Ok p) wanted phrase b e h = let same : phrase ≡ plain_phrase p = cc in subst (Reads c x) same h
+built_if c x (Err f) wanted phrase b e h = subst (FaultSays c x) (sym b) tt
+
+pub built_answers : (c : Category) (x : List ℕ) (items : List Placed) (answer : Result Phrase PhraseFault) → IsRead c x items
+    → IsBuilt answer (phrase_of_if (run (map (token_in x) items) (start c))) → Answers c x answer
+built_answers c x items answer h b =
+    built_if c x answer (phrase_of_if (run (map (token_in x) items) (start c))) h.phrase b h.built h.reads
+
+-- what an answer says, of the tokens as they were lent
+pub told_known : (c : Category) (x : List ℕ) (items lent : List Placed) (stop : Option ℕ) (shape : Shape) (found known : Finding)
+    → lent ≡ items → first_shape c ≡ Some shape → AreTokens items stop x
+    → as_found found ≡ findings (map (seen_in x) lent) stop (length x) shape None → found ≡ known → CheckSays c x items known
+told_known c x items lent stop shape found known same e are f is =
+    subst (CheckSays c x items) is
+    (told c x items stop shape found e are (f ∙ ap (λ z. findings (map (seen_in x) z) stop (length x) shape None) same))

@@ -1,0 +1,27 @@
+-- What a step of the builder fails with, the whole fails with.
+use Rattle.std.proofs.Common.{◌≡◌, ℕ, ◌<◌, ◌+◌, List, map, drop, length, get_or, Option, Some, sym, ap, ◌∙◌}
+use Rattle.std.proofs.lemmas.List.{at_drop_more}
+use Rattle.plcs_grammar.specs.Token.{Token}
+use Rattle.phrase_parser.specs.declared.builder.fault.BuildError.{BuildError}
+use Rattle.phrase_parser.specs.declared.builder.fault.BuildError.TheVariants.{OutOfMemory, Refused}
+use Rattle.phrase_parser.specs.declared.token.Placed.{Placed}
+use Rattle.phrase_parser.specs.Private.Machine.{State, step, run, phrase_of_if}
+use Rattle.phrase_parser.specs.Private.Gives.{Fails}
+use Rattle.phrase_parser.proofs.Machine.MachineRuns.{run_none}
+
+-- what fails at a state fails behind all tokens
+pub fails_behind : (e : BuildError) (tokens : List Token) (s : Option State) → Fails e s → Fails e (phrase_of_if (run tokens s))
+fails_behind OutOfMemory tokens s h = tt
+fails_behind Refused tokens s h = ap (λ (o : Option State). phrase_of_if (run tokens o)) h ∙ ap phrase_of_if (run_none tokens)
+
+-- what fails at a token fails for all tokens
+pub fails_at : (e : BuildError) (f : Placed → Token) (tokens : List Placed) (i : ℕ) (d : Placed) (s : State) (first : Option State)
+    → i < length tokens
+    → run (map f (drop i tokens)) (Some s) ≡ run (map f tokens) first
+    → Fails e (step s (f (get_or tokens i d)))
+    → Fails e (phrase_of_if (run (map f tokens) first))
+fails_at OutOfMemory f tokens i d s first lt same h = tt
+fails_at Refused f tokens i d s first lt same h =
+    let here : run (map f (drop i tokens)) (Some s) ≡ run (map f (drop (i + 1) tokens)) (step s (f (get_or tokens i d))) =
+    at_drop_more (λ (rest : List Placed). run (map f rest) (Some s)) tokens i d lt in
+    ap phrase_of_if (sym same ∙ here ∙ ap (run (map f (drop (i + 1) tokens))) h ∙ run_none (map f (drop (i + 1) tokens)))

@@ -1,0 +1,260 @@
+-- The tokens that the machine has read in a state, and what a state keeps.
+use Rattle.std.proofs.Common.{◌≡◌, refl, ℕ, ◌+◌, ◌≤◌, not, IsTrue, List, [], ◌∷◌, ◌++◌, ap, sym, ◌∙◌, append_assoc, append-nil}
+use Rattle.plcs_base.specs.Text.{longest_text}
+use Rattle.plcs_grammar.specs.declared.category.Category.{Category}
+use Rattle.plcs_grammar.specs.declared.category.Category.TheVariants.{Assignment, Condition, Expression, ExpressionList, VariableList, Variable, CallRef, DeclaredList, ProcedureName, NameList, Length}
+use Rattle.plcs_grammar.specs.declared.sign.Sign.{Sign}
+use Rattle.plcs_grammar.specs.Sign.{prefix_sign, infix_sign}
+use Rattle.plcs_grammar.specs.Token.{Token}
+use Rattle.plcs_grammar.specs.PlainPhrase.{PlainExpr, PlainExprs}
+use Rattle.plcs_grammar.specs.Builtin.{builtin_name, is_builtin_name}
+use Rattle.plcs_grammar.specs.Level.{priority, tightest, in_parentheses}
+use Rattle.phrase_parser.specs.Private.Machine.{Base, Stack, Role, State, expr_push}
+use Rattle.phrase_parser.proofs.Machine.ExprSpelling.{spell, spell_reference, spell_all, spell_behind, Fits, FitsReference, FitsAll, FitsBehind}
+use Rattle.phrase_parser.proofs.Machine.PhraseSpelling.{spell_name, spell_item, spell_call, spell_more, spell_listed, EachFits, FitsListed, FitsItem, FitsCall, AnyName}
+
+-- expressions, each with the comma behind it
+abbrev pub spell_before : PlainExprs → List Token
+spell_before PlainExprs.nil = []
+spell_before (PlainExprs.cons a rest) = spell a ++ (Token.sign Sign.Comma ∷ spell_before rest)
+
+behind_push : (done : PlainExprs) (t : PlainExpr) → spell_behind (expr_push done t) ≡ Token.sign Sign.Comma ∷ (spell_before done ++ spell t)
+behind_push PlainExprs.nil t = ap (λ z. Token.sign Sign.Comma ∷ z) (append-nil (spell t))
+behind_push (PlainExprs.cons a rest) t =
+    ap (λ z. Token.sign Sign.Comma ∷ (spell a ++ z)) (behind_push rest t)
+    ∙ ap (λ z. Token.sign Sign.Comma ∷ z) (sym (append_assoc (spell a) (Token.sign Sign.Comma ∷ spell_before rest) (spell t)))
+
+-- one more at the end stands behind the comma of the others
+pub all_push : (done : PlainExprs) (t : PlainExpr) → spell_all (expr_push done t) ≡ spell_before done ++ spell t
+all_push PlainExprs.nil t = append-nil (spell t)
+all_push (PlainExprs.cons a rest) t =
+    ap (λ z. spell a ++ z) (behind_push rest t)
+    ∙ sym (append_assoc (spell a) (Token.sign Sign.Comma ∷ spell_before rest) (spell t))
+
+-- and with a comma behind it, it is one of them
+pub before_push : (done : PlainExprs) (t : PlainExpr)
+    → spell_before (expr_push done t) ≡ spell_before done ++ (spell t ++ (Token.sign Sign.Comma ∷ []))
+before_push PlainExprs.nil t = refl
+before_push (PlainExprs.cons a rest) t =
+    ap (λ z. spell a ++ (Token.sign Sign.Comma ∷ z)) (before_push rest t)
+    ∙ sym (append_assoc (spell a) (Token.sign Sign.Comma ∷ spell_before rest) (spell t ++ (Token.sign Sign.Comma ∷ [])))
+
+-- a call with an argument has its parentheses
+pub call_push : (name : List ℕ) (done : PlainExprs) (t : PlainExpr)
+    → spell_call name (expr_push done t) ≡ Token.name name ∷ in_parentheses (spell_all (expr_push done t))
+call_push name PlainExprs.nil t = refl
+call_push name (PlainExprs.cons a rest) t = refl
+
+-- each of them keeps its levels with one more that does
+pub behind_fits : (done : PlainExprs) (t : PlainExpr) → FitsBehind done → Fits t 1 → FitsBehind (expr_push done t)
+behind_fits PlainExprs.nil t h f = (f, tt)
+behind_fits (PlainExprs.cons a rest) t h f = (h.0, behind_fits rest t h.1 f)
+
+-- and there is one
+pub all_fit : (done : PlainExprs) (t : PlainExpr) → FitsBehind done → Fits t 1 → FitsAll (expr_push done t)
+all_fit PlainExprs.nil t h f = (f, tt)
+all_fit (PlainExprs.cons a rest) t h f = (h.0, behind_fits rest t h.1 f)
+
+-- arguments that keep their levels are those of a call
+pub call_fits : (ts : PlainExprs) → FitsAll ts → FitsCall ts
+call_fits PlainExprs.nil h = absurd h
+call_fits (PlainExprs.cons a rest) h = h
+
+module _ {X : Type 0} (f : X → List Token) where
+  -- items, each with the comma behind it
+  abbrev pub spell_each : List X → List Token
+  spell_each [] = []
+  spell_each (x ∷ xs) = f x ++ (Token.sign Sign.Comma ∷ spell_each xs)
+
+  more_last : (xs : List X) (x : X) → spell_more f (xs ++ (x ∷ [])) ≡ Token.sign Sign.Comma ∷ (spell_each xs ++ f x)
+  more_last [] x = ap (λ z. Token.sign Sign.Comma ∷ z) (append-nil (f x))
+  more_last (y ∷ ys) x =
+      ap (λ z. Token.sign Sign.Comma ∷ (f y ++ z)) (more_last ys x)
+      ∙ ap (λ z. Token.sign Sign.Comma ∷ z) (sym (append_assoc (f y) (Token.sign Sign.Comma ∷ spell_each ys) (f x)))
+
+  -- one more at the end stands behind the comma of the others
+  pub listed_last : (xs : List X) (x : X) → spell_listed f (xs ++ (x ∷ [])) ≡ spell_each xs ++ f x
+  listed_last [] x = append-nil (f x)
+  listed_last (y ∷ ys) x =
+      ap (λ z. f y ++ z) (more_last ys x)
+      ∙ sym (append_assoc (f y) (Token.sign Sign.Comma ∷ spell_each ys) (f x))
+
+  -- and with a comma behind it, it is one of them
+  pub each_last : (xs : List X) (x : X) → spell_each (xs ++ (x ∷ [])) ≡ spell_each xs ++ (f x ++ (Token.sign Sign.Comma ∷ []))
+  each_last [] x = refl
+  each_last (y ∷ ys) x =
+      ap (λ z. f y ++ (Token.sign Sign.Comma ∷ z)) (each_last ys x)
+      ∙ sym (append_assoc (f y) (Token.sign Sign.Comma ∷ spell_each ys) (f x ++ (Token.sign Sign.Comma ∷ [])))
+
+  more_comma : (xs : List X) → Token.sign Sign.Comma ∷ spell_each xs ≡ spell_more f xs ++ (Token.sign Sign.Comma ∷ [])
+  more_comma [] = refl
+  more_comma (y ∷ ys) =
+      ap (λ z. Token.sign Sign.Comma ∷ (f y ++ z)) (more_comma ys)
+      ∙ ap (λ z. Token.sign Sign.Comma ∷ z) (sym (append_assoc (f y) (spell_more f ys) (Token.sign Sign.Comma ∷ [])))
+
+  -- a comma behind all items
+  pub listed_comma : (Fit : X → Type 0) (xs : List X) → FitsListed Fit xs
+      → spell_each xs ≡ spell_listed f xs ++ (Token.sign Sign.Comma ∷ [])
+  listed_comma Fit [] h = absurd h
+  listed_comma Fit (x ∷ xs) h =
+      ap (λ z. f x ++ z) (more_comma xs) ∙ sym (append_assoc (f x) (spell_more f xs) (Token.sign Sign.Comma ∷ []))
+
+module _ {X : Type 0} (Fit : X → Type 0) where
+  -- each of them keeps what it has to with one more that does
+  pub each_fits : (xs : List X) (x : X) → EachFits Fit xs → Fit x → EachFits Fit (xs ++ (x ∷ []))
+  each_fits [] x h f = (f, tt)
+  each_fits (y ∷ ys) x h f = (h.0, each_fits ys x h.1 f)
+
+  -- and there is one
+  pub listed_fits : (xs : List X) (x : X) → EachFits Fit xs → Fit x → FitsListed Fit (xs ++ (x ∷ []))
+  listed_fits [] x h f = (f, tt)
+  listed_fits (y ∷ ys) x h f = (h.0, each_fits ys x h.1 f)
+
+  -- each of some that are there keeps what it has to
+  pub listed_each : (xs : List X) → FitsListed Fit xs → EachFits Fit xs
+  listed_each [] h = absurd h
+  listed_each (x ∷ xs) h = h
+
+-- the tokens that were read
+abbrev pub flat_base : Base → List Token
+flat_base Base.condition = []
+flat_base Base.expression = []
+flat_base (Base.expressions done) = spell_before done
+flat_base (Base.assigned reference) = spell_reference reference ++ (Token.sign Sign.Equal ∷ [])
+flat_base (Base.target_subscript name) = Token.name name ∷ Token.sign Sign.OpenParenthesis ∷ []
+flat_base (Base.variable_subscript done name) =
+    spell_each spell_reference done ++ (Token.name name ∷ Token.sign Sign.OpenParenthesis ∷ [])
+flat_base (Base.call_arguments name done) = Token.name name ∷ Token.sign Sign.OpenParenthesis ∷ spell_before done
+
+-- the tokens before the operand on a stack
+abbrev pub flat_stack : Stack → List Token
+flat_stack (Stack.base b) = flat_base b
+flat_stack (Stack.prefix op s) = flat_stack s ++ (Token.sign (prefix_sign op) ∷ [])
+flat_stack (Stack.left a op s) = flat_stack s ++ (spell a ++ (Token.sign (infix_sign op) ∷ []))
+flat_stack (Stack.parenthesis s) = flat_stack s ++ (Token.sign Sign.OpenParenthesis ∷ [])
+flat_stack (Stack.subscript name s) = flat_stack s ++ (Token.name name ∷ Token.sign Sign.OpenParenthesis ∷ [])
+flat_stack (Stack.arguments function done s) =
+    flat_stack s ++ (Token.name (builtin_name function) ∷ Token.sign Sign.OpenParenthesis ∷ spell_before done)
+
+-- the tokens before a name that stands in no expression
+abbrev pub flat_role : Role → List Token
+flat_role Role.target = []
+flat_role (Role.variables done) = spell_each spell_reference done
+flat_role Role.callee = []
+flat_role (Role.items done) = spell_each spell_item done
+flat_role (Role.names done) = spell_each spell_name done
+flat_role Role.variable = []
+flat_role Role.procedure = []
+
+-- all tokens that were read in a state
+abbrev pub flat : State → List Token
+flat (State.wanted s) = flat_stack s
+flat (State.had s t) = flat_stack s ++ spell t
+flat (State.name_wanted role) = flat_role role
+flat (State.name_had role name) = flat_role role ++ (Token.name name ∷ [])
+flat (State.target_had reference) = spell_reference reference
+flat (State.variable_had done) = spell_listed spell_reference done
+flat (State.call_had name passed) = spell_call name passed
+flat (State.size_wanted done name) = spell_each spell_item done ++ (Token.name name ∷ Token.sign Sign.OpenParenthesis ∷ [])
+flat (State.size_had done name n) =
+    spell_each spell_item done ++ (Token.name name ∷ Token.sign Sign.OpenParenthesis ∷ Token.number n ∷ [])
+flat (State.item_had done) = spell_listed spell_item done
+flat State.length_wanted = []
+flat (State.length_had n) = Token.number n ∷ []
+
+-- the level of the operand that is wanted on the stack
+abbrev pub hole : Stack → ℕ
+hole (Stack.base b) = 1
+hole (Stack.prefix op s) = tightest
+hole (Stack.left a op s) = priority op + 1
+hole (Stack.parenthesis s) = 1
+hole (Stack.subscript name s) = 1
+hole (Stack.arguments function done s) = 1
+
+-- what was read keeps its levels
+abbrev pub SoundBase : Base → Type 0
+SoundBase Base.condition = Unit {0}
+SoundBase Base.expression = Unit {0}
+SoundBase (Base.expressions done) = FitsBehind done
+SoundBase (Base.assigned reference) = FitsReference reference
+SoundBase (Base.target_subscript name) = Unit {0}
+SoundBase (Base.variable_subscript done name) = EachFits FitsReference done
+SoundBase (Base.call_arguments name done) = FitsBehind done
+
+-- what is open keeps its levels
+abbrev pub SoundStack : Stack → Type 0
+SoundStack (Stack.base b) = SoundBase b
+SoundStack (Stack.prefix op s) = SoundStack s
+SoundStack (Stack.left a op s) = (hole s ≤ priority op) × Fits a (priority op) × SoundStack s
+SoundStack (Stack.parenthesis s) = SoundStack s
+SoundStack (Stack.subscript name s) = IsTrue (not (is_builtin_name name)) × SoundStack s
+SoundStack (Stack.arguments function done s) = FitsBehind done × SoundStack s
+
+-- what stands before a name that stands in no expression keeps its levels
+abbrev pub SoundRole : Role → Type 0
+SoundRole Role.target = Unit {0}
+SoundRole (Role.variables done) = EachFits FitsReference done
+SoundRole Role.callee = Unit {0}
+SoundRole (Role.items done) = EachFits FitsItem done
+SoundRole (Role.names done) = EachFits AnyName done
+SoundRole Role.variable = Unit {0}
+SoundRole Role.procedure = Unit {0}
+
+-- all that was read in a state keeps its levels
+abbrev pub Sound : State → Type 0
+Sound (State.wanted s) = SoundStack s
+Sound (State.had s t) = SoundStack s × ((level : ℕ) → Fits t level)
+Sound (State.name_wanted role) = SoundRole role
+Sound (State.name_had role name) = SoundRole role
+Sound (State.target_had reference) = FitsReference reference
+Sound (State.variable_had done) = FitsListed FitsReference done
+Sound (State.call_had name passed) = FitsAll passed
+Sound (State.size_wanted done name) = EachFits FitsItem done
+Sound (State.size_had done name n) = (1 ≤ n) × EachFits FitsItem done
+Sound (State.item_had done) = FitsListed FitsItem done
+Sound State.length_wanted = Unit {0}
+Sound (State.length_had n) = (1 ≤ n) × (n ≤ longest_text)
+
+-- the category of the phrase that is read
+abbrev pub base_category : Base → Category
+base_category Base.condition = Condition
+base_category Base.expression = Expression
+base_category (Base.expressions done) = ExpressionList
+base_category (Base.assigned reference) = Assignment
+base_category (Base.target_subscript name) = Assignment
+base_category (Base.variable_subscript done name) = VariableList
+base_category (Base.call_arguments name done) = CallRef
+
+-- the same for a stack
+abbrev pub stack_category : Stack → Category
+stack_category (Stack.base b) = base_category b
+stack_category (Stack.prefix op s) = stack_category s
+stack_category (Stack.left a op s) = stack_category s
+stack_category (Stack.parenthesis s) = stack_category s
+stack_category (Stack.subscript name s) = stack_category s
+stack_category (Stack.arguments function done s) = stack_category s
+
+-- the same for a name that stands in no expression
+abbrev pub role_category : Role → Category
+role_category Role.target = Assignment
+role_category (Role.variables done) = VariableList
+role_category Role.callee = CallRef
+role_category (Role.items done) = DeclaredList
+role_category (Role.names done) = NameList
+role_category Role.variable = Variable
+role_category Role.procedure = ProcedureName
+
+-- the same for a state
+abbrev pub state_category : State → Category
+state_category (State.wanted s) = stack_category s
+state_category (State.had s t) = stack_category s
+state_category (State.name_wanted role) = role_category role
+state_category (State.name_had role name) = role_category role
+state_category (State.target_had reference) = Assignment
+state_category (State.variable_had done) = VariableList
+state_category (State.call_had name passed) = CallRef
+state_category (State.size_wanted done name) = DeclaredList
+state_category (State.size_had done name n) = DeclaredList
+state_category (State.item_had done) = DeclaredList
+state_category State.length_wanted = Length
+state_category (State.length_had n) = Length

@@ -1,0 +1,17 @@
+-- Words that private contracts alone cite: nobody has to believe them.
+-- ---- tokens of a text
+pub mod Kept
+pub mod Front
+pub mod Unquoted
+pub mod TokenIn
+-- ---- the machine that reads tokens, and the builder
+pub mod Machine
+pub mod Trace
+pub mod Gives
+pub mod Built
+pub mod Views
+pub mod Reduction
+-- ---- the machine without trees, and the check
+pub mod Recognizer
+pub mod Findings
+pub mod Shapes

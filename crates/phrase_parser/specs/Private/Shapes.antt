@@ -1,0 +1,105 @@
+-- What the check keeps, as the machine without trees has it.
+use Rattle.std.specs.Prelude.{ℕ, ◌≤◌, List, reverse, Option, Some, None}
+use Rattle.std.specs.List.{AllByRecursion}
+use Rattle.plcs_grammar.specs.Builtin.{is_builtin_name}
+use Rattle.plcs_grammar.specs.Over.{OverLimit}
+use Rattle.phrase_parser.specs.declared.check.token_class.TokenClass.{TokenClass}
+use Rattle.phrase_parser.specs.declared.check.ground.Ground.{Ground}
+use Rattle.phrase_parser.specs.declared.check.nesting.Bracket.{Bracket}
+use Rattle.phrase_parser.specs.declared.check.last.Last.{Last}
+use Rattle.phrase_parser.specs.declared.check.shape.Shape.{Shape}
+use Rattle.phrase_parser.specs.declared.check.shape.Shape.TheVariants.{Wanted, Had, NameWanted, NameHad, TargetHad, VariableHad, CallHad, SizeWanted, SizeHad, ItemHad, LengthWanted, LengthHad}
+use Rattle.phrase_parser.specs.declared.token.TokenKind.{TokenKind}
+use Rattle.phrase_parser.specs.declared.token.TokenKind.TheVariants as token
+use Rattle.phrase_parser.specs.declared.token.Placed.{Placed}
+use Rattle.phrase_parser.specs.Private.TokenIn.{bytes_in}
+use Rattle.phrase_parser.specs.Private.Recognizer as model
+use Rattle.phrase_parser.specs.declared.check.finding.Over.{Over}
+use Rattle.phrase_parser.specs.declared.check.finding.Over.TheVariants.{NumberTooLarge, TooDeep}
+use Rattle.phrase_parser.specs.declared.check.finding.Finding.{Finding}
+use Rattle.phrase_parser.specs.declared.check.finding.Finding.TheVariants.{Fine, SyntaxAt}
+use Rattle.phrase_parser.specs.declared.check.finding.Finding.TheVariants as found
+use Rattle.phrase_parser.specs.Private.Findings as findings
+use Rattle.phrase_parser.specs.Private.Findings.{Seen}
+
+-- what was read last, and what is wanted; the model has the innermost parenthesis first
+abbrev pub shape_of : Shape → model.Shape
+shape_of (Wanted nesting level) = model.Shape.wanted nesting.place (reverse nesting.brackets.items) level
+shape_of (Had last nesting) = model.Shape.had last nesting.place (reverse nesting.brackets.items)
+shape_of (NameWanted role) = model.Shape.name_wanted role
+shape_of (NameHad role) = model.Shape.name_had role
+shape_of TargetHad = model.Shape.target_had
+shape_of VariableHad = model.Shape.variable_had
+shape_of CallHad = model.Shape.call_had
+shape_of SizeWanted = model.Shape.size_wanted
+shape_of SizeHad = model.Shape.size_had
+shape_of ItemHad = model.Shape.item_had
+shape_of LengthWanted = model.Shape.length_wanted
+shape_of LengthHad = model.Shape.length_had
+
+-- the same, if there is one
+abbrev pub shape_if : Option Shape → Option model.Shape
+shape_if None = None
+shape_if (Some shape) = Some (shape_of shape)
+
+-- what is looked at of a token whose bytes are these
+abbrev pub class_from : TokenKind → List ℕ → TokenClass
+class_from token.Name bytes = TokenClass.Name (is_builtin_name bytes)
+class_from token.Keyword bytes = TokenClass.Keyword
+class_from (token.Number n) bytes = TokenClass.Number n
+class_from token.Text bytes = TokenClass.Constant
+class_from (token.Bit value) bytes = TokenClass.Constant
+class_from (token.Sign sign) bytes = TokenClass.Sign sign
+
+-- what is looked at of a token that stands in the text
+abbrev pub seen_in : List ℕ → Placed → Seen
+seen_in text placed = record { class = class_from placed.kind (bytes_in text placed); start = placed.start }
+
+-- the deepest level of which one more can still be counted
+abbrev pub deepest_level : ℕ
+deepest_level = 4294967294
+
+-- no level is over the limit
+abbrev pub LastWithin : ℕ → Last → Type 0
+LastWithin limit Last.Operand = Unit {0}
+LastWithin limit (Last.Named is_builtin level) = level ≤ limit
+
+-- the same for the open parentheses of an expression
+abbrev pub NestingWithin : ℕ → Ground → List Bracket → Type 0
+NestingWithin limit at brackets = (model.ground_level at ≤ limit) × AllByRecursion (λ bracket. bracket.level ≤ limit) brackets
+
+-- the same for all that is open in a shape
+abbrev pub Within : ℕ → model.Shape → Type 0
+Within limit (model.Shape.wanted at brackets level) = (level ≤ limit) × NestingWithin limit at brackets
+Within limit (model.Shape.had last at brackets) = LastWithin limit last × NestingWithin limit at brackets
+Within limit (model.Shape.name_wanted role) = Unit {0}
+Within limit (model.Shape.name_had role) = Unit {0}
+Within limit model.Shape.target_had = Unit {0}
+Within limit model.Shape.variable_had = Unit {0}
+Within limit model.Shape.call_had = Unit {0}
+Within limit model.Shape.size_wanted = Unit {0}
+Within limit model.Shape.size_had = Unit {0}
+Within limit model.Shape.item_had = Unit {0}
+Within limit model.Shape.length_wanted = Unit {0}
+Within limit model.Shape.length_had = Unit {0}
+
+-- what goes past a limit
+abbrev pub over_of : Over → OverLimit
+over_of (NumberTooLarge place) = OverLimit.number_too_large place
+over_of (TooDeep place) = OverLimit.too_deep place
+
+-- the place of what goes past a limit
+abbrev pub over_place : OverLimit → ℕ
+over_place (OverLimit.number_too_large place) = place
+over_place (OverLimit.too_deep place) = place
+
+-- what goes past a limit, if something does
+abbrev pub over_if : Option Over → Option OverLimit
+over_if None = None
+over_if (Some over) = Some (over_of over)
+
+-- what is found in the tokens of a text
+abbrev pub as_found : Finding → findings.Finding
+as_found Fine = findings.Finding.fine
+as_found (SyntaxAt place) = findings.Finding.syntax_at place
+as_found (found.Over over) = findings.Finding.over (over_of over)

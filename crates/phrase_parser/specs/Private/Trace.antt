@@ -1,0 +1,56 @@
+-- The levels that the tokens of a phrase open, as the machine counts them.
+use Rattle.std.specs.Prelude.{ℕ, ◌+◌, List, [], ◌∷◌, Option, Some, None}
+use Rattle.plcs_grammar.specs.declared.sign.Sign.{Sign}
+use Rattle.plcs_grammar.specs.Token.{Token}
+use Rattle.phrase_parser.specs.Private.Machine.{Base, Stack, Role, State, step_if}
+
+-- how many levels are open at the operand of a phrase's own expression
+abbrev pub base_depth : Base → ℕ
+base_depth Base.condition = 0
+base_depth Base.expression = 0
+base_depth (Base.expressions done) = 0
+base_depth (Base.assigned reference) = 0
+base_depth (Base.target_subscript name) = 1
+base_depth (Base.variable_subscript done name) = 1
+base_depth (Base.call_arguments name done) = 1
+
+-- how many levels are open
+abbrev pub depth : Stack → ℕ
+depth (Stack.base b) = base_depth b
+depth (Stack.prefix op s) = depth s + 1
+depth (Stack.left a op s) = depth s
+depth (Stack.parenthesis s) = depth s + 1
+depth (Stack.subscript name s) = depth s + 1
+depth (Stack.arguments function done s) = depth s + 1
+
+-- the level that a token opens where an operand is wanted and so many are open: each sign that can stand there opens one
+abbrev pub opens_before : ℕ → Token → ℕ
+opens_before outside (Token.sign sign) = outside + 1
+opens_before outside token = 0
+
+-- the level that a token opens behind an operand or a name
+abbrev pub opens_behind : ℕ → Token → ℕ
+opens_behind outside (Token.sign Sign.OpenParenthesis) = outside + 1
+opens_behind outside token = 0
+
+-- the level that a token opens behind a name that stands in no expression; an array's size opens none
+abbrev pub opens_by_role : Role → Token → ℕ
+opens_by_role (Role.items done) token = 0
+opens_by_role role token = opens_behind 0 token
+
+-- the level that the token opens, or 0
+abbrev pub opens : State → Token → ℕ
+opens (State.wanted s) token = opens_before (depth s) token
+opens (State.had s t) token = opens_behind (depth s) token
+opens (State.name_had role name) token = opens_by_role role token
+opens state token = 0
+
+-- the same, where the machine has not stopped
+abbrev pub opens_if : Option State → Token → ℕ
+opens_if None token = 0
+opens_if (Some state) token = opens state token
+
+-- for each token the level that it opens, or 0
+abbrev pub trace : List Token → Option State → List ℕ
+trace [] state = []
+trace (token ∷ tokens) state = opens_if state token ∷ trace tokens (step_if state token)

@@ -1,0 +1,97 @@
+//! What an expression that stands in no other is for, and what each sign behind the expression does to it.
+
+ghost use Rattle.std.specs.Prelude.{◌≡◌};
+ghost use Rattle.phrase_parser.specs.Private.Machine.{Stack as OpenStack, State as MachineState, step_close_base, step_close, step_comma_base, phrase_of_base};
+ghost use Rattle.phrase_parser.specs.Private.Gives.{Gives};
+ghost use Rattle.phrase_parser.specs.Private.Views.{base_of, state_of};
+ghost use Rattle.plcs_grammar.specs.PlainForm.{plain_expr, plain_phrase};
+
+use crate::builder::expr::subscripted;
+use crate::builder::fault::BuildError;
+use crate::builder::lists::{with_expr, with_variable};
+use crate::builder::primary::expression;
+use crate::builder::stack::Stack;
+use crate::builder::state::State;
+use plcs_base::Name;
+use plcs_grammar::{Expr, Phrase, VarRef};
+use std::alloc::Global;
+
+/// What an expression that stands in no other is for, with what of the phrase stands before it.
+#[derive(Drop)]
+pub enum Base {
+    /// A whole condition.
+    Condition,
+    /// A whole expression.
+    Expression,
+    /// One of a list of expressions, behind these.
+    Expressions(Vec<Expr>),
+    /// What is assigned to the variable.
+    Assigned(VarRef),
+    /// The subscript of an assignment's target.
+    TargetSubscript(Name),
+    /// The subscript of a variable of a list, behind these.
+    VariableSubscript(Vec<VarRef>, Name),
+    /// One of the arguments of a call, behind these.
+    CallArguments(Name, Vec<Expr>),
+}
+
+/// An operand is wanted, and nothing but the base is open.
+pub fn wanted_on(alloc: Global, base: Base) -> State
+    ensures { state_of result ≡ MachineState.wanted (OpenStack.base (base_of base)) }
+{
+    let frames = Vec::new(alloc);
+    State::Wanted(Stack { base, frames })
+}
+
+/// The parenthesis in which the phrase's own expression stands is closed.
+pub fn step_close_base(alloc: Global, base: Base, expr: Expr) -> Result<State, BuildError>
+    ensures { Gives state_of result (step_close_base (base_of base) (plain_expr expr)) }
+{
+    match base {
+        Base::TargetSubscript(name) => Ok(State::TargetHad(subscripted(alloc, name, expr)?)),
+        Base::VariableSubscript(done, name) => {
+            let variable = subscripted(alloc, name, expr)?;
+            Ok(State::VariableHad(with_variable(done, variable)?))
+        }
+        Base::CallArguments(name, done) => Ok(State::CallHad(name, with_expr(done, expr)?)),
+        Base::Condition | Base::Expression | Base::Expressions(_) | Base::Assigned(_) => {
+            Err(BuildError::Refused)
+        }
+    }
+}
+
+/// A comma stands behind an expression that stands in no other.
+pub fn step_comma_base(alloc: Global, base: Base, expr: Expr) -> Result<State, BuildError>
+    ensures { Gives state_of result (step_comma_base (base_of base) (plain_expr expr)) }
+{
+    match base {
+        Base::Expressions(done) => {
+            let done = with_expr(done, expr)?;
+            Ok(wanted_on(alloc, Base::Expressions(done)))
+        }
+        Base::CallArguments(name, done) => {
+            let done = with_expr(done, expr)?;
+            Ok(wanted_on(alloc, Base::CallArguments(name, done)))
+        }
+        Base::Condition
+        | Base::Expression
+        | Base::Assigned(_)
+        | Base::TargetSubscript(_)
+        | Base::VariableSubscript(_, _) => Err(BuildError::Refused),
+    }
+}
+
+/// The phrase whose last part is the expression.
+pub fn phrase_of_base(base: Base, expr: Expr) -> Result<Phrase, BuildError>
+    ensures { Gives plain_phrase result (phrase_of_base (base_of base) (plain_expr expr)) }
+{
+    match base {
+        Base::Condition => Ok(Phrase::Condition(expr)),
+        Base::Expression => Ok(Phrase::Expression(expr)),
+        Base::Expressions(done) => Ok(Phrase::ExpressionList(with_expr(done, expr)?)),
+        Base::Assigned(target) => Ok(Phrase::Assignment(target, expr)),
+        Base::TargetSubscript(_) | Base::VariableSubscript(_, _) | Base::CallArguments(_, _) => {
+            Err(BuildError::Refused)
+        }
+    }
+}

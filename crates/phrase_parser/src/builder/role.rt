@@ -1,0 +1,99 @@
+//! What a name that stands in no expression is for, and what each sign behind the name does to it.
+
+ghost use Rattle.phrase_parser.specs.Private.Machine.{step_open_role, step_open, step_comma_role, step_equal_role, phrase_of_role};
+ghost use Rattle.phrase_parser.specs.Private.Gives.{Gives};
+ghost use Rattle.phrase_parser.specs.Private.Views.{role_of, state_of};
+ghost use Rattle.plcs_grammar.specs.PlainForm.{plain_phrase};
+
+use crate::builder::base::{Base, wanted_on};
+use crate::builder::expr::simple;
+use crate::builder::fault::BuildError;
+use crate::builder::lists::{with_item, with_name, with_variable};
+use crate::builder::primary::expression;
+use crate::builder::state::{State, step_open};
+use plcs_base::Name;
+use plcs_grammar::{Item, Phrase, VarRef};
+use std::alloc::Global;
+
+/// What a name that stands in no expression is for, with what of the phrase stands before it.
+#[derive(Drop)]
+pub enum Role {
+    /// The target of an assignment.
+    Target,
+    /// A variable of a list, behind these.
+    Variables(Vec<VarRef>),
+    /// The procedure that is called.
+    Callee,
+    /// A name of a declaration, behind these.
+    Items(Vec<Item>),
+    /// A parameter, behind these.
+    Names(Vec<Name>),
+    /// The variable of a loop.
+    Variable,
+    /// The name of a procedure where it stands.
+    Procedure,
+}
+
+/// A parenthesis is opened behind a name that stands in no expression.
+pub fn step_open_role(alloc: Global, role: Role, name: Name) -> Result<State, BuildError>
+    ensures { Gives state_of result (step_open_role (role_of role) name) }
+{
+    match role {
+        Role::Target => Ok(wanted_on(alloc, Base::TargetSubscript(name))),
+        Role::Variables(done) => Ok(wanted_on(alloc, Base::VariableSubscript(done, name))),
+        Role::Callee => Ok(wanted_on(alloc, Base::CallArguments(name, Vec::new(alloc)))),
+        Role::Items(done) => Ok(State::SizeWanted(done, name)),
+        Role::Names(_) | Role::Variable | Role::Procedure => Err(BuildError::Refused),
+    }
+}
+
+/// A comma stands behind a name.
+pub fn step_comma_role(role: Role, name: Name) -> Result<State, BuildError>
+    ensures { Gives state_of result (step_comma_role (role_of role) name) }
+{
+    match role {
+        Role::Variables(done) => {
+            let done = with_variable(done, simple(name))?;
+            Ok(State::NameWanted(Role::Variables(done)))
+        }
+        Role::Items(done) => {
+            let done = with_item(done, name, None)?;
+            Ok(State::NameWanted(Role::Items(done)))
+        }
+        Role::Names(done) => {
+            let done = with_name(done, name)?;
+            Ok(State::NameWanted(Role::Names(done)))
+        }
+        Role::Target | Role::Callee | Role::Variable | Role::Procedure => Err(BuildError::Refused),
+    }
+}
+
+/// `=` behind a name that stands in no expression.
+pub fn step_equal_role(alloc: Global, role: Role, name: Name) -> Result<State, BuildError>
+    ensures { Gives state_of result (step_equal_role (role_of role) name) }
+{
+    match role {
+        Role::Target => Ok(wanted_on(alloc, Base::Assigned(simple(name)))),
+        Role::Variables(_)
+        | Role::Callee
+        | Role::Items(_)
+        | Role::Names(_)
+        | Role::Variable
+        | Role::Procedure => Err(BuildError::Refused),
+    }
+}
+
+/// The phrase whose last part is the name.
+pub fn phrase_of_role(alloc: Global, role: Role, name: Name) -> Result<Phrase, BuildError>
+    ensures { Gives plain_phrase result (phrase_of_role (role_of role) name) }
+{
+    match role {
+        Role::Target => Err(BuildError::Refused),
+        Role::Variables(done) => Ok(Phrase::VariableList(with_variable(done, simple(name))?)),
+        Role::Callee => Ok(Phrase::CallRef(name, Vec::new(alloc))),
+        Role::Items(done) => Ok(Phrase::DeclaredList(with_item(done, name, None)?)),
+        Role::Names(done) => Ok(Phrase::NameList(with_name(done, name)?)),
+        Role::Variable => Ok(Phrase::Variable(name)),
+        Role::Procedure => Ok(Phrase::ProcedureName(name)),
+    }
+}

@@ -1,0 +1,80 @@
+//! What a name that stands in no expression is for, without what stands before it, and what each sign behind the name does to it.
+
+ghost use Rattle.std.specs.Prelude.{◌≡◌};
+ghost use Rattle.phrase_parser.specs.Private.Recognizer.{next_open_name, next_comma_name, next_equal_name, level_by_purpose};
+ghost use Rattle.phrase_parser.specs.Private.Shapes.{shape_if};
+
+use crate::check::ground::{Ground, wanted};
+use crate::check::shape::Shape;
+use std::alloc::Global;
+
+/// What a name that stands in no expression is for.
+#[derive(Clone, Copy)]
+pub enum Purpose {
+    /// The target of an assignment.
+    Target,
+    /// A variable of a list.
+    ListedVariable,
+    /// The procedure that is called.
+    Callee,
+    /// A name of a declaration.
+    Item,
+    /// A parameter.
+    ListedName,
+    /// The whole phrase.
+    Single,
+}
+
+/// A parenthesis is opened behind a name that stands in no expression.
+pub fn next_open_name(alloc: Global, purpose: Purpose) -> Option<Shape>
+    ensures { shape_if result ≡ next_open_name purpose }
+{
+    match purpose {
+        Purpose::Target => Some(wanted(alloc, Ground::TargetIndex, 1)),
+        Purpose::ListedVariable => Some(wanted(alloc, Ground::VariableIndex, 1)),
+        Purpose::Callee => Some(wanted(alloc, Ground::CallList, 1)),
+        Purpose::Item => Some(Shape::SizeWanted),
+        Purpose::ListedName | Purpose::Single => None,
+    }
+}
+
+/// A comma stands behind a name that stands in no expression.
+pub fn next_comma_name(purpose: Purpose) -> Option<Shape>
+    ensures { shape_if result ≡ next_comma_name purpose }
+{
+    match purpose {
+        Purpose::ListedVariable | Purpose::Item | Purpose::ListedName => Some(Shape::NameWanted(
+            purpose,
+        )),
+        Purpose::Target | Purpose::Callee | Purpose::Single => None,
+    }
+}
+
+/// `=` stands behind a name that stands in no expression.
+pub fn next_equal_name(alloc: Global, purpose: Purpose) -> Option<Shape>
+    ensures { shape_if result ≡ next_equal_name purpose }
+{
+    match purpose {
+        Purpose::Target => Some(wanted(alloc, Ground::Whole, 0)),
+        Purpose::ListedVariable
+        | Purpose::Callee
+        | Purpose::Item
+        | Purpose::ListedName
+        | Purpose::Single => None,
+    }
+}
+
+/// The level that a parenthesis opens behind a name that stands in no expression, or 0: an array's size
+/// opens none.
+pub fn level_by_purpose(purpose: Purpose) -> u32
+    ensures { result ≡ level_by_purpose purpose }
+{
+    match purpose {
+        Purpose::Item => 0,
+        Purpose::Target
+        | Purpose::ListedVariable
+        | Purpose::Callee
+        | Purpose::ListedName
+        | Purpose::Single => 1,
+    }
+}

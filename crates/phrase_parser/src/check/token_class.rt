@@ -1,0 +1,39 @@
+//! What is looked at of a token.
+
+ghost use Rattle.std.specs.Prelude.{◌≡◌, ◌≤◌, length};
+ghost use Rattle.phrase_parser.specs.Private.TokenIn.{bytes_in};
+ghost use Rattle.phrase_parser.specs.Private.Shapes.{class_from};
+
+use crate::token::{Placed, TokenKind};
+use plcs_grammar::{Builtin, Sign};
+
+/// What is looked at of a token.
+#[derive(Clone, Copy)]
+pub enum TokenClass {
+    /// A name: whether it is a built-in function's.
+    Name(bool),
+    /// A keyword.
+    Keyword,
+    /// The number, or 4294967295 where it is greater.
+    Number(u32),
+    /// A character or bit constant.
+    Constant,
+    /// A sign.
+    Sign(Sign),
+}
+
+/// What is looked at of the token, which stands in the text.
+#[tactic(auto, unfolding(plcs_grammar::specs::Builtin::is_builtin_name))]
+pub fn class_at(text: &[u8], token: &Placed) -> TokenClass
+    requires ordered { token.now.start ≤ token.now.end }
+    requires within { token.now.end ≤ length text.now }
+    ensures { result ≡ class_from token.now.kind (bytes_in text.now token.now) }
+{
+    match token.kind {
+        TokenKind::Name => TokenClass::Name(Builtin::read(&text[token.start..token.end]).is_some()),
+        TokenKind::Keyword => TokenClass::Keyword,
+        TokenKind::Number(n) => TokenClass::Number(n),
+        TokenKind::Text | TokenKind::Bit(_) => TokenClass::Constant,
+        TokenKind::Sign(sign) => TokenClass::Sign(sign),
+    }
+}
