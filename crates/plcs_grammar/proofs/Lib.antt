@@ -1,3 +1,5 @@
+-- ---- limits
+mod Limits
 -- ---- the definitions at work
 mod Examples
 -- ---- bytes that are put in turn
