@@ -1,3 +1,4 @@
+//! Copies of expressions.
 ghost use Rattle.std.specs.Prelude.{◌≡◌, IfOk, map};
 ghost use Rattle.plcs_grammar.specs.PlainForm.{plain_expr, plain_var_ref};
 ghost use Rattle.plcs_grammar.specs.Private.Link.{linked};

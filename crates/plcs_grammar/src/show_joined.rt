@@ -1,3 +1,4 @@
+//! Lists as they are shown, joined by commas.
 ghost use Rattle.std.specs.Prelude.{List, ℕ};
 ghost use Rattle.plcs_base.specs.Put.{PutsAll};
 ghost use Rattle.plcs_grammar.specs.PlainForm.{plain_var_ref};

@@ -1,3 +1,4 @@
+//! Tests of each public call.
 use super::*;
 use plcs_base::{ByteOut, Name, TextValue, put_bytes};
 use std::alloc::{AllocError, Global};
