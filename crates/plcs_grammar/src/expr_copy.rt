@@ -8,15 +8,6 @@ use crate::operator::InfixOp;
 use plcs_base::{Name, OutOfMemory, TextValue};
 use std::alloc::Global;
 
-/// An operator of a chain, with its right operand.
-#[derive(Drop)]
-pub(crate) struct Link {
-    /// The operator.
-    pub(crate) op: InfixOp,
-    /// Its right operand.
-    pub(crate) right: Expr,
-}
-
 /// A copy of an expression. A chain of operators is copied in a loop.
 #[cycle(copy_expr)]
 pub(crate) fn copy_expr(alloc: Global, expr: &Expr) -> Result<Expr, OutOfMemory>
@@ -113,4 +104,13 @@ fn chained(alloc: Global, operand: Expr, links: Vec<Link>) -> Result<Expr, OutOf
         chain = Expr::Infix(last.op, left, right);
     }
     Ok(chain)
+}
+
+/// An operator of a chain, with its right operand.
+#[derive(Drop)]
+pub(crate) struct Link {
+    /// The operator.
+    pub(crate) op: InfixOp,
+    /// Its right operand.
+    pub(crate) right: Expr,
 }

@@ -11,6 +11,16 @@ use crate::separator::put_separator;
 use crate::show_expr::show_variable;
 use plcs_base::{ByteOut, Name, put_bytes};
 
+/// Puts the canonical texts of the items, joined by commas.
+pub(crate) fn show_joined<T: Shown, O: ByteOut>(items: &[T], out: &mut O)
+    ensures { PutsAll O.puts out.old (joined T.shown items.now) out.new }
+{
+    for (i, item) in items.iter().enumerate() {
+        put_separator(i, out);
+        item.show(out);
+    }
+}
+
 /// What stands in a list, joined by commas.
 pub(crate) trait Shown {
     ghost shown: { Self → List ℕ };
@@ -46,15 +56,5 @@ impl Shown for Item {
             put_decimal(size, out);
             out.put(b')');
         }
-    }
-}
-
-/// Puts the canonical texts of the items, joined by commas.
-pub(crate) fn show_joined<T: Shown, O: ByteOut>(items: &[T], out: &mut O)
-    ensures { PutsAll O.puts out.old (joined T.shown items.now) out.new }
-{
-    for (i, item) in items.iter().enumerate() {
-        put_separator(i, out);
-        item.show(out);
     }
 }
