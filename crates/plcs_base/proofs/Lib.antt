@@ -1,4 +1,4 @@
--- several bytes put in turn: `PutsInTurn` of the law, and the clauses over `ByteOut` of every crate above
-pub mod Putting
--- the value of each limit, which the definitions take from the code
+-- the values of the limits that `Name::read` and `TextValue::read` keep
 mod Limits
+-- several bytes put in turn: `put_bytes`, the law `puts_in_turn`, and each clause over `ByteOut` of the crates above
+pub mod Putting

@@ -4,7 +4,7 @@
 
 mod byte;
 mod byte_out;
-mod item;
+mod declared;
 mod law;
 mod mark;
 mod memory;
@@ -19,7 +19,7 @@ mod work;
 
 pub use byte::{is_digit, is_letter, is_name_byte, is_printable};
 pub use byte_out::{ByteOut, put_bytes};
-pub use item::{Declared, ItemType};
+pub use declared::{Declared, ItemType};
 pub use law::puts_in_turn;
 pub use mark::{MarkKind, Marked};
 pub use memory::OutOfMemory;

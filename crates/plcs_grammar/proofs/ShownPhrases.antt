@@ -14,8 +14,8 @@ use Rattle.plcs_grammar.specs.Builtin.{builtin_name}
 use Rattle.plcs_grammar.specs.Sign.{sign_bytes, prefix_sign, infix_sign}
 use Rattle.plcs_grammar.specs.Token.{Token}
 use Rattle.plcs_grammar.specs.PlainPhrase.{PlainExpr, PlainExprs, PlainVarRef, PlainPhrase}
-use Rattle.plcs_grammar.specs.Level.{Level, IsNameToken, IsReference, Joined, Behind, priority, tightest}
-use Rattle.plcs_grammar.specs.Form.{IsSizedName, IsItem, MoreBehind, JoinedBy, IsCall, IsPhrase}
+use Rattle.plcs_grammar.specs.Level.{Level, IsNameToken, IsReference, IsExprList, IsMoreExprs, priority, tightest}
+use Rattle.plcs_grammar.specs.Form.{IsSizedName, IsItem, IsMoreOf, IsListOf, IsCall, IsPhrase}
 use Rattle.plcs_grammar.specs.Canon.{Canon, canon, canon_reference, canon_list, canon_behind, canon_sized, canon_item, canon_call, behind_sign, parenthesized_bytes, comma, joined, more_joined}
 use Rattle.plcs_grammar.proofs.SolidTexts.{IsSolid, begins_append, ends_append, printable_append, solid_between, solid_append, solid_edges, name_solid, decimal_solid, quoted_solid}
 use Rattle.plcs_grammar.proofs.FineTokens.{AllFine, fine_parts, fine_inside}
@@ -114,13 +114,13 @@ mutual
       let all = subst AllFine is.1 fine in
       solid_parenthesized name (canon index) (name_solid name all.0) (solid_expr index 1 is.0 is.2 (fine_inside is.0 all.1))
 
-  pub solid_exprs : (es : PlainExprs) (tokens : List Token) → Joined es tokens → AllFine tokens → IsSolid (canon_list es)
+  pub solid_exprs : (es : PlainExprs) (tokens : List Token) → IsExprList es tokens → AllFine tokens → IsSolid (canon_list es)
   solid_exprs PlainExprs.nil tokens is fine = absurd is
   solid_exprs (PlainExprs.cons a rest) tokens is fine =
       let parts = fine_parts is.0 is.1 (subst AllFine is.2 fine) in
       solid_behind rest (canon a) is.1 (solid_expr a 1 is.0 is.3 parts.0) is.4 parts.1
 
-  solid_behind : (es : PlainExprs) (x : List ℕ) (tokens : List Token) → IsSolid x → Behind es tokens → AllFine tokens
+  solid_behind : (es : PlainExprs) (x : List ℕ) (tokens : List Token) → IsSolid x → IsMoreExprs es tokens → AllFine tokens
       → IsSolid (x ++ canon_behind es)
   solid_behind PlainExprs.nil x tokens solid is fine = subst IsSolid (sym (append-nil x)) solid
   solid_behind (PlainExprs.cons a rest) x tokens solid is fine =
@@ -131,7 +131,7 @@ mutual
 -- a list of anything, each with a solid text
 module _ {X : Type 0} (Is : X → List Token → Type 0) (bytes_of : X → List ℕ)
     (solid_of : (x : X) (tokens : List Token) → Is x tokens → AllFine tokens → IsSolid (bytes_of x)) where
-  solid_more : (xs : List X) (front : List ℕ) (tokens : List Token) → IsSolid front → MoreBehind Is xs tokens → AllFine tokens
+  solid_more : (xs : List X) (front : List ℕ) (tokens : List Token) → IsSolid front → IsMoreOf Is xs tokens → AllFine tokens
       → IsSolid (front ++ more_joined bytes_of xs)
   solid_more [] front tokens solid is fine = subst IsSolid (sym (append-nil front)) solid
   solid_more (x ∷ xs) front tokens solid is fine =
@@ -139,7 +139,7 @@ module _ {X : Type 0} (Is : X → List Token → Type 0) (bytes_of : X → List 
       let next = solid_between front comma (bytes_of x) solid refl (solid_of x is.0 is.3 parts.0) in
       comma_more front (bytes_of x) (more_joined bytes_of xs) (solid_more xs (front ++ (comma ++ bytes_of x)) is.1 next is.4 parts.1)
 
-  solid_joined : (xs : List X) (tokens : List Token) → JoinedBy Is xs tokens → AllFine tokens → IsSolid (joined bytes_of xs)
+  solid_joined : (xs : List X) (tokens : List Token) → IsListOf Is xs tokens → AllFine tokens → IsSolid (joined bytes_of xs)
   solid_joined [] tokens is fine = absurd is
   solid_joined (x ∷ xs) tokens is fine =
       let parts = fine_parts is.0 is.1 (subst AllFine is.2 fine) in

@@ -12,7 +12,7 @@ pub mod Form
 pub mod Comment
 -- ---- limits
 pub mod Limit
-pub mod Opened
+pub mod OpenedLevel
 pub mod Over
 -- ---- what a text reads as, and where it goes wrong
 pub mod Reads

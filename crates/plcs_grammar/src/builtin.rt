@@ -1,3 +1,4 @@
+//! The built-in functions.
 ghost use Rattle.std.specs.Prelude.{◌≡◌};
 ghost use Rattle.plcs_grammar.specs.Builtin.{builtin_name, builtin_of};
 

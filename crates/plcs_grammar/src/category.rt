@@ -1,3 +1,4 @@
+//! The categories of phrases, and what stands for a phrase of each that is not there yet.
 ghost use Rattle.std.specs.Prelude.{◌≡◌};
 
 /// What kind of phrase a part of a template holds.

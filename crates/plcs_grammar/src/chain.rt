@@ -1,3 +1,4 @@
+//! Chains of operators along their left operands.
 ghost use Rattle.std.specs.Prelude.{◌≡◌, ◌≤◌};
 ghost use Rattle.plcs_grammar.specs.declared.expr.Expr.{size-Expr};
 ghost use Rattle.plcs_grammar.specs.PlainForm.{plain_expr};

@@ -1,3 +1,4 @@
+//! Copies of expressions.
 ghost use Rattle.std.specs.Prelude.{◌≡◌, IfOk, map};
 ghost use Rattle.plcs_grammar.specs.PlainForm.{plain_expr, plain_var_ref};
 ghost use Rattle.plcs_grammar.specs.Private.Link.{linked};
@@ -6,15 +7,6 @@ use crate::expr::{Expr, VarRef};
 use crate::operator::InfixOp;
 use plcs_base::{Name, OutOfMemory, TextValue};
 use std::alloc::Global;
-
-/// An operator of a chain, with its right operand.
-#[derive(Drop)]
-pub(crate) struct Link {
-    /// The operator.
-    pub(crate) op: InfixOp,
-    /// Its right operand.
-    pub(crate) right: Expr,
-}
 
 /// A copy of an expression. A chain of operators is copied in a loop.
 #[cycle(copy_expr)]
@@ -112,4 +104,13 @@ fn chained(alloc: Global, operand: Expr, links: Vec<Link>) -> Result<Expr, OutOf
         chain = Expr::Infix(last.op, left, right);
     }
     Ok(chain)
+}
+
+/// An operator of a chain, with its right operand.
+#[derive(Drop)]
+pub(crate) struct Link {
+    /// The operator.
+    pub(crate) op: InfixOp,
+    /// Its right operand.
+    pub(crate) right: Expr,
 }

@@ -1,3 +1,4 @@
+//! The length of what is shown.
 ghost use Rattle.std.specs.Prelude.{◌≡◌, ◌+◌, min, length};
 ghost use Rattle.plcs_grammar.specs.PlainForm.{plain_phrase};
 ghost use Rattle.plcs_grammar.specs.Canon.{Canon, longest_shown};
@@ -5,6 +6,15 @@ ghost use Rattle.plcs_grammar.specs.Canon.{Canon, longest_shown};
 use crate::phrase::Phrase;
 use crate::show_phrase::show;
 use plcs_base::ByteOut;
+
+/// The length of a phrase's canonical text in bytes, or 4294967295 where it is longer.
+pub fn shown_len(phrase: &Phrase) -> u32
+    ensures { result ≡ min (length (Canon (plain_phrase phrase.now))) longest_shown }
+{
+    let mut out = LengthOut { count: 0 };
+    show(phrase, &mut out);
+    out.count
+}
 
 /// How many bytes were put; at its last value it stays.
 #[derive(Drop)]
@@ -18,13 +28,4 @@ impl ByteOut for LengthOut {
     fn put(&mut self, _byte: u8) {
         self.count = self.count.saturating_add(1);
     }
-}
-
-/// The length of a phrase's canonical text in bytes, or 4294967295 where it is longer.
-pub fn shown_len(phrase: &Phrase) -> u32
-    ensures { result ≡ min (length (Canon (plain_phrase phrase.now))) longest_shown }
-{
-    let mut out = LengthOut { count: 0 };
-    show(phrase, &mut out);
-    out.count
 }

@@ -1,3 +1,4 @@
+//! Operators, and their signs.
 ghost use Rattle.std.specs.Prelude.{◌≡◌};
 ghost use Rattle.plcs_grammar.specs.Sign.{prefix_sign, infix_sign};
 

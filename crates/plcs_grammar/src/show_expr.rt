@@ -1,3 +1,4 @@
+//! Expressions as they are shown.
 ghost use Rattle.std.specs.Prelude.{◌≡◌};
 ghost use Rattle.plcs_base.specs.Put.{PutsAll};
 ghost use Rattle.plcs_grammar.specs.PlainForm.{plain_expr, plain_exprs, plain_var_ref};

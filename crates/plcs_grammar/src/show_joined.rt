@@ -1,3 +1,4 @@
+//! Lists as they are shown, joined by commas.
 ghost use Rattle.std.specs.Prelude.{List, ℕ};
 ghost use Rattle.plcs_base.specs.Put.{PutsAll};
 ghost use Rattle.plcs_grammar.specs.PlainForm.{plain_var_ref};
@@ -9,6 +10,16 @@ use crate::item::Item;
 use crate::separator::put_separator;
 use crate::show_expr::show_variable;
 use plcs_base::{ByteOut, Name, put_bytes};
+
+/// Puts the canonical texts of the items, joined by commas.
+pub(crate) fn show_joined<T: Shown, O: ByteOut>(items: &[T], out: &mut O)
+    ensures { PutsAll O.puts out.old (joined T.shown items.now) out.new }
+{
+    for (i, item) in items.iter().enumerate() {
+        put_separator(i, out);
+        item.show(out);
+    }
+}
 
 /// What stands in a list, joined by commas.
 pub(crate) trait Shown {
@@ -45,15 +56,5 @@ impl Shown for Item {
             put_decimal(size, out);
             out.put(b')');
         }
-    }
-}
-
-/// Puts the canonical texts of the items, joined by commas.
-pub(crate) fn show_joined<T: Shown, O: ByteOut>(items: &[T], out: &mut O)
-    ensures { PutsAll O.puts out.old (joined T.shown items.now) out.new }
-{
-    for (i, item) in items.iter().enumerate() {
-        put_separator(i, out);
-        item.show(out);
     }
 }

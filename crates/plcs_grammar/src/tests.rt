@@ -1,5 +1,6 @@
+//! Tests of each public call.
 use super::*;
-use plcs_base::{ByteOut, Name, TextValue};
+use plcs_base::{ByteOut, Name, TextValue, put_bytes};
 use std::alloc::{AllocError, Global};
 use std::test::Fail;
 
@@ -21,14 +22,24 @@ impl ByteOut for Awaited<'_> {
     }
 }
 
+/// What is awaited of these bytes.
+fn awaiting(bytes: &[u8]) -> Awaited<'_> {
+    Awaited {
+        left: bytes,
+        same: true,
+    }
+}
+
+/// Whether all that was awaited was put, and nothing else.
+fn came(out: &Awaited<'_>) -> bool {
+    out.same && out.left.is_empty()
+}
+
 /// Whether the phrase has this canonical text.
 fn has_text(phrase: &Phrase, text: &[u8]) -> bool {
-    let mut out = Awaited {
-        left: text,
-        same: true,
-    };
+    let mut out = awaiting(text);
     show(phrase, &mut out);
-    out.same && out.left.is_empty() && shown_len(phrase) as usize == text.len()
+    came(&out) && shown_len(phrase) as usize == text.len()
 }
 
 /// Whether the phrase, and a copy of it, has this canonical text.
@@ -94,6 +105,54 @@ fn names_are_read_as_builtin_functions(rt: HostRuntime) {
     for name in others {
         assert!(rt; Builtin::read(name).is_none());
     }
+}
+
+#[test]
+fn signs_are_read_by_their_bytes(rt: HostRuntime) {
+    let all: [&[u8]; 17] = [
+        b"+", b"-", b"*", b"/", b"||", b"=", b"^=", b"<", b"<=", b">", b">=", b"&", b"|", b"^",
+        b"(", b")", b",",
+    ];
+    for bytes in all {
+        assert!(rt; matches!(Sign::read(bytes), Some(sign) if sign.bytes() == bytes));
+    }
+    let others: [&[u8]; 5] = [b"", b"~", b"|||", b"=<", b"+ "];
+    for bytes in others {
+        assert!(rt; Sign::read(bytes).is_none());
+    }
+    assert_eq!(rt; PrefixOp::Not.sign(), Sign::Caret);
+    assert_eq!(rt; InfixOp::Or.sign(), Sign::Bar);
+}
+
+#[test]
+fn bytes_and_constants_are_put(rt: HostRuntime) {
+    let mut out = awaiting(b"SUBSTR 4294967295 -2147483648 'it''s' '1'B");
+    put_bytes(Builtin::Substr.name(), &mut out);
+    out.put(b' ');
+    put_decimal(4294967295, &mut out);
+    out.put(b' ');
+    put_number(i32::MIN, &mut out);
+    out.put(b' ');
+    put_quoted(b"it's", &mut out);
+    out.put(b' ');
+    put_bit(true, &mut out);
+    assert!(rt; came(&out));
+}
+
+#[test]
+fn placeholders_have_braces(rt: HostRuntime) {
+    assert_eq!(rt;
+        Category::CommentText.placeholder(),
+        b"{comment}".as_slice()
+    );
+    assert_eq!(rt;
+        Category::CommentText.placeholder_word(),
+        b"comment".as_slice()
+    );
+    assert_eq!(rt;
+        Category::Assignment.placeholder(),
+        b"{statement}".as_slice()
+    );
 }
 
 #[test]

@@ -11,7 +11,7 @@ use Rattle.plcs_grammar.specs.Token.{Token}
 use Rattle.plcs_grammar.specs.Cuts.{Piece, tokens_of}
 use Rattle.plcs_grammar.specs.PlainPhrase.{PlainExpr, PlainExprs, PlainVarRef, PlainPhrase, category_of}
 use Rattle.plcs_grammar.specs.Form.{Form, Begins}
-use Rattle.plcs_grammar.specs.Opened.{opened as levels, reference_opened as reference_levels, opened_by_all as levels_of_all, references_behind, phrase_opened}
+use Rattle.plcs_grammar.specs.OpenedLevel.{opened_levels as levels, reference_opened_levels as reference_levels, opened_levels_of_all as levels_of_all, opened_levels_of_more_references, phrase_opened_levels}
 use Rattle.plcs_grammar.specs.Over.{first_over, over_at}
 use Rattle.phrase_parser.specs.Private.Machine.{Base, Stack, State, Role, Operand, step, run, start, step_close_stack, phrase_of_stack, phrase_of, phrase_of_if}
 use Rattle.phrase_parser.specs.Private.Trace.{depth, opens, trace}
@@ -114,7 +114,7 @@ variables_listing = record {
   none = variable_opens;
 }
 
-variables_levels : (targets : List PlainVarRef) → levels_more variable_levels targets ≡ references_behind targets
+variables_levels : (targets : List PlainVarRef) → levels_more variable_levels targets ≡ opened_levels_of_more_references targets
 variables_levels [] = refl
 variables_levels (reference ∷ rest) = ap (λ z. 0 ∷ (variable_levels reference ++ z)) (variables_levels rest)
 
@@ -354,7 +354,7 @@ complete c ks p h = let r = runs_form c ks p h in ap phrase_of_if r.1 ∙ r.2
 
 -- by the levels that the machine opens, the first token over a limit is the phrase's
 pub traced_over : (c : Category) (pieces : List Piece) (p : PlainPhrase) → Form c (tokens_of pieces) p
-    → first_over pieces (trace (tokens_of pieces) (start c)) ≡ first_over pieces (phrase_opened p)
+    → first_over pieces (trace (tokens_of pieces) (start c)) ≡ first_over pieces (phrase_opened_levels p)
 traced_over c pieces p h = (runs_form c (tokens_of pieces) p h).3 pieces
 
 -- tokens are one phrase of a category at most

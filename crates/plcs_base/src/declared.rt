@@ -1,3 +1,4 @@
+//! Names as they are declared, with the type and size of their cells.
 use crate::name::Name;
 
 /// The type that a declaration gives to a name.
@@ -11,7 +12,7 @@ pub enum ItemType {
     Text(u16),
 }
 
-/// A name as it is declared.
+/// A name as it is declared. For the layers that check and run programs.
 #[derive(Debug, Drop, PartialEq, Eq)]
 pub struct Declared {
     /// The name.
