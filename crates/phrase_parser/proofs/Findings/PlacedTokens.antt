@@ -11,7 +11,7 @@ use Rattle.plcs_grammar.specs.PlainPhrase.{PlainPhrase}
 use Rattle.plcs_grammar.specs.Cuts.{Piece, Cuts, tokens_of}
 use Rattle.plcs_grammar.specs.Form.{Form}
 use Rattle.plcs_grammar.specs.Limit.{IsWithinLimits, greatest_number}
-use Rattle.plcs_grammar.specs.Opened.{phrase_opened}
+use Rattle.plcs_grammar.specs.OpenedLevel.{phrase_opened_levels}
 use Rattle.phrase_parser.specs.Private.Kept.{kept_kind, kept, greatest_kept}
 use Rattle.phrase_parser.specs.Private.Recognizer as model
 use Rattle.phrase_parser.specs.Private.Findings.{seen_of}

@@ -11,7 +11,7 @@ use Rattle.plcs_grammar.specs.Token.{Token}
 use Rattle.plcs_grammar.specs.PlainPhrase.{PlainExpr, PlainExprs, PlainVarRef}
 use Rattle.plcs_grammar.specs.Builtin.{builtin_name}
 use Rattle.plcs_grammar.specs.Level.{IsNoCall, priority, tightest}
-use Rattle.plcs_grammar.specs.Opened.{opened as levels, opened_by_all as levels_of_all, opened_behind as levels_behind}
+use Rattle.plcs_grammar.specs.OpenedLevel.{opened_levels as levels, opened_levels_of_all as levels_of_all, opened_levels_behind as levels_behind}
 use Rattle.phrase_parser.specs.Private.Machine.{Stack, State, Operand, expr_push, reduced, behind_infix, step, step_close_stack, step_comma_stack, open_frame}
 use Rattle.phrase_parser.specs.Private.Trace.{depth, opens}
 use Rattle.phrase_parser.proofs.Machine.ExprSpelling.{spell, spell_all, spell_behind, Fits, FitsReference, FitsAll, FitsBehind}
