@@ -47,3 +47,6 @@ mod OneAnswer
 mod LexedTexts
 mod CanonicalTokens
 mod CanonicalText
+-- ---- what a text is in a category
+mod WholeCuts
+mod Standings

@@ -1,5 +1,6 @@
 -- ---- what public contracts cite
 pub mod Answers
+pub mod Standing
 pub mod Laws
 -- ---- tokens of a text
 pub mod Kept

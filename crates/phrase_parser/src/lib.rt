@@ -22,5 +22,6 @@ mod sign;
 mod token;
 
 pub use fault::PhraseFault;
-pub use law::{canonical_text_reads, canonical_text_tells, one_reading};
+pub use law::{canonical_text_reads, canonical_text_tells, one_standing, one_reading, over_is_past_limits};
+pub use law::{reading_has_category};
 pub use parser::parse;
