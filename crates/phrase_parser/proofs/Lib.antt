@@ -50,3 +50,8 @@ mod CanonicalText
 -- ---- what a text is in a category
 mod WholeCuts
 mod Standings
+-- ---- parts of a line
+mod DividedTexts
+mod DividedExprs
+mod DividerWords
+mod LineParts

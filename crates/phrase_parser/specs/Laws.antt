@@ -1,5 +1,5 @@
 -- Laws about what texts read as.
-use Rattle.std.specs.Prelude.{◌≡◌, ℕ, List}
+use Rattle.std.specs.Prelude.{◌≡◌, ℕ, List, ◌++◌, Some}
 use Rattle.plcs_grammar.specs.declared.category.Category.{Category}
 use Rattle.plcs_grammar.specs.PlainPhrase.{PlainPhrase, category_of}
 use Rattle.plcs_grammar.specs.Canon.{Canon}
@@ -7,6 +7,7 @@ use Rattle.plcs_grammar.specs.Limit.{IsWithinLimits}
 use Rattle.plcs_grammar.specs.Over.{OverLimit}
 use Rattle.plcs_grammar.specs.Reads.{HasReading, Reads, IsOver}
 use Rattle.phrase_parser.specs.Standing.{Standing, HasStanding}
+use Rattle.phrase_parser.specs.LineParts.{cut_at, Divides, IsPart}
 
 -- a text reads as one phrase of a category at most
 abbrev pub OneReading : Type 0
@@ -44,3 +45,19 @@ abbrev pub PastLimitsIsOver : Type 0
 PastLimitsIsOver =
     (category : Category) (x : List ℕ) (phrase : PlainPhrase) → HasReading category x phrase → ¬ (IsWithinLimits phrase)
     → (limit : OverLimit) × IsOver category x limit
+
+-- a part of a line ends at the first divider outside of quotes, whatever stands behind that
+abbrev pub PartEndsAtDivider : Type 0
+PartEndsAtDivider =
+    (category : Category) (divider x y : List ℕ) → Divides category divider → IsPart category x
+    → cut_at divider (x ++ (divider ++ y)) ≡ Some (x, y)
+
+-- two texts, each of a part, the divider and a rest, are equal only where their parts and their rests are
+abbrev pub DividedPartsTell : Type 0
+DividedPartsTell =
+    (category : Category) (divider x y z w : List ℕ) → Divides category divider → IsPart category x → IsPart category z
+    → x ++ (divider ++ y) ≡ z ++ (divider ++ w) → (x ≡ z) × (y ≡ w)
+
+-- a text that is cut is what stands before the divider, the divider, and what stands behind it
+abbrev pub CutTextsJoin : Type 0
+CutTextsJoin = (divider text x y : List ℕ) → cut_at divider text ≡ Some (x, y) → text ≡ x ++ (divider ++ y)

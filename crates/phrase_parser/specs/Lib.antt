@@ -1,6 +1,7 @@
 -- ---- what public contracts cite
 pub mod Answers
 pub mod Standing
+pub mod LineParts
 pub mod Laws
 -- ---- tokens of a text
 pub mod Kept

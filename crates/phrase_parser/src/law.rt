@@ -1,5 +1,6 @@
 //! Laws about what texts read as. Each is the contract of a function that does nothing.
 ghost use Rattle.phrase_parser.specs.Laws.{OneReading, CanonicalTextReads, CanonicalTextTells};
+ghost use Rattle.phrase_parser.specs.Laws.{PartEndsAtDivider, DividedPartsTell, CutTextsJoin};
 ghost use Rattle.phrase_parser.specs.Laws.{ReadingHasCategory, OneStanding, OverIsPastLimits, PastLimitsIsOver};
 
 /// A text reads as one phrase of a category at most.
@@ -34,4 +35,20 @@ pub fn one_standing()
 pub fn over_is_past_limits()
     ensures over { OverIsPastLimits }
     ensures past { PastLimitsIsOver }
+{}
+
+/// A part of a line, which is the canonical text of a well-formed phrase or a placeholder, ends at the first
+/// divider outside of quotes, whatever stands behind that.
+pub fn part_ends_at_divider()
+    ensures { PartEndsAtDivider }
+{}
+
+/// Two texts of a part, a divider and a rest are equal only where their parts and their rests are.
+pub fn divided_parts_tell()
+    ensures { DividedPartsTell }
+{}
+
+/// A text that is cut at a divider is what stands before it, the divider, and what stands behind it.
+pub fn cut_texts_join()
+    ensures { CutTextsJoin }
 {}

@@ -22,6 +22,7 @@ mod sign;
 mod token;
 
 pub use fault::PhraseFault;
-pub use law::{canonical_text_reads, canonical_text_tells, one_standing, one_reading, over_is_past_limits};
-pub use law::{reading_has_category};
+pub use law::{canonical_text_reads, canonical_text_tells, one_reading, one_standing};
+pub use law::{cut_texts_join, divided_parts_tell, part_ends_at_divider};
+pub use law::{over_is_past_limits, reading_has_category};
 pub use parser::parse;
