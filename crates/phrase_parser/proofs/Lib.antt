@@ -55,3 +55,4 @@ mod DividedTexts
 mod DividedExprs
 mod DividerWords
 mod LineParts
+mod CutLines

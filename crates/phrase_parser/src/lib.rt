@@ -13,6 +13,7 @@ mod lexer;
 #[cfg(test)]
 mod lexer_tests;
 mod limit;
+mod line_parts;
 mod parser;
 #[cfg(test)]
 mod parser_tests;
@@ -24,5 +25,6 @@ mod token;
 pub use fault::PhraseFault;
 pub use law::{canonical_text_reads, canonical_text_tells, one_reading, one_standing};
 pub use law::{cut_texts_join, divided_parts_tell, part_ends_at_divider};
+pub use line_parts::cut_at;
 pub use law::{over_is_past_limits, reading_has_category};
 pub use parser::parse;
