@@ -16,64 +16,24 @@ use Rattle.phrase_parser.proofs.ExprSpelling.{spell, spell_reference, spell_all,
 use Rattle.phrase_parser.proofs.Numerals.{decimal_numeral}
 use Rattle.phrase_parser.proofs.LexedTexts.{Safe, safe_word}
 use Rattle.phrase_parser.proofs.CanonicalTokens.{AllWritable, writable_split, inner_writable, small_number}
+use Rattle.phrase_parser.proofs.TextFronts.{HoldsAtTokens, front_more, expr_front}
 use Rattle.phrase_parser.proofs.DividedTexts.{begins_here, Clear, passes_nothing, passes_append, clear_solid, IsApart, clear_blank, clear_text, clear_bit, clear_name, clear_number, clear_sign}
 
--- a divider that begins with a blank, and doesn't begin at a blank before a token of an expression
-pub record IsApartFromExprs (rest : List ℕ) : Type 0 where
-  pub apart : IsApart 32
-  pub before_name : (name behind : List ℕ) → IsName name → begins_with is_name_byte behind ≡ false
-      → begins_here rest (name ++ behind) ≡ false
-  pub before_digit : (digit : ℕ) (y : List ℕ) → is_digit digit ≡ true → begins_here rest (digit ∷ y) ≡ false
-  pub before_quote : (y : List ℕ) → begins_here rest (39 ∷ y) ≡ false
-  pub before_sign : (sign : Sign) (y : List ℕ) → begins_here rest (sign_bytes sign ++ y) ≡ false
+-- the divider, which a blank begins, doesn't begin at a blank before the text
+abbrev pub Fresh : List ℕ → List ℕ → Type 0
+Fresh rest y = begins_here rest y ≡ false
 
-module _ (rest : List ℕ) (apart : IsApartFromExprs rest) where
-  -- the divider doesn't begin at a blank before the text
-  abbrev pub Fresh : List ℕ → Type 0
-  Fresh y = begins_here rest y ≡ false
+module _ (rest : List ℕ) (apart : IsApart 32) (fronts : HoldsAtTokens (Fresh rest)) where
+  -- the divider doesn't begin at a blank before an expression
+  expr_fresh : (t : PlainExpr) (level : ℕ) → Fits t level → AllWritable (spell t) → (behind : List ℕ) → Safe behind
+      → Fresh rest (canon t ++ behind)
+  expr_fresh t level fits writable behind safe = expr_front (Fresh rest) fronts t level fits writable behind (safe_word behind safe)
 
-  fresh_numeral : (digits behind : List ℕ) → IsNumeral digits → Fresh (digits ++ behind)
-  fresh_numeral [] behind numeral = absurd (omega (arith, numeral.0))
-  fresh_numeral (digit ∷ digits) behind numeral =
-      apart.before_digit digit (digits ++ behind) (and_parts (is_digit digit) (list_all is_digit digits) numeral.1).0
+  -- it doesn't begin there either with more behind the text
+  fresh_more : (x y behind : List ℕ) → Fresh rest (x ++ (y ++ behind)) → Fresh rest ((x ++ y) ++ behind)
+  fresh_more x y behind h = front_more (Fresh rest) fronts x y behind h
 
-  fresh_bit : (bit : Bool) (behind : List ℕ) → Fresh (bit_bytes bit ++ behind)
-  fresh_bit false behind = apart.before_quote (48 ∷ 39 ∷ 66 ∷ behind)
-  fresh_bit true behind = apart.before_quote (49 ∷ 39 ∷ 66 ∷ behind)
-
-  -- a text is fresh with more behind it
-  fresh_more : (x y behind : List ℕ) → Fresh (x ++ (y ++ behind)) → Fresh ((x ++ y) ++ behind)
-  fresh_more x y behind h = subst Fresh (sym (append_assoc x y behind)) h
-
-  mutual
-    -- the divider doesn't begin at a blank before an expression
-    pub expr_fresh : (t : PlainExpr) (level : ℕ) → Fits t level → AllWritable (spell t) → (behind : List ℕ) → Safe behind
-        → Fresh (canon t ++ behind)
-    expr_fresh (PlainExpr.number (pos n)) level fits writable behind safe =
-        fresh_numeral (decimal n) behind (decimal_numeral n (small_number n writable.0.1)).0
-    expr_fresh (PlainExpr.number (negsuc n)) level fits writable behind safe = absurd fits
-    expr_fresh (PlainExpr.text value) level fits writable behind safe = apart.before_quote _
-    expr_fresh (PlainExpr.bit value) level fits writable behind safe = fresh_bit value behind
-    expr_fresh (PlainExpr.variable reference) level fits writable behind safe = reference_fresh reference writable behind safe
-    expr_fresh (PlainExpr.unary op a) level fits writable behind safe =
-        fresh_more (sign_bytes (prefix_sign op)) (canon a) behind (apart.before_sign (prefix_sign op) (canon a ++ behind))
-    expr_fresh (PlainExpr.binary op a b) level fits writable behind safe =
-        let right = 32 ∷ (sign_bytes (infix_sign op) ++ (32 ∷ canon b)) in
-        fresh_more (canon a) right behind
-        (expr_fresh a (priority op) fits.1 (writable_split (spell a) (Token.sign (infix_sign op) ∷ spell b) writable).0 (right ++ behind) refl)
-    expr_fresh (PlainExpr.builtin function arguments) level fits writable behind safe =
-        let inner = parenthesized_bytes (canon_list arguments) in
-        fresh_more (builtin_name function) inner behind (apart.before_name (builtin_name function) (inner ++ behind) writable.0.0 refl)
-    expr_fresh (PlainExpr.parenthesized a) level fits writable behind safe = apart.before_sign Sign.OpenParenthesis _
-
-    -- nor before a variable
-    reference_fresh : (reference : PlainVarRef) → AllWritable (spell_reference reference) → (behind : List ℕ) → Safe behind
-        → Fresh (canon_reference reference ++ behind)
-    reference_fresh (PlainVarRef.simple name) writable behind safe = apart.before_name name behind writable.0.0 (safe_word behind safe)
-    reference_fresh (PlainVarRef.subscripted name index) writable behind safe =
-        let inner = parenthesized_bytes (canon index) in
-        fresh_more name inner behind (apart.before_name name (inner ++ behind) writable.0.0 refl)
-
+  -- the divider
   abbrev divider : List ℕ
   divider = 32 ∷ rest
 
@@ -85,21 +45,21 @@ module _ (rest : List ℕ) (apart : IsApartFromExprs rest) where
   clear_called : (name x behind : List ℕ) → IsName name → Clear divider x (41 ∷ behind)
       → Clear divider (name ++ parenthesized_bytes x) behind
   clear_called name x behind named inner =
-      clear_append name (parenthesized_bytes x) behind (clear_name 32 rest apart.apart name (parenthesized_bytes x ++ behind) named)
-      (clear_append (40 ∷ []) (x ++ (41 ∷ [])) behind (clear_sign 32 rest apart.apart Sign.OpenParenthesis ((x ++ (41 ∷ [])) ++ behind))
-      (clear_append x (41 ∷ []) behind inner (clear_sign 32 rest apart.apart Sign.CloseParenthesis behind)))
+      clear_append name (parenthesized_bytes x) behind (clear_name 32 rest apart name (parenthesized_bytes x ++ behind) named)
+      (clear_append (40 ∷ []) (x ++ (41 ∷ [])) behind (clear_sign 32 rest apart Sign.OpenParenthesis ((x ++ (41 ∷ [])) ++ behind))
+      (clear_append x (41 ∷ []) behind inner (clear_sign 32 rest apart Sign.CloseParenthesis behind)))
 
   -- a text behind a blank
-  clear_behind_blank : (x behind : List ℕ) → Fresh (x ++ behind) → Clear divider x behind → Clear divider (32 ∷ x) behind
+  clear_behind_blank : (x behind : List ℕ) → Fresh rest (x ++ behind) → Clear divider x behind → Clear divider (32 ∷ x) behind
   clear_behind_blank x behind fresh inner = clear_append (32 ∷ []) x behind (clear_blank 32 rest (x ++ behind) fresh) inner
 
   -- a text behind a sign between blanks
-  clear_behind_sign : (sign : Sign) (x behind : List ℕ) → Fresh (x ++ behind) → Clear divider x behind
+  clear_behind_sign : (sign : Sign) (x behind : List ℕ) → Fresh rest (x ++ behind) → Clear divider x behind
       → Clear divider (32 ∷ (sign_bytes sign ++ (32 ∷ x))) behind
   clear_behind_sign sign x behind fresh inner =
       clear_behind_blank (sign_bytes sign ++ (32 ∷ x)) behind
-      (fresh_more (sign_bytes sign) (32 ∷ x) behind (apart.before_sign sign ((32 ∷ x) ++ behind)))
-      (clear_append (sign_bytes sign) (32 ∷ x) behind (clear_sign 32 rest apart.apart sign ((32 ∷ x) ++ behind))
+      (fresh_more (sign_bytes sign) (32 ∷ x) behind (fronts.at_sign sign ((32 ∷ x) ++ behind)))
+      (clear_append (sign_bytes sign) (32 ∷ x) behind (clear_sign 32 rest apart sign ((32 ∷ x) ++ behind))
       (clear_behind_blank x behind fresh inner))
 
   -- behind an expression in a list stands a comma, or what stands behind the list
@@ -112,13 +72,13 @@ module _ (rest : List ℕ) (apart : IsApartFromExprs rest) where
     pub expr_clear : (t : PlainExpr) (level : ℕ) → Fits t level → AllWritable (spell t) → (behind : List ℕ) → Safe behind
         → Clear divider (canon t) behind
     expr_clear (PlainExpr.number (pos n)) level fits writable behind safe =
-        clear_number 32 rest apart.apart n behind (small_number n writable.0.1)
+        clear_number 32 rest apart n behind (small_number n writable.0.1)
     expr_clear (PlainExpr.number (negsuc n)) level fits writable behind safe = absurd fits
-    expr_clear (PlainExpr.text value) level fits writable behind safe = clear_text 32 rest apart.apart value behind
-    expr_clear (PlainExpr.bit value) level fits writable behind safe = clear_bit 32 rest apart.apart value behind
+    expr_clear (PlainExpr.text value) level fits writable behind safe = clear_text 32 rest apart value behind
+    expr_clear (PlainExpr.bit value) level fits writable behind safe = clear_bit 32 rest apart value behind
     expr_clear (PlainExpr.variable reference) level fits writable behind safe = reference_clear reference fits.1 writable behind safe
     expr_clear (PlainExpr.unary op a) level fits writable behind safe =
-        clear_append (sign_bytes (prefix_sign op)) (canon a) behind (clear_sign 32 rest apart.apart (prefix_sign op) (canon a ++ behind))
+        clear_append (sign_bytes (prefix_sign op)) (canon a) behind (clear_sign 32 rest apart (prefix_sign op) (canon a ++ behind))
         (expr_clear a tightest fits writable.1 behind safe)
     expr_clear (PlainExpr.binary op a b) level fits writable behind safe =
         let parts = writable_split (spell a) (Token.sign (infix_sign op) ∷ spell b) writable in
@@ -133,16 +93,16 @@ module _ (rest : List ℕ) (apart : IsApartFromExprs rest) where
         let right = 32 ∷ 41 ∷ [] in
         let inner = inner_writable (spell a) writable in
         clear_append (40 ∷ []) (32 ∷ (canon a ++ right)) behind
-        (clear_sign 32 rest apart.apart Sign.OpenParenthesis ((32 ∷ (canon a ++ right)) ++ behind))
+        (clear_sign 32 rest apart Sign.OpenParenthesis ((32 ∷ (canon a ++ right)) ++ behind))
         (clear_behind_blank (canon a ++ right) behind (fresh_more (canon a) right behind (expr_fresh a 1 fits inner (right ++ behind) refl))
         (clear_append (canon a) right behind (expr_clear a 1 fits inner (right ++ behind) refl)
-        (clear_behind_blank (41 ∷ []) behind (apart.before_sign Sign.CloseParenthesis behind)
-        (clear_sign 32 rest apart.apart Sign.CloseParenthesis behind))))
+        (clear_behind_blank (41 ∷ []) behind (fronts.at_sign Sign.CloseParenthesis behind)
+        (clear_sign 32 rest apart Sign.CloseParenthesis behind))))
 
     -- nor in a variable
     reference_clear : (reference : PlainVarRef) → FitsReference reference → AllWritable (spell_reference reference) → (behind : List ℕ)
         → Safe behind → Clear divider (canon_reference reference) behind
-    reference_clear (PlainVarRef.simple name) fits writable behind safe = clear_name 32 rest apart.apart name behind writable.0.0
+    reference_clear (PlainVarRef.simple name) fits writable behind safe = clear_name 32 rest apart name behind writable.0.0
     reference_clear (PlainVarRef.subscripted name index) fits writable behind safe =
         clear_called name (canon index) behind writable.0.0
         (expr_clear index 1 fits (inner_writable (spell index) writable.1) (41 ∷ behind) refl)
@@ -165,7 +125,7 @@ module _ (rest : List ℕ) (apart : IsApartFromExprs rest) where
         let parts = writable_split (spell a) (spell_behind more) writable.1 in
         let follows = behind_safe more behind safe in
         clear_append (44 ∷ []) (32 ∷ (canon a ++ canon_behind more)) behind
-        (clear_sign 32 rest apart.apart Sign.Comma ((32 ∷ (canon a ++ canon_behind more)) ++ behind))
+        (clear_sign 32 rest apart Sign.Comma ((32 ∷ (canon a ++ canon_behind more)) ++ behind))
         (clear_behind_blank (canon a ++ canon_behind more) behind
         (fresh_more (canon a) (canon_behind more) behind (expr_fresh a 1 fits.0 parts.0 (canon_behind more ++ behind) follows))
         (clear_append (canon a) (canon_behind more) behind (expr_clear a 1 fits.0 parts.0 (canon_behind more ++ behind) follows)

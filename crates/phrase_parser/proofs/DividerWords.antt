@@ -12,7 +12,8 @@ use Rattle.plcs_grammar.specs.Sign.{sign_bytes}
 use Rattle.plcs_grammar.specs.Token.{begins_with}
 use Rattle.phrase_parser.proofs.Words.{name_word}
 use Rattle.phrase_parser.proofs.DividedTexts.{begins_here, is_solid, IsApart}
-use Rattle.phrase_parser.proofs.DividedExprs.{IsApartFromExprs}
+use Rattle.phrase_parser.proofs.TextFronts.{HoldsAtTokens}
+use Rattle.phrase_parser.proofs.DividedExprs.{Fresh}
 
 -- a blank is no byte of a name
 blank_not_in_name : (byte : ℕ) → is_name_byte byte ≡ true → is_solid 32 byte ≡ true
@@ -102,23 +103,21 @@ by_before_sign Sign.Plus y = refl
 by_before_sign _ y = refl
 
 -- ` TO ` begins at no blank in an expression
-pub to_apart : IsApartFromExprs (84 ∷ 79 ∷ 32 ∷ [])
+pub to_apart : HoldsAtTokens (Fresh (84 ∷ 79 ∷ 32 ∷ []))
 to_apart = record {
-  apart = blank_apart;
-  before_name = λ name behind named ends. keyword_apart 84 79 name behind refl to_is_keyword named ends;
-  before_digit = λ digit y h. other_first 84 digit (79 ∷ 32 ∷ []) y (λ e. omega (arith, e, digit_no_letter digit h));
-  before_quote = λ y. refl;
-  before_sign = to_before_sign;
+  at_name = λ name behind named ends. keyword_apart 84 79 name behind refl to_is_keyword named ends;
+  at_digit = λ digit y h. other_first 84 digit (79 ∷ 32 ∷ []) y (λ e. omega (arith, e, digit_no_letter digit h));
+  at_quote = λ y. refl;
+  at_sign = to_before_sign;
 }
 
 -- nor does ` BY `
-pub by_apart : IsApartFromExprs (66 ∷ 89 ∷ 32 ∷ [])
+pub by_apart : HoldsAtTokens (Fresh (66 ∷ 89 ∷ 32 ∷ []))
 by_apart = record {
-  apart = blank_apart;
-  before_name = λ name behind named ends. keyword_apart 66 89 name behind refl by_is_keyword named ends;
-  before_digit = λ digit y h. other_first 66 digit (89 ∷ 32 ∷ []) y (λ e. omega (arith, e, digit_no_letter digit h));
-  before_quote = λ y. refl;
-  before_sign = by_before_sign;
+  at_name = λ name behind named ends. keyword_apart 66 89 name behind refl by_is_keyword named ends;
+  at_digit = λ digit y h. other_first 66 digit (89 ∷ 32 ∷ []) y (λ e. omega (arith, e, digit_no_letter digit h));
+  at_quote = λ y. refl;
+  at_sign = by_before_sign;
 }
 
 letter_no_parenthesis : (byte : ℕ) → is_letter byte ≡ true → 41 ≡ byte → ⊥

@@ -51,8 +51,10 @@ mod CanonicalText
 mod WholeCuts
 mod Standings
 -- ---- parts of a line
+mod TextFronts
 mod DividedTexts
 mod DividedExprs
 mod DividerWords
 mod LineParts
 mod CutLines
+mod KeywordFronts

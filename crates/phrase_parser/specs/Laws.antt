@@ -1,13 +1,15 @@
 -- Laws about what texts read as.
-use Rattle.std.specs.Prelude.{◌≡◌, ℕ, List, ◌++◌, Some}
+use Rattle.std.specs.Prelude.{◌≡◌, ◌≢◌, ℕ, List, ◌++◌, Some}
 use Rattle.plcs_grammar.specs.declared.category.Category.{Category}
+use Rattle.plcs_grammar.specs.declared.category.Category.TheVariants.{CommentText}
+use Rattle.plcs_grammar.specs.Token.{EndsWord}
 use Rattle.plcs_grammar.specs.PlainPhrase.{PlainPhrase, category_of}
 use Rattle.plcs_grammar.specs.Canon.{Canon}
 use Rattle.plcs_grammar.specs.Limit.{IsWithinLimits}
 use Rattle.plcs_grammar.specs.Over.{OverLimit}
 use Rattle.plcs_grammar.specs.Reads.{HasReading, Reads, IsOver}
 use Rattle.phrase_parser.specs.Standing.{Standing, HasStanding}
-use Rattle.phrase_parser.specs.LineParts.{cut_at, Divides, IsPart}
+use Rattle.phrase_parser.specs.LineParts.{cut_at, Divides, IsPart, BeginsWithKeyword}
 
 -- a text reads as one phrase of a category at most
 abbrev pub OneReading : Type 0
@@ -61,3 +63,9 @@ DividedPartsTell =
 -- a text that is cut is what stands before the divider, the divider, and what stands behind it
 abbrev pub CutTextsJoin : Type 0
 CutTextsJoin = (divider text x y : List ℕ) → cut_at divider text ≡ Some (x, y) → text ≡ x ++ (divider ++ y)
+
+-- where a part begins that is no comment's, no keyword stands, so a line's keywords tell its fixed head
+abbrev pub NoKeywordBeginsPart : Type 0
+NoKeywordBeginsPart =
+    (category : Category) (x behind : List ℕ) → category ≢ CommentText → IsPart category x → EndsWord behind
+    → ¬ (BeginsWithKeyword (x ++ behind))

@@ -1,9 +1,10 @@
 -- The parts of a line, and the fixed texts that divide them.
-use Rattle.std.specs.Prelude.{◌≡◌, ◌⊎◌, ℕ, Bool, false, ◌&&◌, not, nat_eq, if◌then◌else◌, List, [], ◌∷◌, ◌++◌, drop, length, codes, Option, Some, None}
+use Rattle.std.specs.Prelude.{◌≡◌, ◌⊎◌, ℕ, Bool, false, ◌&&◌, not, nat_eq, if◌then◌else◌, List, [], ◌∷◌, ◌++◌, drop, length, codes, Option, Some, None, IsTrue}
 use Rattle.std.specs.List.{starts_with}
 use Rattle.plcs_grammar.specs.declared.category.Category.{Category}
 use Rattle.plcs_grammar.specs.declared.category.Category.TheVariants.{Assignment, Condition, Expression, ExpressionList, VariableList, Variable, CallRef, DeclaredList, ProcedureName, NameList, Length}
-use Rattle.plcs_grammar.specs.Token.{is_quote}
+use Rattle.plcs_base.specs.Name.{is_keyword}
+use Rattle.plcs_grammar.specs.Token.{is_quote, EndsWord}
 use Rattle.plcs_grammar.specs.PlainPhrase.{PlainPhrase}
 use Rattle.plcs_grammar.specs.Canon.{Canon, IsWellFormed}
 use Rattle.plcs_grammar.specs.Placeholder.{placeholder, placeholder_word}
@@ -46,3 +47,11 @@ pub data Divides : Category → List ℕ → Type 0 where
 abbrev pub IsPart : Category → List ℕ → Type 0
 IsPart category x =
     ((phrase : PlainPhrase) × IsWellFormed category phrase × (x ≡ Canon phrase)) ⊎ (x ≡ placeholder (placeholder_word category))
+
+-- the text begins with a keyword
+pub record BeginsWithKeyword (x : List ℕ) : Type 0 where
+  pub word : List ℕ
+  pub behind : List ℕ
+  pub whole : x ≡ word ++ behind
+  pub is_word : IsTrue (is_keyword word)
+  pub ends : EndsWord behind

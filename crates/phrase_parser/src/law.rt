@@ -1,6 +1,6 @@
 //! Laws about what texts read as. Each is the contract of a function that does nothing.
 ghost use Rattle.phrase_parser.specs.Laws.{OneReading, CanonicalTextReads, CanonicalTextTells};
-ghost use Rattle.phrase_parser.specs.Laws.{PartEndsAtDivider, DividedPartsTell, CutTextsJoin};
+ghost use Rattle.phrase_parser.specs.Laws.{PartEndsAtDivider, DividedPartsTell, CutTextsJoin, NoKeywordBeginsPart};
 ghost use Rattle.phrase_parser.specs.Laws.{ReadingHasCategory, OneStanding, OverIsPastLimits, PastLimitsIsOver};
 
 /// A text reads as one phrase of a category at most.
@@ -51,4 +51,10 @@ pub fn divided_parts_tell()
 /// A text that is cut at a divider is what stands before it, the divider, and what stands behind it.
 pub fn cut_texts_join()
     ensures { CutTextsJoin }
+{}
+
+/// Where a part of a line begins that is no comment's, no keyword stands: a line that begins with a part is
+/// no line with a keyword at its head.
+pub fn no_keyword_begins_part()
+    ensures { NoKeywordBeginsPart }
 {}

@@ -14,6 +14,8 @@ mod lexer;
 mod lexer_tests;
 mod limit;
 mod line_parts;
+#[cfg(test)]
+mod line_parts_tests;
 mod parser;
 #[cfg(test)]
 mod parser_tests;
@@ -24,7 +26,7 @@ mod token;
 
 pub use fault::PhraseFault;
 pub use law::{canonical_text_reads, canonical_text_tells, one_reading, one_standing};
-pub use law::{cut_texts_join, divided_parts_tell, part_ends_at_divider};
+pub use law::{cut_texts_join, divided_parts_tell, no_keyword_begins_part, part_ends_at_divider};
 pub use line_parts::cut_at;
 pub use law::{over_is_past_limits, reading_has_category};
 pub use parser::parse;
