@@ -103,7 +103,7 @@ by_before_sign Sign.Plus y = refl
 by_before_sign _ y = refl
 
 -- ` TO ` begins at no blank in an expression
-pub to_apart : HoldsAtTokens (Fresh (84 ∷ 79 ∷ 32 ∷ []))
+pub to_apart : HoldsAtTokens (Fresh (32 ∷ 84 ∷ 79 ∷ 32 ∷ []))
 to_apart = record {
   at_name = λ name behind named ends. keyword_apart 84 79 name behind refl to_is_keyword named ends;
   at_digit = λ digit y h. other_first 84 digit (79 ∷ 32 ∷ []) y (λ e. omega (arith, e, digit_no_letter digit h));
@@ -112,7 +112,7 @@ to_apart = record {
 }
 
 -- nor does ` BY `
-pub by_apart : HoldsAtTokens (Fresh (66 ∷ 89 ∷ 32 ∷ []))
+pub by_apart : HoldsAtTokens (Fresh (32 ∷ 66 ∷ 89 ∷ 32 ∷ []))
 by_apart = record {
   at_name = λ name behind named ends. keyword_apart 66 89 name behind refl by_is_keyword named ends;
   at_digit = λ digit y h. other_first 66 digit (89 ∷ 32 ∷ []) y (λ e. omega (arith, e, digit_no_letter digit h));

@@ -54,7 +54,9 @@ mod Standings
 mod TextFronts
 mod DividedTexts
 mod DividedExprs
+mod DividedPhrases
 mod DividerWords
 mod LineParts
 mod CutLines
 mod KeywordFronts
+mod ColonFreeParts

@@ -83,9 +83,9 @@ phrase_clear : (p : PlainPhrase) (divider : List ℕ) → Divides (category_of p
 phrase_clear (PlainPhrase.assignment target value) divider d writable y = absurd (elim d [ ])
 phrase_clear (PlainPhrase.condition e) divider d writable y = absurd (elim d [ ])
 phrase_clear (PlainPhrase.expression e) _ Divides.limit writable y =
-    expr_clear (84 ∷ 79 ∷ 32 ∷ []) blank_apart to_apart e 1 writable.fits writable.tokens (32 ∷ 84 ∷ 79 ∷ 32 ∷ y) refl
+    expr_clear 32 (84 ∷ 79 ∷ 32 ∷ []) blank_apart to_apart e 1 writable.fits writable.tokens (32 ∷ 84 ∷ 79 ∷ 32 ∷ y) refl
 phrase_clear (PlainPhrase.expression e) _ Divides.step writable y =
-    expr_clear (66 ∷ 89 ∷ 32 ∷ []) blank_apart by_apart e 1 writable.fits writable.tokens (32 ∷ 66 ∷ 89 ∷ 32 ∷ y) refl
+    expr_clear 32 (66 ∷ 89 ∷ 32 ∷ []) blank_apart by_apart e 1 writable.fits writable.tokens (32 ∷ 66 ∷ 89 ∷ 32 ∷ y) refl
 phrase_clear (PlainPhrase.expression_list es) divider d writable y = absurd (elim d [ ])
 phrase_clear (PlainPhrase.variable_list targets) divider d writable y = absurd (elim d [ ])
 phrase_clear (PlainPhrase.variable_name name) _ Divides.first_value writable y =

@@ -68,7 +68,7 @@ module _ (P : List ℕ → Type 0) (holds : HoldsAtTokens P) where
     expr_front (PlainExpr.parenthesized a) level fits writable behind ends = holds.at_sign Sign.OpenParenthesis _
 
     -- a variable
-    reference_front : (reference : PlainVarRef) → AllWritable (spell_reference reference) → (behind : List ℕ) → Ends behind
+    pub reference_front : (reference : PlainVarRef) → AllWritable (spell_reference reference) → (behind : List ℕ) → Ends behind
         → P (canon_reference reference ++ behind)
     reference_front (PlainVarRef.simple name) writable behind ends = holds.at_name name behind writable.0.0 ends
     reference_front (PlainVarRef.subscripted name index) writable behind ends =

@@ -1,5 +1,5 @@
 -- Laws about what texts read as.
-use Rattle.std.specs.Prelude.{◌≡◌, ◌≢◌, ℕ, List, ◌++◌, Some}
+use Rattle.std.specs.Prelude.{◌≡◌, ◌≢◌, ℕ, List, ◌++◌, codes, Some}
 use Rattle.plcs_grammar.specs.declared.category.Category.{Category}
 use Rattle.plcs_grammar.specs.declared.category.Category.TheVariants.{CommentText}
 use Rattle.plcs_grammar.specs.Token.{EndsWord}
@@ -9,7 +9,7 @@ use Rattle.plcs_grammar.specs.Limit.{IsWithinLimits}
 use Rattle.plcs_grammar.specs.Over.{OverLimit}
 use Rattle.plcs_grammar.specs.Reads.{HasReading, Reads, IsOver}
 use Rattle.phrase_parser.specs.Standing.{Standing, HasStanding}
-use Rattle.phrase_parser.specs.LineParts.{cut_at, Divides, IsPart, BeginsWithKeyword}
+use Rattle.phrase_parser.specs.LineParts.{with_front, cut_at, Divides, IsPart, BeginsWithKeyword}
 
 -- a text reads as one phrase of a category at most
 abbrev pub OneReading : Type 0
@@ -69,3 +69,9 @@ abbrev pub NoKeywordBeginsPart : Type 0
 NoKeywordBeginsPart =
     (category : Category) (x behind : List ℕ) → category ≢ CommentText → IsPart category x → EndsWord behind
     → ¬ (BeginsWithKeyword (x ++ behind))
+
+-- a part that is no comment's has no colon outside of quotes: what begins with it is cut at a colon only behind it
+abbrev pub PartHasNoColon : Type 0
+PartHasNoColon =
+    (category : Category) (x behind : List ℕ) → category ≢ CommentText → IsPart category x → EndsWord behind
+    → cut_at (codes ":") (x ++ behind) ≡ with_front x (cut_at (codes ":") behind)

@@ -1,6 +1,6 @@
 //! Laws about what texts read as. Each is the contract of a function that does nothing.
 ghost use Rattle.phrase_parser.specs.Laws.{OneReading, CanonicalTextReads, CanonicalTextTells};
-ghost use Rattle.phrase_parser.specs.Laws.{PartEndsAtDivider, DividedPartsTell, CutTextsJoin, NoKeywordBeginsPart};
+ghost use Rattle.phrase_parser.specs.Laws.{PartEndsAtDivider, DividedPartsTell, CutTextsJoin, NoKeywordBeginsPart, PartHasNoColon};
 ghost use Rattle.phrase_parser.specs.Laws.{ReadingHasCategory, OneStanding, OverIsPastLimits, PastLimitsIsOver};
 
 /// A text reads as one phrase of a category at most.
@@ -57,4 +57,10 @@ pub fn cut_texts_join()
 /// no line with a keyword at its head.
 pub fn no_keyword_begins_part()
     ensures { NoKeywordBeginsPart }
+{}
+
+/// A part of a line that is no comment's has no colon outside of quotes: so a line that begins with a
+/// procedure's name and its colon is none that begins with an assignment.
+pub fn part_has_no_colon()
+    ensures { PartHasNoColon }
 {}
