@@ -1,22 +1,17 @@
 -- In the canonical text of an expression no divider of expressions begins.
-use Rattle.std.proofs.Common.{◌≡◌, refl, ℕ, pos, negsuc, Bool, true, false, List, [], ◌∷◌, ◌++◌, sym, subst, append_assoc, arith}
-use Rattle.std.specs.Prelude.{decimal}
-use Rattle.std.specs.List.{list_all}
-use Rattle.std.proofs.lemmas.Bool.{and_parts, false≢true}
-use Rattle.plcs_base.specs.Byte.{is_digit, is_name_byte}
+use Rattle.std.proofs.Common.{◌≡◌, refl, ℕ, pos, negsuc, false, List, [], ◌∷◌, ◌++◌}
 use Rattle.plcs_base.specs.Name.{IsName}
 use Rattle.plcs_grammar.specs.declared.sign.Sign.{Sign}
 use Rattle.plcs_grammar.specs.Builtin.{builtin_name}
 use Rattle.plcs_grammar.specs.Sign.{sign_bytes, prefix_sign, infix_sign}
-use Rattle.plcs_grammar.specs.Token.{Token, IsNumeral, begins_with, bit_bytes}
+use Rattle.plcs_grammar.specs.Token.{Token}
 use Rattle.plcs_grammar.specs.Level.{priority, tightest}
 use Rattle.plcs_grammar.specs.PlainPhrase.{PlainExpr, PlainExprs, PlainVarRef}
 use Rattle.plcs_grammar.specs.Canon.{canon, canon_reference, canon_list, canon_behind, parenthesized_bytes}
 use Rattle.phrase_parser.proofs.ExprSpelling.{spell, spell_reference, spell_all, spell_behind, Fits, FitsReference, FitsAll, FitsBehind}
-use Rattle.phrase_parser.proofs.Numerals.{decimal_numeral}
 use Rattle.phrase_parser.proofs.CanonicalTokens.{AllWritable, writable_split, inner_writable, small_number}
 use Rattle.phrase_parser.proofs.TextFronts.{Ends, HoldsAtTokens, front_more, expr_front}
-use Rattle.phrase_parser.proofs.DividedTexts.{begins_here, Clear, passes_nothing, passes_append, clear_solid, IsApart, clear_blank, clear_text, clear_bit, clear_name, clear_number, clear_sign}
+use Rattle.phrase_parser.proofs.DividedTexts.{begins_here, Clear, passes_nothing, passes_append, IsApart, clear_blank, clear_text, clear_bit, clear_name, clear_number, clear_sign}
 
 -- the divider doesn't begin at a blank before the text
 abbrev pub Fresh : List ℕ → List ℕ → Type 0

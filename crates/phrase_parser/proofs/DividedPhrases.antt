@@ -1,7 +1,6 @@
 -- In the canonical text of a phrase that is tokens no divider begins that begins in none of its expressions.
-use Rattle.std.proofs.Common.{◌≡◌, refl, ℕ, List, [], ◌∷◌, ◌++◌, Option, Some, None, false}
+use Rattle.std.proofs.Common.{refl, ℕ, List, [], ◌∷◌, ◌++◌, Option, Some, None, false}
 use Rattle.std.specs.Prelude.{decimal}
-use Rattle.plcs_grammar.specs.declared.item.Item.{Item}
 use Rattle.plcs_grammar.specs.declared.sign.Sign.{Sign}
 use Rattle.plcs_grammar.specs.Token.{Token}
 use Rattle.plcs_grammar.specs.PlainPhrase.{PlainExprs, PlainPhrase}

@@ -1,10 +1,9 @@
 -- Texts in which a divider begins nowhere outside of quotes, whatever stands behind them.
 use Rattle.std.proofs.Common.{◌≡◌, refl, ℕ, ◌<◌, ◌^◌, Bool, true, false, ◌&&◌, not, List, [], ◌∷◌, ◌++◌, Option, Some, None, sym, ap, subst, ◌∙◌, append_assoc, arith}
-use Rattle.std.specs.Prelude.{nat_eq, decimal, codes}
+use Rattle.std.specs.Prelude.{nat_eq, decimal}
 use Rattle.std.specs.List.{starts_with, list_all}
 use Rattle.std.proofs.lemmas.Bool.{and_parts, and_from, not-true, cond-false, cond_both}
 use Rattle.std.proofs.lemmas.Bool.Decides.{nat_tests}
-use Rattle.std.proofs.lemmas.List.{append-nil}
 use Rattle.plcs_base.specs.Byte.{is_digit, is_name_byte}
 use Rattle.plcs_base.specs.Name.{IsName}
 use Rattle.plcs_grammar.specs.Token.{is_quote, quoted, with_quotes_doubled, doubled, bit_bytes}

@@ -1,5 +1,5 @@
 -- A part of a line ends at the divider that stands behind it.
-use Rattle.std.proofs.Common.{◌≡◌, inl, inr, refl, ℕ, Bool, true, false, ◌&&◌, not, List, [], ◌∷◌, ◌++◌, drop, length, Option, Some, None, sym, ap, subst, ◌∙◌, append_assoc}
+use Rattle.std.proofs.Common.{◌≡◌, inl, inr, refl, ℕ, Bool, false, ◌&&◌, not, List, [], ◌∷◌, ◌++◌, drop, length, Option, Some, None, sym, ap, subst, ◌∙◌, append_assoc}
 use Rattle.std.specs.Prelude.{decimal, codes}
 use Rattle.std.proofs.lemmas.Bool.{and_parts, cond_both}
 use Rattle.std.proofs.lemmas.List.{append-nil}
@@ -13,7 +13,7 @@ use Rattle.plcs_grammar.specs.PlainPhrase.{PlainPhrase, category_of}
 use Rattle.plcs_grammar.specs.Placeholder.{placeholder, placeholder_word}
 use Rattle.plcs_grammar.specs.Canon.{more_joined, joined, canon_sized, canon_item, parenthesized_bytes, Canon, IsWellFormed}
 use Rattle.phrase_parser.specs.LineParts.{with_front, is_quoted_behind, cut_from, cut_at, Divides, IsPart}
-use Rattle.phrase_parser.proofs.PhraseSpelling.{spell_more, spell_listed, spell_sized, spell_item, spell_phrase}
+use Rattle.phrase_parser.proofs.PhraseSpelling.{spell_more, spell_listed, spell_sized, spell_item}
 use Rattle.phrase_parser.proofs.CanonicalTokens.{AllWritable, writable_split, inner_writable, small_number}
 use Rattle.phrase_parser.proofs.CanonicalText.{IsWritable, cut_writable}
 use Rattle.phrase_parser.proofs.DividedTexts.{begins_here, Clear, passes_nothing, passes_append, clear_blank, clear_name, clear_number, clear_sign}
@@ -181,13 +181,13 @@ cut_from_joins inside divider (byte ∷ rest) x y h =
     (with_front (byte ∷ []) (cut_from (is_quoted_behind inside byte) divider rest))
     (λ (o : Option (List ℕ × List ℕ)). o ≡ Some (x, y) → byte ∷ rest ≡ x ++ (divider ++ y))
     (λ here e.
-        let same = same_Some ([], drop (length divider) (byte ∷ rest)) (x, y) e in
-        begins_is divider (byte ∷ rest) (and_parts (not inside) (begins_here divider (byte ∷ rest)) here).1
-        ∙ ap (λ (both : List ℕ × List ℕ). both.0 ++ (divider ++ both.1)) same)
+    let same = same_Some ([], drop (length divider) (byte ∷ rest)) (x, y) e in
+    begins_is divider (byte ∷ rest) (and_parts (not inside) (begins_here divider (byte ∷ rest)) here).1
+    ∙ ap (λ (both : List ℕ × List ℕ). both.0 ++ (divider ++ both.1)) same)
     (λ not_here e.
-        let (z, front, further) = front_parts byte (cut_from (is_quoted_behind inside byte) divider rest) x y e in
-        ap (λ (text : List ℕ). byte ∷ text) (cut_from_joins (is_quoted_behind inside byte) divider rest z y further)
-        ∙ ap (λ (text : List ℕ). text ++ (divider ++ y)) (sym front))
+    let (z, front, further) = front_parts byte (cut_from (is_quoted_behind inside byte) divider rest) x y e in
+    ap (λ (text : List ℕ). byte ∷ text) (cut_from_joins (is_quoted_behind inside byte) divider rest z y further)
+    ∙ ap (λ (text : List ℕ). text ++ (divider ++ y)) (sym front))
     h
 
 -- a text that is cut is what stands before the divider, the divider, and what stands behind it

@@ -1,11 +1,11 @@
 -- A text is exactly one thing in a category.
-use Rattle.std.proofs.Common.{◌≡◌, inl, inr, ◌⊎◌, refl, ℕ, List, [], ◌∷◌, Option, Some, None, sym, ap, subst, ◌∙◌, map, length, zero-le}
-use Rattle.std.proofs.lemmas.Option.{same_Some, none-some}
+use Rattle.std.proofs.Common.{◌≡◌, inl, inr, ◌⊎◌, refl, ℕ, List, [], Option, Some, None, sym, ap, subst, ◌∙◌, map, length, zero-le}
+use Rattle.std.proofs.lemmas.Option.{none-some}
 use Rattle.std.proofs.lemmas.List.Elements.{All-from_recursion}
 use Rattle.plcs_grammar.specs.declared.category.Category.{Category}
 use Rattle.plcs_grammar.specs.declared.category.Category.TheVariants.{CommentText}
 use Rattle.plcs_grammar.specs.PlainPhrase.{PlainPhrase, category_of}
-use Rattle.plcs_grammar.specs.Cuts.{Piece, Cuts}
+use Rattle.plcs_grammar.specs.Cuts.{Piece}
 use Rattle.plcs_grammar.specs.Comment.{comment_syntax, trimmed}
 use Rattle.plcs_grammar.specs.Limit.{IsWithinLimits}
 use Rattle.plcs_grammar.specs.Opened.{phrase_opened}

@@ -5,7 +5,6 @@ use Rattle.std.specs.List.{list_all}
 use Rattle.std.proofs.lemmas.Bool.{and_parts}
 use Rattle.plcs_base.specs.Byte.{is_digit, is_name_byte}
 use Rattle.plcs_base.specs.Name.{IsName}
-use Rattle.plcs_grammar.specs.declared.item.Item.{Item}
 use Rattle.plcs_grammar.specs.declared.sign.Sign.{Sign}
 use Rattle.plcs_grammar.specs.Builtin.{builtin_name}
 use Rattle.plcs_grammar.specs.Sign.{sign_bytes, prefix_sign, infix_sign}
@@ -13,7 +12,7 @@ use Rattle.plcs_grammar.specs.Token.{Token, IsNumeral, begins_with, bit_bytes}
 use Rattle.plcs_grammar.specs.Level.{priority}
 use Rattle.plcs_grammar.specs.PlainPhrase.{PlainExpr, PlainExprs, PlainVarRef, PlainPhrase}
 use Rattle.plcs_grammar.specs.Canon.{canon, canon_reference, canon_list, canon_behind, parenthesized_bytes, behind_sign, more_joined, joined, canon_sized, canon_item, Canon}
-use Rattle.phrase_parser.proofs.ExprSpelling.{spell, spell_reference, spell_all, spell_behind, Fits, FitsReference, FitsAll, FitsBehind}
+use Rattle.phrase_parser.proofs.ExprSpelling.{spell, spell_reference, spell_all, spell_behind, Fits, FitsAll}
 use Rattle.phrase_parser.proofs.PhraseSpelling.{spell_more, spell_listed, spell_name, spell_sized, spell_item, spell_phrase, FitsPhrase}
 use Rattle.phrase_parser.proofs.Numerals.{decimal_numeral}
 use Rattle.phrase_parser.proofs.CanonicalTokens.{AllWritable, writable_split, small_number}

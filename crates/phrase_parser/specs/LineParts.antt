@@ -2,7 +2,7 @@
 use Rattle.std.specs.Prelude.{◌≡◌, ◌⊎◌, ℕ, Bool, false, ◌&&◌, not, nat_eq, if◌then◌else◌, List, [], ◌∷◌, ◌++◌, drop, length, codes, Option, Some, None, IsTrue}
 use Rattle.std.specs.List.{starts_with}
 use Rattle.plcs_grammar.specs.declared.category.Category.{Category}
-use Rattle.plcs_grammar.specs.declared.category.Category.TheVariants.{Assignment, Condition, Expression, ExpressionList, VariableList, Variable, CallRef, DeclaredList, ProcedureName, NameList, Length}
+use Rattle.plcs_grammar.specs.declared.category.Category.TheVariants.{Expression, Variable, DeclaredList, ProcedureName, Length}
 use Rattle.plcs_base.specs.Name.{is_keyword}
 use Rattle.plcs_grammar.specs.Token.{is_quote, EndsWord}
 use Rattle.plcs_grammar.specs.PlainPhrase.{PlainPhrase}

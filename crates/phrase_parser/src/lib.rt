@@ -25,8 +25,10 @@ mod sign;
 mod token;
 
 pub use fault::PhraseFault;
-pub use law::{canonical_text_reads, canonical_text_tells, one_reading, one_standing};
-pub use law::{cut_texts_join, divided_parts_tell, no_keyword_begins_part, part_ends_at_divider};
+pub use law::{
+    canonical_text_reads, canonical_text_tells, cut_texts_join, divided_parts_tell,
+    no_keyword_begins_part, one_reading, one_standing, over_is_past_limits, part_ends_at_divider,
+    part_has_no_colon, reading_has_category,
+};
 pub use line_parts::cut_at;
-pub use law::{over_is_past_limits, part_has_no_colon, reading_has_category};
 pub use parser::parse;

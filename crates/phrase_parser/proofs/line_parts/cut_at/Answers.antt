@@ -1,4 +1,4 @@
-use Rattle.std.proofs.Common.{◌+◌, ◌&&◌, not, Some, List, ℕ, length, take, arith, sym, ap, ◌∙◌}
+use Rattle.std.proofs.Common.{◌+◌, ◌&&◌, not, Some, List, ℕ, length, take, sym, ap, ◌∙◌}
 use Rattle.phrase_parser.proofs.DividedTexts.{begins_here}
 use Rattle.phrase_parser.proofs.CutLines.{uncut_more, cut_found, rest_from}
 use Rattle.phrase_parser.proofs.line_parts.cut_at.Goals as goal
