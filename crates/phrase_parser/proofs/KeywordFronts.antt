@@ -31,7 +31,7 @@ NoKeyword x = BeginsWithKeyword x → ⊥
 name_no_keyword : (name behind : List ℕ) → IsName name → Ends behind → NoKeyword (name ++ behind)
 name_no_keyword name behind named ends front =
     let found = name_found name behind named ends in
-    let other = keyword_found front.word front.behind front.is_word (not-true (begins_with is_name_byte front.behind) front.ends) in
+    let other = keyword_found front.word front.behind front.keyword (not-true (begins_with is_name_byte front.behind) front.ends) in
     let name_front : Front = record { kind = kind.Name; length = length name } in
     let word_front : Front = record { kind = kind.Keyword; length = length front.word } in
     let same : name_front ≡ word_front = same_Some name_front word_front (sym found ∙ ap front_of front.whole ∙ other) in
@@ -47,7 +47,7 @@ letter_needed x (letter ∷ rest) behind other word e =
 
 no_letter_no_keyword : (x : List ℕ) → begins_with is_letter x ≡ false → NoKeyword x
 no_letter_no_keyword x other front =
-    letter_needed x front.word front.behind other (keyword_word front.word front.is_word) front.whole
+    letter_needed x front.word front.behind other (keyword_word front.word front.keyword) front.whole
 
 digit_no_letter : (digit : ℕ) → is_digit digit ≡ true → is_letter digit ≡ false
 digit_no_letter digit h = grind (arith, nat_tests)

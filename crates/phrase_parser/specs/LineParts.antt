@@ -53,5 +53,5 @@ pub record BeginsWithKeyword (x : List ℕ) : Type 0 where
   pub word : List ℕ
   pub behind : List ℕ
   pub whole : x ≡ word ++ behind
-  pub is_word : IsTrue (is_keyword word)
+  pub keyword : IsTrue (is_keyword word)
   pub ends : EndsWord behind
