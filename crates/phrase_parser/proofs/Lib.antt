@@ -10,3 +10,5 @@ mod Frames
 mod Comments
 -- `only`, `well_formed` and the laws
 mod Readings
+-- the laws on parts of lines, and the clause of `cut_at`
+mod Lines

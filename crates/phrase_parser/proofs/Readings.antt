@@ -7,3 +7,7 @@ pub mod LexedTexts
 pub mod CanonicalTokens
 -- `well_formed` of `parse`, `CanonicalTextReads` and `CanonicalTextTells`
 pub mod CanonicalText
+-- `one_standing`: there is always something that the text is
+pub mod WholeCuts
+-- `one_standing`, `over_is_past_limits`, `reading_has_category`
+pub mod Standings
