@@ -1,0 +1,20 @@
+//! The words of a session: the commands that a typed line can be, and the texts of the messages that
+//! answer keys.
+#![tactic(auto)]
+
+mod argument;
+mod command;
+mod command_table;
+mod limit;
+mod message;
+mod message_text;
+mod number;
+mod takes;
+mod template_word;
+mod trimmed;
+
+pub use argument::is_file_name;
+pub use command::{Command, CommandFault, read_command};
+pub use limit::{GREATEST_CODE_NUMBER, LONGEST_FILE_NAME, MOST_STEPS, MOST_STEPS_BACK};
+pub use message::{Message, Notice, RefusalMessage};
+pub use message_text::MessageText;
