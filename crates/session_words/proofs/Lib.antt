@@ -1,3 +1,5 @@
+-- the value of each limit, which the definitions take from the code
+mod Limits
 -- the name that an argument is
 mod ClipName
 -- that a text is trimmed

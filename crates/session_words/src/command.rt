@@ -11,7 +11,7 @@ use plcs_base::{Name, is_letter};
 use plcs_grammar::Template;
 
 /// What a command line asks for.
-#[derive(Debug, Drop)]
+#[derive(Debug, Drop, PartialEq, Eq)]
 pub enum Command<'a> {
     /// Fill the hole at the cursor with the template.
     Template(Template),
@@ -84,6 +84,16 @@ pub fn read_command<'a>(line: &'a [u8]) -> Result<Command<'a>, CommandFault>
     match takes_of(&behind[..length]) {
         Some(takes) => takes.command(trimmed(rest)),
         None => Err(CommandFault::UnknownCommand),
+    }
+}
+
+/// Whether the line begins with the point with which command lines begin.
+pub fn begins_with_point(line: &[u8]) -> bool
+    ensures { result ≡ begins_with_point line.now }
+{
+    match line {
+        [] => false,
+        [byte, ..] => *byte == b'.',
     }
 }
 

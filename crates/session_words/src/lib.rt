@@ -11,10 +11,12 @@ mod message_text;
 mod number;
 mod takes;
 mod template_word;
+#[cfg(test)]
+mod tests;
 mod trimmed;
 
 pub use argument::is_file_name;
-pub use command::{Command, CommandFault, read_command};
+pub use command::{Command, CommandFault, begins_with_point, read_command};
 pub use limit::{GREATEST_CODE_NUMBER, LONGEST_FILE_NAME, MOST_STEPS, MOST_STEPS_BACK};
 pub use message::{Message, Notice, RefusalMessage};
 pub use message_text::MessageText;
