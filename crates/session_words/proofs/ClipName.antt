@@ -1,7 +1,7 @@
 -- The name of the clip is a name.
 use Rattle.std.proofs.Common.{◌≡◌, ℕ, List, Option, Some, None, refl, ap}
-use Rattle.std.specs.Prelude.{◌↔◌, IsSome, IfSome, IsTrue}
-use Rattle.plcs_base.specs.Name.{is_name, is_keyword, IsName}
+use Rattle.std.specs.Prelude.{◌↔◌, IsSome, IfSome}
+use Rattle.plcs_base.specs.Name.{is_keyword, IsName}
 use Rattle.session_words.specs.Argument.{default_clip}
 
 clip_is_name : IsName default_clip

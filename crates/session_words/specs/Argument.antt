@@ -1,7 +1,6 @@
 -- What may stand behind a command's word.
 use Rattle.std.specs.Prelude.{ℕ, Bool, ◌&&◌, not, nat_le, List, [], ◌∷◌, length, codes, Option, None, Some, Ok, Err, if◌then◌else◌}
 use Rattle.std.specs.List.{list_all}
-use Rattle.std.specs.Option.{option_and_then}
 use Rattle.plcs_base.specs.Byte.{is_digit, is_printable}
 use Rattle.plcs_base.specs.Name.{is_name}
 use Rattle.plcs_grammar.specs.Cuts.{is_blank}
@@ -11,17 +10,17 @@ use Rattle.session_words.specs.declared.limit.TheConstants.{LONGEST_FILE_NAME}
 use Rattle.session_words.specs.PlainCommand.{PlainCommand, PlainReading}
 
 -- what a command takes behind its word, and the command that it makes of it; no bytes are no argument
-pub data PlainTakes : Type 0 where
+pub data PlainArgumentRule : Type 0 where
   -- no argument
-  nothing : PlainCommand → PlainTakes
+  nothing : PlainCommand → PlainArgumentRule
   -- a name, and where it is left out, that of the clip
-  name : (List ℕ → PlainCommand) → PlainTakes
+  name : (List ℕ → PlainCommand) → PlainArgumentRule
   -- a number from the first to the second, and where it is left out, the third
-  number : ℕ → ℕ → ℕ → (ℕ → PlainCommand) → PlainTakes
+  number : ℕ → ℕ → ℕ → (ℕ → PlainCommand) → PlainArgumentRule
   -- a text
-  text : (List ℕ → PlainCommand) → PlainTakes
+  text : (List ℕ → PlainCommand) → PlainArgumentRule
   -- the name of a file
-  file : (List ℕ → PlainCommand) → PlainTakes
+  file : (List ℕ → PlainCommand) → PlainArgumentRule
 
 -- the name of the clip that is meant where none is named
 abbrev pub default_clip : List ℕ
@@ -76,10 +75,10 @@ made make (Some x) = Ok (make x)
 made make None = Err WrongArgument
 
 -- the command that the argument makes
-abbrev pub command_with : PlainTakes → List ℕ → PlainReading
-command_with (PlainTakes.nothing command) [] = Ok command
-command_with (PlainTakes.nothing command) (byte ∷ rest) = Err WrongArgument
-command_with (PlainTakes.name make) argument = made make (name_in argument)
-command_with (PlainTakes.number least most otherwise make) argument = made make (number_in least most otherwise argument)
-command_with (PlainTakes.text make) argument = made make (text_in argument)
-command_with (PlainTakes.file make) argument = made make (file_name_in argument)
+abbrev pub command_with : PlainArgumentRule → List ℕ → PlainReading
+command_with (PlainArgumentRule.nothing command) [] = Ok command
+command_with (PlainArgumentRule.nothing command) (byte ∷ rest) = Err WrongArgument
+command_with (PlainArgumentRule.name make) argument = made make (name_in argument)
+command_with (PlainArgumentRule.number least most otherwise make) argument = made make (number_in least most otherwise argument)
+command_with (PlainArgumentRule.text make) argument = made make (text_in argument)
+command_with (PlainArgumentRule.file make) argument = made make (file_name_in argument)

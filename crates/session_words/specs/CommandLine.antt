@@ -1,5 +1,5 @@
 -- Which command a line is.
-use Rattle.std.specs.Prelude.{ℕ, Bool, true, false, ◌==◌, List, [], ◌∷◌, take, drop, Option, None, Some, Err, if◌then◌else◌}
+use Rattle.std.specs.Prelude.{ℕ, Bool, true, ◌==◌, List, [], ◌∷◌, take, drop, Option, None, Some, Err, if◌then◌else◌}
 use Rattle.std.specs.List.{prefix_len}
 use Rattle.plcs_base.specs.Byte.{is_letter}
 use Rattle.plcs_grammar.specs.Comment.{trimmed}
@@ -7,8 +7,8 @@ use Rattle.plcs_grammar.specs.Cuts.{is_blank}
 use Rattle.plcs_grammar.specs.Token.{begins_with}
 use Rattle.session_words.specs.declared.command.CommandFault.TheVariants.{UnknownCommand}
 use Rattle.session_words.specs.PlainCommand.{PlainReading}
-use Rattle.session_words.specs.Argument.{PlainTakes, command_with}
-use Rattle.session_words.specs.CommandTable.{takes_of}
+use Rattle.session_words.specs.Argument.{PlainArgumentRule, command_with}
+use Rattle.session_words.specs.CommandTable.{argument_rule_of}
 
 -- whether the first byte is the point with which command lines begin
 abbrev pub begins_with_point : List ℕ → Bool
@@ -36,12 +36,12 @@ abbrev pub argument_of : List ℕ → List ℕ
 argument_of line = trimmed (behind_word line)
 
 -- the command that a word and an argument are, where the word has a row in the table of commands
-abbrev pub command_by : Option PlainTakes → List ℕ → PlainReading
-command_by (Some takes) argument = command_with takes argument
+abbrev pub command_by : Option PlainArgumentRule → List ℕ → PlainReading
+command_by (Some rule) argument = command_with rule argument
 command_by None argument = Err UnknownCommand
 
 -- the command that the line is, or why it is none
 unfoldable pub command_of : List ℕ → PlainReading
 command_of line =
-    if is_word_end (behind_word line) then command_by (takes_of (word_of line)) (argument_of line)
+    if is_word_end (behind_word line) then command_by (argument_rule_of (word_of line)) (argument_of line)
     else Err UnknownCommand

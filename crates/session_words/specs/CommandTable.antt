@@ -3,56 +3,57 @@ use Rattle.std.specs.Prelude.{ℕ, List, [], ◌∷◌, ◌++◌, map, codes, by
 use Rattle.std.specs.Option.{option_map}
 use Rattle.plcs_grammar.specs.declared.template.Template.{Template}
 use Rattle.session_words.specs.declared.limit.TheConstants.{MOST_STEPS, MOST_STEPS_BACK, GREATEST_CODE_NUMBER}
-use Rattle.session_words.specs.PlainCommand.{PlainCommand}
-use Rattle.session_words.specs.Argument.{PlainTakes}
+use Rattle.session_words.specs.PlainCommand as command
+use Rattle.session_words.specs.Argument as argument
+use Rattle.session_words.specs.Argument.{PlainArgumentRule}
 use Rattle.session_words.specs.TemplateWord.{template_word, templates}
 
 -- a command's word, and what it takes
-pub record PlainRow : Type 0 where
+pub record PlainCommandRow : Type 0 where
   pub word : List ℕ
-  pub takes : PlainTakes
+  pub rule : PlainArgumentRule
 
 -- the row of a word and what its command takes
-abbrev pub row : List ℕ → PlainTakes → PlainRow
-row word takes = record { word = word; takes = takes }
+abbrev pub row : List ℕ → PlainArgumentRule → PlainCommandRow
+row word rule = record { word = word; rule = rule }
 
 -- the row of a template's command
-abbrev pub template_row : Template → PlainRow
-template_row t = row (template_word t) (PlainTakes.nothing (PlainCommand.template t))
+abbrev pub template_row : Template → PlainCommandRow
+template_row t = row (template_word t) (argument.nothing (command.template t))
 
 -- the commands that fill in no template
-abbrev pub other_commands : List PlainRow
+abbrev pub other_commands : List PlainCommandRow
 other_commands =
-    row (codes "float") (PlainTakes.nothing PlainCommand.float)
-    ∷ row (codes "before") (PlainTakes.nothing PlainCommand.before)
-    ∷ row (codes "after") (PlainTakes.nothing PlainCommand.after)
-    ∷ row (codes "del") (PlainTakes.nothing PlainCommand.del)
-    ∷ row (codes "cut") (PlainTakes.name PlainCommand.cut)
-    ∷ row (codes "copy") (PlainTakes.name PlainCommand.copy)
-    ∷ row (codes "insert") (PlainTakes.name PlainCommand.insert)
-    ∷ row (codes "elide") (PlainTakes.nothing PlainCommand.elide)
-    ∷ row (codes "top") (PlainTakes.nothing PlainCommand.top)
-    ∷ row (codes "bottom") (PlainTakes.nothing PlainCommand.bottom)
-    ∷ row (codes "run") (PlainTakes.nothing PlainCommand.run)
-    ∷ row (codes "step") (PlainTakes.number 1 MOST_STEPS 1 PlainCommand.step)
-    ∷ row (codes "resume") (PlainTakes.nothing PlainCommand.resume)
-    ∷ row (codes "back") (PlainTakes.number 1 MOST_STEPS_BACK 1 PlainCommand.back)
-    ∷ row (codes "trace") (PlainTakes.nothing PlainCommand.trace)
-    ∷ row (codes "input") (PlainTakes.text PlainCommand.input)
-    ∷ row (codes "save") (PlainTakes.file PlainCommand.save)
-    ∷ row (codes "load") (PlainTakes.file PlainCommand.load)
-    ∷ row (codes "code") (PlainTakes.number 0 GREATEST_CODE_NUMBER 0 PlainCommand.code)
-    ∷ row (codes "quit") (PlainTakes.nothing PlainCommand.quit)
+    row (codes "float") (argument.nothing command.float)
+    ∷ row (codes "before") (argument.nothing command.before)
+    ∷ row (codes "after") (argument.nothing command.after)
+    ∷ row (codes "del") (argument.nothing command.del)
+    ∷ row (codes "cut") (argument.name command.cut)
+    ∷ row (codes "copy") (argument.name command.copy)
+    ∷ row (codes "insert") (argument.name command.insert)
+    ∷ row (codes "elide") (argument.nothing command.elide)
+    ∷ row (codes "top") (argument.nothing command.top)
+    ∷ row (codes "bottom") (argument.nothing command.bottom)
+    ∷ row (codes "run") (argument.nothing command.run)
+    ∷ row (codes "step") (argument.number 1 MOST_STEPS 1 command.step)
+    ∷ row (codes "resume") (argument.nothing command.resume)
+    ∷ row (codes "back") (argument.number 1 MOST_STEPS_BACK 1 command.back)
+    ∷ row (codes "trace") (argument.nothing command.trace)
+    ∷ row (codes "input") (argument.text command.input)
+    ∷ row (codes "save") (argument.file command.save)
+    ∷ row (codes "load") (argument.file command.load)
+    ∷ row (codes "code") (argument.number 0 GREATEST_CODE_NUMBER 0 command.code)
+    ∷ row (codes "quit") (argument.nothing command.quit)
     ∷ []
 
 -- all commands
-abbrev pub commands : List PlainRow
+abbrev pub commands : List PlainCommandRow
 commands = map template_row templates ++ other_commands
 
 -- what the row of the word among these takes, if there is one
-abbrev pub takes_in : List PlainRow → List ℕ → Option PlainTakes
-takes_in rows word = option_map (λ r. r.takes) (find (λ r. bytes_eq word r.word) rows)
+abbrev pub argument_rule_in : List PlainCommandRow → List ℕ → Option PlainArgumentRule
+argument_rule_in rows word = option_map (λ r. r.rule) (find (λ r. bytes_eq word r.word) rows)
 
 -- what the command of the word takes, if there is one
-unfoldable pub takes_of : List ℕ → Option PlainTakes
-takes_of word = takes_in commands word
+unfoldable pub argument_rule_of : List ℕ → Option PlainArgumentRule
+argument_rule_of word = argument_rule_in commands word

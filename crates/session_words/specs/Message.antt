@@ -1,5 +1,5 @@
 -- The messages that answer keys: their kinds and texts.
-use Rattle.std.specs.Prelude.{ℕ, List, [], ◌∷◌, ◌++◌, codes, decimal, Option, Some, None}
+use Rattle.std.specs.Prelude.{ℕ, List, ◌∷◌, ◌++◌, codes, decimal, Option, Some, None}
 use Rattle.session_words.specs.declared.message.Message.{Message}
 use Rattle.session_words.specs.declared.message.Message.TheVariants.{Refusal, Notice}
 use Rattle.session_words.specs.declared.message.RefusalMessage.{RefusalMessage}
@@ -8,16 +8,16 @@ use Rattle.session_words.specs.declared.message.Notice.{Notice as NoticeKind}
 use Rattle.session_words.specs.declared.message.Notice.TheVariants as notice
 
 -- the number of a kind of refusal, and the words of a message
-pub record MessageRow : Type 0 where
+pub record PlainRefusalRow : Type 0 where
   pub number : ℕ
   pub words : List ℕ
 
 -- a row of the messages
-abbrev pub row : ℕ → List ℕ → MessageRow
+abbrev pub row : ℕ → List ℕ → PlainRefusalRow
 row number words = record { number = number; words = words }
 
 -- the messages of refusals
-abbrev pub refusal_row : RefusalMessage → MessageRow
+abbrev pub refusal_row : RefusalMessage → PlainRefusalRow
 refusal_row refusal.UnknownCommand = row 1 (codes "UNKNOWN COMMAND")
 refusal_row refusal.NotHere = row 2 (codes "NOT HERE")
 refusal_row (refusal.SyntaxAt n) = row 3 (codes "SYNTAX AT")

@@ -3,9 +3,9 @@ ghost use Rattle.std.specs.Prelude.{◌≡◌};
 ghost use Rattle.std.specs.List.{list_all};
 ghost use Rattle.session_words.specs.Argument.{default_clip, name_in, number_between, number_in, is_file_byte, is_file_name};
 
+use crate::argument_rule::Range;
 use crate::limit::LONGEST_FILE_NAME;
 use crate::number::number_between;
-use crate::takes::Range;
 use plcs_base::{Name, is_printable};
 
 /// The name of the clip that is meant where none is named.

@@ -5,7 +5,7 @@ ghost use Rattle.plcs_base.specs.Byte.{is_letter};
 ghost use Rattle.session_words.specs.CommandLine.{begins_with_point, is_word_end, command_of};
 ghost use Rattle.session_words.specs.PlainCommand.{plain_reading};
 
-use crate::command_table::takes_of;
+use crate::command_table::argument_rule_of;
 use crate::trimmed::trimmed;
 use plcs_base::{Name, is_letter};
 use plcs_grammar::Template;
@@ -81,8 +81,8 @@ pub fn read_command<'a>(line: &'a [u8]) -> Result<Command<'a>, CommandFault>
     if !is_word_end(rest) {
         return Err(CommandFault::UnknownCommand);
     }
-    match takes_of(&behind[..length]) {
-        Some(takes) => takes.command(trimmed(rest)),
+    match argument_rule_of(&behind[..length]) {
+        Some(rule) => rule.command(trimmed(rest)),
         None => Err(CommandFault::UnknownCommand),
     }
 }

@@ -1,19 +1,19 @@
 //! The table of the commands: their words, and what each takes behind its word.
 ghost use Rattle.std.specs.Prelude.{◌≡◌, map, find, bytes_eq};
 ghost use Rattle.std.specs.Option.{option_map};
-ghost use Rattle.session_words.specs.CommandTable.{other_commands, takes_in, takes_of};
-ghost use Rattle.session_words.specs.Private.PlainForm.{plain_takes};
-ghost use Rattle.session_words.specs.Private.PlainRow.{plain_row};
+ghost use Rattle.session_words.specs.CommandTable.{other_commands, argument_rule_in, argument_rule_of};
+ghost use Rattle.session_words.specs.Private.PlainForm.{plain_argument_rule};
+ghost use Rattle.session_words.specs.Private.PlainCommandRow.{plain_command_row};
 
+use crate::argument_rule::{Alone, ArgumentRule, Filed, Named, Numbered, Range, Texted};
 use crate::limit::{GREATEST_CODE_NUMBER, MOST_STEPS, MOST_STEPS_BACK};
-use crate::takes::{Alone, Filed, Named, Numbered, Range, Takes, Texted};
 use crate::template_word::template_of;
 
 /// A command's word, and what it takes.
 #[derive(Clone, Copy)]
-struct Row {
+struct CommandRow {
     word: &'static [u8],
-    takes: Takes,
+    rule: ArgumentRule,
 }
 
 /// The steps of `.step`.
@@ -38,119 +38,117 @@ const INSTRUCTIONS: Range = Range {
 };
 
 /// The commands that fill in no template.
-const COMMANDS: [Row; 20] = [
-    Row {
+const COMMANDS: [CommandRow; 20] = [
+    CommandRow {
         word: b"float",
-        takes: Takes::Nothing(Alone::Float),
+        rule: ArgumentRule::Nothing(Alone::Float),
     },
-    Row {
+    CommandRow {
         word: b"before",
-        takes: Takes::Nothing(Alone::Before),
+        rule: ArgumentRule::Nothing(Alone::Before),
     },
-    Row {
+    CommandRow {
         word: b"after",
-        takes: Takes::Nothing(Alone::After),
+        rule: ArgumentRule::Nothing(Alone::After),
     },
-    Row {
+    CommandRow {
         word: b"del",
-        takes: Takes::Nothing(Alone::Del),
+        rule: ArgumentRule::Nothing(Alone::Del),
     },
-    Row {
+    CommandRow {
         word: b"cut",
-        takes: Takes::Name(Named::Cut),
+        rule: ArgumentRule::Name(Named::Cut),
     },
-    Row {
+    CommandRow {
         word: b"copy",
-        takes: Takes::Name(Named::Copy),
+        rule: ArgumentRule::Name(Named::Copy),
     },
-    Row {
+    CommandRow {
         word: b"insert",
-        takes: Takes::Name(Named::Insert),
+        rule: ArgumentRule::Name(Named::Insert),
     },
-    Row {
+    CommandRow {
         word: b"elide",
-        takes: Takes::Nothing(Alone::Elide),
+        rule: ArgumentRule::Nothing(Alone::Elide),
     },
-    Row {
+    CommandRow {
         word: b"top",
-        takes: Takes::Nothing(Alone::Top),
+        rule: ArgumentRule::Nothing(Alone::Top),
     },
-    Row {
+    CommandRow {
         word: b"bottom",
-        takes: Takes::Nothing(Alone::Bottom),
+        rule: ArgumentRule::Nothing(Alone::Bottom),
     },
-    Row {
+    CommandRow {
         word: b"run",
-        takes: Takes::Nothing(Alone::Run),
+        rule: ArgumentRule::Nothing(Alone::Run),
     },
-    Row {
+    CommandRow {
         word: b"step",
-        takes: Takes::Number(STEPS, Numbered::Step),
+        rule: ArgumentRule::Number(STEPS, Numbered::Step),
     },
-    Row {
+    CommandRow {
         word: b"resume",
-        takes: Takes::Nothing(Alone::Resume),
+        rule: ArgumentRule::Nothing(Alone::Resume),
     },
-    Row {
+    CommandRow {
         word: b"back",
-        takes: Takes::Number(STEPS_BACK, Numbered::Back),
+        rule: ArgumentRule::Number(STEPS_BACK, Numbered::Back),
     },
-    Row {
+    CommandRow {
         word: b"trace",
-        takes: Takes::Nothing(Alone::Trace),
+        rule: ArgumentRule::Nothing(Alone::Trace),
     },
-    Row {
+    CommandRow {
         word: b"input",
-        takes: Takes::Text(Texted::Input),
+        rule: ArgumentRule::Text(Texted::Input),
     },
-    Row {
+    CommandRow {
         word: b"save",
-        takes: Takes::File(Filed::Save),
+        rule: ArgumentRule::File(Filed::Save),
     },
-    Row {
+    CommandRow {
         word: b"load",
-        takes: Takes::File(Filed::Load),
+        rule: ArgumentRule::File(Filed::Load),
     },
-    Row {
+    CommandRow {
         word: b"code",
-        takes: Takes::Number(INSTRUCTIONS, Numbered::Code),
+        rule: ArgumentRule::Number(INSTRUCTIONS, Numbered::Code),
     },
-    Row {
+    CommandRow {
         word: b"quit",
-        takes: Takes::Nothing(Alone::Quit),
+        rule: ArgumentRule::Nothing(Alone::Quit),
     },
 ];
 
 /// What the command of the word takes behind it, or `None` where the word is no command's.
-pub fn takes_of(word: &[u8]) -> Option<Takes>
-    ensures { option_map plain_takes result ≡ takes_of word.now }
+pub fn argument_rule_of(word: &[u8]) -> Option<ArgumentRule>
+    ensures { option_map plain_argument_rule result ≡ argument_rule_of word.now }
 {
     match template_of(word) {
-        Some(template) => Some(Takes::Nothing(Alone::Template(template))),
-        None => other_takes_of(word),
+        Some(template) => Some(ArgumentRule::Nothing(Alone::Template(template))),
+        None => other_argument_rule_of(word),
     }
 }
 
 /// The same among the commands that fill in no template.
-fn other_takes_of(word: &[u8]) -> Option<Takes>
-    ensures { option_map plain_takes result ≡ takes_in other_commands word.now }
+fn other_argument_rule_of(word: &[u8]) -> Option<ArgumentRule>
+    ensures { option_map plain_argument_rule result ≡ argument_rule_in other_commands word.now }
 {
-    takes_among(other_rows(), word)
+    argument_rule_among(other_rows(), word)
 }
 
 /// The rows of the table.
-fn other_rows() -> &'static [Row]
-    ensures { map plain_row result.now ≡ other_commands }
+fn other_rows() -> &'static [CommandRow]
+    ensures { map plain_command_row result.now ≡ other_commands }
 {
     &COMMANDS
 }
 
 /// What the first of the rows with the word takes.
-fn takes_among(rows: &[Row], word: &[u8]) -> Option<Takes>
-    ensures { result ≡ option_map (λ row. row.takes)
+fn argument_rule_among(rows: &[CommandRow], word: &[u8]) -> Option<ArgumentRule>
+    ensures { result ≡ option_map (λ row. row.rule)
         (find (λ row. bytes_eq word.now row.word.now) rows.now) }
 {
-    rows.iter()
-        .find(|row| word == row.word)
-        .map(|row| row.takes)
+    rows.iter().find(|row| word == row.word).map(|row| row.rule)
 }

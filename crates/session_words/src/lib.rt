@@ -3,13 +3,13 @@
 #![tactic(auto)]
 
 mod argument;
+mod argument_rule;
 mod command;
 mod command_table;
 mod limit;
 mod message;
 mod message_text;
 mod number;
-mod takes;
 mod template_word;
 #[cfg(test)]
 mod tests;

@@ -111,7 +111,7 @@ pub enum Notice {
 
 /// The number of a kind of refusal, and the words of the message.
 #[derive(Clone, Copy)]
-struct Row {
+struct RefusalRow {
     number: u8,
     words: &'static [u8],
 }
@@ -156,7 +156,7 @@ impl RefusalMessage {
     }
 
     /// The row of the message.
-    fn row(self) -> Row
+    fn row(self) -> RefusalRow
         ensures number { result.number ≡ (refusal_row self).number }
         ensures words { result.words.now ≡ (refusal_row self).words }
         ensures short { length result.words.now ≤ 20 }
@@ -237,9 +237,9 @@ impl Notice {
 }
 
 /// A row of the messages of refusals.
-fn row_of(number: u8, words: &'static [u8]) -> Row
+fn row_of(number: u8, words: &'static [u8]) -> RefusalRow
     ensures number { result.number ≡ number }
     ensures words { result.words.now ≡ words.entry.now }
 {
-    Row { number, words }
+    RefusalRow { number, words }
 }

@@ -1,19 +1,19 @@
 -- What the code's table of commands stands for.
 use Rattle.std.specs.Prelude.{ℕ, List}
-use Rattle.session_words.specs.declared.takes.Takes.{Takes}
-use Rattle.session_words.specs.declared.takes.Takes.TheVariants as takes
-use Rattle.session_words.specs.declared.takes.Alone.{Alone}
-use Rattle.session_words.specs.declared.takes.Alone.TheVariants as alone
-use Rattle.session_words.specs.declared.takes.Named.{Named}
-use Rattle.session_words.specs.declared.takes.Named.TheVariants as named
-use Rattle.session_words.specs.declared.takes.Numbered.{Numbered}
-use Rattle.session_words.specs.declared.takes.Numbered.TheVariants as numbered
-use Rattle.session_words.specs.declared.takes.Texted.{Texted}
-use Rattle.session_words.specs.declared.takes.Texted.TheVariants as texted
-use Rattle.session_words.specs.declared.takes.Filed.{Filed}
-use Rattle.session_words.specs.declared.takes.Filed.TheVariants as filed
+use Rattle.session_words.specs.declared.argument_rule.ArgumentRule.{ArgumentRule}
+use Rattle.session_words.specs.declared.argument_rule.ArgumentRule.TheVariants as rule
+use Rattle.session_words.specs.declared.argument_rule.Alone.{Alone}
+use Rattle.session_words.specs.declared.argument_rule.Alone.TheVariants as alone
+use Rattle.session_words.specs.declared.argument_rule.Named.{Named}
+use Rattle.session_words.specs.declared.argument_rule.Named.TheVariants as named
+use Rattle.session_words.specs.declared.argument_rule.Numbered.{Numbered}
+use Rattle.session_words.specs.declared.argument_rule.Numbered.TheVariants as numbered
+use Rattle.session_words.specs.declared.argument_rule.Texted.{Texted}
+use Rattle.session_words.specs.declared.argument_rule.Texted.TheVariants as texted
+use Rattle.session_words.specs.declared.argument_rule.Filed.{Filed}
+use Rattle.session_words.specs.declared.argument_rule.Filed.TheVariants as filed
 use Rattle.session_words.specs.PlainCommand.{PlainCommand}
-use Rattle.session_words.specs.Argument.{PlainTakes}
+use Rattle.session_words.specs.Argument.{PlainArgumentRule}
 
 -- a command without an argument
 abbrev pub alone_command : Alone → PlainCommand
@@ -52,9 +52,9 @@ filed_command filed.Save name = PlainCommand.save name
 filed_command filed.Load name = PlainCommand.load name
 
 -- what a command takes, with the command that it makes of it
-abbrev pub plain_takes : Takes → PlainTakes
-plain_takes (takes.Nothing a) = PlainTakes.nothing (alone_command a)
-plain_takes (takes.Name n) = PlainTakes.name (named_command n)
-plain_takes (takes.Number range n) = PlainTakes.number range.least range.most range.otherwise (numbered_command n)
-plain_takes (takes.Text t) = PlainTakes.text (texted_command t)
-plain_takes (takes.File f) = PlainTakes.file (filed_command f)
+abbrev pub plain_argument_rule : ArgumentRule → PlainArgumentRule
+plain_argument_rule (rule.Nothing a) = PlainArgumentRule.nothing (alone_command a)
+plain_argument_rule (rule.Name n) = PlainArgumentRule.name (named_command n)
+plain_argument_rule (rule.Number range n) = PlainArgumentRule.number range.least range.most range.otherwise (numbered_command n)
+plain_argument_rule (rule.Text t) = PlainArgumentRule.text (texted_command t)
+plain_argument_rule (rule.File f) = PlainArgumentRule.file (filed_command f)

@@ -1,8 +1,8 @@
 //! What commands take behind their words, and the commands that come of it.
 ghost use Rattle.std.specs.Prelude.{◌≡◌};
-ghost use Rattle.session_words.specs.Argument.{PlainTakes, command_with};
+ghost use Rattle.session_words.specs.Argument.{PlainArgumentRule, command_with};
 ghost use Rattle.session_words.specs.PlainCommand.{plain_command, plain_reading};
-ghost use Rattle.session_words.specs.Private.PlainForm.{plain_takes, alone_command, named_command, numbered_command, texted_command, filed_command};
+ghost use Rattle.session_words.specs.Private.PlainForm.{plain_argument_rule, alone_command, named_command, numbered_command, texted_command, filed_command};
 
 use crate::argument::{is_file_name, name_in, number_in};
 use crate::command::{Command, CommandFault};
@@ -11,7 +11,7 @@ use plcs_grammar::Template;
 
 /// What a command takes behind its word.
 #[derive(Clone, Copy)]
-pub enum Takes {
+pub enum ArgumentRule {
     /// No argument.
     Nothing(Alone),
     /// A name, which may be left out.
@@ -102,17 +102,17 @@ pub enum Filed {
     Load,
 }
 
-impl Takes {
+impl ArgumentRule {
     /// The command that the argument makes; no bytes are no argument.
     pub fn command<'a>(self, argument: &'a [u8]) -> Result<Command<'a>, CommandFault>
-        ensures { plain_reading result ≡ command_with (plain_takes self) argument.entry.now }
+        ensures { plain_reading result ≡ command_with (plain_argument_rule self) argument.entry.now }
     {
         match self {
-            Takes::Nothing(alone) => alone.command(argument),
-            Takes::Name(named) => named.command(argument),
-            Takes::Number(range, numbered) => numbered.command(range, argument),
-            Takes::Text(texted) => texted.command(argument),
-            Takes::File(filed) => filed.command(argument),
+            ArgumentRule::Nothing(alone) => alone.command(argument),
+            ArgumentRule::Name(named) => named.command(argument),
+            ArgumentRule::Number(range, numbered) => numbered.command(range, argument),
+            ArgumentRule::Text(texted) => texted.command(argument),
+            ArgumentRule::File(filed) => filed.command(argument),
         }
     }
 }
@@ -121,7 +121,7 @@ impl Alone {
     /// The command, where there is no argument.
     fn command<'a>(self, argument: &[u8]) -> Result<Command<'a>, CommandFault>
         ensures { plain_reading result ≡
-            command_with (PlainTakes.nothing (alone_command self)) argument.now }
+            command_with (PlainArgumentRule.nothing (alone_command self)) argument.now }
     {
         if argument.is_empty() {
             Ok(self.made())
@@ -155,7 +155,7 @@ impl Named {
     /// The command with the name that the argument is.
     fn command<'a>(self, argument: &[u8]) -> Result<Command<'a>, CommandFault>
         ensures { plain_reading result ≡
-            command_with (PlainTakes.name (named_command self)) argument.now }
+            command_with (PlainArgumentRule.name (named_command self)) argument.now }
     {
         match name_in(argument) {
             Some(name) => Ok(self.made(name)),
@@ -179,7 +179,7 @@ impl Numbered {
     /// The command with the number that the argument is, if it is one of the range.
     fn command<'a>(self, range: Range, argument: &[u8]) -> Result<Command<'a>, CommandFault>
         ensures { plain_reading result ≡
-            command_with (plain_takes (Takes.Number range self)) argument.now }
+            command_with (plain_argument_rule (ArgumentRule.Number range self)) argument.now }
     {
         match number_in(range, argument) {
             Some(number) => Ok(self.made(number)),
@@ -203,7 +203,7 @@ impl Texted {
     /// The command with the text that the argument is.
     fn command<'a>(self, argument: &'a [u8]) -> Result<Command<'a>, CommandFault>
         ensures { plain_reading result ≡
-            command_with (PlainTakes.text (texted_command self)) argument.entry.now }
+            command_with (PlainArgumentRule.text (texted_command self)) argument.entry.now }
     {
         if argument.is_empty() {
             return Err(CommandFault::WrongArgument);
@@ -218,7 +218,7 @@ impl Filed {
     /// The command with the file name that the argument is.
     fn command<'a>(self, argument: &'a [u8]) -> Result<Command<'a>, CommandFault>
         ensures { plain_reading result ≡
-            command_with (PlainTakes.file (filed_command self)) argument.entry.now }
+            command_with (PlainArgumentRule.file (filed_command self)) argument.entry.now }
     {
         if !is_file_name(argument) {
             return Err(CommandFault::WrongArgument);
