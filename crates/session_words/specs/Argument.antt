@@ -15,8 +15,8 @@ pub data PlainArgumentRule : Type 0 where
   nothing : PlainCommand → PlainArgumentRule
   -- a name, and where it is left out, that of the clip
   name : (List ℕ → PlainCommand) → PlainArgumentRule
-  -- a number from the first to the second, and where it is left out, the third
-  number : ℕ → ℕ → ℕ → (ℕ → PlainCommand) → PlainArgumentRule
+  -- a number from the least to the most, and where it is left out, another
+  number : (least most otherwise : ℕ) → (ℕ → PlainCommand) → PlainArgumentRule
   -- a text
   text : (List ℕ → PlainCommand) → PlainArgumentRule
   -- the name of a file
@@ -35,14 +35,14 @@ name_in (byte ∷ rest) = if is_name (byte ∷ rest) then Some (byte ∷ rest) e
 abbrev pub is_numeral : List ℕ → Bool
 is_numeral bytes = nat_le 1 (length bytes) && list_all is_digit bytes
 
--- the number that the argument is, if it is one and lies from the first to the second; it may have any
+-- the number that the argument is, if it is one and lies from the least to the most; it may have any
 -- count of digits and leading zeros
 unfoldable pub number_between : ℕ → ℕ → List ℕ → Option ℕ
 number_between least most argument =
     if is_numeral argument && (nat_le least (numeral_value argument) && nat_le (numeral_value argument) most)
     then Some (numeral_value argument) else None
 
--- the same, where no argument is the third number
+-- the same, where no argument is another number
 abbrev pub number_in : ℕ → ℕ → ℕ → List ℕ → Option ℕ
 number_in least most otherwise [] = Some otherwise
 number_in least most otherwise (byte ∷ rest) = number_between least most (byte ∷ rest)
