@@ -7,36 +7,42 @@ use Rattle.session_words.specs.declared.message.RefusalMessage.TheVariants as re
 use Rattle.session_words.specs.declared.message.Notice.{Notice as NoticeKind}
 use Rattle.session_words.specs.declared.message.Notice.TheVariants as notice
 
--- the number of a kind of refusal, and the words of a message
+-- the number of a kind of refusal, the words of a message, and the number behind them, if there is one: a
+-- place, a line or a slot
 pub record PlainRefusalRow : Type 0 where
   pub number : ℕ
   pub words : List ℕ
+  pub value : Option ℕ
 
--- a row of the messages
+-- the row of a message without a number behind its words
 abbrev pub row : ℕ → List ℕ → PlainRefusalRow
-row number words = record { number = number; words = words }
+row number words = record { number = number; words = words; value = None }
+
+-- the row of a message with a number behind its words
+abbrev pub with_number : ℕ → List ℕ → ℕ → PlainRefusalRow
+with_number number words n = record { number = number; words = words; value = Some n }
 
 -- the messages of refusals
 abbrev pub refusal_row : RefusalMessage → PlainRefusalRow
 refusal_row refusal.UnknownCommand = row 1 (codes "UNKNOWN COMMAND")
 refusal_row refusal.NotHere = row 2 (codes "NOT HERE")
-refusal_row (refusal.SyntaxAt n) = row 3 (codes "SYNTAX AT")
-refusal_row (refusal.NumberTooLargeAt n) = row 3 (codes "NUMBER TOO LARGE AT")
-refusal_row (refusal.PhraseTooDeepAt n) = row 3 (codes "PHRASE TOO DEEP AT")
+refusal_row (refusal.SyntaxAt n) = with_number 3 (codes "SYNTAX AT") n
+refusal_row (refusal.NumberTooLargeAt n) = with_number 3 (codes "NUMBER TOO LARGE AT") n
+refusal_row (refusal.PhraseTooDeepAt n) = with_number 3 (codes "PHRASE TOO DEEP AT") n
 refusal_row refusal.NoClip = row 4 (codes "NO CLIP")
 refusal_row refusal.ClipsFull = row 4 (codes "CLIPS FULL")
 refusal_row refusal.NoFile = row 5 (codes "NO FILE")
 refusal_row refusal.FileFault = row 5 (codes "FILE FAULT")
-refusal_row (refusal.NotAListing n) = row 5 (codes "NOT A LISTING")
+refusal_row (refusal.NotAListing n) = with_number 5 (codes "NOT A LISTING") n
 refusal_row refusal.FileTooDeep = row 5 (codes "FILE TOO DEEP")
 refusal_row refusal.FileTooLarge = row 5 (codes "FILE TOO LARGE")
 refusal_row refusal.FileTooLong = row 5 (codes "FILE TOO LONG")
 refusal_row refusal.NoRun = row 6 (codes "NO RUN")
 refusal_row refusal.RunEnded = row 7 (codes "RUN ENDED")
 refusal_row refusal.NoHistory = row 8 (codes "NO HISTORY")
-refusal_row (refusal.HeadingChanged n) = row 9 (codes "HEADING CHANGED")
-refusal_row (refusal.DeclarationChanged n) = row 9 (codes "DECLARATION CHANGED")
-refusal_row (refusal.TemplateChanged n) = row 9 (codes "TEMPLATE CHANGED")
+refusal_row (refusal.HeadingChanged n) = with_number 9 (codes "HEADING CHANGED") n
+refusal_row (refusal.DeclarationChanged n) = with_number 9 (codes "DECLARATION CHANGED") n
+refusal_row (refusal.TemplateChanged n) = with_number 9 (codes "TEMPLATE CHANGED") n
 refusal_row refusal.TreeTooDeep = row 10 (codes "TREE TOO DEEP")
 refusal_row refusal.TreeTooLarge = row 10 (codes "TREE TOO LARGE")
 refusal_row refusal.SlotsUsedUp = row 10 (codes "SLOTS USED UP")
@@ -44,17 +50,6 @@ refusal_row refusal.WrongArgument = row 11 (codes "WRONG ARGUMENT")
 refusal_row refusal.PhraseFull = row 12 (codes "PHRASE FULL")
 refusal_row refusal.FloatNotThere = row 13 (codes "FLOAT NOT THERE")
 refusal_row refusal.AtEdge = row 14 (codes "AT EDGE")
-
--- the number that stands behind the words of a refusal: a place, a line or a slot
-abbrev pub refusal_value : RefusalMessage → Option ℕ
-refusal_value (refusal.SyntaxAt n) = Some n
-refusal_value (refusal.NumberTooLargeAt n) = Some n
-refusal_value (refusal.PhraseTooDeepAt n) = Some n
-refusal_value (refusal.NotAListing n) = Some n
-refusal_value (refusal.HeadingChanged n) = Some n
-refusal_value (refusal.DeclarationChanged n) = Some n
-refusal_value (refusal.TemplateChanged n) = Some n
-refusal_value _ = None
 
 -- the words of what came of a key that was taken
 abbrev pub notice_words : NoticeKind → List ℕ
@@ -83,7 +78,7 @@ message_words (Notice n) = notice_words n
 
 -- the number that stands behind the words, if there is one
 abbrev pub message_value : Message → Option ℕ
-message_value (Refusal r) = refusal_value r
+message_value (Refusal r) = (refusal_row r).value
 message_value (Notice n) = None
 
 -- words, and a number behind a blank, if there is one

@@ -1,6 +1,6 @@
 //! The messages that answer keys, and their texts.
 ghost use Rattle.std.specs.Prelude.{◌≡◌, ◌≤◌, length};
-ghost use Rattle.session_words.specs.Message.{refusal_row, refusal_value, notice_words, message_words, message_value, message_text};
+ghost use Rattle.session_words.specs.Message.{refusal_row, notice_words, message_words, message_value, message_text};
 
 use crate::message_text::MessageText;
 
@@ -109,11 +109,13 @@ pub enum Notice {
     TraceOff,
 }
 
-/// The number of a kind of refusal, and the words of the message.
+/// The number of a kind of refusal, the words of the message, and the number behind them, if there is
+/// one.
 #[derive(Clone, Copy)]
 struct RefusalRow {
     number: u8,
     words: &'static [u8],
+    value: Option<u32>,
 }
 
 impl Message {
@@ -141,7 +143,7 @@ impl Message {
         ensures { result ≡ message_value self }
     {
         match self {
-            Message::Refusal(refusal) => refusal.value(),
+            Message::Refusal(refusal) => refusal.row().value,
             Message::Notice(_) => None,
         }
     }
@@ -159,28 +161,29 @@ impl RefusalMessage {
     fn row(self) -> RefusalRow
         ensures number { result.number ≡ (refusal_row self).number }
         ensures words { result.words.now ≡ (refusal_row self).words }
+        ensures value { result.value ≡ (refusal_row self).value }
         ensures short { length result.words.now ≤ 20 }
     {
         match self {
             RefusalMessage::UnknownCommand => row_of(1, b"UNKNOWN COMMAND"),
             RefusalMessage::NotHere => row_of(2, b"NOT HERE"),
-            RefusalMessage::SyntaxAt(_) => row_of(3, b"SYNTAX AT"),
-            RefusalMessage::NumberTooLargeAt(_) => row_of(3, b"NUMBER TOO LARGE AT"),
-            RefusalMessage::PhraseTooDeepAt(_) => row_of(3, b"PHRASE TOO DEEP AT"),
+            RefusalMessage::SyntaxAt(n) => with_number(3, b"SYNTAX AT", n),
+            RefusalMessage::NumberTooLargeAt(n) => with_number(3, b"NUMBER TOO LARGE AT", n),
+            RefusalMessage::PhraseTooDeepAt(n) => with_number(3, b"PHRASE TOO DEEP AT", n),
             RefusalMessage::NoClip => row_of(4, b"NO CLIP"),
             RefusalMessage::ClipsFull => row_of(4, b"CLIPS FULL"),
             RefusalMessage::NoFile => row_of(5, b"NO FILE"),
             RefusalMessage::FileFault => row_of(5, b"FILE FAULT"),
-            RefusalMessage::NotAListing(_) => row_of(5, b"NOT A LISTING"),
+            RefusalMessage::NotAListing(n) => with_number(5, b"NOT A LISTING", n),
             RefusalMessage::FileTooDeep => row_of(5, b"FILE TOO DEEP"),
             RefusalMessage::FileTooLarge => row_of(5, b"FILE TOO LARGE"),
             RefusalMessage::FileTooLong => row_of(5, b"FILE TOO LONG"),
             RefusalMessage::NoRun => row_of(6, b"NO RUN"),
             RefusalMessage::RunEnded => row_of(7, b"RUN ENDED"),
             RefusalMessage::NoHistory => row_of(8, b"NO HISTORY"),
-            RefusalMessage::HeadingChanged(_) => row_of(9, b"HEADING CHANGED"),
-            RefusalMessage::DeclarationChanged(_) => row_of(9, b"DECLARATION CHANGED"),
-            RefusalMessage::TemplateChanged(_) => row_of(9, b"TEMPLATE CHANGED"),
+            RefusalMessage::HeadingChanged(n) => with_number(9, b"HEADING CHANGED", n),
+            RefusalMessage::DeclarationChanged(n) => with_number(9, b"DECLARATION CHANGED", n),
+            RefusalMessage::TemplateChanged(n) => with_number(9, b"TEMPLATE CHANGED", n),
             RefusalMessage::TreeTooDeep => row_of(10, b"TREE TOO DEEP"),
             RefusalMessage::TreeTooLarge => row_of(10, b"TREE TOO LARGE"),
             RefusalMessage::SlotsUsedUp => row_of(10, b"SLOTS USED UP"),
@@ -188,22 +191,6 @@ impl RefusalMessage {
             RefusalMessage::PhraseFull => row_of(12, b"PHRASE FULL"),
             RefusalMessage::FloatNotThere => row_of(13, b"FLOAT NOT THERE"),
             RefusalMessage::AtEdge => row_of(14, b"AT EDGE"),
-        }
-    }
-
-    /// The number behind the words, if there is one.
-    fn value(self) -> Option<u32>
-        ensures { result ≡ refusal_value self }
-    {
-        match self {
-            RefusalMessage::SyntaxAt(value)
-            | RefusalMessage::NumberTooLargeAt(value)
-            | RefusalMessage::PhraseTooDeepAt(value)
-            | RefusalMessage::NotAListing(value)
-            | RefusalMessage::HeadingChanged(value)
-            | RefusalMessage::DeclarationChanged(value)
-            | RefusalMessage::TemplateChanged(value) => Some(value),
-            _ => None,
         }
     }
 }
@@ -236,10 +223,28 @@ impl Notice {
     }
 }
 
-/// A row of the messages of refusals.
+/// The row of a message without a number behind its words.
 fn row_of(number: u8, words: &'static [u8]) -> RefusalRow
     ensures number { result.number ≡ number }
     ensures words { result.words.now ≡ words.entry.now }
+    ensures value { result.value ≡ None }
 {
-    RefusalRow { number, words }
+    RefusalRow {
+        number,
+        words,
+        value: None,
+    }
+}
+
+/// The row of a message with a number behind its words.
+fn with_number(number: u8, words: &'static [u8], value: u32) -> RefusalRow
+    ensures number { result.number ≡ number }
+    ensures words { result.words.now ≡ words.entry.now }
+    ensures value { result.value ≡ Some value }
+{
+    RefusalRow {
+        number,
+        words,
+        value: Some(value),
+    }
 }
