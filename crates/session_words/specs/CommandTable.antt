@@ -1,0 +1,59 @@
+-- The commands: their words, what each takes behind its word, and the command that it then is.
+use Rattle.std.specs.Prelude.{ℕ, List, [], ◌∷◌, ◌++◌, map, codes, bytes_eq, find, Option}
+use Rattle.std.specs.Option.{option_map}
+use Rattle.plcs_grammar.specs.declared.template.Template.{Template}
+use Rattle.session_words.specs.declared.limit.TheConstants.{MOST_STEPS, MOST_STEPS_BACK, GREATEST_CODE_NUMBER}
+use Rattle.session_words.specs.PlainCommand as command
+use Rattle.session_words.specs.Argument as argument
+use Rattle.session_words.specs.Argument.{PlainArgumentRule}
+use Rattle.session_words.specs.TemplateWord.{template_word, templates}
+
+-- a command's word, and what it takes
+pub record PlainCommandRow : Type 0 where
+  pub word : List ℕ
+  pub rule : PlainArgumentRule
+
+-- the row of a word and what its command takes
+abbrev pub row : List ℕ → PlainArgumentRule → PlainCommandRow
+row word rule = record { word = word; rule = rule }
+
+-- the row of a template's command
+abbrev pub template_row : Template → PlainCommandRow
+template_row t = row (template_word t) (argument.nothing (command.template t))
+
+-- the commands that fill in no template
+abbrev pub other_commands : List PlainCommandRow
+other_commands =
+    row (codes "float") (argument.nothing command.float)
+    ∷ row (codes "before") (argument.nothing command.before)
+    ∷ row (codes "after") (argument.nothing command.after)
+    ∷ row (codes "del") (argument.nothing command.del)
+    ∷ row (codes "cut") (argument.name command.cut)
+    ∷ row (codes "copy") (argument.name command.copy)
+    ∷ row (codes "insert") (argument.name command.insert)
+    ∷ row (codes "elide") (argument.nothing command.elide)
+    ∷ row (codes "top") (argument.nothing command.top)
+    ∷ row (codes "bottom") (argument.nothing command.bottom)
+    ∷ row (codes "run") (argument.nothing command.run)
+    ∷ row (codes "step") (argument.number 1 MOST_STEPS 1 command.step)
+    ∷ row (codes "resume") (argument.nothing command.resume)
+    ∷ row (codes "back") (argument.number 1 MOST_STEPS_BACK 1 command.back)
+    ∷ row (codes "trace") (argument.nothing command.trace)
+    ∷ row (codes "input") (argument.text command.input)
+    ∷ row (codes "save") (argument.file command.save)
+    ∷ row (codes "load") (argument.file command.load)
+    ∷ row (codes "code") (argument.number 0 GREATEST_CODE_NUMBER 0 command.code)
+    ∷ row (codes "quit") (argument.nothing command.quit)
+    ∷ []
+
+-- all commands
+abbrev pub commands : List PlainCommandRow
+commands = map template_row templates ++ other_commands
+
+-- what the row of the word among these takes, if there is one
+abbrev pub argument_rule_in : List PlainCommandRow → List ℕ → Option PlainArgumentRule
+argument_rule_in rows word = option_map (λ r. r.rule) (find (λ r. bytes_eq word r.word) rows)
+
+-- what the command of the word takes, if there is one
+unfoldable pub argument_rule_of : List ℕ → Option PlainArgumentRule
+argument_rule_of word = argument_rule_in commands word

@@ -1,0 +1,8 @@
+-- What a row of the code's table stands for.
+use Rattle.session_words.specs.declared.command_table.CommandRow.{CommandRow}
+use Rattle.session_words.specs.CommandTable.{PlainCommandRow, row}
+use Rattle.session_words.specs.Private.PlainForm.{plain_argument_rule}
+
+-- the row of the definitions with the same word
+abbrev pub plain_command_row : CommandRow → PlainCommandRow
+plain_command_row r = row r.word.now (plain_argument_rule r.rule)

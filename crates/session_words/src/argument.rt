@@ -1,0 +1,59 @@
+//! What an argument is read as.
+ghost use Rattle.std.specs.Prelude.{◌≡◌};
+ghost use Rattle.std.specs.List.{list_all};
+ghost use Rattle.session_words.specs.Argument.{default_clip, name_in, number_between, number_in, is_file_byte, is_file_name};
+
+use crate::argument_rule::Range;
+use crate::limit::LONGEST_FILE_NAME;
+use crate::number::number_between;
+use plcs_base::{Name, is_printable};
+
+/// The name of the clip that is meant where none is named.
+const DEFAULT_CLIP: &[u8] = b"clip";
+
+/// The name that the argument is, if it is one; no argument is the name of the clip.
+pub fn name_in(argument: &[u8]) -> Option<Name>
+    ensures { result ≡ name_in argument.now }
+{
+    if argument.is_empty() {
+        default_clip()
+    } else {
+        Name::read(argument)
+    }
+}
+
+/// The name of the clip.
+#[tactic(auto, using(crate::proofs::ClipName::clip_name_read))]
+fn default_clip() -> Option<Name>
+    ensures { result ≡ Some default_clip }
+{
+    Name::read(DEFAULT_CLIP)
+}
+
+/// The number of the range that the argument is, if it is one; no argument is the one that is meant
+/// where none is given.
+pub fn number_in(range: Range, argument: &[u8]) -> Option<u32>
+    ensures { result ≡ number_in range.least range.most range.otherwise argument.now }
+{
+    if argument.is_empty() {
+        Some(range.otherwise)
+    } else {
+        number_between(range.least, range.most, argument)
+    }
+}
+
+/// Whether the bytes are a file name: 1 to 100 bytes from 33 to 126.
+pub fn is_file_name(bytes: &[u8]) -> bool
+    ensures { result ≡ is_file_name bytes.now }
+{
+    !bytes.is_empty() && bytes.len() <= LONGEST_FILE_NAME && all_file_bytes(bytes)
+}
+
+/// Whether each byte may stand in a file name.
+fn all_file_bytes(bytes: &[u8]) -> bool
+    ensures { result ≡ list_all is_file_byte bytes.now }
+{
+    bytes
+        .iter()
+        .all(|byte| is_printable(*byte) && *byte != b' ')
+}

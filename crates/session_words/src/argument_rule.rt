@@ -1,0 +1,231 @@
+//! What commands take behind their words, and the commands that come of it.
+ghost use Rattle.std.specs.Prelude.{◌≡◌};
+ghost use Rattle.session_words.specs.Argument.{PlainArgumentRule, command_with};
+ghost use Rattle.session_words.specs.PlainCommand.{plain_command, plain_reading};
+ghost use Rattle.session_words.specs.Private.PlainForm.{plain_argument_rule, alone_command, named_command, numbered_command, texted_command, filed_command};
+
+use crate::argument::{is_file_name, name_in, number_in};
+use crate::command::{Command, CommandFault};
+use plcs_base::Name;
+use plcs_grammar::Template;
+
+/// What a command takes behind its word.
+#[derive(Clone, Copy)]
+pub enum ArgumentRule {
+    /// No argument.
+    Nothing(Alone),
+    /// A name, which may be left out.
+    Name(Named),
+    /// A number of the range, which may be left out.
+    Number(Range, Numbered),
+    /// A text.
+    Text(Texted),
+    /// The name of a file.
+    File(Filed),
+}
+
+/// The numbers that a command takes.
+#[derive(Clone, Copy)]
+pub struct Range {
+    /// The least of them.
+    pub least: u32,
+    /// The greatest of them.
+    pub most: u32,
+    /// The number that is meant where none is given.
+    pub otherwise: u32,
+}
+
+/// The commands without an argument.
+#[derive(Clone, Copy)]
+pub enum Alone {
+    /// `Command::Template`
+    Template(Template),
+    /// `Command::Float`
+    Float,
+    /// `Command::Before`
+    Before,
+    /// `Command::After`
+    After,
+    /// `Command::Del`
+    Del,
+    /// `Command::Elide`
+    Elide,
+    /// `Command::Top`
+    Top,
+    /// `Command::Bottom`
+    Bottom,
+    /// `Command::Run`
+    Run,
+    /// `Command::Resume`
+    Resume,
+    /// `Command::Trace`
+    Trace,
+    /// `Command::Quit`
+    Quit,
+}
+
+/// The commands with the name of a clip.
+#[derive(Clone, Copy)]
+pub enum Named {
+    /// `Command::Cut`
+    Cut,
+    /// `Command::Copy`
+    Copy,
+    /// `Command::Insert`
+    Insert,
+}
+
+/// The commands with a number.
+#[derive(Clone, Copy)]
+pub enum Numbered {
+    /// `Command::Step`
+    Step,
+    /// `Command::Back`
+    Back,
+    /// `Command::Code`
+    Code,
+}
+
+/// The commands with a text.
+#[derive(Clone, Copy)]
+pub enum Texted {
+    /// `Command::Input`
+    Input,
+}
+
+/// The commands with the name of a file.
+#[derive(Clone, Copy)]
+pub enum Filed {
+    /// `Command::Save`
+    Save,
+    /// `Command::Load`
+    Load,
+}
+
+impl ArgumentRule {
+    /// The command that the argument makes; no bytes are no argument.
+    pub fn command<'a>(self, argument: &'a [u8]) -> Result<Command<'a>, CommandFault>
+        ensures { plain_reading result ≡ command_with (plain_argument_rule self) argument.entry.now }
+    {
+        match self {
+            ArgumentRule::Nothing(alone) => alone.command(argument),
+            ArgumentRule::Name(named) => named.command(argument),
+            ArgumentRule::Number(range, numbered) => numbered.command(range, argument),
+            ArgumentRule::Text(texted) => texted.command(argument),
+            ArgumentRule::File(filed) => filed.command(argument),
+        }
+    }
+}
+
+impl Alone {
+    /// The command, where there is no argument.
+    fn command<'a>(self, argument: &[u8]) -> Result<Command<'a>, CommandFault>
+        ensures { plain_reading result ≡
+            command_with (PlainArgumentRule.nothing (alone_command self)) argument.now }
+    {
+        if argument.is_empty() {
+            Ok(self.made())
+        } else {
+            Err(CommandFault::WrongArgument)
+        }
+    }
+
+    /// The command.
+    fn made<'a>(self) -> Command<'a>
+        ensures { plain_command result ≡ alone_command self }
+    {
+        match self {
+            Alone::Template(template) => Command::Template(template),
+            Alone::Float => Command::Float,
+            Alone::Before => Command::Before,
+            Alone::After => Command::After,
+            Alone::Del => Command::Del,
+            Alone::Elide => Command::Elide,
+            Alone::Top => Command::Top,
+            Alone::Bottom => Command::Bottom,
+            Alone::Run => Command::Run,
+            Alone::Resume => Command::Resume,
+            Alone::Trace => Command::Trace,
+            Alone::Quit => Command::Quit,
+        }
+    }
+}
+
+impl Named {
+    /// The command with the name that the argument is.
+    fn command<'a>(self, argument: &[u8]) -> Result<Command<'a>, CommandFault>
+        ensures { plain_reading result ≡
+            command_with (PlainArgumentRule.name (named_command self)) argument.now }
+    {
+        match name_in(argument) {
+            Some(name) => Ok(self.made(name)),
+            None => Err(CommandFault::WrongArgument),
+        }
+    }
+
+    /// The command with the name.
+    fn made<'a>(self, name: Name) -> Command<'a>
+        ensures { plain_command result ≡ named_command self name }
+    {
+        match self {
+            Named::Cut => Command::Cut(name),
+            Named::Copy => Command::Copy(name),
+            Named::Insert => Command::Insert(name),
+        }
+    }
+}
+
+impl Numbered {
+    /// The command with the number that the argument is, if it is one of the range.
+    fn command<'a>(self, range: Range, argument: &[u8]) -> Result<Command<'a>, CommandFault>
+        ensures { plain_reading result ≡
+            command_with (plain_argument_rule (ArgumentRule.Number range self)) argument.now }
+    {
+        match number_in(range, argument) {
+            Some(number) => Ok(self.made(number)),
+            None => Err(CommandFault::WrongArgument),
+        }
+    }
+
+    /// The command with the number.
+    fn made<'a>(self, number: u32) -> Command<'a>
+        ensures { plain_command result ≡ numbered_command self number }
+    {
+        match self {
+            Numbered::Step => Command::Step(number),
+            Numbered::Back => Command::Back(number),
+            Numbered::Code => Command::Code(number),
+        }
+    }
+}
+
+impl Texted {
+    /// The command with the text that the argument is.
+    fn command<'a>(self, argument: &'a [u8]) -> Result<Command<'a>, CommandFault>
+        ensures { plain_reading result ≡
+            command_with (PlainArgumentRule.text (texted_command self)) argument.entry.now }
+    {
+        if argument.is_empty() {
+            return Err(CommandFault::WrongArgument);
+        }
+        match self {
+            Texted::Input => Ok(Command::Input(argument)),
+        }
+    }
+}
+
+impl Filed {
+    /// The command with the file name that the argument is.
+    fn command<'a>(self, argument: &'a [u8]) -> Result<Command<'a>, CommandFault>
+        ensures { plain_reading result ≡
+            command_with (PlainArgumentRule.file (filed_command self)) argument.entry.now }
+    {
+        if !is_file_name(argument) {
+            return Err(CommandFault::WrongArgument);
+        }
+        match self {
+            Filed::Save => Ok(Command::Save(argument)),
+            Filed::Load => Ok(Command::Load(argument)),
+        }
+    }
+}

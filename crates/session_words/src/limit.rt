@@ -1,0 +1,13 @@
+//! The limits of arguments.
+
+/// How many steps `.step` makes at most.
+pub const MOST_STEPS: u32 = 100;
+
+/// How many steps `.back` goes back at most.
+pub const MOST_STEPS_BACK: u32 = 500;
+
+/// The greatest number that `.code` takes.
+pub const GREATEST_CODE_NUMBER: u32 = 4_294_967_295;
+
+/// How many bytes a file name may have.
+pub const LONGEST_FILE_NAME: usize = 100;

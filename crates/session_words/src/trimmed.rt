@@ -1,0 +1,27 @@
+//! Texts without the blanks at their ends.
+ghost use Rattle.std.specs.Prelude.{◌≡◌, ◌≤◌, length};
+ghost use Rattle.plcs_grammar.specs.Comment.{trimmed};
+ghost use Rattle.plcs_grammar.specs.Cuts.{blanks};
+
+/// The text without the blanks at both its ends.
+pub fn trimmed(text: &[u8]) -> &[u8]
+    ensures { result.now ≡ trimmed text.now }
+{
+    let mut rest = &text[leading_blanks(text)..];
+    while rest.ends_with(b" ") {
+        rest = &rest[..rest.len() - 1];
+    }
+    rest
+}
+
+/// How many blanks the text begins with.
+fn leading_blanks(text: &[u8]) -> usize
+    ensures counted { result ≡ blanks text.now }
+    ensures within { result ≤ length text.now }
+{
+    let mut count = 0;
+    while count < text.len() && text[count] == b' ' {
+        count += 1;
+    }
+    count
+}
