@@ -1,9 +1,11 @@
 pub mod Calls
 pub mod Cause
 pub mod Entries
-pub mod Filing
+pub mod Files
 pub mod MemFiles
 pub mod MemSink
 pub mod MemSource
-pub mod Reading
-pub mod Writing
+pub mod Sink
+pub mod Source
+pub mod StdSink
+pub mod StdSource

@@ -1,17 +1,18 @@
 -- What files in memory are seen as.
 use Rattle.std.specs.Prelude.{◌≡◌, ℕ, List, [], Option, Result, Ok, Err, option_map, unwrap_or}
 use Rattle.plcs_base.specs.Count.{raised}
-use Rattle.synth_outside.specs.Calls.{CallsView}
+use Rattle.synth_outside.specs.Calls.{PlainCalls}
+use Rattle.synth_outside.specs.Files.{FileMap}
 use Rattle.synth_outside.specs.declared.faults.FilesFault.{FilesFault}
 use Rattle.synth_outside.specs.declared.faults.FilesFault.TheVariants.{NoFile, Failed, OutOfMemory}
 
--- the files, the bytes left of the one that is open, the name and bytes that were begun, the calls
--- and the wants of memory
-pub record FilesView : Type 0 where
-  pub entries : List (List ℕ × List ℕ)
-  pub opened : Option (List ℕ)
+-- the map of files, the bytes left of the one that is open, the name and bytes that were begun, the
+-- calls and the wants of memory
+pub record PlainMemFiles : Type 0 where
+  pub stored : FileMap
+  pub left : Option (List ℕ)
   pub begun : Option (List ℕ × List ℕ)
-  pub calls : CallsView
+  pub calls : PlainCalls
   pub wants : ℕ
 
 -- the name that was begun; where none was, the empty one
@@ -29,12 +30,12 @@ wants_after (Err NoFile) wants = wants
 wants_after (Err Failed) wants = wants
 wants_after (Err OutOfMemory) wants = raised wants
 
--- what is open may be another, and all but the calls and the wants is as before
-abbrev pub ChangesOpened : FilesView → FilesView → Type 0
-ChangesOpened before now =
-    now ≡ record before { opened = now.opened; calls = now.calls; wants = now.wants }
+-- what is left to read may be another, and all but the calls and the wants is as before
+abbrev pub ChangesLeft : PlainMemFiles → PlainMemFiles → Type 0
+ChangesLeft before now =
+    now ≡ record before { left = now.left; calls = now.calls; wants = now.wants }
 
 -- what was begun may be another, and all but the calls and the wants is as before
-abbrev pub ChangesBegun : FilesView → FilesView → Type 0
+abbrev pub ChangesBegun : PlainMemFiles → PlainMemFiles → Type 0
 ChangesBegun before now =
     now ≡ record before { begun = now.begun; calls = now.calls; wants = now.wants }

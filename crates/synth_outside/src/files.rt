@@ -1,16 +1,16 @@
-ghost use Rattle.std.specs.Prelude.{◌≡◌, ◌≢◌, ℕ, ◌<◌, ◌≤◌, Bool, true, false, List, length, take, Option, Err, IfOk, OnOk, OnErr, IsErrOf};
-ghost use Rattle.std.specs.Io.KnownBytes.{Appends, Consumes, IsAtEnd};
+//! The trait of files by name.
+
+ghost use Rattle.std.specs.Prelude.{◌≡◌, ◌≢◌, ℕ, ◌<◌, Bool, true, false, List, length, Option, Err, OnOk, OnErr, IsErrOf};
 ghost use Rattle.synth_outside.specs.Cause.{HasCause};
-ghost use Rattle.synth_outside.specs.Entries.{OwnContentIsSet, OtherContentsStay};
-ghost use Rattle.synth_outside.specs.Filing.{Opens, Lacks, Begins, Commits};
-ghost use Rattle.synth_outside.specs.Reading.{IsZeroAtEnd, LosesAtMost};
-ghost use Rattle.synth_outside.specs.Writing.{AppendsFront};
+ghost use Rattle.synth_outside.specs.Files.{FileMap, Opens, Lacks, Begins, Commits, OwnContentIsSet, OtherContentsStay};
+ghost use Rattle.synth_outside.specs.Sink.{TakesBytes};
+ghost use Rattle.synth_outside.specs.Source.{GivesBytes};
 
 use super::FilesFault;
 
 /// Files by name: one can be open for reading, and a new content of one can be begun.
 ///
-/// `entries` is the map from names to bytes; where it is `None`, nothing is claimed of it.
+/// `stored` is the map from names to bytes; where it is `None`, nothing is claimed of it.
 /// `is_open` says that a file is open for reading, and `left` is its bytes that are left, where
 /// they are told. `is_begun` says that a new content was begun, `begun_name` is the name that it is
 /// for, and `begun` its bytes so far, where they are told. The new content is no part of the map
@@ -19,7 +19,7 @@ use super::FilesFault;
 /// `faults` counts the failures so far and `wants` the wants of memory. Neither ever falls, and
 /// each stays at 2^64 - 1 once it is there.
 pub trait Files {
-    ghost entries: { Self → Option (List (List ℕ × List ℕ)) };
+    ghost stored: { Self → Option FileMap };
 
     ghost left: { Self → Option (List ℕ) };
 
@@ -40,11 +40,11 @@ pub trait Files {
     /// Of the answers `Ok` and `NoFile` it is `NoFile` exactly where the map lacks the name. After
     /// an answer that isn't `Ok` it isn't told whether a file is open.
     fn open_read(&mut self, name: &[u8]) -> Result<(), FilesFault>
-        ensures opened { OnOk result (Opens (entries self.old) name.now (left self.new)) }
+        ensures opened { OnOk result (Opens (stored self.old) name.now (left self.new)) }
         ensures readable { OnOk result (is_open self.new ≡ true) }
-        ensures missing { IsErrOf result FilesFault.NoFile → Lacks (entries self.old) name.now }
+        ensures missing { IsErrOf result FilesFault.NoFile → Lacks (stored self.old) name.now }
 
-        ensures map { entries self.new ≡ entries self.old }
+        ensures same_stored { stored self.new ≡ stored self.old }
         ensures same_begun { begun self.new ≡ begun self.old }
         ensures same_name { begun_name self.new ≡ begun_name self.old }
         ensures same_writable { is_begun self.new ≡ is_begun self.old }
@@ -55,23 +55,18 @@ pub trait Files {
     /// Moves the first bytes left of the opened file into the front of the buffer, and answers how
     /// many.
     ///
-    /// `Ok(0)` is the end. After a failure some first bytes may be lost, at most as many as the
-    /// buffer holds. What stands in the buffer behind the bytes given, or after a failure, isn't
-    /// told.
+    /// `Ok(0)` is the end. A read that isn't Ok may have lost some first bytes, at most as many as
+    /// the buffer holds. What stands in the buffer behind the bytes given, or where the read isn't
+    /// Ok, isn't told.
     fn read(&mut self, buf: &mut [u8]) -> Result<usize, FilesFault>
         requires open_file { is_open self.old ≡ true }
         requires room { 0 < length buf.old }
 
-        ensures count { IfOk result (λ n. n ≤ length buf.new) }
-        ensures given { IfOk result
-            (λ n. Consumes (left self.old) (left self.new) (take n buf.new)) }
-        ensures ended { IfOk result (λ n. n ≡ 0 → IsAtEnd (left self.new)) }
-        ensures exact_end { IfOk result (λ n. IsZeroAtEnd (left self.old) n) }
-        ensures lost { OnErr result (LosesAtMost (left self.old) (left self.new) (length buf.new)) }
+        ensures bytes { GivesBytes (left self.old) (left self.new) buf.new result }
         ensures readable { is_open self.new ≡ true }
         ensures found { result ≢ Err FilesFault.NoFile }
 
-        ensures map { entries self.new ≡ entries self.old }
+        ensures same_stored { stored self.new ≡ stored self.old }
         ensures same_begun { begun self.new ≡ begun self.old }
         ensures same_name { begun_name self.new ≡ begun_name self.old }
         ensures same_writable { is_begun self.new ≡ is_begun self.old }
@@ -83,12 +78,12 @@ pub trait Files {
     ///
     /// After an answer that isn't `Ok` it isn't told whether a content is begun.
     fn begin(&mut self, name: &[u8]) -> Result<(), FilesFault>
-        ensures empty { OnOk result (Begins (entries self.old) (begun self.new)) }
+        ensures empty { OnOk result (Begins (stored self.old) (begun self.new)) }
         ensures named { OnOk result (begun_name self.new ≡ name.now) }
         ensures writable { OnOk result (is_begun self.new ≡ true) }
         ensures found { result ≢ Err FilesFault.NoFile }
 
-        ensures map { entries self.new ≡ entries self.old }
+        ensures same_stored { stored self.new ≡ stored self.old }
         ensures same_left { left self.new ≡ left self.old }
         ensures same_readable { is_open self.new ≡ is_open self.old }
 
@@ -97,21 +92,18 @@ pub trait Files {
 
     /// Appends the first bytes of the piece to the new content, at least one, and answers how many.
     ///
-    /// A failed write appended a prefix of the piece too, and doesn't say how long it is.
+    /// A write that isn't Ok may have appended a prefix of the piece, and doesn't say how long it
+    /// is.
     fn write(&mut self, piece: &[u8]) -> Result<usize, FilesFault>
         requires begun_content { is_begun self.old ≡ true }
         requires some_byte { 0 < length piece.now }
 
-        ensures some { IfOk result (λ n. 0 < n) }
-        ensures count { IfOk result (λ n. n ≤ length piece.now) }
-        ensures accepted { IfOk result
-            (λ n. Appends (begun self.old) (begun self.new) (take n piece.now)) }
-        ensures front { OnErr result (AppendsFront (begun self.old) (begun self.new) piece.now) }
+        ensures bytes { TakesBytes (begun self.old) (begun self.new) piece.now result }
         ensures same_name { begun_name self.new ≡ begun_name self.old }
         ensures writable { is_begun self.new ≡ true }
         ensures found { result ≢ Err FilesFault.NoFile }
 
-        ensures map { entries self.new ≡ entries self.old }
+        ensures same_stored { stored self.new ≡ stored self.old }
         ensures same_left { left self.new ≡ left self.old }
         ensures same_readable { is_open self.new ≡ is_open self.old }
 
@@ -125,11 +117,11 @@ pub trait Files {
         requires { is_begun self.old ≡ true }
 
         ensures committed { OnOk result
-            (Commits (entries self.old) (entries self.new) (begun_name self.old) (begun self.old)) }
+            (Commits (stored self.old) (stored self.new) (begun_name self.old) (begun self.old)) }
         ensures over { OnOk result (is_begun self.new ≡ false) }
         ensures found { result ≢ Err FilesFault.NoFile }
 
-        ensures map { OnErr result (entries self.new ≡ entries self.old) }
+        ensures unchanged { OnErr result (stored self.new ≡ stored self.old) }
         ensures same_begun { OnErr result (begun self.new ≡ begun self.old) }
         ensures same_name { OnErr result (begun_name self.new ≡ begun_name self.old) }
         ensures writable { OnErr result (is_begun self.new ≡ true) }
@@ -142,7 +134,7 @@ pub trait Files {
 
 /// A law of the map: a commit gives its own name the new content, and every other name keeps its
 /// own.
-#[tactic(auto, using(crate::proofs::Contents::own_content, crate::proofs::Contents::other_content))]
+#[tactic(auto, using(crate::proofs::Maps::own_content, crate::proofs::Maps::other_content))]
 pub fn commit_sets_one_name()
     ensures own { OwnContentIsSet }
     ensures others { OtherContentsStay }
