@@ -7,7 +7,7 @@ use Rattle.std.specs.Bool.{Decides, if◌then◌else◌}
 use Rattle.std.specs.Ordering.{nat_cmp}
 use Rattle.std.specs.Cmp.Lexicographic.{slice_cmp}
 use Rattle.std.specs.FinMap.{get, insert, from_entries, get-empty}
-use Rattle.synth_outside.specs.Entries.{is_named}
+use Rattle.synth_outside.specs.Private.Entries.{is_named}
 use Rattle.synth_outside.specs.Files.{FileMap}
 use Rattle.synth_outside.proofs.Maps.{get_set, set_again, set_both}
 use Rattle.synth_outside.proofs.Placing.{with_content, at_place, behind}

@@ -3,7 +3,7 @@ use Rattle.std.proofs.Common.{◌≡◌, ℕ, ◌+◌, suc, Bool, true, false, n
 use Rattle.std.proofs.lemmas.Grind.{common_steps}
 use Rattle.std.specs.List.{position_or_len}
 use Rattle.std.specs.Bool.{if◌then◌else◌}
-use Rattle.synth_outside.specs.Entries.{is_named}
+use Rattle.synth_outside.specs.Private.Entries.{is_named}
 
 -- the list with these bytes under the name, in place of its first entry or, where it has none, at
 -- the end

@@ -2,6 +2,7 @@
 use Rattle.std.specs.Prelude.{◌≡◌, ◌==◌, ℕ, Bool, List, Result, IsErrOf, IsTrue, ◌↔◌, if◌then◌else◌}
 use Rattle.std.specs.List.{list_any}
 use Rattle.plcs_base.specs.Count.{raised}
+use Rattle.synth_outside.specs.Cause.{HasCause}
 
 -- the numbers of the calls that are to fail, how many were made, and how many faults there were
 pub record PlainCalls : Type 0 where
@@ -21,8 +22,10 @@ faults_after calls = if is_failing calls then raised calls.faults else calls.fau
 abbrev pub after_call : PlainCalls → PlainCalls
 after_call calls = record calls { made = raised calls.made; faults = faults_after calls }
 
--- one call was made, and it answered this fault exactly where its number is in the list
+-- one call was made, it answered this fault exactly where its number is in the list, and the count
+-- of faults has its cause in it
 pub record MakesCall {T E : Type 0} (fault : E) (before now : PlainCalls) (result : Result T E)
     : Type 0 where
   pub one : now ≡ after_call before
   pub listed : IsErrOf result fault ↔ IsTrue (is_failing before)
+  pub cause : HasCause fault before.faults now.faults result

@@ -1,11 +1,15 @@
-pub mod Calls
-pub mod Cause
-pub mod Entries
-pub mod Files
-pub mod MemFiles
-pub mod MemSink
-pub mod MemSource
-pub mod Sink
+-- ---- the three traits
 pub mod Source
-pub mod StdSink
+pub mod Sink
+pub mod Files
+pub mod Cause
+-- ---- the forms in memory
+pub mod Calls
+pub mod MemSource
+pub mod MemSink
+pub mod MemFiles
+-- ---- the forms over std's streams
 pub mod StdSource
+pub mod StdSink
+-- ---- what private contracts alone cite
+pub mod Private

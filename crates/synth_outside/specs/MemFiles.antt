@@ -1,8 +1,9 @@
 -- What files in memory are seen as.
-use Rattle.std.specs.Prelude.{◌≡◌, ℕ, List, [], Option, Result, Ok, Err, option_map, unwrap_or}
+use Rattle.std.specs.Prelude.{◌≡◌, ℕ, List, Option, Some, None, Result, Ok, Err}
 use Rattle.plcs_base.specs.Count.{raised}
-use Rattle.synth_outside.specs.Calls.{PlainCalls}
-use Rattle.synth_outside.specs.Files.{FileMap}
+use Rattle.synth_outside.specs.Calls.{PlainCalls, MakesCall}
+use Rattle.synth_outside.specs.Cause.{HasCause}
+use Rattle.synth_outside.specs.Files.{FileMap, NewContent}
 use Rattle.synth_outside.specs.declared.faults.FilesFault.{FilesFault}
 use Rattle.synth_outside.specs.declared.faults.FilesFault.TheVariants.{NoFile, Failed, OutOfMemory}
 
@@ -15,13 +16,10 @@ pub record PlainMemFiles : Type 0 where
   pub calls : PlainCalls
   pub wants : ℕ
 
--- the name that was begun; where none was, the empty one
-abbrev pub name_of : Option (List ℕ × List ℕ) → List ℕ
-name_of begun = unwrap_or (option_map (λ entry. entry.0) begun) []
-
--- the bytes that were begun
-abbrev pub bytes_of : Option (List ℕ × List ℕ) → Option (List ℕ)
-bytes_of begun = option_map (λ entry. entry.1) begun
+-- what was begun, all of which is told
+abbrev pub told : Option (List ℕ × List ℕ) → Option NewContent
+told None = None
+told (Some entry) = Some (record { name = entry.0; bytes = Some entry.1 })
 
 -- the count of wants after a call: one more exactly where the answer is want of memory
 abbrev pub wants_after : {T : Type 0} → Result T FilesFault → ℕ → ℕ
@@ -29,6 +27,14 @@ wants_after (Ok value) wants = wants
 wants_after (Err NoFile) wants = wants
 wants_after (Err Failed) wants = wants
 wants_after (Err OutOfMemory) wants = raised wants
+
+-- a call on files was made: it failed exactly where its number is in the list, and each count has
+-- its cause in it
+pub record MakesFilesCall {T : Type 0} (before now : PlainMemFiles) (result : Result T FilesFault)
+    : Type 0 where
+  pub called : MakesCall Failed before.calls now.calls result
+  pub wanted : now.wants ≡ wants_after result before.wants
+  pub want : HasCause OutOfMemory before.wants now.wants result
 
 -- what is left to read may be another, and all but the calls and the wants is as before
 abbrev pub ChangesLeft : PlainMemFiles → PlainMemFiles → Type 0

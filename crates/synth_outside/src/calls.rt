@@ -1,3 +1,5 @@
+//! Which calls on a value in memory are to fail.
+
 ghost use Rattle.std.specs.Prelude.{◌≡◌, ◌≤◌};
 ghost use Rattle.synth_outside.specs.Calls.{is_failing, after_call};
 

@@ -3,7 +3,7 @@
 ghost use Rattle.std.specs.Prelude.{◌≡◌, [], ◌++◌, IfOk, IfErr, OnOk, OnErr, option_copied, option_map, bytes_eq, position};
 ghost use Rattle.std.specs.FinMap.{empty, get, insert};
 ghost use Rattle.std.specs.List.{find};
-ghost use Rattle.synth_outside.specs.Entries.{is_named};
+ghost use Rattle.synth_outside.specs.Private.Entries.{is_named};
 
 use std::alloc::{AllocError, Global};
 use std::marker::Model;
@@ -64,7 +64,7 @@ pub(crate) struct Entries {
 impl Model for Entries {
     ghost use Rattle.std.specs.FinMap.{from_entries};
     ghost use Rattle.synth_outside.specs.Files.{FileMap};
-    ghost use Rattle.synth_outside.specs.Entries.{file_map_code};
+    ghost use Rattle.synth_outside.specs.Private.Entries.{file_map_code};
 
     ghost Value = { FileMap };
 

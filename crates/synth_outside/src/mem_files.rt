@@ -1,12 +1,10 @@
 //! Files in memory.
 
-ghost use Rattle.std.specs.Prelude.{◌≡◌, ◌≢◌, ◌<◌, ◌≤◌, true, false, [], min, length, Some, None, Ok, Err, is_some, option_copied, IfOk, IfSome, OnOk, OnErr, IsErrOf};
+ghost use Rattle.std.specs.Prelude.{◌≡◌, ◌≢◌, ◌<◌, ◌≤◌, true, false, [], min, length, Some, None, Ok, Err, IsSome, is_some, option_copied, IfOk, IfSome, OnOk, OnErr, IsErrOf};
 ghost use Rattle.std.specs.FinMap.{empty, get};
 ghost use Rattle.plcs_base.specs.Count.{raised};
-ghost use Rattle.synth_outside.specs.Calls.{MakesCall};
-ghost use Rattle.synth_outside.specs.Cause.{HasCause};
-ghost use Rattle.synth_outside.specs.Files.{Opens, Lacks, Begins, Commits};
-ghost use Rattle.synth_outside.specs.MemFiles.{name_of, bytes_of, wants_after, ChangesLeft, ChangesBegun};
+ghost use Rattle.synth_outside.specs.Files.{begun_bytes, begun_name, Opens, Lacks, Begins, Commits};
+ghost use Rattle.synth_outside.specs.MemFiles.{told, MakesFilesCall, ChangesLeft, ChangesBegun};
 ghost use Rattle.synth_outside.specs.Sink.{TakesBytes};
 ghost use Rattle.synth_outside.specs.Source.{GivesBytes};
 
@@ -34,7 +32,7 @@ pub struct MemFiles {
 
 impl Model for MemFiles {
     ghost use Rattle.synth_outside.specs.MemFiles.{PlainMemFiles};
-    ghost use Rattle.synth_outside.specs.Entries.{file_map_code};
+    ghost use Rattle.synth_outside.specs.Private.Entries.{file_map_code};
     ghost use Rattle.std.specs.Coded.{codes};
 
     ghost Value = { PlainMemFiles };
@@ -79,46 +77,27 @@ impl MemFiles {
     }
 }
 
-// Counts one more want of memory, and answers it.
-fn counted_want(wants: &mut u64) -> FilesFault
-    ensures answer { result ≡ FilesFault.OutOfMemory }
-    ensures counted { wants.new ≡ raised wants.old }
-    ensures later { wants.old ≤ wants.new }
-{
-    *wants = wants.saturating_add(1);
-    FilesFault::OutOfMemory
-}
-
 impl Files for MemFiles {
     ghost stored = { λ files. Some files.stored };
 
-    ghost left = { λ files. files.left };
-
-    ghost begun = { λ files. bytes_of files.begun };
-
-    ghost begun_name = { λ files. name_of files.begun };
-
     ghost is_open = { λ files. is_some files.left };
 
-    ghost is_begun = { λ files. is_some files.begun };
+    ghost left = { λ files. files.left };
+
+    ghost begun = { λ files. told files.begun };
 
     ghost faults = { λ files. files.calls.faults };
 
     ghost wants = { λ files. files.wants };
 
     fn open_read(&mut self, name: &[u8]) -> Result<(), FilesFault>
-        ensures opened { OnOk result (Opens (Some self.old.stored) name.now self.new.left) }
+        ensures whole { OnOk result (Opens (Some self.old.stored) name.now self.new.left) }
         ensures readable { OnOk result (is_some self.new.left ≡ true) }
         ensures missing { IsErrOf result FilesFault.NoFile →
             Lacks (Some self.old.stored) name.now }
 
-        ensures cause { HasCause FilesFault.Failed self.old.calls.faults self.new.calls.faults
-            result }
-        ensures want { HasCause FilesFault.OutOfMemory self.old.wants self.new.wants result }
-
         // Which answer comes, want of memory aside, and what is left, exactly.
-        ensures called { MakesCall FilesFault.Failed self.old.calls self.new.calls result }
-        ensures wanted { self.new.wants ≡ wants_after result self.old.wants }
+        ensures call { MakesFilesCall self.old self.new result }
         ensures kept { OnErr result (self.new.left ≡ self.old.left) }
         ensures others { ChangesLeft self.old self.new }
     {
@@ -143,13 +122,9 @@ impl Files for MemFiles {
         ensures readable { is_some self.new.left ≡ true }
         ensures found { result ≢ Err FilesFault.NoFile }
 
-        ensures cause { HasCause FilesFault.Failed self.old.calls.faults self.new.calls.faults
-            result }
-        ensures want { HasCause FilesFault.OutOfMemory self.old.wants self.new.wants result }
-
         // How many bytes are given, and what is left after a failure, exactly; memory is never
         // wanted.
-        ensures called { MakesCall FilesFault.Failed self.old.calls self.new.calls result }
+        ensures call { MakesFilesCall self.old self.new result }
         ensures fitting { IfOk result
             (λ n. IfSome self.old.left (λ left. n ≡ min (length buf.old) (length left))) }
         ensures memory { result ≢ Err FilesFault.OutOfMemory }
@@ -167,18 +142,12 @@ impl Files for MemFiles {
     }
 
     fn begin(&mut self, name: &[u8]) -> Result<(), FilesFault>
-        ensures empty { OnOk result (Begins (Some self.old.stored) (bytes_of self.new.begun)) }
-        ensures named { OnOk result (name_of self.new.begun ≡ name.now) }
-        ensures writable { OnOk result (is_some self.new.begun ≡ true) }
+        ensures empty { OnOk result
+            (Begins (Some self.old.stored) name.now (told self.new.begun)) }
         ensures found { result ≢ Err FilesFault.NoFile }
 
-        ensures cause { HasCause FilesFault.Failed self.old.calls.faults self.new.calls.faults
-            result }
-        ensures want { HasCause FilesFault.OutOfMemory self.old.wants self.new.wants result }
-
         // What is begun then, exactly; want of memory comes only in place of success.
-        ensures called { MakesCall FilesFault.Failed self.old.calls self.new.calls result }
-        ensures wanted { self.new.wants ≡ wants_after result self.old.wants }
+        ensures call { MakesFilesCall self.old self.new result }
         ensures begun { OnOk result (self.new.begun ≡ Some (name.now, [])) }
         ensures kept { OnErr result (self.new.begun ≡ self.old.begun) }
         ensures others { ChangesBegun self.old self.new }
@@ -196,22 +165,18 @@ impl Files for MemFiles {
     }
 
     fn write(&mut self, piece: &[u8]) -> Result<usize, FilesFault>
-        requires begun_content { is_some self.old.begun ≡ true }
+        requires begun_content { IsSome (told self.old.begun) }
         requires some_byte { 0 < length piece.now }
 
-        ensures bytes { TakesBytes (bytes_of self.old.begun) (bytes_of self.new.begun) piece.now
-            result }
-        ensures same_name { name_of self.new.begun ≡ name_of self.old.begun }
-        ensures writable { is_some self.new.begun ≡ true }
+        ensures bytes { TakesBytes (begun_bytes (told self.old.begun))
+            (begun_bytes (told self.new.begun)) piece.now result }
+        ensures same_name { begun_name (told self.new.begun) ≡
+            begun_name (told self.old.begun) }
+        ensures writable { IsSome (told self.new.begun) }
         ensures found { result ≢ Err FilesFault.NoFile }
 
-        ensures cause { HasCause FilesFault.Failed self.old.calls.faults self.new.calls.faults
-            result }
-        ensures want { HasCause FilesFault.OutOfMemory self.old.wants self.new.wants result }
-
         // The whole piece is taken or nothing of it; want of memory comes only in place of success.
-        ensures called { MakesCall FilesFault.Failed self.old.calls self.new.calls result }
-        ensures wanted { self.new.wants ≡ wants_after result self.old.wants }
+        ensures call { MakesFilesCall self.old self.new result }
         ensures whole { IfOk result (λ n. n ≡ length piece.now) }
         ensures kept { OnErr result (self.new.begun ≡ self.old.begun) }
         ensures others { ChangesBegun self.old self.new }
@@ -229,22 +194,15 @@ impl Files for MemFiles {
     }
 
     fn commit(&mut self) -> Result<(), FilesFault>
-        requires { is_some self.old.begun ≡ true }
+        requires { IsSome (told self.old.begun) }
 
         ensures committed { OnOk result
-            (Commits (Some self.old.stored) (Some self.new.stored) (name_of self.old.begun)
-            (bytes_of self.old.begun)) }
-        ensures over { OnOk result (is_some self.new.begun ≡ false) }
+            (Commits (Some self.old.stored) (Some self.new.stored) (told self.old.begun)) }
+        ensures over { OnOk result (told self.new.begun ≡ None) }
         ensures found { result ≢ Err FilesFault.NoFile }
-        ensures writable { OnErr result (is_some self.new.begun ≡ true) }
-
-        ensures cause { HasCause FilesFault.Failed self.old.calls.faults self.new.calls.faults
-            result }
-        ensures want { HasCause FilesFault.OutOfMemory self.old.wants self.new.wants result }
 
         // What an answer changes, exactly; want of memory comes only in place of success.
-        ensures called { MakesCall FilesFault.Failed self.old.calls self.new.calls result }
-        ensures wanted { self.new.wants ≡ wants_after result self.old.wants }
+        ensures call { MakesFilesCall self.old self.new result }
         ensures done { OnOk result (self.new.begun ≡ None) }
         ensures kept { OnErr result
             (self.new ≡ record self.old { calls = self.new.calls; wants = self.new.wants }) }
@@ -264,4 +222,14 @@ impl Files for MemFiles {
             }
         }
     }
+}
+
+// Counts one more want of memory, and answers it.
+fn counted_want(wants: &mut u64) -> FilesFault
+    ensures answer { result ≡ FilesFault.OutOfMemory }
+    ensures counted { wants.new ≡ raised wants.old }
+    ensures later { wants.old ≤ wants.new }
+{
+    *wants = wants.saturating_add(1);
+    FilesFault::OutOfMemory
 }

@@ -1,6 +1,7 @@
+//! A sink that keeps its bytes in memory.
+
 ghost use Rattle.std.specs.Prelude.{◌≡◌, ◌<◌, [], length, Some, IfOk, OnErr};
 ghost use Rattle.synth_outside.specs.Calls.{MakesCall};
-ghost use Rattle.synth_outside.specs.Cause.{HasCause};
 ghost use Rattle.synth_outside.specs.Sink.{TakesBytes};
 
 use super::calls::Calls;
@@ -54,8 +55,6 @@ impl Sink for MemSink {
     fn write(&mut self, piece: &[u8]) -> Result<usize, SinkFault>
         requires { 0 < length piece.now }
         ensures bytes { TakesBytes (Some self.old.taken) (Some self.new.taken) piece.now result }
-        ensures cause { HasCause SinkFault.Failed self.old.calls.faults self.new.calls.faults
-            result }
 
         // Which answer comes, and what was taken, exactly; want of memory comes only in place of
         // success.

@@ -1,7 +1,7 @@
+//! A source whose bytes lie in memory.
+
 ghost use Rattle.std.specs.Prelude.{◌≡◌, ◌<◌, min, length, Some, Ok, Err, OnErr, if◌then◌else◌};
-ghost use Rattle.plcs_base.specs.Count.{raised};
 ghost use Rattle.synth_outside.specs.Calls.{MakesCall, is_failing};
-ghost use Rattle.synth_outside.specs.Cause.{HasCause};
 ghost use Rattle.synth_outside.specs.Source.{GivesBytes};
 
 use super::calls::Calls;
@@ -58,9 +58,6 @@ impl Source for MemSource {
     fn read(&mut self, buf: &mut [u8]) -> Result<usize, SourceFault>
         requires { 0 < length buf.old }
         ensures bytes { GivesBytes (Some self.old.left) (Some self.new.left) buf.new result }
-        ensures one { self.new.calls.made ≡ raised self.old.calls.made }
-        ensures cause { HasCause SourceFault.Failed self.old.calls.faults self.new.calls.faults
-            result }
 
         // Which answer comes, and what is left, exactly.
         ensures called { MakesCall SourceFault.Failed self.old.calls self.new.calls result }

@@ -17,7 +17,7 @@ pub trait Sink {
 
     /// Takes the first bytes of the piece, at least one, and answers how many.
     ///
-    /// A write that isn't Ok may have taken a prefix of the piece, and doesn't say how long it is.
+    /// A write that isn't `Ok` may have taken a prefix of the piece, and doesn't say how long it is.
     /// Want of memory isn't counted.
     fn write(&mut self, piece: &[u8]) -> Result<usize, SinkFault>
         requires { 0 < length piece.now }

@@ -14,7 +14,7 @@ use super::SourceFault;
 /// stays at 2^64 - 1 once it is there.
 ///
 /// What a source keeps besides it can tell by two relations of its own. `leads_to` is between a
-/// source and the same one after some reads that were Ok, and `breaks_at` between a source and the
+/// source and the same one after some reads that were `Ok`, and `breaks_at` between a source and the
 /// same one after such reads and then one that wasn't. So whoever reads from any source, and hands
 /// on which of the two holds, tells its caller what became of this one.
 pub trait Source {
@@ -32,9 +32,9 @@ pub trait Source {
 
     /// Moves the first bytes left into the front of the buffer, and answers how many.
     ///
-    /// `Ok(0)` is the end. A read that isn't Ok may have lost some first bytes, at most as many as
-    /// the buffer holds. What stands in the buffer behind the bytes given, or where the read isn't
-    /// Ok, isn't told, and want of memory isn't counted.
+    /// `Ok(0)` is the end. A read that isn't `Ok` may have lost some first bytes, at most as many
+    /// as the buffer holds. What stands in the buffer behind the bytes given, or where the read
+    /// isn't `Ok`, isn't told, and want of memory isn't counted.
     fn read(&mut self, buf: &mut [u8]) -> Result<usize, SourceFault>
         requires { 0 < length buf.old }
         ensures bytes { GivesBytes (left self.old) (left self.new) buf.new result }

@@ -1,3 +1,5 @@
+//! Each form on its happy path, and failing.
+
 use super::{
     Files, FilesFault, MemFiles, MemSink, MemSource, Sink, SinkFault, Source, SourceFault, StdSink,
     StdSource,
