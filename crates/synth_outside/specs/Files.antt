@@ -34,10 +34,10 @@ Lacks None name = Unit {0}
 Lacks (Some map) name = get map name ≡ None
 
 -- a new content is begun for the name; it is told where the map is, and has no byte yet
-abbrev pub Begins : Option FileMap → List ℕ → Option NewContent → Type 0
-Begins stored name None = ⊥
-Begins None name (Some content) = content.name ≡ name
-Begins (Some map) name (Some content) = content ≡ record { name = name; bytes = Some [] }
+abbrev pub BeginsContent : Option FileMap → List ℕ → Option NewContent → Type 0
+BeginsContent stored name None = ⊥
+BeginsContent None name (Some content) = content.name ≡ name
+BeginsContent (Some map) name (Some content) = content ≡ record { name = name; bytes = Some [] }
 
 -- the map has the bytes under the name; where they aren't told, it has some
 abbrev pub IsSet : FileMap → Option FileMap → List ℕ → Option (List ℕ) → Type 0

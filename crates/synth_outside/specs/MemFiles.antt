@@ -17,9 +17,9 @@ pub record PlainMemFiles : Type 0 where
   pub wants : ℕ
 
 -- what was begun, all of which is told
-abbrev pub told : Option (List ℕ × List ℕ) → Option NewContent
-told None = None
-told (Some entry) = Some (record { name = entry.0; bytes = Some entry.1 })
+abbrev pub new_content : Option (List ℕ × List ℕ) → Option NewContent
+new_content None = None
+new_content (Some entry) = Some (record { name = entry.0; bytes = Some entry.1 })
 
 -- the count of wants after a call: one more exactly where the answer is want of memory
 abbrev pub wants_after : {T : Type 0} → Result T FilesFault → ℕ → ℕ

@@ -7,7 +7,7 @@ abbrev pub AppendsFront : Option (List ℕ) → Option (List ℕ) → List ℕ �
 AppendsFront before now piece = (count : ℕ) × Appends before now (take count piece)
 
 -- a write answered the count of bytes that it took from the front of the piece, at least one; where
--- it isn't Ok it may have taken some
+-- it isn't Ok it took a prefix of the piece, perhaps none of it
 pub record TakesBytes {E : Type 0} (before now : Option (List ℕ)) (piece : List ℕ)
     (result : Result ℕ E) : Type 0 where
   pub some : IfOk result (λ n. 0 < n)

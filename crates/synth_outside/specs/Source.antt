@@ -12,7 +12,7 @@ abbrev pub LosesAtMost : Option (List ℕ) → Option (List ℕ) → ℕ → Typ
 LosesAtMost before now most = (lost : List ℕ) × (length lost ≤ most) × Consumes before now lost
 
 -- a read answered the count of bytes that it moved from those left into the front of the buffer,
--- none only at the end; where it isn't Ok it may have lost as many as the buffer holds
+-- none only at the end; where it isn't Ok it lost at most as many as the buffer holds
 pub record GivesBytes {E : Type 0} (before now : Option (List ℕ)) (buf : List ℕ)
     (result : Result ℕ E) : Type 0 where
   pub count : IfOk result (λ n. n ≤ length buf)

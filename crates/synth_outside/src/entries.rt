@@ -8,53 +8,6 @@ ghost use Rattle.synth_outside.specs.Private.Entries.{is_named};
 use std::alloc::{AllocError, Global};
 use std::marker::Model;
 
-/// A name with its bytes.
-#[derive(Debug, Drop)]
-pub(crate) struct Entry {
-    name: Vec<u8>,
-    bytes: Vec<u8>,
-}
-
-impl Model for Entry {
-    ghost use Rattle.std.specs.Prelude.{ℕ, List};
-
-    ghost Value = { List ℕ × List ℕ };
-
-    ghost view = { λ entry. (entry.name.items, entry.bytes.items) };
-}
-
-impl Entry {
-    /// The name with no byte yet.
-    pub(crate) fn new(alloc: Global, name: &[u8]) -> Result<Self, AllocError>
-        ensures { IfOk result (λ entry. entry ≡ (name.now, [])) }
-    {
-        Ok(Entry {
-            name: Vec::from_slice(alloc, name)?,
-            bytes: Vec::new(alloc),
-        })
-    }
-
-    fn is_named(&self, name: &[u8]) -> bool
-        ensures { result ≡ bytes_eq self.now.0 name.now }
-    {
-        self.name.as_slice() == name
-    }
-
-    fn bytes(&self) -> &[u8]
-        ensures { result.now ≡ self.now.1 }
-    {
-        self.bytes.as_slice()
-    }
-
-    /// Appends the piece, or changes nothing.
-    pub(crate) fn extend(&mut self, piece: &[u8]) -> Result<(), AllocError>
-        ensures ok { OnOk result (self.new ≡ (self.old.0, self.old.1 ++ piece.now)) }
-        ensures err { OnErr result (self.new ≡ self.old) }
-    {
-        self.bytes.extend_from_slice(piece)
-    }
-}
-
 /// Files by name, in the order in which their names came.
 #[derive(Debug, Drop)]
 pub(crate) struct Entries {
@@ -108,6 +61,53 @@ impl Entries {
                 Err(refused) => Err(refused.value),
             },
         }
+    }
+}
+
+/// A name with its bytes.
+#[derive(Debug, Drop)]
+pub(crate) struct Entry {
+    name: Vec<u8>,
+    bytes: Vec<u8>,
+}
+
+impl Model for Entry {
+    ghost use Rattle.std.specs.Prelude.{ℕ, List};
+
+    ghost Value = { List ℕ × List ℕ };
+
+    ghost view = { λ entry. (entry.name.items, entry.bytes.items) };
+}
+
+impl Entry {
+    /// The name with no byte yet.
+    pub(crate) fn new(alloc: Global, name: &[u8]) -> Result<Self, AllocError>
+        ensures { IfOk result (λ entry. entry ≡ (name.now, [])) }
+    {
+        Ok(Entry {
+            name: Vec::from_slice(alloc, name)?,
+            bytes: Vec::new(alloc),
+        })
+    }
+
+    fn is_named(&self, name: &[u8]) -> bool
+        ensures { result ≡ bytes_eq self.now.0 name.now }
+    {
+        self.name.as_slice() == name
+    }
+
+    fn bytes(&self) -> &[u8]
+        ensures { result.now ≡ self.now.1 }
+    {
+        self.bytes.as_slice()
+    }
+
+    /// Appends the piece, or changes nothing.
+    pub(crate) fn extend(&mut self, piece: &[u8]) -> Result<(), AllocError>
+        ensures ok { OnOk result (self.new ≡ (self.old.0, self.old.1 ++ piece.now)) }
+        ensures err { OnErr result (self.new ≡ self.old) }
+    {
+        self.bytes.extend_from_slice(piece)
     }
 }
 

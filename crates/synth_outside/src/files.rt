@@ -2,7 +2,7 @@
 
 ghost use Rattle.std.specs.Prelude.{◌≡◌, ◌≢◌, ℕ, ◌<◌, Bool, true, List, length, Option, None, Err, IsSome, OnOk, OnErr, IsErrOf};
 ghost use Rattle.synth_outside.specs.Cause.{HasCause};
-ghost use Rattle.synth_outside.specs.Files.{FileMap, NewContent, begun_bytes, begun_name, Opens, Lacks, Begins, Commits, OwnContentIsSet, OtherContentsStay};
+ghost use Rattle.synth_outside.specs.Files.{FileMap, NewContent, begun_bytes, begun_name, Opens, Lacks, BeginsContent, Commits, OwnContentIsSet, OtherContentsStay};
 ghost use Rattle.synth_outside.specs.Sink.{TakesBytes};
 ghost use Rattle.synth_outside.specs.Source.{GivesBytes};
 
@@ -65,11 +65,11 @@ pub trait Files {
         ensures cause { HasCause FilesFault.Failed (faults self.old) (faults self.new) result }
         ensures want { HasCause FilesFault.OutOfMemory (wants self.old) (wants self.new) result };
 
-    /// Begins a new content for the name, with no byte, and drops one that was begun before.
+    /// BeginsContent a new content for the name, with no byte, and drops one that was begun before.
     ///
     /// After an answer that isn't `Ok` it isn't told whether a content is begun.
     fn begin(&mut self, name: &[u8]) -> Result<(), FilesFault>
-        ensures empty { OnOk result (Begins (stored self.old) name.now (begun self.new)) }
+        ensures empty { OnOk result (BeginsContent (stored self.old) name.now (begun self.new)) }
         ensures found { result ≢ Err FilesFault.NoFile }
 
         ensures same_stored { stored self.new ≡ stored self.old }

@@ -3,8 +3,8 @@
 ghost use Rattle.std.specs.Prelude.{◌≡◌, ◌≢◌, ◌<◌, ◌≤◌, true, false, [], min, length, Some, None, Ok, Err, IsSome, is_some, option_copied, IfOk, IfSome, OnOk, OnErr, IsErrOf};
 ghost use Rattle.std.specs.FinMap.{empty, get};
 ghost use Rattle.plcs_base.specs.Count.{raised};
-ghost use Rattle.synth_outside.specs.Files.{begun_bytes, begun_name, Opens, Lacks, Begins, Commits};
-ghost use Rattle.synth_outside.specs.MemFiles.{told, MakesFilesCall, ChangesLeft, ChangesBegun};
+ghost use Rattle.synth_outside.specs.Files.{begun_bytes, begun_name, Opens, Lacks, BeginsContent, Commits};
+ghost use Rattle.synth_outside.specs.MemFiles.{new_content, MakesFilesCall, ChangesLeft, ChangesBegun};
 ghost use Rattle.synth_outside.specs.Sink.{TakesBytes};
 ghost use Rattle.synth_outside.specs.Source.{GivesBytes};
 
@@ -84,7 +84,7 @@ impl Files for MemFiles {
 
     ghost left = { λ files. files.left };
 
-    ghost begun = { λ files. told files.begun };
+    ghost begun = { λ files. new_content files.begun };
 
     ghost faults = { λ files. files.calls.faults };
 
@@ -143,7 +143,7 @@ impl Files for MemFiles {
 
     fn begin(&mut self, name: &[u8]) -> Result<(), FilesFault>
         ensures empty { OnOk result
-            (Begins (Some self.old.stored) name.now (told self.new.begun)) }
+            (BeginsContent (Some self.old.stored) name.now (new_content self.new.begun)) }
         ensures found { result ≢ Err FilesFault.NoFile }
 
         // What is begun then, exactly; want of memory comes only in place of success.
@@ -165,14 +165,14 @@ impl Files for MemFiles {
     }
 
     fn write(&mut self, piece: &[u8]) -> Result<usize, FilesFault>
-        requires begun_content { IsSome (told self.old.begun) }
+        requires begun_content { IsSome (new_content self.old.begun) }
         requires some_byte { 0 < length piece.now }
 
-        ensures bytes { TakesBytes (begun_bytes (told self.old.begun))
-            (begun_bytes (told self.new.begun)) piece.now result }
-        ensures same_name { begun_name (told self.new.begun) ≡
-            begun_name (told self.old.begun) }
-        ensures writable { IsSome (told self.new.begun) }
+        ensures bytes { TakesBytes (begun_bytes (new_content self.old.begun))
+            (begun_bytes (new_content self.new.begun)) piece.now result }
+        ensures same_name { begun_name (new_content self.new.begun) ≡
+            begun_name (new_content self.old.begun) }
+        ensures writable { IsSome (new_content self.new.begun) }
         ensures found { result ≢ Err FilesFault.NoFile }
 
         // The whole piece is taken or nothing of it; want of memory comes only in place of success.
@@ -194,11 +194,11 @@ impl Files for MemFiles {
     }
 
     fn commit(&mut self) -> Result<(), FilesFault>
-        requires { IsSome (told self.old.begun) }
+        requires { IsSome (new_content self.old.begun) }
 
         ensures committed { OnOk result
-            (Commits (Some self.old.stored) (Some self.new.stored) (told self.old.begun)) }
-        ensures over { OnOk result (told self.new.begun ≡ None) }
+            (Commits (Some self.old.stored) (Some self.new.stored) (new_content self.old.begun)) }
+        ensures over { OnOk result (new_content self.new.begun ≡ None) }
         ensures found { result ≢ Err FilesFault.NoFile }
 
         // What an answer changes, exactly; want of memory comes only in place of success.

@@ -175,11 +175,7 @@ fn a_stream_that_failed_is_not_tried_again(rt: HostRuntime) {
     // A write is one call of the stream, and its flush the next one.
     for failing in [1, 2] {
         let mut sink = StdSink::new(Stumbling::new(failing));
-        assert_eq!(rt;
-            sink.write(b"ab"),
-            Err(SinkFault::Failed),
-            "at {failing}"
-        );
+        assert_eq!(rt; sink.write(b"ab"), Err(SinkFault::Failed), "at {failing}");
         assert_eq!(rt; sink.write(b"ab"), Ok(2), "at {failing}");
     }
 }
