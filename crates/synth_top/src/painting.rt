@@ -2,7 +2,7 @@ ghost use Rattle.std.specs.Prelude.{◌≡◌, ◌+◌, ◌≤◌, [], ◌++◌,
 ghost use Rattle.std.specs.Io.KnownBytes.{Appends};
 ghost use Rattle.arrayvec.specs.ArrayVec.{array_vec_len};
 ghost use Rattle.synth_outside.specs.Cause.{HasCause};
-ghost use Rattle.synth_outside.specs.Writing.{AppendsFront};
+ghost use Rattle.synth_outside.specs.Sink.{AppendsFront};
 ghost use Rattle.synth_top.specs.Paint.{go_to, image_change, paint, row_piece, row_paint, rows_paint, spelled, trimmed};
 ghost use Rattle.synth_top.specs.Sized.{IsSized};
 ghost use Rattle.synth_top.specs.View.{plain_grid};

@@ -2,8 +2,8 @@ ghost use Rattle.std.specs.Prelude.{◌≡◌, ◌<◌, ◌≤◌, [], ◌∷◌
 ghost use Rattle.std.specs.Io.KnownBytes.{Appends};
 ghost use Rattle.plcs_base.specs.Count.{Rose};
 ghost use Rattle.synth_outside.specs.Cause.{HasCause};
-ghost use Rattle.synth_outside.specs.PlainPhrase.{LosesAtMost};
-ghost use Rattle.synth_outside.specs.Writing.{AppendsFront};
+ghost use Rattle.synth_outside.specs.Source.{LosesAtMost};
+ghost use Rattle.synth_outside.specs.Sink.{AppendsFront};
 ghost use Rattle.synth_top.specs.Keys.{listed, keys_of_byte, reader_behind, unfinished_key};
 ghost use Rattle.synth_top.specs.Paint.{paint};
 ghost use Rattle.synth_top.specs.Run.{Ended, opening, quits};
