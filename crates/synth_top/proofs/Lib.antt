@@ -1,8 +1,11 @@
 pub mod Drawing
 pub mod Fronts
+pub mod KeyLists
 pub mod Owing
-pub mod Pressing
-pub mod Progress
+pub mod VisibleCells
+pub mod WritesInTurn
+pub mod TurnsInOrder
+pub mod KeysInOrder
+pub mod OneKey
+pub mod Courses
 pub mod Runs
-pub mod Trimming
-pub mod Turns

@@ -1,8 +1,8 @@
 use Rattle.std.proofs.Common.{◌≤◌, ◌+◌, drop}
 use Rattle.synth_top.specs.Paint.{rows_paint}
-use Rattle.synth_top.specs.View.{plain_grid}
+use Rattle.synth_top.specs.PlainForms.{plain_grid}
 use Rattle.synth_top.proofs.Owing.{Owes}
-use Rattle.synth_top.proofs.painting.paint_rows.Given as goal
+use Rattle.synth_top.proofs.paint.paint_rows.Given as goal
 
 -- the rows from this one on are still to be painted
 abbrev pub invariant-loop-row : goal.invariant-loop-row

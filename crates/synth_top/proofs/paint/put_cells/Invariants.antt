@@ -1,7 +1,7 @@
 use Rattle.std.proofs.Common.{◌≡◌, ◌≤◌, ◌+◌, ◌*◌, ◌++◌, drop, false}
 use Rattle.arrayvec.specs.ArrayVec.{array_vec_len}
 use Rattle.synth_top.specs.Paint.{spelled}
-use Rattle.synth_top.proofs.painting.put_cells.Given as goal
+use Rattle.synth_top.proofs.paint.put_cells.Given as goal
 
 -- what was put and what the other cells still give is the whole
 abbrev pub invariant-loop-cell : goal.invariant-loop-cell

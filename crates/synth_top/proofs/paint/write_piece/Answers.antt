@@ -2,13 +2,19 @@ use Rattle.std.proofs.Common.{◌≤◌, ◌+◌, length, arith}
 use Rattle.std.proofs.lemmas.List.{length-drop}
 use Rattle.std.proofs.lemmas.Result.{err_from_is_err_and}
 use Rattle.synth_top.proofs.Fronts.{Appends-more, AppendsFront-more, take-rest}
-use Rattle.synth_top.proofs.painting.write_piece.Goals as goal
+use Rattle.synth_top.proofs.WritesInTurn.{cause_passed}
+use Rattle.synth_top.proofs.paint.write_piece.Goals as goal
 
 -- a front of the piece was taken before the write that failed, and some of the rest by it
-pub returns-in_err-at-clause-front : goal.returns-in_err-at-clause-front
-returns-in_err-at-clause-front g c =
+pub returns-in_err-at : goal.returns-in_err-at
+returns-in_err-at g c =
     let p = err_from_is_err_and c.from_residual.result c.from_residual.ensures.1 in
-    rw p.1 (AppendsFront-more _ _ _ c.args.piece.now c.loop-at.at c.loop-at.invariant.written (rw take-rest at c.in_err-at.ensures.front))
+    rw (p.1, p.2)
+    (record {
+      all = tt;
+      front = AppendsFront-more _ _ _ c.args.piece.now c.loop-at.at c.loop-at.invariant.written (rw take-rest at c.in_err-at.ensures.front);
+      cause = cause_passed _ _ _ _ _ c.loop-at.invariant.later c.in_err-at.ensures.cause;
+    })
 
 -- the piece is taken a bit further
 pub loop-at-preserved : goal.loop-at-preserved

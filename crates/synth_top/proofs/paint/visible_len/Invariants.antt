@@ -1,12 +1,12 @@
 use Rattle.std.proofs.Common.{◌≡◌, ◌≤◌, length, take}
-use Rattle.synth_top.specs.Paint.{trimmed}
-use Rattle.synth_top.proofs.painting.trimmed_len.Given as goal
+use Rattle.synth_top.specs.Paint.{visible}
+use Rattle.synth_top.proofs.paint.visible_len.Given as goal
 
 -- the cells behind are blanks
 abbrev pub invariant-loop-len : goal.invariant-loop-len
 invariant-loop-len l = record {
   within : l.len ≤ length l.cells;
-  same : trimmed (take l.len l.cells) ≡ trimmed l.cells;
+  same : visible (take l.len l.cells) ≡ visible l.cells;
 }
 
 abbrev pub decreases-loop-len : goal.decreases-loop-len

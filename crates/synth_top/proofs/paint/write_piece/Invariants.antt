@@ -1,6 +1,6 @@
 use Rattle.std.proofs.Common.{◌≤◌, ◌-◌, length, take}
 use Rattle.std.specs.Io.KnownBytes.{Appends}
-use Rattle.synth_top.proofs.painting.write_piece.Given as goal
+use Rattle.synth_top.proofs.paint.write_piece.Given as goal
 
 -- the bytes before `at` were taken
 abbrev pub invariant-loop-at : goal.invariant-loop-at
