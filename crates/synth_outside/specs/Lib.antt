@@ -1,9 +1,15 @@
-pub mod Calls
+-- ---- the three traits
+pub mod Source
+pub mod Sink
+pub mod Files
 pub mod Cause
-pub mod Entries
-pub mod Filing
-pub mod MemFiles
-pub mod MemSink
+-- ---- the forms in memory
+pub mod Calls
 pub mod MemSource
-pub mod Reading
-pub mod Writing
+pub mod MemSink
+pub mod MemFiles
+-- ---- the forms over std's streams
+pub mod StdSource
+pub mod StdSink
+-- ---- what private contracts alone cite
+pub mod Private

@@ -1,8 +1,8 @@
 -- What a sink in memory is seen as.
 use Rattle.std.specs.Prelude.{ℕ, List}
-use Rattle.synth_outside.specs.Calls.{CallsView}
+use Rattle.synth_outside.specs.Calls.{PlainCalls}
 
 -- the bytes that were taken, and the calls
-pub record SinkView : Type 0 where
+pub record PlainMemSink : Type 0 where
   pub taken : List ℕ
-  pub calls : CallsView
+  pub calls : PlainCalls

@@ -1,8 +1,8 @@
 -- What a source in memory is seen as.
 use Rattle.std.specs.Prelude.{ℕ, List}
-use Rattle.synth_outside.specs.Calls.{CallsView}
+use Rattle.synth_outside.specs.Calls.{PlainCalls}
 
 -- the bytes that are left to read, and the calls
-pub record SourceView : Type 0 where
+pub record PlainMemSource : Type 0 where
   pub left : List ℕ
-  pub calls : CallsView
+  pub calls : PlainCalls

@@ -1,3 +1,5 @@
+//! Which calls on a value in memory are to fail.
+
 ghost use Rattle.std.specs.Prelude.{◌≡◌, ◌≤◌};
 ghost use Rattle.synth_outside.specs.Calls.{is_failing, after_call};
 
@@ -5,16 +7,16 @@ use std::marker::Model;
 
 /// The calls made on a value in memory, counted from 1, and which of them are to fail.
 #[derive(Debug, Drop)]
-pub(crate) struct Calls {
+pub struct Calls {
     fails: Vec<u64>,
     made: u64,
     faults: u64,
 }
 
 impl Model for Calls {
-    ghost use Rattle.synth_outside.specs.Calls.{CallsView};
+    ghost use Rattle.synth_outside.specs.Calls.{PlainCalls};
 
-    ghost Value = { CallsView };
+    ghost Value = { PlainCalls };
 
     ghost view = { λ calls.
         record { fails = calls.fails.items; made = calls.made; faults = calls.faults } };
@@ -22,7 +24,7 @@ impl Model for Calls {
 
 impl Calls {
     /// No call was made yet.
-    pub(crate) fn new(fails: Vec<u64>) -> Self
+    pub fn new(fails: Vec<u64>) -> Self
         ensures { result ≡ record { fails = fails.items; made = 0; faults = 0 } }
     {
         Calls {
@@ -33,7 +35,7 @@ impl Calls {
     }
 
     /// Counts one more call, and answers whether it is to fail, which counts a fault.
-    pub(crate) fn next_fails(&mut self) -> bool
+    pub fn next_fails(&mut self) -> bool
         ensures answer { result ≡ is_failing self.old }
         ensures after { self.new ≡ after_call self.old }
         ensures later { self.old.faults ≤ self.new.faults }

@@ -1,5 +1,9 @@
-ghost use Rattle.std.specs.Prelude.{◌≡◌, [], ◌++◌, IfOk, IfErr, OnOk, OnErr, option_copied, bytes_eq, position};
-ghost use Rattle.synth_outside.specs.Entries.{is_named, content_of, with_content};
+//! Files by name in memory.
+
+ghost use Rattle.std.specs.Prelude.{◌≡◌, [], ◌++◌, IfOk, IfErr, OnOk, OnErr, option_copied, option_map, bytes_eq, position};
+ghost use Rattle.std.specs.FinMap.{empty, get, insert};
+ghost use Rattle.std.specs.List.{find};
+ghost use Rattle.synth_outside.specs.Private.Entries.{is_named};
 
 use std::alloc::{AllocError, Global};
 use std::marker::Model;
@@ -58,17 +62,21 @@ pub(crate) struct Entries {
 }
 
 impl Model for Entries {
-    ghost use Rattle.std.specs.Prelude.{ℕ, List};
+    ghost use Rattle.std.specs.FinMap.{from_entries};
+    ghost use Rattle.synth_outside.specs.Files.{FileMap};
+    ghost use Rattle.synth_outside.specs.Private.Entries.{file_map_code};
 
-    ghost Value = { List (List ℕ × List ℕ) };
+    ghost Value = { FileMap };
 
-    ghost view = { λ entries. entries.list.items };
+    ghost coded = { file_map_code };
+
+    ghost view = { λ entries. from_entries entries.list.items };
 }
 
 impl Entries {
     /// No file.
     pub(crate) fn new(alloc: Global) -> Self
-        ensures { result ≡ [] }
+        ensures { result ≡ empty }
     {
         Entries {
             list: Vec::new(alloc),
@@ -76,30 +84,21 @@ impl Entries {
     }
 
     /// The bytes of the name, if there is such a file.
+    #[tactic(auto, using(crate::proofs::ListedFiles::content_in_map))]
     pub(crate) fn content(&self, name: &[u8]) -> Option<&[u8]>
-        ensures { option_copied result ≡ content_of name.now self.now }
+        ensures { option_copied result ≡ get self.now name.now }
     {
-        self.list
-            .iter()
-            .find(|entry| entry.is_named(name))
-            .map(|entry| entry.bytes())
-    }
-
-    // Where the first entry of the name stands.
-    fn place_of(&self, name: &[u8]) -> Option<usize>
-        ensures { result ≡ position (is_named name.now) self.now }
-    {
-        self.list.iter().position(|entry| entry.is_named(name))
+        content_of(self.list.as_slice(), name)
     }
 
     /// Sets the file of the entry's name, or gives the entry back and changes nothing.
-    #[tactic(auto, using(crate::proofs::Placing::put_at_place, crate::proofs::Placing::put_behind))]
+    #[tactic(auto, using(crate::proofs::ListedFiles::put_at_place, crate::proofs::ListedFiles::put_behind))]
     pub(crate) fn set(&mut self, entry: Entry) -> Result<(), Entry>
-        ensures ok { OnOk result (self.new ≡ with_content entry.0 entry.1 self.old) }
+        ensures ok { OnOk result (self.new ≡ insert self.old entry.0 entry.1) }
         ensures err { OnErr result (self.new ≡ self.old) }
         ensures back { IfErr result (λ refused. refused ≡ entry) }
     {
-        match self.place_of(&entry.name) {
+        match place_of(self.list.as_slice(), &entry.name) {
             Some(place) => {
                 self.list[place] = entry;
                 Ok(())
@@ -110,4 +109,22 @@ impl Entries {
             },
         }
     }
+}
+
+// The bytes of the first entry of the name, if there is one.
+fn content_of<'a>(entries: &'a [Entry], name: &[u8]) -> Option<&'a [u8]>
+    ensures { option_copied result ≡
+        option_map (λ entry. entry.1) (find (is_named name.now) entries.now) }
+{
+    entries
+        .iter()
+        .find(|entry| entry.is_named(name))
+        .map(|entry| entry.bytes())
+}
+
+// Where the first entry of the name stands.
+fn place_of(entries: &[Entry], name: &[u8]) -> Option<usize>
+    ensures { result ≡ position (is_named name.now) entries.now }
+{
+    entries.iter().position(|entry| entry.is_named(name))
 }

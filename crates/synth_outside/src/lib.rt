@@ -5,25 +5,26 @@
 mod calls;
 mod entries;
 mod faults;
-mod filing;
+mod files;
 mod mem_files;
 mod mem_sink;
 mod mem_source;
-mod reading;
+mod sink;
+mod source;
 mod std_sink;
 mod std_source;
 mod unread;
-mod writing;
 
+pub use calls::Calls;
 pub use faults::{FilesFault, SinkFault, SourceFault};
-pub use filing::{Files, commit_sets_one_name};
+pub use files::{Files, commit_sets_one_name};
 pub use mem_files::MemFiles;
 pub use mem_sink::MemSink;
 pub use mem_source::MemSource;
-pub use reading::Source;
+pub use sink::Sink;
+pub use source::Source;
 pub use std_sink::StdSink;
 pub use std_source::StdSource;
-pub use writing::Sink;
 
 #[cfg(test)]
 mod tests;

@@ -1,13 +1,12 @@
-ghost use Rattle.std.specs.Prelude.{◌≡◌, ◌≢◌, ◌<◌, ◌≤◌, true, false, [], min, length, take, Some, None, Ok, Err, is_some, option_copied, IfOk, IfSome, OnOk, OnErr, IsErrOf};
-ghost use Rattle.std.specs.Io.KnownBytes.{Appends, Consumes, IsAtEnd};
+//! Files in memory.
+
+ghost use Rattle.std.specs.Prelude.{◌≡◌, ◌≢◌, ◌<◌, ◌≤◌, true, false, [], min, length, Some, None, Ok, Err, IsSome, is_some, option_copied, IfOk, IfSome, OnOk, OnErr, IsErrOf};
+ghost use Rattle.std.specs.FinMap.{empty, get};
 ghost use Rattle.plcs_base.specs.Count.{raised};
-ghost use Rattle.synth_outside.specs.Calls.{MakesCall};
-ghost use Rattle.synth_outside.specs.Cause.{HasCause};
-ghost use Rattle.synth_outside.specs.Entries.{content_of};
-ghost use Rattle.synth_outside.specs.Filing.{Opens, Lacks, Begins, Commits};
-ghost use Rattle.synth_outside.specs.MemFiles.{name_of, bytes_of, wants_after, ChangesOpened, ChangesBegun};
-ghost use Rattle.synth_outside.specs.Reading.{IsZeroAtEnd, LosesAtMost};
-ghost use Rattle.synth_outside.specs.Writing.{AppendsFront};
+ghost use Rattle.synth_outside.specs.Files.{begun_bytes, begun_name, Opens, Lacks, Begins, Commits};
+ghost use Rattle.synth_outside.specs.MemFiles.{told, MakesFilesCall, ChangesLeft, ChangesBegun};
+ghost use Rattle.synth_outside.specs.Sink.{TakesBytes};
+ghost use Rattle.synth_outside.specs.Source.{GivesBytes};
 
 use super::calls::Calls;
 use super::entries::{Entries, Entry};
@@ -18,27 +17,31 @@ use std::marker::Model;
 
 /// Files that lie in memory, and that fail where they are told to.
 ///
-/// They are seen as the list of files, the bytes left of the one that is open, the name and the
+/// They are seen as the map of files, the bytes left of the one that is open, the name and the
 /// bytes that were begun, the calls made with those that are to fail, and the count of wants of
 /// memory. The bytes of a file are copied when it is opened.
 #[derive(Debug, Drop)]
 pub struct MemFiles {
     alloc: Global,
     entries: Entries,
-    opened: Option<Unread>,
+    unread: Option<Unread>,
     begun: Option<Entry>,
     calls: Calls,
     wants: u64,
 }
 
 impl Model for MemFiles {
-    ghost use Rattle.synth_outside.specs.MemFiles.{FilesView};
+    ghost use Rattle.synth_outside.specs.MemFiles.{PlainMemFiles};
+    ghost use Rattle.synth_outside.specs.Private.Entries.{file_map_code};
+    ghost use Rattle.std.specs.Coded.{codes};
 
-    ghost Value = { FilesView };
+    ghost Value = { PlainMemFiles };
+
+    ghost coded = { Prim.hlevel (codes, file_map_code) };
 
     ghost view = { λ files. record {
-      entries = files.entries;
-      opened = files.opened;
+      stored = files.entries;
+      left = files.unread;
       begun = files.begun;
       calls = files.calls;
       wants = files.wants;
@@ -49,8 +52,8 @@ impl MemFiles {
     /// No file is there, and the calls whose numbers, from 1, are in `fails` are to fail.
     pub fn new(alloc: Global, fails: Vec<u64>) -> Self
         ensures { result ≡ record {
-          entries = [];
-          opened = None;
+          stored = empty;
+          left = None;
           begun = None;
           calls = record { fails = fails.items; made = 0; faults = 0 };
           wants = 0;
@@ -59,7 +62,7 @@ impl MemFiles {
         MemFiles {
             alloc,
             entries: Entries::new(alloc),
-            opened: None,
+            unread: None,
             begun: None,
             calls: Calls::new(fails),
             wants: 0,
@@ -68,54 +71,35 @@ impl MemFiles {
 
     /// The bytes of the file of this name, if there is one.
     pub fn content(&self, name: &[u8]) -> Option<&[u8]>
-        ensures { option_copied result ≡ content_of name.now self.now.entries }
+        ensures { option_copied result ≡ get self.now.stored name.now }
     {
         self.entries.content(name)
     }
 }
 
-// Counts one more want of memory, and answers it.
-fn counted_want(wants: &mut u64) -> FilesFault
-    ensures answer { result ≡ FilesFault.OutOfMemory }
-    ensures counted { wants.new ≡ raised wants.old }
-    ensures later { wants.old ≤ wants.new }
-{
-    *wants = wants.saturating_add(1);
-    FilesFault::OutOfMemory
-}
-
 impl Files for MemFiles {
-    ghost entries = { λ files. Some files.entries };
+    ghost stored = { λ files. Some files.stored };
 
-    ghost left = { λ files. files.opened };
+    ghost is_open = { λ files. is_some files.left };
 
-    ghost begun = { λ files. bytes_of files.begun };
+    ghost left = { λ files. files.left };
 
-    ghost begun_name = { λ files. name_of files.begun };
-
-    ghost is_open = { λ files. is_some files.opened };
-
-    ghost is_begun = { λ files. is_some files.begun };
+    ghost begun = { λ files. told files.begun };
 
     ghost faults = { λ files. files.calls.faults };
 
     ghost wants = { λ files. files.wants };
 
     fn open_read(&mut self, name: &[u8]) -> Result<(), FilesFault>
-        ensures opened { OnOk result (Opens (Some self.old.entries) name.now self.new.opened) }
-        ensures readable { OnOk result (is_some self.new.opened ≡ true) }
+        ensures whole { OnOk result (Opens (Some self.old.stored) name.now self.new.left) }
+        ensures readable { OnOk result (is_some self.new.left ≡ true) }
         ensures missing { IsErrOf result FilesFault.NoFile →
-            Lacks (Some self.old.entries) name.now }
-
-        ensures cause { HasCause FilesFault.Failed self.old.calls.faults self.new.calls.faults
-            result }
-        ensures want { HasCause FilesFault.OutOfMemory self.old.wants self.new.wants result }
+            Lacks (Some self.old.stored) name.now }
 
         // Which answer comes, want of memory aside, and what is left, exactly.
-        ensures called { MakesCall FilesFault.Failed self.old.calls self.new.calls result }
-        ensures wanted { self.new.wants ≡ wants_after result self.old.wants }
-        ensures kept { OnErr result (self.new.opened ≡ self.old.opened) }
-        ensures others { ChangesOpened self.old self.new }
+        ensures call { MakesFilesCall self.old self.new result }
+        ensures kept { OnErr result (self.new.left ≡ self.old.left) }
+        ensures others { ChangesLeft self.old self.new }
     {
         if self.calls.next_fails() {
             return Err(FilesFault::Failed);
@@ -126,59 +110,44 @@ impl Files for MemFiles {
         let Ok(bytes) = Vec::from_slice(self.alloc, content) else {
             return Err(counted_want(&mut self.wants));
         };
-        self.opened = Some(Unread::new(bytes));
+        self.unread = Some(Unread::new(bytes));
         Ok(())
     }
 
     fn read(&mut self, buf: &mut [u8]) -> Result<usize, FilesFault>
-        requires open_file { is_some self.old.opened ≡ true }
+        requires open_file { is_some self.old.left ≡ true }
         requires room { 0 < length buf.old }
 
-        ensures count { IfOk result (λ n. n ≤ length buf.new) }
-        ensures given { IfOk result
-            (λ n. Consumes self.old.opened self.new.opened (take n buf.new)) }
-        ensures ended { IfOk result (λ n. n ≡ 0 → IsAtEnd self.new.opened) }
-        ensures exact_end { IfOk result (λ n. IsZeroAtEnd self.old.opened n) }
-        ensures lost { OnErr result (LosesAtMost self.old.opened self.new.opened (length buf.new)) }
-        ensures readable { is_some self.new.opened ≡ true }
+        ensures bytes { GivesBytes self.old.left self.new.left buf.new result }
+        ensures readable { is_some self.new.left ≡ true }
         ensures found { result ≢ Err FilesFault.NoFile }
-
-        ensures cause { HasCause FilesFault.Failed self.old.calls.faults self.new.calls.faults
-            result }
-        ensures want { HasCause FilesFault.OutOfMemory self.old.wants self.new.wants result }
 
         // How many bytes are given, and what is left after a failure, exactly; memory is never
         // wanted.
-        ensures called { MakesCall FilesFault.Failed self.old.calls self.new.calls result }
+        ensures call { MakesFilesCall self.old self.new result }
         ensures fitting { IfOk result
-            (λ n. IfSome self.old.opened (λ left. n ≡ min (length buf.old) (length left))) }
+            (λ n. IfSome self.old.left (λ left. n ≡ min (length buf.old) (length left))) }
         ensures memory { result ≢ Err FilesFault.OutOfMemory }
-        ensures kept { OnErr result (self.new.opened ≡ self.old.opened) }
+        ensures kept { OnErr result (self.new.left ≡ self.old.left) }
         ensures others { self.new ≡
-            record self.old { opened = self.new.opened; calls = self.new.calls } }
+            record self.old { left = self.new.left; calls = self.new.calls } }
     {
         if self.calls.next_fails() {
             return Err(FilesFault::Failed);
         }
-        match &mut self.opened {
+        match &mut self.unread {
             Some(unread) => Ok(unread.give(buf)),
             None => unreachable!(),
         }
     }
 
     fn begin(&mut self, name: &[u8]) -> Result<(), FilesFault>
-        ensures empty { OnOk result (Begins (Some self.old.entries) (bytes_of self.new.begun)) }
-        ensures named { OnOk result (name_of self.new.begun ≡ name.now) }
-        ensures writable { OnOk result (is_some self.new.begun ≡ true) }
+        ensures empty { OnOk result
+            (Begins (Some self.old.stored) name.now (told self.new.begun)) }
         ensures found { result ≢ Err FilesFault.NoFile }
 
-        ensures cause { HasCause FilesFault.Failed self.old.calls.faults self.new.calls.faults
-            result }
-        ensures want { HasCause FilesFault.OutOfMemory self.old.wants self.new.wants result }
-
         // What is begun then, exactly; want of memory comes only in place of success.
-        ensures called { MakesCall FilesFault.Failed self.old.calls self.new.calls result }
-        ensures wanted { self.new.wants ≡ wants_after result self.old.wants }
+        ensures call { MakesFilesCall self.old self.new result }
         ensures begun { OnOk result (self.new.begun ≡ Some (name.now, [])) }
         ensures kept { OnErr result (self.new.begun ≡ self.old.begun) }
         ensures others { ChangesBegun self.old self.new }
@@ -196,26 +165,18 @@ impl Files for MemFiles {
     }
 
     fn write(&mut self, piece: &[u8]) -> Result<usize, FilesFault>
-        requires begun_content { is_some self.old.begun ≡ true }
+        requires begun_content { IsSome (told self.old.begun) }
         requires some_byte { 0 < length piece.now }
 
-        ensures some { IfOk result (λ n. 0 < n) }
-        ensures count { IfOk result (λ n. n ≤ length piece.now) }
-        ensures accepted { IfOk result
-            (λ n. Appends (bytes_of self.old.begun) (bytes_of self.new.begun) (take n piece.now)) }
-        ensures front { OnErr result
-            (AppendsFront (bytes_of self.old.begun) (bytes_of self.new.begun) piece.now) }
-        ensures same_name { name_of self.new.begun ≡ name_of self.old.begun }
-        ensures writable { is_some self.new.begun ≡ true }
+        ensures bytes { TakesBytes (begun_bytes (told self.old.begun))
+            (begun_bytes (told self.new.begun)) piece.now result }
+        ensures same_name { begun_name (told self.new.begun) ≡
+            begun_name (told self.old.begun) }
+        ensures writable { IsSome (told self.new.begun) }
         ensures found { result ≢ Err FilesFault.NoFile }
 
-        ensures cause { HasCause FilesFault.Failed self.old.calls.faults self.new.calls.faults
-            result }
-        ensures want { HasCause FilesFault.OutOfMemory self.old.wants self.new.wants result }
-
         // The whole piece is taken or nothing of it; want of memory comes only in place of success.
-        ensures called { MakesCall FilesFault.Failed self.old.calls self.new.calls result }
-        ensures wanted { self.new.wants ≡ wants_after result self.old.wants }
+        ensures call { MakesFilesCall self.old self.new result }
         ensures whole { IfOk result (λ n. n ≡ length piece.now) }
         ensures kept { OnErr result (self.new.begun ≡ self.old.begun) }
         ensures others { ChangesBegun self.old self.new }
@@ -233,26 +194,19 @@ impl Files for MemFiles {
     }
 
     fn commit(&mut self) -> Result<(), FilesFault>
-        requires { is_some self.old.begun ≡ true }
+        requires { IsSome (told self.old.begun) }
 
         ensures committed { OnOk result
-            (Commits (Some self.old.entries) (Some self.new.entries) (name_of self.old.begun)
-            (bytes_of self.old.begun)) }
-        ensures over { OnOk result (is_some self.new.begun ≡ false) }
+            (Commits (Some self.old.stored) (Some self.new.stored) (told self.old.begun)) }
+        ensures over { OnOk result (told self.new.begun ≡ None) }
         ensures found { result ≢ Err FilesFault.NoFile }
-        ensures writable { OnErr result (is_some self.new.begun ≡ true) }
-
-        ensures cause { HasCause FilesFault.Failed self.old.calls.faults self.new.calls.faults
-            result }
-        ensures want { HasCause FilesFault.OutOfMemory self.old.wants self.new.wants result }
 
         // What an answer changes, exactly; want of memory comes only in place of success.
-        ensures called { MakesCall FilesFault.Failed self.old.calls self.new.calls result }
-        ensures wanted { self.new.wants ≡ wants_after result self.old.wants }
+        ensures call { MakesFilesCall self.old self.new result }
         ensures done { OnOk result (self.new.begun ≡ None) }
         ensures kept { OnErr result
             (self.new ≡ record self.old { calls = self.new.calls; wants = self.new.wants }) }
-        ensures others { self.new.opened ≡ self.old.opened }
+        ensures others { self.new.left ≡ self.old.left }
     {
         if self.calls.next_fails() {
             return Err(FilesFault::Failed);
@@ -268,4 +222,14 @@ impl Files for MemFiles {
             }
         }
     }
+}
+
+// Counts one more want of memory, and answers it.
+fn counted_want(wants: &mut u64) -> FilesFault
+    ensures answer { result ≡ FilesFault.OutOfMemory }
+    ensures counted { wants.new ≡ raised wants.old }
+    ensures later { wants.old ≤ wants.new }
+{
+    *wants = wants.saturating_add(1);
+    FilesFault::OutOfMemory
 }

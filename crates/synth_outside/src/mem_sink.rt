@@ -1,8 +1,8 @@
-ghost use Rattle.std.specs.Prelude.{◌≡◌, ◌<◌, ◌≤◌, [], length, take, Some, Err, IfOk, OnErr};
-ghost use Rattle.std.specs.Io.KnownBytes.{Appends};
+//! A sink that keeps its bytes in memory.
+
+ghost use Rattle.std.specs.Prelude.{◌≡◌, ◌<◌, [], length, Some, IfOk, OnErr};
 ghost use Rattle.synth_outside.specs.Calls.{MakesCall};
-ghost use Rattle.synth_outside.specs.Cause.{HasCause};
-ghost use Rattle.synth_outside.specs.Writing.{AppendsFront};
+ghost use Rattle.synth_outside.specs.Sink.{TakesBytes};
 
 use super::calls::Calls;
 use super::{Sink, SinkFault};
@@ -19,9 +19,9 @@ pub struct MemSink {
 }
 
 impl Model for MemSink {
-    ghost use Rattle.synth_outside.specs.MemSink.{SinkView};
+    ghost use Rattle.synth_outside.specs.MemSink.{PlainMemSink};
 
-    ghost Value = { SinkView };
+    ghost Value = { PlainMemSink };
 
     ghost view = { λ sink. record { taken = sink.bytes.items; calls = sink.calls } };
 }
@@ -54,14 +54,7 @@ impl Sink for MemSink {
     /// Takes the whole piece, or nothing of it.
     fn write(&mut self, piece: &[u8]) -> Result<usize, SinkFault>
         requires { 0 < length piece.now }
-        ensures some { IfOk result (λ n. 0 < n) }
-        ensures count { IfOk result (λ n. n ≤ length piece.now) }
-        ensures accepted { IfOk result
-            (λ n. Appends (Some self.old.taken) (Some self.new.taken) (take n piece.now)) }
-        ensures front { OnErr result
-            (AppendsFront (Some self.old.taken) (Some self.new.taken) piece.now) }
-        ensures cause { HasCause SinkFault.Failed self.old.calls.faults self.new.calls.faults
-            result }
+        ensures bytes { TakesBytes (Some self.old.taken) (Some self.new.taken) piece.now result }
 
         // Which answer comes, and what was taken, exactly; want of memory comes only in place of
         // success.

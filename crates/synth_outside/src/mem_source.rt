@@ -1,8 +1,8 @@
-ghost use Rattle.std.specs.Prelude.{◌≡◌, ◌<◌, ◌≤◌, min, length, take, Some, Ok, Err, IfOk, OnErr, if◌then◌else◌};
-ghost use Rattle.std.specs.Io.KnownBytes.{Consumes, IsAtEnd};
+//! A source whose bytes lie in memory.
+
+ghost use Rattle.std.specs.Prelude.{◌≡◌, ◌<◌, min, length, Some, Ok, Err, OnErr, if◌then◌else◌};
 ghost use Rattle.synth_outside.specs.Calls.{MakesCall, is_failing};
-ghost use Rattle.synth_outside.specs.Cause.{HasCause};
-ghost use Rattle.synth_outside.specs.Reading.{IsZeroAtEnd, LosesAtMost};
+ghost use Rattle.synth_outside.specs.Source.{GivesBytes};
 
 use super::calls::Calls;
 use super::unread::Unread;
@@ -20,9 +20,9 @@ pub struct MemSource {
 }
 
 impl Model for MemSource {
-    ghost use Rattle.synth_outside.specs.MemSource.{SourceView};
+    ghost use Rattle.synth_outside.specs.MemSource.{PlainMemSource};
 
-    ghost Value = { SourceView };
+    ghost Value = { PlainMemSource };
 
     ghost view = { λ source. record { left = source.unread; calls = source.calls } };
 }
@@ -44,20 +44,20 @@ impl MemSource {
 impl Source for MemSource {
     ghost left = { λ source. Some source.left };
 
+    ghost reads = { λ source. source.calls.made };
+
     ghost faults = { λ source. source.calls.faults };
+
+    ghost leads_to = { λ _ _. Unit {0} };
+
+    ghost breaks_at = { λ _ _. Unit {0} };
+
+    ghost leads_to_itself = { λ _. tt };
 
     /// Gives as many bytes as are left and fit. A call that fails loses none.
     fn read(&mut self, buf: &mut [u8]) -> Result<usize, SourceFault>
         requires { 0 < length buf.old }
-        ensures count { IfOk result (λ n. n ≤ length buf.new) }
-        ensures given { IfOk result
-            (λ n. Consumes (Some self.old.left) (Some self.new.left) (take n buf.new)) }
-        ensures ended { IfOk result (λ n. n ≡ 0 → IsAtEnd (Some self.new.left)) }
-        ensures exact_end { IfOk result (λ n. IsZeroAtEnd (Some self.old.left) n) }
-        ensures lost { OnErr result
-            (LosesAtMost (Some self.old.left) (Some self.new.left) (length buf.new)) }
-        ensures cause { HasCause SourceFault.Failed self.old.calls.faults self.new.calls.faults
-            result }
+        ensures bytes { GivesBytes (Some self.old.left) (Some self.new.left) buf.new result }
 
         // Which answer comes, and what is left, exactly.
         ensures called { MakesCall SourceFault.Failed self.old.calls self.new.calls result }

@@ -1,8 +1,9 @@
-ghost use Rattle.std.specs.Prelude.{◌≡◌, ◌≢◌, ◌<◌, ◌≤◌, length, take, Err, IfOk, OnErr, is_ok, if◌then◌else◌};
-ghost use Rattle.std.specs.Io.KnownBytes.{Appends};
+//! A sink over a writer of std's.
+
+ghost use Rattle.std.specs.Prelude.{◌≡◌, ◌≢◌, ◌<◌, length, Err, is_ok, if◌then◌else◌};
 ghost use Rattle.plcs_base.specs.Count.{raised};
 ghost use Rattle.synth_outside.specs.Cause.{HasCause};
-ghost use Rattle.synth_outside.specs.Writing.{AppendsFront};
+ghost use Rattle.synth_outside.specs.Sink.{TakesBytes};
 
 use super::{Sink, SinkFault};
 use std::io::Write;
@@ -19,41 +20,38 @@ pub struct StdSink<W> {
 }
 
 impl<W> Model for StdSink<W> {
-    ghost use Rattle.std.specs.Prelude.{ℕ};
+    ghost use Rattle.synth_outside.specs.StdSink.{PlainStdSink};
 
-    ghost Value = { W × ℕ };
+    ghost Value = { PlainStdSink W };
 
-    ghost view = { λ sink. (sink.inner, sink.faults) };
+    ghost view = { λ sink. record { inner = sink.inner; faults = sink.faults } };
 }
 
 impl<W> StdSink<W> {
     /// Writes to `inner`, with no fault so far.
     pub fn new(inner: W) -> Self
-        ensures { result ≡ (inner, 0) }
+        ensures { result ≡ record { inner = inner; faults = 0 } }
     {
         StdSink { inner, faults: 0 }
     }
 }
 
 impl<W: Write> Sink for StdSink<W> {
-    ghost taken = { λ sink. W.contents sink.0 };
+    ghost taken = { λ sink. W.contents sink.inner };
 
-    ghost faults = { λ sink. sink.1 };
+    ghost faults = { λ sink. sink.faults };
 
     /// Each `Err` of the writer, a write that takes no byte and a failed flush raise the count by
     /// one and are answered `Failed`.
     fn write(&mut self, piece: &[u8]) -> Result<usize, SinkFault>
         requires { 0 < length piece.now }
-        ensures some { IfOk result (λ n. 0 < n) }
-        ensures count { IfOk result (λ n. n ≤ length piece.now) }
-        ensures accepted { IfOk result
-            (λ n. Appends (W.contents self.old.0) (W.contents self.new.0) (take n piece.now)) }
-        ensures front { OnErr result
-            (AppendsFront (W.contents self.old.0) (W.contents self.new.0) piece.now) }
-        ensures cause { HasCause SinkFault.Failed self.old.1 self.new.1 result }
+        ensures bytes { TakesBytes (W.contents self.old.inner) (W.contents self.new.inner) piece.now
+            result }
+        ensures cause { HasCause SinkFault.Failed self.old.faults self.new.faults result }
 
         // The count, exactly; memory is never wanted.
-        ensures counted { self.new.1 ≡ (if is_ok result then self.old.1 else raised self.old.1) }
+        ensures counted { self.new.faults ≡
+            (if is_ok result then self.old.faults else raised self.old.faults) }
         ensures memory { result ≢ Err SinkFault.OutOfMemory }
     {
         if let Ok(count) = self.inner.write(piece)

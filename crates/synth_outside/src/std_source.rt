@@ -1,8 +1,9 @@
-ghost use Rattle.std.specs.Prelude.{◌≡◌, ◌≢◌, ◌<◌, ◌≤◌, length, take, Err, IfOk, OnErr, is_ok, if◌then◌else◌};
-ghost use Rattle.std.specs.Io.KnownBytes.{Consumes, IsAtEnd};
+//! A source over a reader of std's.
+
+ghost use Rattle.std.specs.Prelude.{◌≡◌, ◌≢◌, ◌<◌, length, Err, is_ok, if◌then◌else◌};
 ghost use Rattle.plcs_base.specs.Count.{raised};
 ghost use Rattle.synth_outside.specs.Cause.{HasCause};
-ghost use Rattle.synth_outside.specs.Reading.{IsZeroAtEnd, LosesAtMost};
+ghost use Rattle.synth_outside.specs.Source.{GivesBytes};
 
 use super::{Source, SourceFault};
 use std::io::Read;
@@ -10,52 +11,64 @@ use std::marker::Model;
 
 /// A source over any reader of std's, as standard input.
 ///
-/// It is seen as the reader with the count of faults. It tells the bytes that the reader tells; a
-/// stream of the system tells none.
+/// It is seen as the reader with the counts of reads and of faults. It tells the bytes that the
+/// reader tells; a stream of the system tells none.
 #[derive(Debug, Drop)]
 pub struct StdSource<R> {
     inner: R,
+    reads: u64,
     faults: u64,
 }
 
 impl<R> Model for StdSource<R> {
-    ghost use Rattle.std.specs.Prelude.{ℕ};
+    ghost use Rattle.synth_outside.specs.StdSource.{PlainStdSource};
 
-    ghost Value = { R × ℕ };
+    ghost Value = { PlainStdSource R };
 
-    ghost view = { λ source. (source.inner, source.faults) };
+    ghost view = { λ source.
+        record { inner = source.inner; reads = source.reads; faults = source.faults } };
 }
 
 impl<R> StdSource<R> {
-    /// Reads from `inner`, with no fault so far.
+    /// Reads from `inner`, with no read so far.
     pub fn new(inner: R) -> Self
-        ensures { result ≡ (inner, 0) }
+        ensures { result ≡ record { inner = inner; reads = 0; faults = 0 } }
     {
-        StdSource { inner, faults: 0 }
+        StdSource {
+            inner,
+            reads: 0,
+            faults: 0,
+        }
     }
 }
 
 impl<R: Read> Source for StdSource<R> {
-    ghost left = { λ source. R.remaining source.0 };
+    ghost left = { λ source. R.remaining source.inner };
 
-    ghost faults = { λ source. source.1 };
+    ghost reads = { λ source. source.reads };
 
-    /// Each `Err` of the reader raises the count by one and is answered `Failed`.
+    ghost faults = { λ source. source.faults };
+
+    ghost leads_to = { λ _ _. Unit {0} };
+
+    ghost breaks_at = { λ _ _. Unit {0} };
+
+    ghost leads_to_itself = { λ _. tt };
+
+    /// Each `Err` of the reader raises the count of faults by one and is answered `Failed`.
     fn read(&mut self, buf: &mut [u8]) -> Result<usize, SourceFault>
         requires { 0 < length buf.old }
-        ensures count { IfOk result (λ n. n ≤ length buf.new) }
-        ensures given { IfOk result
-            (λ n. Consumes (R.remaining self.old.0) (R.remaining self.new.0) (take n buf.new)) }
-        ensures ended { IfOk result (λ n. n ≡ 0 → IsAtEnd (R.remaining self.new.0)) }
-        ensures exact_end { IfOk result (λ n. IsZeroAtEnd (R.remaining self.old.0) n) }
-        ensures lost { OnErr result
-            (LosesAtMost (R.remaining self.old.0) (R.remaining self.new.0) (length buf.new)) }
-        ensures cause { HasCause SourceFault.Failed self.old.1 self.new.1 result }
+        ensures bytes { GivesBytes (R.remaining self.old.inner) (R.remaining self.new.inner) buf.new
+            result }
+        ensures one { self.new.reads ≡ raised self.old.reads }
+        ensures cause { HasCause SourceFault.Failed self.old.faults self.new.faults result }
 
         // The count, exactly; memory is never wanted.
-        ensures counted { self.new.1 ≡ (if is_ok result then self.old.1 else raised self.old.1) }
+        ensures counted { self.new.faults ≡
+            (if is_ok result then self.old.faults else raised self.old.faults) }
         ensures memory { result ≢ Err SourceFault.OutOfMemory }
     {
+        self.reads = self.reads.saturating_add(1);
         match self.inner.read(buf) {
             Ok(count) => Ok(count),
             Err(_) => {

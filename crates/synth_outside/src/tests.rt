@@ -1,9 +1,11 @@
+//! Each form on its happy path, and failing.
+
 use super::{
     Files, FilesFault, MemFiles, MemSink, MemSource, Sink, SinkFault, Source, SourceFault, StdSink,
     StdSource,
 };
 use std::fs::File;
-use std::io::{Error, ErrorKind, Write};
+use std::io::{BufWriter, Error, ErrorKind, Read, Write};
 use std::test::Fail;
 use std::{fs, io};
 
@@ -97,7 +99,8 @@ const PATH: &str = "synth_outside_test";
 
 #[test]
 fn a_stream_of_the_system_is_written_and_read(rt: HostRuntime) -> Result<(), Fail> {
-    let mut sink = StdSink::new(File::create(&rt, PATH)?);
+    let file = BufWriter::new(rt.alloc(), File::create(&rt, PATH)?)?;
+    let mut sink = StdSink::new(file);
     assert_eq!(rt; sink.write(b"ab"), Ok(2));
     let mut source = StdSource::new(File::open(&rt, PATH)?);
     let mut buf = [b' '; 3];
@@ -115,28 +118,68 @@ fn a_stream_of_the_system_is_written_and_read(rt: HostRuntime) -> Result<(), Fai
     Ok(())
 }
 
-// A writer that takes each piece, and can't be flushed.
-#[derive(Drop)]
-struct Unflushed;
-
-impl Write for Unflushed {
-    fn write(&mut self, piece: &[u8]) -> io::Result<usize> {
-        Ok(piece.len())
-    }
-
-    fn flush(&mut self) -> io::Result<()> {
-        Err(Error::from(ErrorKind::Other))
-    }
-}
-
 #[test]
 fn a_stream_that_takes_nothing_fails(rt: HostRuntime) {
     let mut room = [b' '; 1];
     let mut sink = StdSink::new(room.as_mut_slice());
     assert_eq!(rt; sink.write(b"ab"), Ok(1));
     assert_eq!(rt; sink.write(b"b"), Err(SinkFault::Failed));
-    assert_eq!(rt;
-        StdSink::new(Unflushed).write(b"ab"),
-        Err(SinkFault::Failed)
-    );
+}
+
+// A stream of which one call alone fails, so that whoever tries again succeeds.
+#[derive(Drop)]
+struct Stumbling {
+    calls: u8,
+    failing: u8,
+}
+
+impl Stumbling {
+    fn new(failing: u8) -> Self {
+        Stumbling { calls: 0, failing }
+    }
+
+    fn step(&mut self) -> io::Result<()> {
+        self.calls = self.calls.saturating_add(1);
+        if self.calls == self.failing {
+            return Err(Error::from(ErrorKind::Interrupted));
+        }
+        Ok(())
+    }
+}
+
+impl Read for Stumbling {
+    fn read(&mut self, _buf: &mut [u8]) -> io::Result<usize> {
+        self.step()?;
+        Ok(0)
+    }
+}
+
+impl Write for Stumbling {
+    fn write(&mut self, piece: &[u8]) -> io::Result<usize> {
+        self.step()?;
+        Ok(piece.len())
+    }
+
+    fn flush(&mut self) -> io::Result<()> {
+        self.step()
+    }
+}
+
+#[test]
+fn a_stream_that_failed_is_not_tried_again(rt: HostRuntime) {
+    let mut buf = [b' '; 1];
+    let mut source = StdSource::new(Stumbling::new(1));
+    assert_eq!(rt; source.read(&mut buf), Err(SourceFault::Failed));
+    assert_eq!(rt; source.read(&mut buf), Ok(0));
+
+    // A write is one call of the stream, and its flush the next one.
+    for failing in [1, 2] {
+        let mut sink = StdSink::new(Stumbling::new(failing));
+        assert_eq!(rt;
+            sink.write(b"ab"),
+            Err(SinkFault::Failed),
+            "at {failing}"
+        );
+        assert_eq!(rt; sink.write(b"ab"), Ok(2), "at {failing}");
+    }
 }

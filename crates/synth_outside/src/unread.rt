@@ -1,3 +1,5 @@
+//! Bytes that are read from the front.
+
 ghost use Rattle.std.specs.Prelude.{◌≡◌, min, length, take, drop};
 
 use std::marker::Model;

@@ -27,6 +27,14 @@ fn a_read_that_fails_ends_the_session(rt: HostRuntime) -> Result<(), Fail> {
 }
 
 #[test]
+fn no_read_follows_the_end(rt: HostRuntime) -> Result<(), Fail> {
+    // The first two reads give the byte and the end, and a third would fail.
+    let played = play_failing(rt.alloc(), &SMALL, b"a", 3, NEVER)?;
+    assert_eq!(rt; played.status, Status::Done);
+    Ok(())
+}
+
+#[test]
 fn a_write_that_fails_ends_the_session(rt: HostRuntime) -> Result<(), Fail> {
     for pieces in 0..STORED_RUN.len() {
         let write = pieces as u64 + 1;

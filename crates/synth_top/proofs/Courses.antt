@@ -1,20 +1,19 @@
 -- What a run has done, from what its keys did.
-use Rattle.std.proofs.Common.{◌≡◌, ◌<◌, ◌≤◌, ◌⊎◌, ℕ, ◌+◌, true, false, List, [], ◌∷◌, ◌++◌, Option, length, take, refl, sym, ap, ◌∙◌, subst, append-nil, arith, length-append, inl, inr}
+use Rattle.std.proofs.Common.{◌≡◌, ◌≤◌, ◌⊎◌, ℕ, ◌+◌, false, List, [], ◌∷◌, ◌++◌, Option, length, take, refl, sym, ap, ◌∙◌, subst, append-nil, arith, length-append, inl, inr}
 use Rattle.std.proofs.lemmas.List.{take_all}
 use Rattle.std.proofs.Math.Seq.{take-append-add}
 use Rattle.std.proofs.KnownBytes.{Appends-trans, Consumes-nil}
-use Rattle.std.specs.Io.KnownBytes.{Appends, Consumes, IsAtEnd}
-use Rattle.synth_outside.specs.Writing.{AppendsFront}
-use Rattle.synth_top.specs.declared.key.Key.{Key}
-use Rattle.synth_top.specs.declared.status.Status.{Status}
-use Rattle.synth_top.specs.declared.status.Status.TheVariants.{Done, ReadFault, WriteFault, NoMemory, BadWords, KeyLimit}
+use Rattle.std.specs.Io.KnownBytes.{Appends, Consumes}
+use Rattle.synth_outside.specs.Sink.{AppendsFront}
+use Rattle.synth_outside.specs.Files.{FileMap}
+use Rattle.synth_top.specs.declared.status.Status.TheVariants.{WriteFault, NoMemory}
 use Rattle.synth_top.specs.Keys.{completed, keys}
 use Rattle.synth_top.specs.Pressing.{Moment, AllShown, UpToLast}
 use Rattle.synth_top.specs.Reply.{NotAsked}
-use Rattle.synth_top.specs.Run.{Told, Loads, Rescue, NoRescue, IsFront, IsOver, Course, AtLastKey, PressedAll, SourceEnded, LimitMet, ReadCut, QuitPressed, WriteCut, OpeningCut, KeyCut, Ended, keys_pressed, opened_state, opening, painted_over, written}
-use Rattle.synth_top.specs.Screen.{PlainGrid, grid}
+use Rattle.synth_top.specs.Run.{Told, Loads, NoRescue, IsFront, IsOver, Course, AtLastKey, OpeningCut, Ended, keys_pressed, opened_state, opening, painted_over, written}
+use Rattle.synth_top.specs.Screen.{grid}
 use Rattle.synth_top.specs.Session.{new_session}
-use Rattle.synth_top.specs.Turn.{FileMap, State, PressedKey, Replied, after, ends, failures, grids}
+use Rattle.synth_top.specs.Turn.{State, PressedKey, Replied, after, ends, grids}
 use Rattle.synth_top.specs.Words.{PlainOptions}
 
 -- no file was loaded

@@ -4,7 +4,7 @@ use Rattle.std.proofs.lemmas.List.{take_min, take_all, take-append-le, length-dr
 use Rattle.std.proofs.Math.Seq.{take-add, take-append-add}
 use Rattle.std.proofs.KnownBytes.{Appends-trans}
 use Rattle.std.specs.Io.KnownBytes.{Appends}
-use Rattle.synth_outside.specs.Writing.{AppendsFront}
+use Rattle.synth_outside.specs.Sink.{AppendsFront}
 
 -- the bytes before `at`, and then some of those behind
 pub Appends-more : (a b c : Option (List ℕ)) (piece : List ℕ) (at count : ℕ) → Appends a b (take at piece) → Appends b c (take count (drop at piece))

@@ -1,16 +1,16 @@
 -- One key, as the first of a list.
-use Rattle.std.proofs.Common.{◌≡◌, ℕ, ◌+◌, Bool, true, false, ◌||◌, cond, List, [], ◌∷◌, ◌++◌, Option, length, take, refl, sym, ap, ◌∙◌, subst, append-nil, arith}
+use Rattle.std.proofs.Common.{◌≡◌, ℕ, Bool, true, false, ◌||◌, cond, List, [], ◌∷◌, ◌++◌, length, take, refl, sym, ap, ◌∙◌, subst, append-nil, arith}
 use Rattle.std.proofs.KnownBytes.{Appends-nil}
 use Rattle.std.specs.Io.KnownBytes.{Appends}
-use Rattle.synth_outside.specs.Writing.{AppendsFront}
+use Rattle.synth_outside.specs.Sink.{AppendsFront}
 use Rattle.synth_top.specs.declared.key.Key.{Key}
 use Rattle.synth_top.specs.declared.session.Answer.{Answer}
 use Rattle.synth_top.specs.declared.session.Answer.TheVariants.{Done, Refused, Quit}
 use Rattle.synth_top.specs.Paint.{paint}
 use Rattle.synth_top.specs.Pressing.{IsPressed, Moment, PressedAllOf, PressedToQuit, PressedToCut, last_shown}
 use Rattle.synth_top.specs.Run.{painted_over}
-use Rattle.synth_top.specs.Screen.{PlainGrid, grid}
-use Rattle.synth_top.specs.Session.{Outcome, press, is_quit}
+use Rattle.synth_top.specs.Screen.{grid}
+use Rattle.synth_top.specs.Session.{is_quit}
 use Rattle.synth_top.specs.Turn.{State, PressedKey, Turn, after, ends, grids, turn, turn_with}
 
 -- an answer that isn't the end

@@ -3,7 +3,7 @@ use Rattle.std.proofs.Common.{◌≡◌, ◌<◌, ℕ, ◌+◌, suc, List, [], �
 use Rattle.std.proofs.Math.Seq.{drop-cons}
 use Rattle.std.proofs.KnownBytes.{Appends-trans}
 use Rattle.std.specs.Io.KnownBytes.{Appends}
-use Rattle.synth_outside.specs.Writing.{AppendsFront}
+use Rattle.synth_outside.specs.Sink.{AppendsFront}
 use Rattle.synth_top.specs.Paint.{row_paint, rows_paint}
 use Rattle.synth_top.proofs.Fronts.{AppendsFront-append, AppendsFront-first}
 

@@ -1,8 +1,8 @@
 -- A run, byte by byte.
-use Rattle.std.proofs.Common.{◌≡◌, ◌<◌, ◌≤◌, ◌⊎◌, ℕ, ◌+◌, true, false, List, [], ◌∷◌, ◌++◌, Option, length, take, refl, sym, ap, ◌∙◌, subst, append_assoc, append-nil, arith, length-append, inl, inr}
+use Rattle.std.proofs.Common.{◌≡◌, ◌<◌, ◌≤◌, ◌⊎◌, ℕ, ◌+◌, true, false, List, [], ◌∷◌, ◌++◌, Option, length, refl, sym, ap, ◌∙◌, subst, append_assoc, append-nil, arith, length-append, inl, inr}
 use Rattle.std.proofs.lemmas.List.{same_from_push}
 use Rattle.std.proofs.KnownBytes.{Appends-nil, Consumes-nil, Consumes-trans}
-use Rattle.std.specs.Io.KnownBytes.{Appends, Consumes, IsAtEnd}
+use Rattle.std.specs.Io.KnownBytes.{Consumes, IsAtEnd}
 use Rattle.synth_top.specs.declared.key.Key.{Key}
 use Rattle.synth_top.specs.declared.key.Keys.{Keys}
 use Rattle.synth_top.specs.declared.run.Going.{Going}
@@ -10,12 +10,12 @@ use Rattle.synth_top.specs.declared.run.Going.TheVariants.{On, Over}
 use Rattle.synth_top.specs.declared.status.Status.{Status}
 use Rattle.synth_top.specs.declared.status.Status.TheVariants.{Done, ReadFault, WriteFault, NoMemory, BadWords, KeyLimit}
 use Rattle.synth_top.specs.Keys.{Feeds, IsHeld, completed, keys, listed}
-use Rattle.synth_top.specs.Pressing.{Moment, AllShown, UpToLast, PressedAllOf, PressedToQuit, PressedToCut, Pressed, ended_as, last_shown}
-use Rattle.synth_top.specs.Run.{Told, IsFront, IsOver, Course, AtLastKey, PressedAll, SourceEnded, LimitMet, ReadCut, QuitPressed, WriteCut, OpeningCut, KeyCut, Ended, keys_pressed, opened_state, painted_over, written}
-use Rattle.synth_top.specs.Turn.{State, PressedKey, after, ends, grids}
+use Rattle.synth_top.specs.Pressing.{Moment, AllShown, UpToLast, PressedAllOf, Pressed, ended_as}
+use Rattle.synth_top.specs.Run.{Told, IsFront, IsOver, Course, AtLastKey, PressedAll, ReadCut, KeyCut, Ended, keys_pressed, opened_state, painted_over, written}
+use Rattle.synth_top.specs.Turn.{PressedKey, ends, grids}
 use Rattle.synth_top.specs.Words.{PlainOptions}
 use Rattle.synth_top.proofs.Courses.{Opened, InTurn, told_at, all_course, all_going, last_course, at_last, one_byte, last_ends, last_all}
-use Rattle.synth_top.proofs.KeysInOrder.{keys_pressed-append, both_shown, then_up_to, front_behind, front_more, ends_more, painted_more}
+use Rattle.synth_top.proofs.KeysInOrder.{keys_pressed-append, both_shown, then_up_to, front_behind, ends_more, painted_more}
 
 -- so many bytes were read, all keys that they complete were pressed, and all screens were written
 pub record SoFar (number : ℕ) (options : PlainOptions) (before : Told) (left : Option (List ℕ)) (held : List ℕ) (m : Moment) : Type 0 where

@@ -1,7 +1,7 @@
 -- What pressing some keys does, between two moments of a run.
 use Rattle.std.specs.Prelude.{◌≡◌, ℕ, ◌≤◌, true, false, List, [], ◌∷◌, ◌++◌, length, take, Option, Some, None}
 use Rattle.std.specs.Io.KnownBytes.{Appends, Consumes, IsAtEnd}
-use Rattle.plcs_base.specs.Count.{Rose}
+use Rattle.synth_outside.specs.Files.{FileMap}
 use Rattle.synth_top.specs.declared.key.Key.{Key}
 use Rattle.synth_top.specs.declared.run.Editor.{Editor}
 use Rattle.synth_top.specs.declared.run.Going.{Going}
@@ -14,9 +14,10 @@ use Rattle.synth_top.specs.PlainForms.{plain_grid, plain_session}
 use Rattle.synth_top.specs.Reply.{Reply, failure}
 use Rattle.synth_top.specs.Run.{IsFront, RoseBy, keys_pressed, painted_over}
 use Rattle.synth_top.specs.Screen.{PlainGrid, blank}
-use Rattle.synth_top.specs.Session.{Outcome, new_session, press}
+use Rattle.synth_top.specs.Session.{new_session, press}
 use Rattle.synth_top.specs.Sized.{IsSized}
-use Rattle.synth_top.specs.Turn.{FileMap, State, PressedKey, CanReply, Replied, after, ends, failures, grids}
+use Rattle.synth_top.specs.Status.{CausedBy}
+use Rattle.synth_top.specs.Turn.{State, PressedKey, CanReply, Replied, after, ends, failures, grids}
 
 -- ---- an editor
 
@@ -127,11 +128,6 @@ Pressed (Over NoMemory) keys before now = PressedToCut keys before now
 Pressed (Over ReadFault) keys before now = ⊥
 Pressed (Over BadWords) keys before now = ⊥
 Pressed (Over KeyLimit) keys before now = ⊥
-
--- a count of faults over a stretch that ended with its fault, or didn't
-pub record CausedBy (is_fault : Type 0) (before now : ℕ) : Type 0 where
-  pub later : before ≤ now
-  pub rose : is_fault → Rose before now
 
 -- keys were pressed: what became of them, the count of the sink's faults, and the editor behind
 pub record Presses (going : Going) (keys : List Key) (before now : Moment) (faults_before faults_now : ℕ)

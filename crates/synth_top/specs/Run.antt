@@ -1,6 +1,7 @@
 -- A whole run: from the bytes of keys to the bytes of screens.
 use Rattle.std.specs.Prelude.{◌≡◌, ◌⊎◌, ℕ, ◌+◌, ◌-◌, ◌^◌, ◌<◌, ◌≤◌, min, true, false, List, [], ◌∷◌, ◌++◌, length, map, take, Option, codes}
 use Rattle.std.specs.Io.KnownBytes.{Appends, Consumes, IsAtEnd}
+use Rattle.synth_outside.specs.Files.{FileMap}
 use Rattle.synth_top.specs.declared.key.Key.{Key}
 use Rattle.synth_top.specs.declared.status.Status.{Status}
 use Rattle.synth_top.specs.declared.status.Status.TheVariants.{Done, ReadFault, WriteFault, NoMemory, BadWords, KeyLimit}
@@ -9,7 +10,7 @@ use Rattle.synth_top.specs.Paint.{paint, control}
 use Rattle.synth_top.specs.Reply.{Reply, NotAsked, failure}
 use Rattle.synth_top.specs.Screen.{PlainGrid, grid, blank}
 use Rattle.synth_top.specs.Session.{PlainSession, new_session}
-use Rattle.synth_top.specs.Turn.{FileMap, State, PressedKey, Replied, after, ends, failures, grids}
+use Rattle.synth_top.specs.Turn.{State, PressedKey, Replied, after, ends, failures, grids}
 use Rattle.synth_top.specs.Words.{PlainOptions}
 
 -- ---- what is written

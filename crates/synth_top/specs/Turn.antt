@@ -1,13 +1,10 @@
 -- The turns of keys: what each makes of the session and the files, and the screens that it shows.
 use Rattle.std.specs.Prelude.{◌≡◌, ℕ, ◌+◌, Bool, false, ◌||◌, List, [], ◌∷◌, ◌++◌, Option, if◌then◌else◌}
+use Rattle.synth_outside.specs.Files.{FileMap}
 use Rattle.synth_top.specs.declared.key.Key.{Key}
 use Rattle.synth_top.specs.Reply.{Reply, NotAsked, failure}
 use Rattle.synth_top.specs.Session.{PlainSession, Outcome, press, is_quit}
 use Rattle.synth_top.specs.Screen.{PlainGrid, grid}
-
--- the names and contents of files
-abbrev pub FileMap : Type 0
-FileMap = List (List ℕ × List ℕ)
 
 -- what a key's turn begins with: the session, and the map of the files where they tell it
 pub record State : Type 0 where

@@ -2,9 +2,8 @@
 use Rattle.std.specs.Prelude.{ℕ, List, Option, Result, OnOk, OnErr}
 use Rattle.std.specs.Io.KnownBytes.{Appends}
 use Rattle.synth_outside.specs.Cause.{HasCause}
-use Rattle.synth_outside.specs.Writing.{AppendsFront}
+use Rattle.synth_outside.specs.Sink.{AppendsFront}
 use Rattle.synth_outside.specs.declared.faults.SinkFault.{SinkFault}
-use Rattle.synth_outside.specs.declared.faults.SinkFault.TheVariants.{Failed}
 
 -- the sink took all the bytes, or where a write gave no answer a front of them; and a failure was
 -- counted

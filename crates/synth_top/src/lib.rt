@@ -3,8 +3,8 @@
 
 ghost use Rattle.std.specs.Prelude.{◌≡◌, map, IfSome, string_bytes};
 ghost use Rattle.synth_top.specs.PlainForms.{plain_options};
-ghost use Rattle.synth_top.specs.Pressing.{CausedBy};
 ghost use Rattle.synth_top.specs.Run.{Ended};
+ghost use Rattle.synth_top.specs.Status.{CausedBy, LeftAs};
 ghost use Rattle.synth_top.specs.Words.{options_of};
 
 mod grid;
@@ -49,14 +49,17 @@ pub fn synth<S: Source, K: Sink, F: Files, W: Work>(
     ensures ended { IfSome (options_of (map string_bytes words.now)) (λ options.
         Ended result options
         (record { left = S.left keys.old; taken = K.taken screen.old;
-            files = F.entries files.old; file_faults = F.faults files.old })
+            files = F.stored files.old; file_faults = F.faults files.old })
         (record { left = S.left keys.new; taken = K.taken screen.new;
-            files = F.entries files.new; file_faults = F.faults files.new })) }
+            files = F.stored files.new; file_faults = F.faults files.new })) }
 
-    // A fault is answered only where the count of its own cause rose.
+    // A fault is answered exactly where the count of its own cause rose.
     ensures read { CausedBy (result ≡ Status.ReadFault) (S.faults keys.old) (S.faults keys.new) }
     ensures write { CausedBy (result ≡ Status.WriteFault)
         (K.faults screen.old) (K.faults screen.new) }
+
+    // Of what the source keeps besides its bytes, its own relations hold.
+    ensures source { LeftAs result (S.leads_to keys.old keys.new) (S.breaks_at keys.old keys.new) }
 
     // No key uses files or counted work yet.
     ensures files { files.new ≡ files.old }
@@ -78,12 +81,13 @@ fn edit<S: Source, K: Sink, F: Files>(
 ) -> Status
     ensures ended { Ended result (plain_options options)
         (record { left = S.left keys.old; taken = K.taken screen.old;
-            files = F.entries files.old; file_faults = F.faults files.old })
+            files = F.stored files.old; file_faults = F.faults files.old })
         (record { left = S.left keys.new; taken = K.taken screen.new;
-            files = F.entries files.new; file_faults = F.faults files.new }) }
+            files = F.stored files.new; file_faults = F.faults files.new }) }
     ensures read { CausedBy (result ≡ Status.ReadFault) (S.faults keys.old) (S.faults keys.new) }
     ensures write { CausedBy (result ≡ Status.WriteFault)
         (K.faults screen.old) (K.faults screen.new) }
+    ensures source { LeftAs result (S.leads_to keys.old keys.new) (S.breaks_at keys.old keys.new) }
     ensures files { files.new ≡ files.old }
 {
     match Editor::open(alloc, options.size) {

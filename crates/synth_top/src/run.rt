@@ -2,13 +2,14 @@
 
 ghost use Rattle.std.specs.Prelude.{◌≡◌, ◌∷◌, [], option_to_list, IfOk, OnOk, OnErr};
 ghost use Rattle.synth_outside.specs.Cause.{HasCause};
-ghost use Rattle.synth_outside.specs.Reading.{LosesAtMost};
+ghost use Rattle.synth_outside.specs.Source.{LosesAtMost};
 ghost use Rattle.synth_top.specs.Keys.{keys, listed};
 ghost use Rattle.synth_top.specs.Paint.{paint};
 ghost use Rattle.synth_top.specs.PlainForms.{plain_grid, plain_session};
-ghost use Rattle.synth_top.specs.Pressing.{CausedBy, IsNew, IsReady, Presses, ReadsByte, ended_as, moment_of};
+ghost use Rattle.synth_top.specs.Pressing.{IsNew, IsReady, Presses, ReadsByte, ended_as, moment_of};
 ghost use Rattle.synth_top.specs.Run.{Ended, opening};
 ghost use Rattle.synth_top.specs.Screen.{grid};
+ghost use Rattle.synth_top.specs.Status.{CausedBy, LeftAs};
 ghost use Rattle.synth_top.specs.Writes.{Writes};
 
 use crate::grid::Grid;
@@ -76,12 +77,14 @@ impl Editor {
         requires { IsNew self.old.session.size self.old }
         ensures ended { Ended result (record { size = self.old.session.size; key_limit = limit })
             (record { left = S.left keys.old; taken = K.taken screen.old;
-                files = F.entries files.old; file_faults = F.faults files.old })
+                files = F.stored files.old; file_faults = F.faults files.old })
             (record { left = S.left keys.new; taken = K.taken screen.new;
-                files = F.entries files.new; file_faults = F.faults files.new }) }
+                files = F.stored files.new; file_faults = F.faults files.new }) }
         ensures read { CausedBy (result ≡ Status.ReadFault) (S.faults keys.old) (S.faults keys.new) }
         ensures write { CausedBy (result ≡ Status.WriteFault)
             (K.faults screen.old) (K.faults screen.new) }
+        ensures source { LeftAs result
+            (S.leads_to keys.old keys.new) (S.breaks_at keys.old keys.new) }
         ensures files { files.new ≡ files.old }
     {
         match self.start(screen) {
@@ -125,8 +128,8 @@ impl Editor {
     fn finish<K: Sink, F: Files>(&mut self, screen: &mut K, files: &mut F) -> Going
         requires { IsReady self.old }
         ensures presses { Presses result (keys self.old.reader)
-            (moment_of self.old (K.taken screen.old) (F.entries files.old) (F.faults files.old))
-            (moment_of self.new (K.taken screen.new) (F.entries files.new) (F.faults files.new))
+            (moment_of self.old (K.taken screen.old) (F.stored files.old) (F.faults files.old))
+            (moment_of self.new (K.taken screen.new) (F.stored files.new) (F.faults files.new))
             (K.faults screen.old) (K.faults screen.new) self.new }
         ensures files { files.new ≡ files.old }
     {
@@ -143,8 +146,8 @@ impl Editor {
     ) -> Going
         requires { IsReady self.old }
         ensures presses { Presses result (listed keys)
-            (moment_of self.old (K.taken screen.old) (F.entries files.old) (F.faults files.old))
-            (moment_of self.new (K.taken screen.new) (F.entries files.new) (F.faults files.new))
+            (moment_of self.old (K.taken screen.old) (F.stored files.old) (F.faults files.old))
+            (moment_of self.new (K.taken screen.new) (F.stored files.new) (F.faults files.new))
             (K.faults screen.old) (K.faults screen.new) self.new }
         ensures reader { self.new.reader ≡ self.old.reader }
         ensures files { files.new ≡ files.old }
@@ -164,8 +167,8 @@ impl Editor {
     ) -> Going
         requires { IsReady self.old }
         ensures presses { Presses result (option_to_list key)
-            (moment_of self.old (K.taken screen.old) (F.entries files.old) (F.faults files.old))
-            (moment_of self.new (K.taken screen.new) (F.entries files.new) (F.faults files.new))
+            (moment_of self.old (K.taken screen.old) (F.stored files.old) (F.faults files.old))
+            (moment_of self.new (K.taken screen.new) (F.stored files.new) (F.faults files.new))
             (K.faults screen.old) (K.faults screen.new) self.new }
         ensures reader { self.new.reader ≡ self.old.reader }
         ensures files { files.new ≡ files.old }
@@ -180,8 +183,8 @@ impl Editor {
     fn press<K: Sink, F: Files>(&mut self, key: Key, screen: &mut K, files: &mut F) -> Going
         requires { IsReady self.old }
         ensures presses { Presses result (key ∷ [])
-            (moment_of self.old (K.taken screen.old) (F.entries files.old) (F.faults files.old))
-            (moment_of self.new (K.taken screen.new) (F.entries files.new) (F.faults files.new))
+            (moment_of self.old (K.taken screen.old) (F.stored files.old) (F.faults files.old))
+            (moment_of self.new (K.taken screen.new) (F.stored files.new) (F.faults files.new))
             (K.faults screen.old) (K.faults screen.new) self.new }
         ensures reader { self.new.reader ≡ self.old.reader }
         ensures files { files.new ≡ files.old }
@@ -220,6 +223,10 @@ fn read_byte<S: Source>(keys: &mut S) -> Result<Option<u8>, SourceFault>
     ensures byte { IfOk result (λ byte. ReadsByte byte (S.left keys.old) (S.left keys.new)) }
     ensures lost { OnErr result (LosesAtMost (S.left keys.old) (S.left keys.new) 1) }
     ensures cause { HasCause SourceFault.Failed (S.faults keys.old) (S.faults keys.new) result }
+    ensures led { IfOk result (λ _. (first : S) → S.leads_to first keys.old →
+        S.leads_to first keys.new) }
+    ensures broke { OnErr result ((first : S) → S.leads_to first keys.old →
+        S.breaks_at first keys.new) }
 {
     let mut buf = [0u8; 1];
     let count = keys.read(&mut buf)?;

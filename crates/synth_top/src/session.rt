@@ -103,8 +103,8 @@ impl Session {
     /// Does what a key asks for.
     pub fn press<F: Files>(&mut self, key: Key, _files: &mut F) -> Answer
         ensures pressed { IsPressed key result
-            (record { session = plain_session self.old; files = F.entries _files.old })
-            (record { session = plain_session self.new; files = F.entries _files.new })
+            (record { session = plain_session self.old; files = F.stored _files.old })
+            (record { session = plain_session self.new; files = F.stored _files.new })
             (F.faults _files.old) (F.faults _files.new) }
         ensures size { self.new.size ≡ self.old.size }
         ensures files { _files.new ≡ _files.old }

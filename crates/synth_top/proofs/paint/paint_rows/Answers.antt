@@ -1,4 +1,5 @@
 use Rattle.std.proofs.Common.{◌<◌, ◌+◌, [], length, arith, ap}
+use Rattle.std.proofs.lemmas.Grind.{common_steps}
 use Rattle.std.proofs.lemmas.Result.{err_from_is_err_and}
 use Rattle.synth_top.specs.PlainForms.{plain_grid}
 use Rattle.synth_top.proofs.Owing.{owes_more, owes_failed, owes_row}
@@ -23,7 +24,7 @@ returns-in_err-paint_row g c =
       front = owes_failed _ _ _ _ _ _
           (owes_row _ _ (c.loop-row.row + 1) c.loop-row.row _ _ _ _ _ in_olds in_news c.line.ensures c.line-in-loop-row.ensures c.loop-row.invariant.owed)
           c.in_err-paint_row.ensures.front;
-      cause = cause_passed _ _ _ _ _ c.loop-row.invariant.later c.in_err-paint_row.ensures.cause;
+      cause = cause_passed _ _ _ _ _ c.loop-row.invariant.unfailed c.in_err-paint_row.ensures.cause;
     })
 
 -- this row was taken too
@@ -36,5 +37,5 @@ loop-row-preserved g c =
           owes_more _ _ _ _ _ _
           (owes_row _ _ (c.loop-row.row + 1) c.loop-row.row _ _ _ _ _ in_olds in_news c.line.ensures c.line-in-loop-row.ensures c.loop-row.invariant.owed)
           c.in_ok-paint_row.ensures.all;
-      later = omega (arith, c.in_ok-paint_row.ensures.cause.later);
+      unfailed = grind (arith, common_steps, c.in_ok-paint_row.ensures.cause.same);
     }

@@ -1,4 +1,4 @@
-use Rattle.std.proofs.Common.{◌≤◌, ◌+◌, drop}
+use Rattle.std.proofs.Common.{◌≡◌, ◌+◌, drop}
 use Rattle.synth_top.specs.Paint.{rows_paint}
 use Rattle.synth_top.specs.PlainForms.{plain_grid}
 use Rattle.synth_top.proofs.Owing.{Owes}
@@ -10,5 +10,5 @@ invariant-loop-row g l = record {
   owed : Owes (g.K.Sink.taken l.fn.sink) (g.K.Sink.taken l.sink)
       (rows_paint (l.row + 1) (drop l.row (plain_grid l.old).lines) (drop l.row (plain_grid l.new).lines))
       (rows_paint 1 (plain_grid l.old).lines (plain_grid l.new).lines);
-  later : g.K.Sink.faults l.fn.sink ≤ g.K.Sink.faults l.sink;
+  unfailed : g.K.Sink.faults l.sink ≡ g.K.Sink.faults l.fn.sink;
 }

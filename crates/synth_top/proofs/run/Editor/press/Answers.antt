@@ -8,7 +8,7 @@ use Rattle.synth_top.proofs.run.Editor.press.Goals as goal
 pub returns-in-Quit-clause-presses : goal.returns-in-Quit-clause-presses
 returns-in-Quit-clause-presses g c = record {
   pressed = one_quit c.args.key c.press.result _ _ _ c.press.ensures.pressed refl c.in-Quit.is refl;
-  cause = record { later = omega arith; rose = λ e. absurd (cc) };
+  cause = record { later = omega arith; rose = λ e. absurd (cc); same = λ other. refl; last = λ e. refl };
   ready = search rules;
 }
 
@@ -16,8 +16,13 @@ returns-in-Quit-clause-presses g c = record {
 pub returns-in-Ok-clause-presses : goal.returns-in-Ok-clause-presses
 returns-in-Ok-clause-presses g c =
     record {
-      pressed = one_shown c.args.key c.press.result _ _ _ c.press.ensures.pressed (ap (λ (z : Session). record { session = plain_session z; files = g.F.Files.entries c.press.new._files }) c.show.ensures.session) c.in_default.not-Quit c.in-Ok.ensures.wrote.all c.in-Ok.ensures.shown;
-      cause = record { later = c.in-Ok.ensures.wrote.cause.later; rose = λ e. absurd (cc) };
+      pressed = one_shown c.args.key c.press.result _ _ _ c.press.ensures.pressed (ap (λ (z : Session). record { session = plain_session z; files = g.F.Files.stored c.press.new._files }) c.show.ensures.session) c.in_default.not-Quit c.in-Ok.ensures.wrote.all c.in-Ok.ensures.shown;
+      cause = record {
+        later = c.in-Ok.ensures.wrote.cause.later;
+        rose = λ e. absurd (cc);
+        same = λ other. c.in-Ok.ensures.wrote.cause.same (λ e. absurd (cc));
+        last = c.in-Ok.ensures.wrote.cause.last;
+      };
       ready = c.show.ensures.ready;
     }
 
@@ -25,8 +30,13 @@ returns-in-Ok-clause-presses g c =
 pub returns-in-Err-Failed-clause-presses : goal.returns-in-Err-Failed-clause-presses
 returns-in-Err-Failed-clause-presses g c =
     record {
-      pressed = one_cut c.args.key c.press.result _ _ _ c.press.ensures.pressed (ap (λ (z : Session). record { session = plain_session z; files = g.F.Files.entries c.press.new._files }) c.show.ensures.session) c.in_default.not-Quit c.in-Err-Failed.ensures.wrote.front;
-      cause = record { later = c.in-Err-Failed.ensures.wrote.cause.later; rose = λ e. c.in-Err-Failed.ensures.wrote.cause.rose (ap Err c.in-Err-Failed.field-0-is) };
+      pressed = one_cut c.args.key c.press.result _ _ _ c.press.ensures.pressed (ap (λ (z : Session). record { session = plain_session z; files = g.F.Files.stored c.press.new._files }) c.show.ensures.session) c.in_default.not-Quit c.in-Err-Failed.ensures.wrote.front;
+      cause = record {
+        later = c.in-Err-Failed.ensures.wrote.cause.later;
+        rose = λ e. c.in-Err-Failed.ensures.wrote.cause.rose (ap Err c.in-Err-Failed.field-0-is);
+        same = λ other. absurd (other refl);
+        last = c.in-Err-Failed.ensures.wrote.cause.last;
+      };
       ready = c.show.ensures.ready;
     }
 
@@ -34,7 +44,12 @@ returns-in-Err-Failed-clause-presses g c =
 pub returns-in-Err-OutOfMemory-clause-presses : goal.returns-in-Err-OutOfMemory-clause-presses
 returns-in-Err-OutOfMemory-clause-presses g c =
     record {
-      pressed = one_cut c.args.key c.press.result _ _ _ c.press.ensures.pressed (ap (λ (z : Session). record { session = plain_session z; files = g.F.Files.entries c.press.new._files }) c.show.ensures.session) c.in_default.not-Quit c.in-Err-OutOfMemory.ensures.wrote.front;
-      cause = record { later = c.in-Err-OutOfMemory.ensures.wrote.cause.later; rose = λ e. absurd (cc) };
+      pressed = one_cut c.args.key c.press.result _ _ _ c.press.ensures.pressed (ap (λ (z : Session). record { session = plain_session z; files = g.F.Files.stored c.press.new._files }) c.show.ensures.session) c.in_default.not-Quit c.in-Err-OutOfMemory.ensures.wrote.front;
+      cause = record {
+        later = c.in-Err-OutOfMemory.ensures.wrote.cause.later;
+        rose = λ e. absurd (cc);
+        same = λ other. c.in-Err-OutOfMemory.ensures.wrote.cause.same (λ e. absurd (cc));
+        last = c.in-Err-OutOfMemory.ensures.wrote.cause.last;
+      };
       ready = c.show.ensures.ready;
     }

@@ -1,5 +1,5 @@
-use Rattle.std.proofs.Common.{arith}
 use Rattle.synth_top.proofs.KeysInOrder.{pressed_then}
+use Rattle.synth_top.proofs.WritesInTurn.{caused_behind}
 use Rattle.synth_top.proofs.run.Editor.press_keys.Goals as goal
 
 -- the second key comes behind the first
@@ -9,9 +9,6 @@ returns-clause-presses g c =
     let second = c.press_if-2.ensures.presses in
     record {
       pressed = pressed_then c.press_if-2.result _ _ _ _ _ first.pressed second.pressed;
-      cause = record {
-        later = omega (arith, first.cause.later, second.cause.later);
-        rose = λ e. let rose = second.cause.rose e in omega (arith, first.cause.later, rose);
-      };
+      cause = caused_behind _ _ _ (first.cause.same (λ e. absurd (cc))) second.cause;
       ready = second.ready;
     }

@@ -1,7 +1,7 @@
 use Rattle.std.proofs.Common.{◌≡◌, ◌∙◌, refl, ap, arith, subst, inl, inr}
 use Rattle.std.proofs.KnownBytes.{Consumes-nil}
 use Rattle.std.specs.Io.KnownBytes.{Appends}
-use Rattle.synth_outside.specs.Writing.{AppendsFront}
+use Rattle.synth_outside.specs.Sink.{AppendsFront}
 use Rattle.synth_top.specs.PlainForms.{plain_session}
 use Rattle.synth_top.specs.Run.{opening}
 use Rattle.synth_top.specs.Screen.{grid}
@@ -30,13 +30,14 @@ loop-init g c = record {
       (record {
         wrote = subst (λ (s : PlainSession). Appends (g.K.Sink.taken c.args.screen.now) (g.K.Sink.taken c.start.new.screen) (opening s))
             c.requires.session c.in-Ok.ensures.wrote.all;
-        state = ap (λ (s : PlainSession). record { session = s; files = g.F.Files.entries c.args.files.now }) (ap plain_session c.start.ensures.session ∙ c.requires.session);
+        state = ap (λ (s : PlainSession). record { session = s; files = g.F.Files.stored c.args.files.now }) (ap plain_session c.start.ensures.session ∙ c.requires.session);
         shown = c.in-Ok.ensures.shown ∙ ap grid c.requires.session;
         faults = refl;
       });
   ready = c.start.ensures.ready;
-  read_later = omega arith;
-  write_later = c.start.ensures.wrote.cause.later;
+  unfailed_reads = refl;
+  unfailed_writes = c.in-Ok.ensures.wrote.cause.same (λ e. absurd (cc));
+  led = g.S.Source.leads_to_itself c.args.keys.now;
   files = refl;
 }
 
@@ -52,8 +53,9 @@ loop-preserved g c = record {
   so_far = so_far_more _ _ _ _ _ _ c.loop.invariant.so_far _ _ c.in-Ok-Some.byte _ _ c.feed-given.ensures.keys c.feed-given.ensures.held
       (rw c.in-Ok-Some.field-0-is at c.in-Ok-Some.ensures.byte) _ c.press_keys.ensures.reader c.in_default.ensures.presses.pressed;
   ready = c.press_keys.ensures.presses.ready;
-  read_later = omega (arith, c.read_byte.ensures.cause.later);
-  write_later = omega (arith, c.press_keys.ensures.presses.cause.later);
+  unfailed_reads = c.in-Ok-Some.ensures.cause.same (λ e. absurd (cc)) ∙ c.loop.invariant.unfailed_reads;
+  unfailed_writes = c.in_default.ensures.presses.cause.same (λ e. absurd (cc)) ∙ c.loop.invariant.unfailed_writes;
+  led = c.in-Ok-Some.ensures.led _ c.loop.invariant.led;
   files = c.press_keys.ensures.files ∙ c.loop.invariant.files;
 }
 

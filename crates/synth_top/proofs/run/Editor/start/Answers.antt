@@ -1,4 +1,3 @@
-use Rattle.std.proofs.Common.{ap, ◌++◌, List, ℕ}
 use Rattle.std.proofs.lemmas.Result.{err_from_is_err_and}
 use Rattle.synth_top.specs.Run.{opening}
 use Rattle.synth_top.proofs.WritesInTurn.{writes_both, writes_first}

@@ -1,7 +1,8 @@
-ghost use Rattle.std.specs.Prelude.{ℕ, ◌<◌, ◌≤◌, List, length, take, Option, IfOk, OnErr};
-ghost use Rattle.std.specs.Io.KnownBytes.{Appends};
+//! The trait of what bytes are written to.
+
+ghost use Rattle.std.specs.Prelude.{ℕ, ◌<◌, List, length, Option};
 ghost use Rattle.synth_outside.specs.Cause.{HasCause};
-ghost use Rattle.synth_outside.specs.Writing.{AppendsFront};
+ghost use Rattle.synth_outside.specs.Sink.{TakesBytes};
 
 use super::SinkFault;
 
@@ -16,14 +17,10 @@ pub trait Sink {
 
     /// Takes the first bytes of the piece, at least one, and answers how many.
     ///
-    /// A failed write took a prefix of the piece too, and doesn't say how long it is. Want of
-    /// memory has no cause that a count shows.
+    /// A write that isn't `Ok` may have taken a prefix of the piece, and doesn't say how long it is.
+    /// Want of memory isn't counted.
     fn write(&mut self, piece: &[u8]) -> Result<usize, SinkFault>
         requires { 0 < length piece.now }
-        ensures some { IfOk result (λ n. 0 < n) }
-        ensures count { IfOk result (λ n. n ≤ length piece.now) }
-        ensures accepted { IfOk result
-            (λ n. Appends (taken self.old) (taken self.new) (take n piece.now)) }
-        ensures front { OnErr result (AppendsFront (taken self.old) (taken self.new) piece.now) }
+        ensures bytes { TakesBytes (taken self.old) (taken self.new) piece.now result }
         ensures cause { HasCause SinkFault.Failed (faults self.old) (faults self.new) result };
 }
