@@ -1,5 +1,5 @@
 -- What a run has done, from what its keys did.
-use Rattle.std.proofs.Common.{◌≡◌, ◌≤◌, ◌⊎◌, ℕ, ◌+◌, false, List, [], ◌∷◌, ◌++◌, Option, length, take, refl, sym, ap, ◌∙◌, subst, append-nil, arith, length-append, inl, inr}
+use Rattle.std.proofs.Common.{◌≡◌, ◌≤◌, ◌⊎◌, ℕ, ◌+◌, false, List, [], ◌∷◌, ◌++◌, Option, Some, None, length, take, refl, sym, ap, ◌∙◌, subst, append-nil, arith, length-append, inl, inr}
 use Rattle.std.proofs.lemmas.List.{take_all}
 use Rattle.std.proofs.Math.Seq.{take-append-add}
 use Rattle.std.proofs.KnownBytes.{Appends-trans, Consumes-nil}
@@ -10,7 +10,7 @@ use Rattle.synth_top.specs.declared.status.Status.TheVariants.{WriteFault, NoMem
 use Rattle.synth_top.specs.Keys.{completed, keys}
 use Rattle.synth_top.specs.Pressing.{Moment, AllShown, UpToLast}
 use Rattle.synth_top.specs.Reply.{NotAsked}
-use Rattle.synth_top.specs.Run.{Told, Loads, NoRescue, IsFront, IsOver, Course, AtLastKey, OpeningCut, Ended, keys_pressed, opened_state, opening, painted_over, written}
+use Rattle.synth_top.specs.Run.{Told, Loads, HaveMap, NoRescue, IsFront, IsOver, Course, AtLastKey, OpeningCut, Ended, keys_pressed, opened_state, opening, painted_over, written}
 use Rattle.synth_top.specs.Screen.{grid}
 use Rattle.synth_top.specs.Session.{new_session}
 use Rattle.synth_top.specs.Turn.{State, PressedKey, Replied, after, ends, grids}
@@ -38,6 +38,11 @@ pub record Opened (options : PlainOptions) (before : Told) (m : Moment) : Type 0
 -- no byte of keys was read before the keys that those before it complete
 abbrev pub InTurn : List ℕ → List PressedKey → Type 0
 InTurn bytes pressed = (seen : List ℕ) (newest : ℕ) → bytes ≡ seen ++ newest ∷ [] → IsFront (completed seen) (keys_pressed pressed)
+
+-- files whose map is this one
+pub have_map : (map now : Option FileMap) → now ≡ map → HaveMap map now
+have_map None now same = tt
+have_map (Some map) now same = same
 
 -- ---- the opening screen was cut short
 
@@ -68,15 +73,15 @@ module _ (options : PlainOptions) (before now : Told) (read : now.left ≡ befor
     count = front.0;
     wrote = opening_wrote;
     rescue = NoRescue;
-    files = files;
+    files = have_map before.files now.files files;
     faults = omega (arith, faults);
   }
 
   pub opening_failed : Ended WriteFault options before now
-  opening_failed = record { course = opening_course; stopped = (refl, OpeningCut refl refl) }
+  opening_failed = record { course = opening_course; stopped = (refl, OpeningCut refl refl); rescued = refl }
 
   pub opening_wanted : Ended NoMemory options before now
-  opening_wanted = record { course = opening_course; stopped = inr (refl, OpeningCut refl refl) }
+  opening_wanted = record { course = opening_course; stopped = inr (refl, OpeningCut refl refl); rescued = refl }
 
 module _ (options : PlainOptions) (before : Told) (opened m : Moment) (left : Option (List ℕ)) (is_opened : Opened options before opened) where
   -- all that is written, from the opening screen on
@@ -117,7 +122,7 @@ module _ (options : PlainOptions) (before : Told) (opened m : Moment) (left : Op
       count = length (written (first_state options before.files) ps);
       wrote = all_wrote;
       rescue = NoRescue;
-      files = ap (λ (s : State). s.files) (all.state ∙ ap (λ s. after s ps) is_opened.state);
+      files = have_map (after (first_state options before.files) ps).files m.state.files (ap (λ (s : State). s.files) (all.state ∙ ap (λ s. after s ps) is_opened.state));
       faults = omega (arith, is_opened.faults, all.faults);
     }
 
@@ -155,7 +160,7 @@ module _ (options : PlainOptions) (before : Told) (opened m : Moment) (left : Op
       count = length (opening (new_session options.size)) + count;
       wrote = last_wrote;
       rescue = NoRescue;
-      files = up_to.files ∙ ap (λ (s : State). (after s (earlier ++ last ∷ [])).files) is_opened.state;
+      files = have_map (after (first_state options before.files) (earlier ++ last ∷ [])).files m.state.files (up_to.files ∙ ap (λ (s : State). (after s (earlier ++ last ∷ [])).files) is_opened.state);
       faults = omega (arith, is_opened.faults, up_to.faults);
     }
 

@@ -11,7 +11,7 @@ use Rattle.synth_top.specs.declared.status.Status.{Status}
 use Rattle.synth_top.specs.declared.status.Status.TheVariants.{Done, ReadFault, WriteFault, NoMemory, BadWords, KeyLimit}
 use Rattle.synth_top.specs.Keys.{Feeds, IsHeld, completed, keys, listed}
 use Rattle.synth_top.specs.Pressing.{Moment, AllShown, UpToLast, PressedAllOf, Pressed, ended_as}
-use Rattle.synth_top.specs.Run.{Told, IsFront, IsOver, Course, AtLastKey, PressedAll, ReadCut, KeyCut, Ended, keys_pressed, opened_state, painted_over, written}
+use Rattle.synth_top.specs.Run.{Told, NoRescue, IsFront, IsOver, Course, AtLastKey, PressedAll, ReadCut, KeyCut, Ended, keys_pressed, opened_state, painted_over, written}
 use Rattle.synth_top.specs.Turn.{PressedKey, ends, grids}
 use Rattle.synth_top.specs.Words.{PlainOptions}
 use Rattle.synth_top.proofs.Courses.{Opened, InTurn, told_at, all_course, all_going, last_course, at_last, one_byte, last_ends, last_all}
@@ -152,14 +152,17 @@ module _ (number : ℕ) (options : PlainOptions) (before : Told) (left : Option 
         at_key = at_key next.earlier next.last next.front next.count next.up_to;
         quit = ends_as next.earlier next.last next.front next.count next.up_to true next.quit;
       }));
+      rescued = refl;
     }
     stopped_at_key WriteFault next = record {
       course = course next.earlier next.last next.front next.count next.up_to;
       stopped = (refl, KeyCut (at_key next.earlier next.last next.front next.count next.up_to) (ends_as next.earlier next.last next.front next.count next.up_to false next.going));
+      rescued = refl;
     }
     stopped_at_key NoMemory next = record {
       course = course next.earlier next.last next.front next.count next.up_to;
       stopped = inr (refl, KeyCut (at_key next.earlier next.last next.front next.count next.up_to) (ends_as next.earlier next.last next.front next.count next.up_to false next.going));
+      rescued = refl;
     }
     stopped_at_key ReadFault next = absurd next
     stopped_at_key BadWords next = absurd next
@@ -219,7 +222,7 @@ module _ (number : ℕ) (options : PlainOptions) (before : Told) (left : Option 
 
   -- ---- a read gave no answer
   pub read_cut : (lost : List ℕ) → number < options.key_limit → length lost ≤ 1 → Consumes left now_left lost → now ≡ m
-      → (course : Course options before (told_at now_left now)) × (length (written (opened_state options before.files course.loads) course.pressed) ≤ course.count) × ReadCut course
+      → (course : Course options before (told_at now_left now)) × (length (written (opened_state options before.files course.loads) course.pressed) ≤ course.count) × ReadCut course × (course.rescue ≡ NoRescue)
   read_cut lost below one read same =
       let all : AllShown so.opened now so.pressed = subst (λ z. AllShown so.opened z so.pressed) (sym same) so.all in
       let done : completed so.bytes ≡ pressed_keys = completed_list so.bytes held pressed_keys so.completed_are so.held_is in
@@ -234,7 +237,8 @@ module _ (number : ℕ) (options : PlainOptions) (before : Told) (left : Option 
               (keys held, ended_list keys so.bytes held pressed_keys so.keys_are) (inl whole);
         };
         below = omega (arith, so.many, below);
-      })
+      },
+      refl)
 
   -- ---- no byte comes any more
   module _ (read : Consumes left now_left []) (within : number ≤ options.key_limit) (over : IsOver options (told_at now_left now) so.bytes) where
@@ -257,7 +261,7 @@ module _ (number : ℕ) (options : PlainOptions) (before : Told) (left : Option 
     -- all was shown
     pub all_pressed : PressedAllOf (keys held) m now
         → (course : Course options before (told_at now_left now)) × (length (written (opened_state options before.files course.loads) course.pressed) ≤ course.count)
-        × (course.lost ≡ []) × (course.bytes ≡ so.bytes) × PressedAll course (keys course.bytes)
+        × (course.lost ≡ []) × (course.bytes ≡ so.bytes) × PressedAll course (keys course.bytes) × (course.rescue ≡ NoRescue)
     all_pressed next =
         let ps = so.pressed ++ next.pressed in
         let all : AllShown so.opened now ps = both_shown so.opened m so.pressed so.all now next.pressed next.shown in
@@ -271,19 +275,20 @@ module _ (number : ℕ) (options : PlainOptions) (before : Told) (left : Option 
         record {
           pressed = keys_are;
           going = all_going options before so.opened now now_left so.is_opened so.bytes [] read_all (omega arith) (omega (arith, so.many, within)) ps all order (inr over);
-        })
+        },
+        refl)
 
     -- the source ended
     pub ended_at_end : (going : Going) → number < options.key_limit → IsAtEnd now_left → Pressed going (keys held) m now
         → Ended (ended_as going Done) options before (told_at now_left now)
     ended_at_end On below ended next =
         let p = all_pressed next in
-        record { course = p.0; stopped = (p.1, p.2, inl (record { all = p.4; below = omega (arith, ap length p.3, so.many, below); ended = ended })) }
+        record { course = p.0; stopped = (p.1, p.2, inl (record { all = p.4; below = omega (arith, ap length p.3, so.many, below); ended = ended })); rescued = p.5 }
     ended_at_end (Over status) below ended next = ended_by_rest status next
 
     -- as many bytes were read as the limit allows
     pub ended_at_limit : (going : Going) → number ≡ options.key_limit → Pressed going (keys held) m now → Ended (ended_as going KeyLimit) options before (told_at now_left now)
     ended_at_limit On all next =
         let p = all_pressed next in
-        record { course = p.0; stopped = (p.1, p.2, record { all = p.4; many = ap length p.3 ∙ so.many ∙ all }) }
+        record { course = p.0; stopped = (p.1, p.2, record { all = p.4; many = ap length p.3 ∙ so.many ∙ all }); rescued = p.5 }
     ended_at_limit (Over status) all next = ended_by_rest status next

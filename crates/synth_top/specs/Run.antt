@@ -1,5 +1,5 @@
 -- A whole run: from the bytes of keys to the bytes of screens.
-use Rattle.std.specs.Prelude.{◌≡◌, ◌⊎◌, ℕ, ◌+◌, ◌-◌, ◌^◌, ◌<◌, ◌≤◌, min, true, false, List, [], ◌∷◌, ◌++◌, length, map, take, Option, codes}
+use Rattle.std.specs.Prelude.{◌≡◌, ◌⊎◌, ℕ, ◌+◌, ◌-◌, ◌^◌, ◌<◌, ◌≤◌, min, true, false, List, [], ◌∷◌, ◌++◌, length, map, take, Option, Some, None, codes}
 use Rattle.std.specs.Io.KnownBytes.{Appends, Consumes, IsAtEnd}
 use Rattle.synth_outside.specs.Files.{FileMap}
 use Rattle.synth_top.specs.declared.key.Key.{Key}
@@ -75,9 +75,18 @@ RoseBy much before now = min (before + much) (2 ^ 64 - 1) ≤ now
 abbrev pub IsOver : PlainOptions → Told → List ℕ → Type 0
 IsOver options now bytes = IsAtEnd now.left ⊎ (length bytes ≡ options.key_limit)
 
--- what was saved where memory ran out: nothing, since no session has a listing yet
+-- files that told a map before have this one now
+abbrev pub HaveMap : Option FileMap → Option FileMap → Type 0
+HaveMap None now = Unit {0}
+HaveMap (Some map) now = now ≡ Some map
+
+-- what was saved at the end of a run
 pub data Rescue : Type 0 where
   NoRescue : Rescue
+
+-- whether this has to be saved where a run ends so: nothing has, since no session has a listing yet
+abbrev pub IsRescue : Status → Rescue → Type 0
+IsRescue status rescue = rescue ≡ NoRescue
 
 -- the map of the files with what was saved
 abbrev pub map_with : Rescue → Option FileMap → Option FileMap
@@ -105,7 +114,7 @@ pub record Course (options : PlainOptions) (before now : Told) : Type 0 where
   pub wrote : Appends before.taken now.taken (take count (written (opened_state options before.files loads) pressed))
   -- the map of the files at the end, and their faults, which are as many as failures or more
   pub rescue : Rescue
-  pub files : now.files ≡ map_with rescue (after (opened_state options before.files loads) pressed).files
+  pub files : HaveMap (map_with rescue (after (opened_state options before.files loads) pressed).files) now.files
   pub faults : RoseBy (failure loads.program + failure loads.input + failures pressed) before.file_faults now.file_faults
 
 -- the state of a run's opening screen
@@ -173,7 +182,8 @@ Stopped WriteFault course = NoneLost course × WriteCut course
 Stopped NoMemory course = (AllWritten course × ReadCut course) ⊎ (NoneLost course × WriteCut course)
 Stopped BadWords course = ⊥
 
--- the run did this, and stopped as its status says
+-- the run did this, and stopped and saved as its status says
 pub record Ended (status : Status) (options : PlainOptions) (before now : Told) : Type 0 where
   pub course : Course options before now
   pub stopped : Stopped status course
+  pub rescued : IsRescue status course.rescue

@@ -64,13 +64,13 @@ pub returns-in-Err-Failed-read_byte-clause-ended : goal.returns-in-Err-Failed-re
 returns-in-Err-Failed-read_byte-clause-ended g c =
     let lost = c.in-Err-Failed-read_byte.ensures.lost in
     let cut = read_cut _ _ _ _ _ _ c.loop.invariant.so_far _ _ lost.0 (omega arith) lost.1 lost.2 refl in
-    record { course = cut.0; stopped = (cut.1, cut.2) }
+    record { course = cut.0; stopped = (cut.1, cut.2); rescued = cut.3 }
 
 pub returns-in-Err-OutOfMemory-read_byte-clause-ended : goal.returns-in-Err-OutOfMemory-read_byte-clause-ended
 returns-in-Err-OutOfMemory-read_byte-clause-ended g c =
     let lost = c.in-Err-OutOfMemory-read_byte.ensures.lost in
     let cut = read_cut _ _ _ _ _ _ c.loop.invariant.so_far _ _ lost.0 (omega arith) lost.1 lost.2 refl in
-    record { course = cut.0; stopped = inl (cut.1, cut.2) }
+    record { course = cut.0; stopped = inl (cut.1, cut.2); rescued = cut.3 }
 
 -- the source ended
 pub returns-in-Ok-None-clause-ended : goal.returns-in-Ok-None-clause-ended
