@@ -86,10 +86,11 @@ module _ (a b : Moment) (ps : List PressedKey) (shown : AllShown a b ps) where
 -- keys in front of others
 pub front_behind : (ps : List PressedKey) (keys more : List Key) (qs : List PressedKey) → keys_pressed ps ≡ keys → IsFront (keys_pressed qs) more
     → IsFront (keys_pressed (ps ++ qs)) (keys ++ more)
-front_behind ps keys more qs all front =
-    (front.0,
-    ap (λ l. keys ++ l) front.1 ∙ ap (λ l. l ++ (keys_pressed qs ++ front.0)) (sym all) ∙ sym (append_assoc (keys_pressed ps) (keys_pressed qs) front.0)
-    ∙ ap (λ l. l ++ front.0) (sym (keys_pressed-append ps qs)))
+front_behind ps keys more qs all front = (
+  front.0,
+  ap (λ l. keys ++ l) front.1 ∙ ap (λ l. l ++ (keys_pressed qs ++ front.0)) (sym all) ∙ sym (append_assoc (keys_pressed ps) (keys_pressed qs) front.0)
+      ∙ ap (λ l. l ++ front.0) (sym (keys_pressed-append ps qs)),
+)
 
 module _ (keys more : List Key) (a b c : Moment) (first : PressedAllOf keys a b) where
   then_all : PressedAllOf more b c → PressedAllOf (keys ++ more) a c

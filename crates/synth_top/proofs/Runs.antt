@@ -137,7 +137,7 @@ module _ (number : ℕ) (options : PlainOptions) (before : Told) (left : Option 
       all_written all =
           let first = painted_over so.opened.shown (grids so.opened.state so.pressed) in
           let bytes_are : length (painted_over so.opened.shown (grids so.opened.state ((so.pressed ++ earlier) ++ last ∷ [])))
-              ≡ length first + length (painted_over m.shown (grids m.state (earlier ++ last ∷ []))) =
+          ≡ length first + length (painted_over m.shown (grids m.state (earlier ++ last ∷ []))) =
           ap (λ l. length (painted_over so.opened.shown (grids so.opened.state l))) (sym joined)
           ∙ ap length (painted_more so.opened m so.pressed so.all (earlier ++ last ∷ []))
           ∙ length-append first (painted_over m.shown (grids m.state (earlier ++ last ∷ []))) in
@@ -148,10 +148,14 @@ module _ (number : ℕ) (options : PlainOptions) (before : Told) (left : Option 
     pub stopped_at_key : (status : Status) → Pressed (Over status) more m now → Ended status options before (told_at now_left now)
     stopped_at_key Done next = record {
       course = course next.earlier next.last next.front next.count next.up_to;
-      stopped = (all_written next.earlier next.last next.front next.count next.up_to next.all, refl, inr (record {
-        at_key = at_key next.earlier next.last next.front next.count next.up_to;
-        quit = ends_as next.earlier next.last next.front next.count next.up_to true next.quit;
-      }));
+      stopped = (
+        all_written next.earlier next.last next.front next.count next.up_to next.all,
+        refl,
+        inr (record {
+          at_key = at_key next.earlier next.last next.front next.count next.up_to;
+          quit = ends_as next.earlier next.last next.front next.count next.up_to true next.quit;
+        }),
+      );
       rescued = refl;
     }
     stopped_at_key WriteFault next = record {
@@ -226,19 +230,20 @@ module _ (number : ℕ) (options : PlainOptions) (before : Told) (left : Option 
   read_cut lost below one read same =
       let all : AllShown so.opened now so.pressed = subst (λ z. AllShown so.opened z so.pressed) (sym same) so.all in
       let done : completed so.bytes ≡ pressed_keys = completed_list so.bytes held pressed_keys so.completed_are so.held_is in
-      let whole : IsFront pressed_keys (completed so.bytes) = ([], done ∙ sym (append-nil pressed_keys)) in
-      (all_course options before so.opened now now_left so.is_opened so.bytes lost (Consumes-trans _ _ _ so.bytes lost so.read read) one (omega (arith, so.many, below)) so.pressed all
-      (keys held, ended_list keys so.bytes held pressed_keys so.keys_are) (inl whole),
-      omega arith,
-      record {
-        all = record {
-          pressed = sym done;
-          going = all_going options before so.opened now now_left so.is_opened so.bytes lost (Consumes-trans _ _ _ so.bytes lost so.read read) one (omega (arith, so.many, below)) so.pressed all
-              (keys held, ended_list keys so.bytes held pressed_keys so.keys_are) (inl whole);
-        };
-        below = omega (arith, so.many, below);
-      },
-      refl)
+      let whole : IsFront pressed_keys (completed so.bytes) = ([], done ∙ sym (append-nil pressed_keys)) in (
+        all_course options before so.opened now now_left so.is_opened so.bytes lost (Consumes-trans _ _ _ so.bytes lost so.read read) one (omega (arith, so.many, below)) so.pressed all
+            (keys held, ended_list keys so.bytes held pressed_keys so.keys_are) (inl whole),
+        omega arith,
+        record {
+          all = record {
+            pressed = sym done;
+            going = all_going options before so.opened now now_left so.is_opened so.bytes lost (Consumes-trans _ _ _ so.bytes lost so.read read) one (omega (arith, so.many, below)) so.pressed all
+                (keys held, ended_list keys so.bytes held pressed_keys so.keys_are) (inl whole);
+          };
+          below = omega (arith, so.many, below);
+        },
+        refl,
+      )
 
   -- ---- no byte comes any more
   module _ (read : Consumes left now_left []) (within : number ≤ options.key_limit) (over : IsOver options (told_at now_left now) so.bytes) where
@@ -267,16 +272,17 @@ module _ (number : ℕ) (options : PlainOptions) (before : Told) (left : Option 
         let all : AllShown so.opened now ps = both_shown so.opened m so.pressed so.all now next.pressed next.shown in
         let keys_are : keys_pressed ps ≡ keys so.bytes = keys_pressed-append so.pressed next.pressed ∙ ap (λ l. pressed_keys ++ l) next.all ∙ sym all_keys in
         let order : IsFront (keys_pressed ps) (keys so.bytes) = ([], sym keys_are ∙ sym (append-nil (keys_pressed ps))) in
-        let read_all = subst (Consumes before.left now_left) (sym (append-nil so.bytes)) all_read in
-        (all_course options before so.opened now now_left so.is_opened so.bytes [] read_all (omega arith) (omega (arith, so.many, within)) ps all order (inr over),
-        omega arith,
-        refl,
-        refl,
-        record {
-          pressed = keys_are;
-          going = all_going options before so.opened now now_left so.is_opened so.bytes [] read_all (omega arith) (omega (arith, so.many, within)) ps all order (inr over);
-        },
-        refl)
+        let read_all = subst (Consumes before.left now_left) (sym (append-nil so.bytes)) all_read in (
+          all_course options before so.opened now now_left so.is_opened so.bytes [] read_all (omega arith) (omega (arith, so.many, within)) ps all order (inr over),
+          omega arith,
+          refl,
+          refl,
+          record {
+            pressed = keys_are;
+            going = all_going options before so.opened now now_left so.is_opened so.bytes [] read_all (omega arith) (omega (arith, so.many, within)) ps all order (inr over);
+          },
+          refl,
+        )
 
     -- the source ended
     pub ended_at_end : (going : Going) → number < options.key_limit → IsAtEnd now_left → Pressed going (keys held) m now

@@ -10,7 +10,6 @@ pub mod Paint
 pub mod Turn
 pub mod Status
 pub mod Run
-
 -- What private contracts alone cite.
 pub mod PlainForms
 pub mod Sized

@@ -7,7 +7,6 @@ ghost use Rattle.synth_top.specs.PlainForms.{plain_session, plain_grid};
 ghost use Rattle.synth_top.specs.Session.{message_text};
 ghost use Rattle.synth_top.specs.Sized.{IsSized};
 
-
 use crate::session::{Refusal, Session, Statement};
 use crate::size::ScreenSize;
 use crate::text::put;

@@ -148,8 +148,9 @@ impl Fed {
     /// The same behind an ESC that is a key of its own.
     fn behind_escape(self) -> Self
         ensures { result ≡ record {
-            keys = record { first = Some Other; second = self.keys.first };
-            held = self.held } }
+          keys = record { first = Some Other; second = self.keys.first };
+          held = self.held;
+        } }
     {
         Fed {
             keys: Keys {

@@ -48,10 +48,18 @@ pub fn synth<S: Source, K: Sink, F: Files, W: Work>(
     // With words of the command the run did what its record says, and stopped as the status says.
     ensures ended { IfSome (options_of (map string_bytes words.now)) (λ options.
         Ended result options
-        (record { left = S.left keys.old; taken = K.taken screen.old;
-            files = F.stored files.old; file_faults = F.faults files.old })
-        (record { left = S.left keys.new; taken = K.taken screen.new;
-            files = F.stored files.new; file_faults = F.faults files.new })) }
+        (record {
+          left = S.left keys.old;
+          taken = K.taken screen.old;
+          files = F.stored files.old;
+          file_faults = F.faults files.old;
+        })
+        (record {
+          left = S.left keys.new;
+          taken = K.taken screen.new;
+          files = F.stored files.new;
+          file_faults = F.faults files.new;
+        })) }
 
     // A fault is answered exactly where the count of its own cause rose.
     ensures read { CausedBy (result ≡ Status.ReadFault) (S.faults keys.old) (S.faults keys.new) }
@@ -80,10 +88,18 @@ fn edit<S: Source, K: Sink, F: Files>(
     files: &mut F,
 ) -> Status
     ensures ended { Ended result (plain_options options)
-        (record { left = S.left keys.old; taken = K.taken screen.old;
-            files = F.stored files.old; file_faults = F.faults files.old })
-        (record { left = S.left keys.new; taken = K.taken screen.new;
-            files = F.stored files.new; file_faults = F.faults files.new }) }
+        (record {
+          left = S.left keys.old;
+          taken = K.taken screen.old;
+          files = F.stored files.old;
+          file_faults = F.faults files.old;
+        })
+        (record {
+          left = S.left keys.new;
+          taken = K.taken screen.new;
+          files = F.stored files.new;
+          file_faults = F.faults files.new;
+        }) }
     ensures read { CausedBy (result ≡ Status.ReadFault) (S.faults keys.old) (S.faults keys.new) }
     ensures write { CausedBy (result ≡ Status.WriteFault)
         (K.faults screen.old) (K.faults screen.new) }

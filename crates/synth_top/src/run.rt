@@ -76,10 +76,18 @@ impl Editor {
     ) -> Status
         requires { IsNew self.old.session.size self.old }
         ensures ended { Ended result (record { size = self.old.session.size; key_limit = limit })
-            (record { left = S.left keys.old; taken = K.taken screen.old;
-                files = F.stored files.old; file_faults = F.faults files.old })
-            (record { left = S.left keys.new; taken = K.taken screen.new;
-                files = F.stored files.new; file_faults = F.faults files.new }) }
+            (record {
+              left = S.left keys.old;
+              taken = K.taken screen.old;
+              files = F.stored files.old;
+              file_faults = F.faults files.old;
+            })
+            (record {
+              left = S.left keys.new;
+              taken = K.taken screen.new;
+              files = F.stored files.new;
+              file_faults = F.faults files.new;
+            }) }
         ensures read { CausedBy (result ≡ Status.ReadFault) (S.faults keys.old) (S.faults keys.new) }
         ensures write { CausedBy (result ≡ Status.WriteFault)
             (K.faults screen.old) (K.faults screen.new) }
@@ -138,12 +146,7 @@ impl Editor {
     }
 
     /// Presses the keys of one byte in their order.
-    fn press_keys<K: Sink, F: Files>(
-        &mut self,
-        keys: Keys,
-        screen: &mut K,
-        files: &mut F,
-    ) -> Going
+    fn press_keys<K: Sink, F: Files>(&mut self, keys: Keys, screen: &mut K, files: &mut F) -> Going
         requires { IsReady self.old }
         ensures presses { Presses result (listed keys)
             (moment_of self.old (K.taken screen.old) (F.stored files.old) (F.faults files.old))

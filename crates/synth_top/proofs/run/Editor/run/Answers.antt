@@ -14,13 +14,13 @@ use Rattle.synth_top.proofs.run.Editor.run.Goals as goal
 pub returns-in-Err-Failed-clause-ended : goal.returns-in-Err-Failed-clause-ended
 returns-in-Err-Failed-clause-ended g c =
     let front = subst (λ (s : PlainSession). AppendsFront (g.K.Sink.taken c.args.screen.now) (g.K.Sink.taken c.start.new.screen) (opening s))
-        c.requires.session c.in-Err-Failed.ensures.wrote.front in
+    c.requires.session c.in-Err-Failed.ensures.wrote.front in
     opening_failed _ _ _ refl front refl (omega arith)
 
 pub returns-in-Err-OutOfMemory-clause-ended : goal.returns-in-Err-OutOfMemory-clause-ended
 returns-in-Err-OutOfMemory-clause-ended g c =
     let front = subst (λ (s : PlainSession). AppendsFront (g.K.Sink.taken c.args.screen.now) (g.K.Sink.taken c.start.new.screen) (opening s))
-        c.requires.session c.in-Err-OutOfMemory.ensures.wrote.front in
+    c.requires.session c.in-Err-OutOfMemory.ensures.wrote.front in
     opening_wanted _ _ _ refl front refl (omega arith)
 
 -- the opening screen was written
