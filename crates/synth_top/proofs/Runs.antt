@@ -11,7 +11,7 @@ use Rattle.synth_top.specs.declared.status.Status.{Status}
 use Rattle.synth_top.specs.declared.status.Status.TheVariants.{Done, ReadFault, WriteFault, NoMemory, BadWords, KeyLimit}
 use Rattle.synth_top.specs.Keys.{Feeds, IsHeld, completed, keys, listed}
 use Rattle.synth_top.specs.Pressing.{Moment, AllShown, UpToLast, PressedAllOf, Pressed, ended_as}
-use Rattle.synth_top.specs.Run.{Told, NoRescue, IsFront, IsOver, Course, AtLastKey, PressedAll, ReadCut, KeyCut, Ended, keys_pressed, opened_state, painted_over, written}
+use Rattle.synth_top.specs.Run.{Told, NoRescue, IsFront, IsOver, Course, AtLastKey, PressedAll, ReadCut, Ended, keys_pressed, first_state, painted_over, written}
 use Rattle.synth_top.specs.Turn.{PressedKey, ends, grids}
 use Rattle.synth_top.specs.Words.{PlainOptions}
 use Rattle.synth_top.proofs.Courses.{Opened, InTurn, told_at, all_course, all_going, last_course, at_last, one_byte, last_ends, last_all}
@@ -126,14 +126,14 @@ module _ (number : ℕ) (options : PlainOptions) (before : Told) (left : Option 
       at_key = at_last options before so.opened now now_left so.is_opened bytes nothing_behind within (so.pressed ++ earlier) last _ all_up_to
           (front_trans _ _ _ in_front order) complete_front (in_turn earlier)
 
-      ends_as : (b : _) → ends m.state (earlier ++ last ∷ []) ≡ b → ends (opened_state options before.files course.loads) ((so.pressed ++ earlier) ++ last ∷ []) ≡ b
+      ends_as : (b : _) → ends m.state (earlier ++ last ∷ []) ≡ b → ends (first_state options before.files course.loads) ((so.pressed ++ earlier) ++ last ∷ []) ≡ b
       ends_as b e =
           last_ends options before so.opened now now_left so.is_opened bytes nothing_behind within (so.pressed ++ earlier) last _ all_up_to
           (front_trans _ _ _ in_front order) complete_front
           ∙ ap (ends so.opened.state) (sym joined) ∙ ends_more so.opened m so.pressed so.all (earlier ++ last ∷ []) ∙ e
 
       all_written : length (painted_over m.shown (grids m.state (earlier ++ last ∷ []))) ≤ count
-          → length (written (opened_state options before.files course.loads) ((so.pressed ++ earlier) ++ last ∷ [])) ≤ course.count
+          → length (written (first_state options before.files course.loads) ((so.pressed ++ earlier) ++ last ∷ [])) ≤ course.count
       all_written all =
           let first = painted_over so.opened.shown (grids so.opened.state so.pressed) in
           let bytes_are : length (painted_over so.opened.shown (grids so.opened.state ((so.pressed ++ earlier) ++ last ∷ [])))
@@ -160,12 +160,12 @@ module _ (number : ℕ) (options : PlainOptions) (before : Told) (left : Option 
     }
     stopped_at_key WriteFault next = record {
       course = course next.earlier next.last next.front next.count next.up_to;
-      stopped = (refl, KeyCut (at_key next.earlier next.last next.front next.count next.up_to) (ends_as next.earlier next.last next.front next.count next.up_to false next.going));
+      stopped = (refl, inr (record { at_key = at_key next.earlier next.last next.front next.count next.up_to; going = ends_as next.earlier next.last next.front next.count next.up_to false next.going }));
       rescued = refl;
     }
     stopped_at_key NoMemory next = record {
       course = course next.earlier next.last next.front next.count next.up_to;
-      stopped = inr (refl, KeyCut (at_key next.earlier next.last next.front next.count next.up_to) (ends_as next.earlier next.last next.front next.count next.up_to false next.going));
+      stopped = inr (refl, inr (record { at_key = at_key next.earlier next.last next.front next.count next.up_to; going = ends_as next.earlier next.last next.front next.count next.up_to false next.going }));
       rescued = refl;
     }
     stopped_at_key ReadFault next = absurd next
@@ -226,7 +226,7 @@ module _ (number : ℕ) (options : PlainOptions) (before : Told) (left : Option 
 
   -- ---- a read gave no answer
   pub read_cut : (lost : List ℕ) → number < options.key_limit → length lost ≤ 1 → Consumes left now_left lost → now ≡ m
-      → (course : Course options before (told_at now_left now)) × (length (written (opened_state options before.files course.loads) course.pressed) ≤ course.count) × ReadCut course × (course.rescue ≡ NoRescue)
+      → (course : Course options before (told_at now_left now)) × (length (written (first_state options before.files course.loads) course.pressed) ≤ course.count) × ReadCut course × (course.rescue ≡ NoRescue)
   read_cut lost below one read same =
       let all : AllShown so.opened now so.pressed = subst (λ z. AllShown so.opened z so.pressed) (sym same) so.all in
       let done : completed so.bytes ≡ pressed_keys = completed_list so.bytes held pressed_keys so.completed_are so.held_is in
@@ -265,7 +265,7 @@ module _ (number : ℕ) (options : PlainOptions) (before : Told) (left : Option 
 
     -- all was shown
     pub all_pressed : PressedAllOf (keys held) m now
-        → (course : Course options before (told_at now_left now)) × (length (written (opened_state options before.files course.loads) course.pressed) ≤ course.count)
+        → (course : Course options before (told_at now_left now)) × (length (written (first_state options before.files course.loads) course.pressed) ≤ course.count)
         × (course.lost ≡ []) × (course.bytes ≡ so.bytes) × PressedAll course (keys course.bytes) × (course.rescue ≡ NoRescue)
     all_pressed next =
         let ps = so.pressed ++ next.pressed in

@@ -54,8 +54,8 @@ pub record CanLoad (options : PlainOptions) (files : Option FileMap) (loads : Lo
   pub input : loads.input ≡ NotAsked
 
 -- the state of the opening screen
-abbrev pub opened_state : PlainOptions → Option FileMap → Loads → State
-opened_state options files loads = record { session = new_session options.size; files = files }
+abbrev pub first_state : PlainOptions → Option FileMap → Loads → State
+first_state options files loads = record { session = new_session options.size; files = files }
 
 -- ---- what a run has done
 
@@ -103,87 +103,98 @@ pub record Course (options : PlainOptions) (before now : Told) : Type 0 where
   pub read : Consumes before.left now.left (bytes ++ lost)
   pub one : length lost ≤ 1
   pub within : length bytes ≤ options.key_limit
-  -- the keys pressed, each with what the files did; what isn't complete is pressed only where no
-  -- byte comes any more
+  -- the keys pressed, each with what the files did in it; what isn't complete is pressed only where
+  -- no byte comes any more
   pub pressed : List PressedKey
-  pub can_reply : Replied (opened_state options before.files loads) pressed
+  pub can_reply : Replied (first_state options before.files loads) pressed
   pub in_order : IsFront (keys_pressed pressed) (keys bytes)
   pub complete : IsFront (keys_pressed pressed) (completed bytes) ⊎ IsOver options now bytes
   -- how many bytes of all that is written the sink took
   pub count : ℕ
-  pub wrote : Appends before.taken now.taken (take count (written (opened_state options before.files loads) pressed))
-  -- the map of the files at the end, and their faults, which are as many as failures or more
+  pub wrote : Appends before.taken now.taken
+      (take count (written (first_state options before.files loads) pressed))
+  -- the map of the files as the turns and what was saved make it, and at least as many faults of
+  -- theirs as failures
   pub rescue : Rescue
-  pub files : HaveMap (map_with rescue (after (opened_state options before.files loads) pressed).files) now.files
-  pub faults : RoseBy (failure loads.program + failure loads.input + failures pressed) before.file_faults now.file_faults
-
--- the state of a run's opening screen
-abbrev pub start : {options : PlainOptions} {before now : Told} → Course options before now → State
-start {options} {before} course = opened_state options before.files course.loads
+  pub files : HaveMap
+      (map_with rescue (after (first_state options before.files loads) pressed).files) now.files
+  pub faults : RoseBy (failure loads.program + failure loads.input + failures pressed)
+      before.file_faults now.file_faults
 
 -- ---- why a run stopped
 
--- the sink took all that is written
-abbrev pub AllWritten : {options : PlainOptions} {before now : Told} → Course options before now → Type 0
-AllWritten course = length (written (start course) course.pressed) ≤ course.count
+module _ {options : PlainOptions} {before now : Told} (course : Course options before now) where
+  -- the state of the run's opening screen
+  abbrev pub state_at_first : State
+  state_at_first = first_state options before.files course.loads
 
--- no byte was lost
-abbrev pub NoneLost : {options : PlainOptions} {before now : Told} → Course options before now → Type 0
-NoneLost course = course.lost ≡ []
+  -- the sink took all that is written
+  abbrev pub AllWritten : Type 0
+  AllWritten = length (written state_at_first course.pressed) ≤ course.count
 
--- just these keys were pressed, and none ended the session
-pub record PressedAll {options : PlainOptions} {before now : Told} (course : Course options before now) (all : List Key) : Type 0 where
-  pub pressed : keys_pressed course.pressed ≡ all
-  pub going : ends (start course) course.pressed ≡ false
+  -- no byte was lost
+  abbrev pub NoneLost : Type 0
+  NoneLost = course.lost ≡ []
 
--- the source ended below the limit, and then what isn't complete was pressed too
-pub record SourceEnded {options : PlainOptions} {before now : Told} (course : Course options before now) : Type 0 where
-  pub all : PressedAll course (keys course.bytes)
-  pub below : length course.bytes < options.key_limit
-  pub ended : IsAtEnd now.left
+  -- just these keys were pressed, and none ended the session
+  pub record PressedAll (all : List Key) : Type 0 where
+    pub pressed : keys_pressed course.pressed ≡ all
+    pub going : ends state_at_first course.pressed ≡ false
 
--- as many bytes were taken as the limit says, and then what isn't complete was pressed too
-pub record LimitMet {options : PlainOptions} {before now : Told} (course : Course options before now) : Type 0 where
-  pub all : PressedAll course (keys course.bytes)
-  pub many : length course.bytes ≡ options.key_limit
+  -- the source ended below the limit, and then what isn't complete was pressed too
+  pub record SourceEnded : Type 0 where
+    pub all : PressedAll (keys course.bytes)
+    pub below : length course.bytes < options.key_limit
+    pub ended : IsAtEnd now.left
 
--- a read gave no answer below the limit, and what isn't complete wasn't pressed
-pub record ReadCut {options : PlainOptions} {before now : Told} (course : Course options before now) : Type 0 where
-  pub all : PressedAll course (completed course.bytes)
-  pub below : length course.bytes < options.key_limit
+  -- as many bytes were taken as the limit says, and then what isn't complete was pressed too
+  pub record LimitMet : Type 0 where
+    pub all : PressedAll (keys course.bytes)
+    pub many : length course.bytes ≡ options.key_limit
 
--- the run stopped at the last key pressed: no key before it ended the session, all their screens
--- were written, and no byte was taken before they were which its earlier bytes complete
-pub record AtLastKey {options : PlainOptions} {before now : Told} (course : Course options before now) : Type 0 where
-  pub earlier : List PressedKey
-  pub last : PressedKey
-  pub is_last : course.pressed ≡ earlier ++ last ∷ []
-  pub going : ends (start course) earlier ≡ false
-  pub shown : length (written (start course) earlier) ≤ course.count
-  pub in_turn : (seen : List ℕ) (newest : ℕ) → course.bytes ≡ seen ++ newest ∷ [] → IsFront (completed seen) (keys_pressed earlier)
+  -- a read gave no answer below the limit, and what isn't complete wasn't pressed
+  pub record ReadCut : Type 0 where
+    pub all : PressedAll (completed course.bytes)
+    pub below : length course.bytes < options.key_limit
 
--- the last key pressed ended the session
-pub record QuitPressed {options : PlainOptions} {before now : Told} (course : Course options before now) : Type 0 where
-  pub at_key : AtLastKey course
-  pub quit : ends (start course) course.pressed ≡ true
+  -- the run stopped at the last key pressed: none before it ended the session, the screens of those
+  -- were all written, and the newest byte was taken only behind the keys that the bytes before it
+  -- complete
+  pub record AtLastKey : Type 0 where
+    pub earlier : List PressedKey
+    pub last : PressedKey
+    pub is_last : course.pressed ≡ earlier ++ last ∷ []
+    pub going : ends state_at_first earlier ≡ false
+    pub shown : length (written state_at_first earlier) ≤ course.count
+    pub in_turn : (seen : List ℕ) (newest : ℕ) → course.bytes ≡ seen ++ newest ∷ [] →
+        IsFront (completed seen) (keys_pressed earlier)
 
--- a write gave no answer: that of the opening screen, before any byte was taken, or that of a screen
--- of the last key pressed
-pub data WriteCut {options : PlainOptions} {before now : Told} (course : Course options before now) : Type 0 where
-  OpeningCut : course.bytes ≡ [] → course.pressed ≡ [] → WriteCut course
-  KeyCut : AtLastKey course → ends (start course) course.pressed ≡ false → WriteCut course
+  -- the last key pressed ended the session
+  pub record QuitPressed : Type 0 where
+    pub at_key : AtLastKey
+    pub quit : ends state_at_first course.pressed ≡ true
 
--- what each status says of a run
-abbrev pub Stopped : {options : PlainOptions} {before now : Told} → Status → Course options before now → Type 0
-Stopped Done course = AllWritten course × NoneLost course × (SourceEnded course ⊎ QuitPressed course)
-Stopped KeyLimit course = AllWritten course × NoneLost course × LimitMet course
-Stopped ReadFault course = AllWritten course × ReadCut course
-Stopped WriteFault course = NoneLost course × WriteCut course
-Stopped NoMemory course = (AllWritten course × ReadCut course) ⊎ (NoneLost course × WriteCut course)
-Stopped BadWords course = ⊥
+  -- a write of the opening screen gave no answer, before any byte was taken
+  pub record OpeningCut : Type 0 where
+    pub no_byte : course.bytes ≡ []
+    pub no_key : course.pressed ≡ []
+
+  -- a write of a screen of the last key pressed gave no answer
+  pub record ScreenCut : Type 0 where
+    pub at_key : AtLastKey
+    pub going : ends state_at_first course.pressed ≡ false
+
+  -- what each status says of the run
+  abbrev pub Stopped : Status → Type 0
+  Stopped Done = AllWritten × NoneLost × (SourceEnded ⊎ QuitPressed)
+  Stopped KeyLimit = AllWritten × NoneLost × LimitMet
+  Stopped ReadFault = AllWritten × ReadCut
+  Stopped WriteFault = NoneLost × (OpeningCut ⊎ ScreenCut)
+  Stopped NoMemory = (AllWritten × ReadCut) ⊎ (NoneLost × (OpeningCut ⊎ ScreenCut))
+  Stopped BadWords = ⊥
 
 -- the run did this, and stopped and saved as its status says
 pub record Ended (status : Status) (options : PlainOptions) (before now : Told) : Type 0 where
   pub course : Course options before now
-  pub stopped : Stopped status course
+  pub stopped : Stopped course status
   pub rescued : IsRescue status course.rescue
