@@ -9,7 +9,7 @@ use Rattle.synth_top.specs.declared.run.Going.{Going}
 use Rattle.synth_top.specs.declared.run.Going.TheVariants.{On, Over}
 use Rattle.synth_top.specs.declared.status.Status.{Status}
 use Rattle.synth_top.specs.declared.status.Status.TheVariants.{Done, ReadFault, WriteFault, NoMemory, BadWords, KeyLimit}
-use Rattle.synth_top.specs.Pressing.{Moment, AllShown, UpToLast, PressedAllOf, PressedToQuit, PressedToCut, Pressed, last_shown}
+use Rattle.synth_top.specs.Pressing.{Moment, AllShown, UpToLast, KeysShown, KeysQuit, KeysCut, Pressed, last_shown}
 use Rattle.synth_top.specs.Run.{IsFront, keys_pressed, painted_over}
 use Rattle.synth_top.specs.Turn.{State, PressedKey, Replied, after, ends, failures, grids}
 use Rattle.synth_top.proofs.TurnsInOrder.{after-append, ends-going, grids-append, Replied-append, failures-append, painted_over-append, last_shown-append}
@@ -92,15 +92,15 @@ front_behind ps keys more qs all front = (
       ∙ ap (λ l. l ++ front.0) (sym (keys_pressed-append ps qs)),
 )
 
-module _ (keys more : List Key) (a b c : Moment) (first : PressedAllOf keys a b) where
-  then_all : PressedAllOf more b c → PressedAllOf (keys ++ more) a c
+module _ (keys more : List Key) (a b c : Moment) (first : KeysShown keys a b) where
+  then_all : KeysShown more b c → KeysShown (keys ++ more) a c
   then_all next = record {
     pressed = first.pressed ++ next.pressed;
     all = keys_pressed-append first.pressed next.pressed ∙ ap (λ l. l ++ keys_pressed next.pressed) first.all ∙ ap (λ l. keys ++ l) next.all;
     shown = both_shown a b first.pressed first.shown c next.pressed next.shown;
   }
 
-  then_quit : PressedToQuit more b c → PressedToQuit (keys ++ more) a c
+  then_quit : KeysQuit more b c → KeysQuit (keys ++ more) a c
   then_quit next =
       let ps = first.pressed in
       let all = next.earlier ++ next.last ∷ [] in
@@ -117,7 +117,7 @@ module _ (keys more : List Key) (a b c : Moment) (first : PressedAllOf keys a b)
             (omega (arith, bytes, next.all));
       }
 
-  then_cut : PressedToCut more b c → PressedToCut (keys ++ more) a c
+  then_cut : KeysCut more b c → KeysCut (keys ++ more) a c
   then_cut next =
       let ps = first.pressed in
       let all = next.earlier ++ next.last ∷ [] in
@@ -132,7 +132,7 @@ module _ (keys more : List Key) (a b c : Moment) (first : PressedAllOf keys a b)
       }
 
 -- all of some keys, and then what became of others
-pub pressed_then : (going : Going) (keys more : List Key) (a b c : Moment) → PressedAllOf keys a b → Pressed going more b c → Pressed going (keys ++ more) a c
+pub pressed_then : (going : Going) (keys more : List Key) (a b c : Moment) → KeysShown keys a b → Pressed going more b c → Pressed going (keys ++ more) a c
 pressed_then On keys more a b c first next = then_all keys more a b c first next
 pressed_then (Over Done) keys more a b c first next = then_quit keys more a b c first next
 pressed_then (Over WriteFault) keys more a b c first next = then_cut keys more a b c first next

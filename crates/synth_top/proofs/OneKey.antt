@@ -7,7 +7,7 @@ use Rattle.synth_top.specs.declared.key.Key.{Key}
 use Rattle.synth_top.specs.declared.session.Answer.{Answer}
 use Rattle.synth_top.specs.declared.session.Answer.TheVariants.{Done, Refused, Quit}
 use Rattle.synth_top.specs.Paint.{paint}
-use Rattle.synth_top.specs.Pressing.{IsPressed, Moment, PressedAllOf, PressedToQuit, PressedToCut, last_shown}
+use Rattle.synth_top.specs.Pressing.{IsPressed, Moment, KeysShown, KeysQuit, KeysCut, last_shown}
 use Rattle.synth_top.specs.Run.{painted_over}
 use Rattle.synth_top.specs.Screen.{grid}
 use Rattle.synth_top.specs.Session.{is_quit}
@@ -48,7 +48,7 @@ module _ (key : Key) (answer : Answer) (a b : Moment) (s : State) (pressed : IsP
   bytes_are going = ap (painted_over a.shown) (grids_are going) ∙ append-nil (paint a.shown (grid s.session))
 
   -- the key was pressed, and its screen was written
-  pub one_shown : (answer ≡ Quit → ⊥) → Appends a.taken b.taken (paint a.shown (grid s.session)) → b.shown ≡ grid s.session → PressedAllOf (key ∷ []) a b
+  pub one_shown : (answer ≡ Quit → ⊥) → Appends a.taken b.taken (paint a.shown (grid s.session)) → b.shown ≡ grid s.session → KeysShown (key ∷ []) a b
   one_shown other wrote shown = record {
     pressed = one ∷ [];
     all = refl;
@@ -63,7 +63,7 @@ module _ (key : Key) (answer : Answer) (a b : Moment) (s : State) (pressed : IsP
   }
 
   -- the key ended the session, and nothing was written
-  pub one_quit : answer ≡ Quit → b.taken ≡ a.taken → PressedToQuit (key ∷ []) a b
+  pub one_quit : answer ≡ Quit → b.taken ≡ a.taken → KeysQuit (key ∷ []) a b
   one_quit quit same_taken =
       let ending : is_quit answer ≡ true = ap is_quit quit in
       let none : painted_over a.shown (grids a.state (one ∷ [])) ≡ [] =
@@ -86,7 +86,7 @@ module _ (key : Key) (answer : Answer) (a b : Moment) (s : State) (pressed : IsP
       }
 
   -- the key was pressed, and its screen was cut short
-  pub one_cut : (answer ≡ Quit → ⊥) → AppendsFront a.taken b.taken (paint a.shown (grid s.session)) → PressedToCut (key ∷ []) a b
+  pub one_cut : (answer ≡ Quit → ⊥) → AppendsFront a.taken b.taken (paint a.shown (grid s.session)) → KeysCut (key ∷ []) a b
   one_cut other front = record {
     earlier = [];
     last = one;

@@ -10,7 +10,7 @@ use Rattle.synth_top.specs.declared.run.Going.TheVariants.{On, Over}
 use Rattle.synth_top.specs.declared.status.Status.{Status}
 use Rattle.synth_top.specs.declared.status.Status.TheVariants.{Done, ReadFault, WriteFault, NoMemory, BadWords, KeyLimit}
 use Rattle.synth_top.specs.Keys.{Feeds, IsHeld, completed, keys, listed}
-use Rattle.synth_top.specs.Pressing.{Moment, AllShown, UpToLast, PressedAllOf, Pressed, ended_as}
+use Rattle.synth_top.specs.Pressing.{Moment, AllShown, UpToLast, KeysShown, Pressed, ended_as}
 use Rattle.synth_top.specs.Run.{Told, NoRescue, IsFront, IsOver, Course, AtLastKey, PressedAll, ReadCut, Ended, keys_pressed, first_state, painted_over, written}
 use Rattle.synth_top.specs.Turn.{PressedKey, ends, grids}
 use Rattle.synth_top.specs.Words.{PlainOptions}
@@ -197,7 +197,7 @@ module _ (number : ℕ) (options : PlainOptions) (before : Told) (left : Option 
     now_read = Consumes-trans _ _ _ so.bytes (byte ∷ []) so.read read
 
     -- all its keys were shown
-    pub so_far_more : (kept : List ℕ) → kept ≡ now_held → PressedAllOf (listed given) m now → SoFar (number + 1) options before now_left kept now
+    pub so_far_more : (kept : List ℕ) → kept ≡ now_held → KeysShown (listed given) m now → SoFar (number + 1) options before now_left kept now
     so_far_more kept same next =
         let all : pressed_keys ++ listed given ≡ keys_pressed (so.pressed ++ next.pressed) =
         ap (λ l. pressed_keys ++ l) (sym next.all) ∙ sym (keys_pressed-append so.pressed next.pressed) in
@@ -264,7 +264,7 @@ module _ (number : ℕ) (options : PlainOptions) (before : Told) (left : Option 
         in_turn_still status next
 
     -- all was shown
-    pub all_pressed : PressedAllOf (keys held) m now
+    pub all_pressed : KeysShown (keys held) m now
         → (course : Course options before (told_at now_left now)) × (length (written (first_state options before.files course.loads) course.pressed) ≤ course.count)
         × (course.lost ≡ []) × (course.bytes ≡ so.bytes) × PressedAll course (keys course.bytes) × (course.rescue ≡ NoRescue)
     all_pressed next =

@@ -95,13 +95,13 @@ pub record UpToLast (before now : Moment) (earlier : List PressedKey) (last : Pr
   pub faults : RoseBy (failures (earlier ++ last ∷ [])) before.file_faults now.file_faults
 
 -- all of these keys were pressed
-pub record PressedAllOf (keys : List Key) (before now : Moment) : Type 0 where
+pub record KeysShown (keys : List Key) (before now : Moment) : Type 0 where
   pub pressed : List PressedKey
   pub all : keys_pressed pressed ≡ keys
   pub shown : AllShown before now pressed
 
 -- these keys were pressed up to one that ended the session
-pub record PressedToQuit (keys : List Key) (before now : Moment) : Type 0 where
+pub record KeysQuit (keys : List Key) (before now : Moment) : Type 0 where
   pub earlier : List PressedKey
   pub last : PressedKey
   pub front : IsFront (keys_pressed (earlier ++ last ∷ [])) keys
@@ -111,7 +111,7 @@ pub record PressedToQuit (keys : List Key) (before now : Moment) : Type 0 where
   pub all : length (painted_over before.shown (grids before.state (earlier ++ last ∷ []))) ≤ count
 
 -- these keys were pressed up to one a screen of which was cut short
-pub record PressedToCut (keys : List Key) (before now : Moment) : Type 0 where
+pub record KeysCut (keys : List Key) (before now : Moment) : Type 0 where
   pub earlier : List PressedKey
   pub last : PressedKey
   pub front : IsFront (keys_pressed (earlier ++ last ∷ [])) keys
@@ -121,17 +121,17 @@ pub record PressedToCut (keys : List Key) (before now : Moment) : Type 0 where
 
 -- what became of the keys, by whether the session goes on
 abbrev pub Pressed : Going → List Key → Moment → Moment → Type 0
-Pressed On keys before now = PressedAllOf keys before now
-Pressed (Over Done) keys before now = PressedToQuit keys before now
-Pressed (Over WriteFault) keys before now = PressedToCut keys before now
-Pressed (Over NoMemory) keys before now = PressedToCut keys before now
+Pressed On keys before now = KeysShown keys before now
+Pressed (Over Done) keys before now = KeysQuit keys before now
+Pressed (Over WriteFault) keys before now = KeysCut keys before now
+Pressed (Over NoMemory) keys before now = KeysCut keys before now
 Pressed (Over ReadFault) keys before now = ⊥
 Pressed (Over BadWords) keys before now = ⊥
 Pressed (Over KeyLimit) keys before now = ⊥
 
 -- keys were pressed: what became of them, the count of the sink's faults, and the editor behind
-pub record Presses (going : Going) (keys : List Key) (before now : Moment) (faults_before faults_now : ℕ)
-    (e : Editor) : Type 0 where
+pub record PressesKeys (going : Going) (keys : List Key) (before now : Moment)
+    (faults_before faults_now : ℕ) (e : Editor) : Type 0 where
   pub pressed : Pressed going keys before now
   pub cause : CausedBy (going ≡ Over WriteFault) faults_before faults_now
   pub ready : IsReady e

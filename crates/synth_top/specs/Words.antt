@@ -15,16 +15,20 @@ abbrev pub count_between : ℕ → ℕ → List ℕ → Option ℕ
 count_between least most word =
     option_and_then (λ n. if nat_le least n then Some n else None) (number_in_digits most word)
 
+-- the options with so many rows and columns
+abbrev pub options_for : ℕ → ℕ → PlainOptions
+options_for rows cols = record { size = record { rows = rows; cols = cols }; key_limit = KEY_LIMIT }
+
 -- the options with as many rows and columns as two words say
 abbrev pub options_with : List ℕ → List ℕ → Option PlainOptions
 options_with rows cols =
     option_and_then (λ r.
-    option_and_then (λ c. Some (record { size = record { rows = r; cols = c }; key_limit = KEY_LIMIT })) (count_between 40 160 cols))
+    option_and_then (λ c. Some (options_for r c)) (count_between 40 160 cols))
     (count_between 12 100 rows)
 
 -- what the words ask for, or none where they aren't words of the command
 unfoldable pub options_of : List (List ℕ) → Option PlainOptions
-options_of [] = Some (record { size = record { rows = 24; cols = 80 }; key_limit = KEY_LIMIT })
+options_of [] = Some (options_for 24 80)
 options_of (first ∷ rows ∷ second ∷ cols ∷ []) =
     if bytes_eq first (codes "--rows") && bytes_eq second (codes "--cols")
     then options_with rows cols else None

@@ -176,7 +176,7 @@ fn next_byte(held: Held, byte: u8) -> Fed
 }
 
 /// Takes a byte where nothing is held back.
-#[tactic(auto, unfolding(crate::specs::Keys::keys, crate::specs::Keys::completed), using(crate::proofs::KeyLists::keys_first, crate::proofs::KeyLists::completed_first))]
+#[tactic(auto, unfolding(crate::specs::Keys::keys, crate::specs::Keys::completed), using(crate::proofs::KeyLists::keys_first, crate::proofs::KeyLists::completed_first),)]
 fn first_byte(byte: u8) -> Fed
     ensures keys { Feeds [] byte result.keys (held_bytes result.held) }
     ensures one { result.keys.second ≡ None }

@@ -6,7 +6,7 @@ ghost use Rattle.synth_outside.specs.Source.{LosesAtMost};
 ghost use Rattle.synth_top.specs.Keys.{keys, listed};
 ghost use Rattle.synth_top.specs.Paint.{paint};
 ghost use Rattle.synth_top.specs.PlainForms.{plain_grid, plain_session};
-ghost use Rattle.synth_top.specs.Pressing.{IsNew, IsReady, Presses, ReadsByte, ended_as, moment_of};
+ghost use Rattle.synth_top.specs.Pressing.{IsNew, IsReady, PressesKeys, ReadsByte, ended_as, moment_of};
 ghost use Rattle.synth_top.specs.Run.{Ended, opening};
 ghost use Rattle.synth_top.specs.Screen.{grid};
 ghost use Rattle.synth_top.specs.Status.{CausedBy, LeftAs};
@@ -132,10 +132,10 @@ impl Editor {
         self.show(screen)
     }
 
-    /// Presses what isn't complete, where no byte comes any more.
+    /// PressesKeys what isn't complete, where no byte comes any more.
     fn finish<K: Sink, F: Files>(&mut self, screen: &mut K, files: &mut F) -> Going
         requires { IsReady self.old }
-        ensures presses { Presses result (keys self.old.reader)
+        ensures presses { PressesKeys result (keys self.old.reader)
             (moment_of self.old (K.taken screen.old) (F.stored files.old) (F.faults files.old))
             (moment_of self.new (K.taken screen.new) (F.stored files.new) (F.faults files.new))
             (K.faults screen.old) (K.faults screen.new) self.new }
@@ -145,10 +145,10 @@ impl Editor {
         self.press_if(key, screen, files)
     }
 
-    /// Presses the keys of one byte in their order.
+    /// PressesKeys the keys of one byte in their order.
     fn press_keys<K: Sink, F: Files>(&mut self, keys: Keys, screen: &mut K, files: &mut F) -> Going
         requires { IsReady self.old }
-        ensures presses { Presses result (listed keys)
+        ensures presses { PressesKeys result (listed keys)
             (moment_of self.old (K.taken screen.old) (F.stored files.old) (F.faults files.old))
             (moment_of self.new (K.taken screen.new) (F.stored files.new) (F.faults files.new))
             (K.faults screen.old) (K.faults screen.new) self.new }
@@ -161,7 +161,7 @@ impl Editor {
         self.press_if(keys.second, screen, files)
     }
 
-    /// Presses a key, if there is one.
+    /// PressesKeys a key, if there is one.
     fn press_if<K: Sink, F: Files>(
         &mut self,
         key: Option<Key>,
@@ -169,7 +169,7 @@ impl Editor {
         files: &mut F,
     ) -> Going
         requires { IsReady self.old }
-        ensures presses { Presses result (option_to_list key)
+        ensures presses { PressesKeys result (option_to_list key)
             (moment_of self.old (K.taken screen.old) (F.stored files.old) (F.faults files.old))
             (moment_of self.new (K.taken screen.new) (F.stored files.new) (F.faults files.new))
             (K.faults screen.old) (K.faults screen.new) self.new }
@@ -182,10 +182,10 @@ impl Editor {
         }
     }
 
-    /// Presses a key and paints the screen behind it; a key that ends the session has none.
+    /// PressesKeys a key and paints the screen behind it; a key that ends the session has none.
     fn press<K: Sink, F: Files>(&mut self, key: Key, screen: &mut K, files: &mut F) -> Going
         requires { IsReady self.old }
-        ensures presses { Presses result (key ∷ [])
+        ensures presses { PressesKeys result (key ∷ [])
             (moment_of self.old (K.taken screen.old) (F.stored files.old) (F.faults files.old))
             (moment_of self.new (K.taken screen.new) (F.stored files.new) (F.faults files.new))
             (K.faults screen.old) (K.faults screen.new) self.new }
