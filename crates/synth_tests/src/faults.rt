@@ -1,3 +1,5 @@
+//! Reads and writes that fail.
+
 use crate::playing::{NEVER, SMALL, play_failing};
 use crate::screens::{STORED_KEYS, STORED_RUN, first_pieces};
 use std::test::Fail;
@@ -47,6 +49,17 @@ fn a_write_that_fails_ends_the_session(rt: HostRuntime) -> Result<(), Fail> {
         assert_eq!(rt; played.status, Status::WriteFault, "at {write}");
         assert_eq!(rt; played.written(), wanted.as_slice(), "at {write}");
         assert!(rt; played.leaves(&STORED_KEYS[taken..]), "at {write}");
+    }
+    Ok(())
+}
+
+#[test]
+fn a_read_that_fails_presses_nothing_more(rt: HostRuntime) -> Result<(), Fail> {
+    let opening = first_pieces(rt.alloc(), PIECES_BEFORE[0])?;
+    for (keys, read) in [(b"\x1b".as_slice(), 2), (b"\x1b[", 3)] {
+        let played = play_failing(rt.alloc(), &SMALL, keys, read, NEVER)?;
+        assert_eq!(rt; played.status, Status::ReadFault, "at {read}");
+        assert_eq!(rt; played.written(), opening.as_slice(), "at {read}");
     }
     Ok(())
 }

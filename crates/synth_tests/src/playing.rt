@@ -1,3 +1,5 @@
+//! Runs of the editor over a source and a sink in memory.
+
 use plcs_base::Counts;
 use std::alloc::{AllocError, Global};
 use synth_outside::{MemFiles, MemSink, MemSource, Source};

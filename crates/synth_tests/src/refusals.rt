@@ -1,3 +1,5 @@
+//! Keys that are refused, and the messages of refusals.
+
 use crate::playing::last_keys_write;
 use std::alloc::{AllocError, Global};
 use std::test::Fail;
@@ -186,6 +188,39 @@ fn a_byte_is_typed_where_it_is_printable(rt: HostRuntime) -> Result<(), Fail> {
         assert!(rt;
             last_keys_write(rt.alloc(), before, &[byte], bytes)?,
             "{byte}"
+        );
+    }
+    Ok(())
+}
+
+#[test]
+fn a_sequence_is_refused_as_one_key(rt: HostRuntime) -> Result<(), Fail> {
+    let refused = b"\x1b[11;1HNOT BUILT\x1b[K\x1b[3;5H".as_slice();
+    let typed = b"\x1b[11;1H\x1b[K\x1b[12;1Hstatement> x\x1b[K\x1b[12;13H".as_slice();
+    let again = b"\x1b[3;5H".as_slice();
+    let wanted = [
+        // Each move, and a sequence that is none, is one screen.
+        (b"\x1b[A".as_slice(), [refused, b"", b""]),
+        (b"\x1b[B", [refused, b"", b""]),
+        (b"\x1b[C", [refused, b"", b""]),
+        (b"\x1b[D", [refused, b"", b""]),
+        (b"\x1b[x", [refused, b"", b""]),
+        (b"\x1b[\x1b", [refused, b"", b""]),
+        // A byte behind ESC that isn't the bracket is a key of its own.
+        (b"\x1bx", [refused, typed, b""]),
+        (b"\x1b\x1b[A", [refused, again, b""]),
+        // Where the source ends, what isn't complete is one key.
+        (b"\x1b", [refused, b"", b""]),
+        (b"\x1b[", [refused, b"", b""]),
+        (b"\x1b\x1b", [refused, again, b""]),
+        (b"\x1b[A\x1b[", [refused, again, b""]),
+        (b"\x1bx\x1b[", [refused, typed, b"\x1b[11;1HNOT BUILT\x1b[K\x1b[12;13H"]),
+    ];
+    for (keys, screens) in wanted {
+        let bytes = screens.concat(rt.alloc())?;
+        assert!(rt;
+            last_keys_write(rt.alloc(), b"", keys, bytes.as_slice())?,
+            "{keys:?}"
         );
     }
     Ok(())

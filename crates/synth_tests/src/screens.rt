@@ -1,3 +1,5 @@
+//! Screens, piece by piece.
+
 use crate::playing::{SMALL, last_keys_write, play};
 use std::alloc::{AllocError, Global};
 use std::test::Fail;

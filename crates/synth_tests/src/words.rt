@@ -1,3 +1,5 @@
+//! The words of the command.
+
 use crate::playing::play;
 use std::alloc::{AllocError, Global};
 use std::test::Fail;

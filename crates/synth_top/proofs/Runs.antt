@@ -1,230 +1,300 @@
 -- A run, byte by byte.
-use Rattle.std.proofs.Common.{◌≡◌, ◌<◌, ◌≤◌, ◌⊎◌, ℕ, ◌+◌, true, false, List, [], ◌∷◌, ◌++◌, Option, length, take, refl, sym, ap, ◌∙◌, subst, append_assoc, append-nil, arith, length-append, inl, inr}
-use Rattle.std.proofs.Math.Seq.{take-append-add}
-use Rattle.std.proofs.KnownBytes.{Appends-trans, Consumes-nil, Consumes-trans}
-use Rattle.std.specs.Io.KnownBytes.{Appends, Consumes, IsAtEnd}
-use Rattle.std.specs.Prelude.{option_to_list}
+use Rattle.std.proofs.Common.{◌≡◌, ◌<◌, ◌≤◌, ◌⊎◌, ℕ, ◌+◌, true, false, List, [], ◌∷◌, ◌++◌, Option, length, refl, sym, ap, ◌∙◌, subst, append_assoc, append-nil, arith, length-append, inl, inr}
+use Rattle.std.proofs.lemmas.List.{same_from_push}
+use Rattle.std.proofs.KnownBytes.{Appends-nil, Consumes-nil, Consumes-trans}
+use Rattle.std.specs.Io.KnownBytes.{Consumes, IsAtEnd}
 use Rattle.synth_top.specs.declared.key.Key.{Key}
-use Rattle.synth_top.specs.declared.key.KeyReader.{KeyReader}
+use Rattle.synth_top.specs.declared.key.Keys.{Keys}
+use Rattle.synth_top.specs.declared.run.Going.{Going}
+use Rattle.synth_top.specs.declared.run.Going.TheVariants.{On, Over}
 use Rattle.synth_top.specs.declared.status.Status.{Status}
 use Rattle.synth_top.specs.declared.status.Status.TheVariants.{Done, ReadFault, WriteFault, NoMemory, BadWords, KeyLimit}
-use Rattle.synth_top.specs.declared.run.Turn.{Turn}
-use Rattle.synth_top.specs.declared.run.Turn.TheVariants.{Next, End}
-use Rattle.synth_top.specs.Keys.{completed, keys, keys_of_byte, listed, reader_after, reader_behind, unfinished_key}
-use Rattle.synth_top.specs.Session.{PlainSession}
-use Rattle.synth_top.specs.Run.{Told, Moved, after, quits, screens, opening, written_by, written, QuitPressed, ReadCut, ScreenCut, Ended}
-use Rattle.synth_top.specs.Turn.{AllShown, OneQuit, OneCut, Turned, ended_as}
-use Rattle.synth_top.proofs.Progress.{SoFar}
-use Rattle.synth_top.proofs.Pressing.{after-append, quits-going, written_by-nil, written_by-going, written_by-ended}
+use Rattle.synth_top.specs.Keys.{Feeds, IsHeld, completed, keys, listed}
+use Rattle.synth_top.specs.Pressing.{Moment, AllShown, UpToLast, KeysShown, Pressed, ended_as}
+use Rattle.synth_top.specs.Run.{Told, NoRescue, IsFront, IsOver, Course, AtLastKey, PressedAll, ReadCut, Ended, keys_pressed, first_state, painted_over, written}
+use Rattle.synth_top.specs.Turn.{PressedKey, ends, grids}
+use Rattle.synth_top.specs.Words.{PlainOptions}
+use Rattle.synth_top.proofs.Courses.{Opened, InTurn, told_at, all_course, all_going, last_course, at_last, one_byte, last_ends, last_all}
+use Rattle.synth_top.proofs.KeysInOrder.{keys_pressed-append, both_shown, then_up_to, front_behind, ends_more, painted_more}
 
-true_false : true ≡ false → ⊥
-true_false e = absurd (cc)
+-- so many bytes were read, all keys that they complete were pressed, and all screens were written
+pub record SoFar (number : ℕ) (options : PlainOptions) (before : Told) (left : Option (List ℕ)) (held : List ℕ) (m : Moment) : Type 0 where
+  pub bytes : List ℕ
+  pub many : length bytes ≡ number
+  pub read : Consumes before.left left bytes
+  pub held_is : IsHeld held
+  pub opened : Moment
+  pub is_opened : Opened options before opened
+  pub pressed : List PressedKey
+  pub all : AllShown opened m pressed
+  pub keys_are : (rest : List ℕ) → keys (bytes ++ rest) ≡ keys_pressed pressed ++ keys (held ++ rest)
+  pub completed_are : (rest : List ℕ) → completed (bytes ++ rest) ≡ keys_pressed pressed ++ completed (held ++ rest)
+  pub in_turn : InTurn bytes pressed
 
-one_byte : (byte : ℕ) → byte ∷ [] ≡ [] → ⊥
-one_byte byte e = absurd (cc)
+-- ---- lists
 
--- one more byte completes its keys
-pub completed-push : (reader : KeyReader) (bytes : List ℕ) (byte : ℕ)
-    → completed reader (bytes ++ byte ∷ []) ≡ completed reader bytes ++ listed (keys_of_byte (reader_after reader bytes) byte)
-completed-push reader [] byte = append-nil (listed (keys_of_byte reader byte))
-completed-push reader (first ∷ bytes) byte =
-    ap (λ l. listed (keys_of_byte reader first) ++ l) (completed-push (reader_behind reader first) bytes byte)
-    ∙ sym (append_assoc (listed (keys_of_byte reader first)) (completed (reader_behind reader first) bytes) _)
+-- the first of the first
+front_trans : (xs ys zs : List Key) → IsFront xs ys → IsFront ys zs → IsFront xs zs
+front_trans xs ys zs first second =
+    (first.0 ++ second.0, second.1 ∙ ap (λ l. l ++ second.0) first.1 ∙ append_assoc xs first.0 second.0)
 
--- the reader behind one more byte
-pub reader_after-push : (reader : KeyReader) (bytes : List ℕ) (byte : ℕ)
-    → reader_after reader (bytes ++ byte ∷ []) ≡ reader_behind (reader_after reader bytes) byte
-reader_after-push reader [] byte = refl
-reader_after-push reader (first ∷ bytes) byte = reader_after-push (reader_behind reader first) bytes byte
+-- bytes held back complete no key
+held_completes : (held : List ℕ) → IsHeld held → completed held ≡ []
+unfolding completed
+held_completes held (inl none) = ap completed none
+held_completes held (inr (inl escape)) = ap completed escape
+held_completes held (inr (inr bracket)) = ap completed bracket
 
--- the opening screen was written, and nothing was read
-pub so_far_none : (left before now : Option (List ℕ)) (s0 s : PlainSession) (reader0 reader : KeyReader) → Appends before now (opening s0)
-    → s ≡ s0 → reader ≡ reader0 → SoFar 0 (record { left = left; taken = before }) (record { left = left; taken = now }) s0 reader0 s reader
-so_far_none left before now s0 s reader0 reader wrote same_session same_reader = record {
+-- a byte more, for the keys and for those completed
+fed : (f : List ℕ → List Key) (bytes held now : List ℕ) (byte : ℕ) (before given : List Key) → ((rest : List ℕ) → f (bytes ++ rest) ≡ before ++ f (held ++ rest))
+    → ((rest : List ℕ) → f (held ++ byte ∷ rest) ≡ given ++ f (now ++ rest))
+    → (rest : List ℕ) → f ((bytes ++ byte ∷ []) ++ rest) ≡ (before ++ given) ++ f (now ++ rest)
+fed f bytes held now byte before given so feeds rest =
+    ap f (append_assoc bytes (byte ∷ []) rest) ∙ so (byte ∷ rest) ∙ ap (λ l. before ++ l) (feeds rest) ∙ sym (append_assoc before given (f (now ++ rest)))
+
+-- with nothing behind
+ended_list : (f : List ℕ → List Key) (bytes held : List ℕ) (before : List Key) → ((rest : List ℕ) → f (bytes ++ rest) ≡ before ++ f (held ++ rest))
+    → f bytes ≡ before ++ f held
+ended_list f bytes held before so =
+    ap f (sym (append-nil bytes)) ∙ so [] ∙ ap (λ l. before ++ f l) (append-nil held)
+
+-- and where nothing is complete
+completed_list : (bytes held : List ℕ) (before : List Key) → ((rest : List ℕ) → completed (bytes ++ rest) ≡ before ++ completed (held ++ rest)) → IsHeld held
+    → completed bytes ≡ before
+completed_list bytes held before so held_is =
+    ended_list completed bytes held before so ∙ ap (λ l. before ++ l) (held_completes held held_is) ∙ append-nil before
+
+-- ---- the opening screen was written, and nothing was read
+pub so_far_none : (options : PlainOptions) (before : Told) (left : Option (List ℕ)) (held : List ℕ) (m : Moment) → left ≡ before.left → held ≡ [] → Opened options before m
+    → SoFar 0 options before left held m
+so_far_none options before left held m same none is_opened = record {
   bytes = [];
   many = refl;
-  read = Consumes-nil left;
-  wrote = subst (Appends before now) (sym (written_by-nil s0)) wrote;
-  going = refl;
-  session_is = same_session;
-  reader_is = same_reader;
+  read = subst (λ l. Consumes before.left l []) (sym same) (Consumes-nil before.left);
+  held_is = inl none;
+  opened = m;
+  is_opened = is_opened;
+  pressed = [];
+  all = record {
+    can_reply = tt;
+    going = refl;
+    state = refl;
+    shown = refl;
+    wrote = Appends-nil m.taken;
+    faults = omega arith;
+  };
+  keys_are = λ rest. ap (λ l. keys (l ++ rest)) (sym none);
+  completed_are = λ rest. ap (λ l. completed (l ++ rest)) (sym none);
+  in_turn = λ seen newest e. absurd (one_byte seen newest e);
 }
 
-module _ (count : ℕ) (before mid now : Told) (s0 : PlainSession) (reader0 : KeyReader) (s : PlainSession) (reader : KeyReader)
-    (so : SoFar count before mid s0 reader0 s reader) where
-  -- what more keys write behind what was written so far
-  writes_more : (more : List Key) → written_by s0 (completed reader0 so.bytes ++ more) ≡ written_by s0 (completed reader0 so.bytes) ++ screens s more
-  writes_more more =
-      written_by-going s0 (completed reader0 so.bytes) more so.going ∙ ap (λ z. written_by s0 (completed reader0 so.bytes) ++ screens z more) (sym so.session_is)
+module _ (number : ℕ) (options : PlainOptions) (before : Told) (left : Option (List ℕ)) (held : List ℕ) (m : Moment) (so : SoFar number options before left held m)
+    (now_left : Option (List ℕ)) (now : Moment) where
+  -- the keys so far
+  abbrev pressed_keys : List Key
+  pressed_keys = keys_pressed so.pressed
 
-  -- and whether they end the session
-  quits_more : (more : List Key) → quits s0 (completed reader0 so.bytes ++ more) ≡ quits s more
-  quits_more more = quits-going s0 (completed reader0 so.bytes) more so.going ∙ ap (λ z. quits z more) (sym so.session_is)
+  -- ---- some more keys, one of which ended the run
+  module _ (bytes : List ℕ) (more : List Key) (read : Consumes before.left now_left bytes) (within : length bytes ≤ options.key_limit)
+      (order : IsFront (pressed_keys ++ more) (keys bytes))
+      (complete : IsFront (pressed_keys ++ more) (completed bytes) ⊎ IsOver options (told_at now_left now) bytes)
+      (in_turn : (earlier : List PressedKey) → InTurn bytes (so.pressed ++ earlier)) where
+    nothing_behind : Consumes before.left now_left (bytes ++ [])
+    nothing_behind = subst (Consumes before.left now_left) (sym (append-nil bytes)) read
 
-  -- the keys with those of one more byte
-  completed_more : (byte : ℕ) → completed reader0 (so.bytes ++ byte ∷ []) ≡ completed reader0 so.bytes ++ listed (keys_of_byte reader byte)
-  completed_more byte =
-      completed-push reader0 so.bytes byte ∙ ap (λ r. completed reader0 so.bytes ++ listed (keys_of_byte r byte)) (sym so.reader_is)
+    module _ (earlier : List PressedKey) (last : PressedKey) (front : IsFront (keys_pressed (earlier ++ last ∷ [])) more) (count : ℕ)
+        (up_to : UpToLast m now earlier last count) where
+      joined : so.pressed ++ (earlier ++ last ∷ []) ≡ (so.pressed ++ earlier) ++ last ∷ []
+      joined = sym (append_assoc so.pressed earlier (last ∷ []))
 
-  -- the screen of one of some more keys was cut short
-  screen_cut : (limit : ℕ) (newest : List ℕ) (more tail : List Key) → length newest ≤ 1 → count + length newest ≤ limit
-      → (newest ≡ [] → IsAtEnd now.left ⊎ (count ≡ limit)) → Consumes mid.left now.left newest
-      → keys reader0 (so.bytes ++ newest) ≡ (completed reader0 so.bytes ++ more) ++ tail → OneCut mid.taken now.taken s more
-      → ScreenCut limit before now s0 reader0
-  screen_cut limit newest more tail one within alone read order cut =
-      let ks = completed reader0 so.bytes in
-      let tried = cut.earlier ++ cut.last ∷ [] in
-      let joined : (ks ++ cut.earlier) ++ cut.last ∷ [] ≡ ks ++ tried = append_assoc ks cut.earlier (cut.last ∷ []) in
-      let bytes : written_by s0 ks ++ screens s tried ≡ written_by s0 ((ks ++ cut.earlier) ++ cut.last ∷ []) =
-      sym (writes_more tried) ∙ ap (written_by s0) (sym joined) in
-      let front : length (written_by s0 (ks ++ cut.earlier)) ≡ length (written_by s0 ks) + length (screens s cut.earlier) =
-      ap length (writes_more cut.earlier) ∙ length-append (written_by s0 ks) (screens s cut.earlier) in
-      record {
-        seen = so.bytes;
-        newest = newest;
-        one = one;
-        within = omega (arith, within, so.many, length-append so.bytes newest);
-        alone = λ none. subst (λ n. IsAtEnd now.left ⊎ (n ≡ limit)) (sym so.many) (alone none);
-        read = Consumes-trans _ _ _ so.bytes newest so.read read;
-        earlier = ks ++ cut.earlier;
-        last = cut.last;
-        rest = cut.rest ++ tail;
-        in_order = order ∙ ap (λ l. (ks ++ l) ++ tail) cut.in_order ∙ append_assoc ks (cut.earlier ++ cut.last ∷ cut.rest) tail
-            ∙ ap (λ l. ks ++ l) (append_assoc cut.earlier (cut.last ∷ cut.rest) tail) ∙ sym (append_assoc ks cut.earlier (cut.last ∷ (cut.rest ++ tail)));
-        of_newest = cut.earlier;
-        in_turn = refl;
-        going = ap (quits s0) joined ∙ quits_more tried ∙ cut.going;
-        count = length (written_by s0 ks) + cut.count;
-        wrote = subst (Appends before.taken now.taken)
-            (sym (take-append-add (written_by s0 ks) (screens s tried) cut.count) ∙ ap (take (length (written_by s0 ks) + cut.count)) bytes)
-            (Appends-trans _ _ _ (written_by s0 ks) (take cut.count (screens s tried)) so.wrote cut.wrote);
-        whole = omega (arith, front, cut.whole);
-      }
+      in_front : IsFront (keys_pressed ((so.pressed ++ earlier) ++ last ∷ [])) (pressed_keys ++ more)
+      in_front =
+          subst (λ l. IsFront (keys_pressed l) (pressed_keys ++ more)) joined (front_behind so.pressed pressed_keys more (earlier ++ last ∷ []) refl front)
 
-  -- one more byte was read, and all its keys were shown
-  pub so_far_more : (byte : ℕ) (s1 : PlainSession) (reader1 : KeyReader) → Consumes mid.left now.left (byte ∷ [])
-      → AllShown mid.taken now.taken s s1 (listed (keys_of_byte reader byte)) → reader1 ≡ reader_behind reader byte
-      → SoFar (count + 1) before now s0 reader0 s1 reader1
-  so_far_more byte s1 reader1 read shown behind =
-      let more = listed (keys_of_byte reader byte) in
-      let ks = completed reader0 so.bytes in
-      record {
-        bytes = so.bytes ++ byte ∷ [];
-        many = length-append so.bytes (byte ∷ []) ∙ ap (λ n. n + 1) so.many;
-        read = Consumes-trans _ _ _ so.bytes (byte ∷ []) so.read read;
-        wrote = subst (Appends before.taken now.taken) (sym (ap (written_by s0) (completed_more byte) ∙ writes_more more))
-            (Appends-trans _ _ _ (written_by s0 ks) (screens s more) so.wrote shown.wrote);
-        going = ap (quits s0) (completed_more byte) ∙ quits_more more ∙ shown.going;
-        session_is = shown.session ∙ ap (λ z. after z more) so.session_is ∙ sym (after-append s0 ks more) ∙ ap (after s0) (sym (completed_more byte));
-        reader_is = behind ∙ ap (λ r. reader_behind r byte) so.reader_is ∙ sym (reader_after-push reader0 so.bytes byte);
-      }
+      complete_front : IsFront (keys_pressed ((so.pressed ++ earlier) ++ last ∷ [])) (completed bytes) ⊎ IsOver options (told_at now_left now) bytes
+      complete_front = elim complete as (λ _. IsFront (keys_pressed ((so.pressed ++ earlier) ++ last ∷ [])) (completed bytes) ⊎ IsOver options (told_at now_left now) bytes)
+          [ inl h ↦ inl (front_trans _ _ _ in_front h) | inr h ↦ inr h ]
 
-  -- a key of one more byte ended the session
-  quit_pressed : (limit byte : ℕ) → count < limit → Consumes mid.left now.left (byte ∷ []) → OneQuit mid.taken now.taken s (listed (keys_of_byte reader byte))
-      → QuitPressed limit before now s0 reader0
-  quit_pressed limit byte below read quit =
-      let more = listed (keys_of_byte reader byte) in
-      let ks = completed reader0 so.bytes in
-      let ended : quits s0 (completed reader0 (so.bytes ++ byte ∷ [])) ≡ true = ap (quits s0) (completed_more byte) ∙ quits_more more ∙ quit.quit in
-      record {
-        earlier = so.bytes;
-        last = byte;
-        below = subst (λ n. n < limit) (sym so.many) below;
-        moved = record {
-          read = Consumes-trans _ _ _ so.bytes (byte ∷ []) so.read read;
-          wrote = subst (Appends before.taken now.taken)
-              (sym (written_by-ended s0 (completed reader0 (so.bytes ++ byte ∷ [])) _ ended ∙ ap (written_by s0) (completed_more byte) ∙ writes_more more))
-              (Appends-trans _ _ _ (written_by s0 ks) (screens s more) so.wrote quit.wrote);
-        };
-        going = so.going;
-        quit = ended;
-      }
+      all_up_to : UpToLast so.opened now (so.pressed ++ earlier) last (length (painted_over so.opened.shown (grids so.opened.state so.pressed)) + count)
+      all_up_to = then_up_to so.opened m so.pressed so.all now earlier last count up_to
 
-  -- what isn't complete behind one more byte
-  unfinished_behind : ℕ → List Key
-  unfinished_behind byte = option_to_list (unfinished_key (reader_after reader0 (so.bytes ++ byte ∷ [])))
+      abbrev course : Course options before (told_at now_left now)
+      course = last_course options before so.opened now now_left so.is_opened bytes nothing_behind within (so.pressed ++ earlier) last _ all_up_to
+          (front_trans _ _ _ in_front order) complete_front
 
-  -- the screen of one of the keys of one more byte was cut short
-  byte_cut : (limit byte : ℕ) → count < limit → Consumes mid.left now.left (byte ∷ []) → OneCut mid.taken now.taken s (listed (keys_of_byte reader byte))
-      → ScreenCut limit before now s0 reader0
-  unfolding unfinished_behind
-  byte_cut limit byte below read cut =
-      screen_cut limit (byte ∷ []) (listed (keys_of_byte reader byte)) (unfinished_behind byte) (omega arith) (omega (arith, below)) (λ none. absurd (one_byte byte none)) read
-      (ap (λ l. l ++ unfinished_behind byte) (completed_more byte)) cut
+      at_key : AtLastKey course
+      at_key = at_last options before so.opened now now_left so.is_opened bytes nothing_behind within (so.pressed ++ earlier) last _ all_up_to
+          (front_trans _ _ _ in_front order) complete_front (in_turn earlier)
 
-  -- one more byte was read, and one of its keys ended the run
-  pub ended_by_byte : (status : Status) (limit byte : ℕ) (s1 : PlainSession) → count < limit → Consumes mid.left now.left (byte ∷ [])
-      → Turned (End status) mid.taken now.taken s s1 (listed (keys_of_byte reader byte)) → Ended status limit before now s0 reader0
-  ended_by_byte Done limit byte s1 below read turned = inr (quit_pressed limit byte below read turned)
-  ended_by_byte WriteFault limit byte s1 below read turned = inr (byte_cut limit byte below read turned)
-  ended_by_byte NoMemory limit byte s1 below read turned = inr (inr (byte_cut limit byte below read turned))
-  ended_by_byte ReadFault limit byte s1 below read turned = absurd turned
-  ended_by_byte BadWords limit byte s1 below read turned = absurd turned
-  ended_by_byte KeyLimit limit byte s1 below read turned = absurd turned
+      ends_as : (b : _) → ends m.state (earlier ++ last ∷ []) ≡ b → ends (first_state options before.files course.loads) ((so.pressed ++ earlier) ++ last ∷ []) ≡ b
+      ends_as b e =
+          last_ends options before so.opened now now_left so.is_opened bytes nothing_behind within (so.pressed ++ earlier) last _ all_up_to
+          (front_trans _ _ _ in_front order) complete_front
+          ∙ ap (ends so.opened.state) (sym joined) ∙ ends_more so.opened m so.pressed so.all (earlier ++ last ∷ []) ∙ e
 
-  -- a read gave no answer
-  pub read_cut : (limit : ℕ) (lost : List ℕ) → count < limit → length lost ≤ 1 → Consumes mid.left now.left lost → now.taken ≡ mid.taken
-      → ReadCut limit before now s0 reader0
-  read_cut limit lost below one read same = record {
-    bytes = so.bytes;
-    below = subst (λ n. n < limit) (sym so.many) below;
-    lost = lost;
-    one = one;
-    read = Consumes-trans _ _ _ so.bytes lost so.read read;
-    wrote = subst (λ taken. Appends before.taken taken (written_by s0 (completed reader0 so.bytes))) (sym same) so.wrote;
-    going = so.going;
-  }
+      all_written : length (painted_over m.shown (grids m.state (earlier ++ last ∷ []))) ≤ count
+          → length (written (first_state options before.files course.loads) ((so.pressed ++ earlier) ++ last ∷ [])) ≤ course.count
+      all_written all =
+          let first = painted_over so.opened.shown (grids so.opened.state so.pressed) in
+          let bytes_are : length (painted_over so.opened.shown (grids so.opened.state ((so.pressed ++ earlier) ++ last ∷ [])))
+          ≡ length first + length (painted_over m.shown (grids m.state (earlier ++ last ∷ []))) =
+          ap (λ l. length (painted_over so.opened.shown (grids so.opened.state l))) (sym joined)
+          ∙ ap length (painted_more so.opened m so.pressed so.all (earlier ++ last ∷ []))
+          ∙ length-append first (painted_over m.shown (grids m.state (earlier ++ last ∷ []))) in
+          last_all options before so.opened now now_left so.is_opened bytes nothing_behind within (so.pressed ++ earlier) last _ all_up_to
+          (front_trans _ _ _ in_front order) complete_front (omega (arith, bytes_are, all))
+
+    -- by the status
+    pub stopped_at_key : (status : Status) → Pressed (Over status) more m now → Ended status options before (told_at now_left now)
+    stopped_at_key Done next = record {
+      course = course next.earlier next.last next.front next.count next.up_to;
+      stopped = (
+        all_written next.earlier next.last next.front next.count next.up_to next.all,
+        refl,
+        inr (record {
+          at_key = at_key next.earlier next.last next.front next.count next.up_to;
+          quit = ends_as next.earlier next.last next.front next.count next.up_to true next.quit;
+        }),
+      );
+      rescued = refl;
+    }
+    stopped_at_key WriteFault next = record {
+      course = course next.earlier next.last next.front next.count next.up_to;
+      stopped = (refl, inr (record { at_key = at_key next.earlier next.last next.front next.count next.up_to; going = ends_as next.earlier next.last next.front next.count next.up_to false next.going }));
+      rescued = refl;
+    }
+    stopped_at_key NoMemory next = record {
+      course = course next.earlier next.last next.front next.count next.up_to;
+      stopped = inr (refl, inr (record { at_key = at_key next.earlier next.last next.front next.count next.up_to; going = ends_as next.earlier next.last next.front next.count next.up_to false next.going }));
+      rescued = refl;
+    }
+    stopped_at_key ReadFault next = absurd next
+    stopped_at_key BadWords next = absurd next
+    stopped_at_key KeyLimit next = absurd next
+
+  -- ---- one more byte
+  module _ (byte : ℕ) (given : Keys) (now_held : List ℕ) (feeds : Feeds held byte given now_held) (now_held_is : IsHeld now_held)
+      (read : Consumes left now_left (byte ∷ [])) where
+    abbrev now_bytes : List ℕ
+    now_bytes = so.bytes ++ byte ∷ []
+
+    keys_now : (rest : List ℕ) → keys (now_bytes ++ rest) ≡ (pressed_keys ++ listed given) ++ keys (now_held ++ rest)
+    keys_now = fed keys so.bytes held now_held byte pressed_keys (listed given) so.keys_are feeds.all
+
+    completed_now : (rest : List ℕ) → completed (now_bytes ++ rest) ≡ (pressed_keys ++ listed given) ++ completed (now_held ++ rest)
+    completed_now = fed completed so.bytes held now_held byte pressed_keys (listed given) so.completed_are feeds.complete
+
+    in_turn_now : (earlier : List PressedKey) → InTurn now_bytes (so.pressed ++ earlier)
+    in_turn_now earlier seen newest e =
+        let same : seen ≡ so.bytes = sym (same_from_push so.bytes seen byte newest e).0 in
+        let done : completed seen ≡ pressed_keys = ap completed same ∙ completed_list so.bytes held pressed_keys so.completed_are so.held_is in
+        (keys_pressed earlier, keys_pressed-append so.pressed earlier ∙ ap (λ l. l ++ keys_pressed earlier) (sym done))
+
+    now_many : length now_bytes ≡ number + 1
+    now_many = length-append so.bytes (byte ∷ []) ∙ ap (λ n. n + 1) so.many
+
+    now_read : Consumes before.left now_left now_bytes
+    now_read = Consumes-trans _ _ _ so.bytes (byte ∷ []) so.read read
+
+    -- all its keys were shown
+    pub so_far_more : (kept : List ℕ) → kept ≡ now_held → KeysShown (listed given) m now → SoFar (number + 1) options before now_left kept now
+    so_far_more kept same next =
+        let all : pressed_keys ++ listed given ≡ keys_pressed (so.pressed ++ next.pressed) =
+        ap (λ l. pressed_keys ++ l) (sym next.all) ∙ sym (keys_pressed-append so.pressed next.pressed) in
+        subst (λ h. SoFar (number + 1) options before now_left h now) (sym same)
+        (record {
+          bytes = now_bytes;
+          many = now_many;
+          read = now_read;
+          held_is = now_held_is;
+          opened = so.opened;
+          is_opened = so.is_opened;
+          pressed = so.pressed ++ next.pressed;
+          all = both_shown so.opened m so.pressed so.all now next.pressed next.shown;
+          keys_are = λ rest. keys_now rest ∙ ap (λ l. l ++ keys (now_held ++ rest)) all;
+          completed_are = λ rest. completed_now rest ∙ ap (λ l. l ++ completed (now_held ++ rest)) all;
+          in_turn = in_turn_now next.pressed;
+        })
+
+    -- one of its keys ended the run
+    pub ended_by_byte : (status : Status) → number < options.key_limit → Pressed (Over status) (listed given) m now → Ended status options before (told_at now_left now)
+    ended_by_byte status below next =
+        let done : completed now_bytes ≡ pressed_keys ++ listed given = completed_list now_bytes now_held (pressed_keys ++ listed given) completed_now now_held_is in
+        stopped_at_key now_bytes (listed given) now_read (omega (arith, now_many, below))
+        (keys now_held, ended_list keys now_bytes now_held (pressed_keys ++ listed given) keys_now)
+        (inl ([], done ∙ sym (append-nil (pressed_keys ++ listed given)))) in_turn_now status next
+
+  -- ---- a read gave no answer
+  pub read_cut : (lost : List ℕ) → number < options.key_limit → length lost ≤ 1 → Consumes left now_left lost → now ≡ m
+      → (course : Course options before (told_at now_left now)) × (length (written (first_state options before.files course.loads) course.pressed) ≤ course.count) × ReadCut course × (course.rescue ≡ NoRescue)
+  read_cut lost below one read same =
+      let all : AllShown so.opened now so.pressed = subst (λ z. AllShown so.opened z so.pressed) (sym same) so.all in
+      let done : completed so.bytes ≡ pressed_keys = completed_list so.bytes held pressed_keys so.completed_are so.held_is in
+      let whole : IsFront pressed_keys (completed so.bytes) = ([], done ∙ sym (append-nil pressed_keys)) in (
+        all_course options before so.opened now now_left so.is_opened so.bytes lost (Consumes-trans _ _ _ so.bytes lost so.read read) one (omega (arith, so.many, below)) so.pressed all
+            (keys held, ended_list keys so.bytes held pressed_keys so.keys_are) (inl whole),
+        omega arith,
+        record {
+          all = record {
+            pressed = sym done;
+            going = all_going options before so.opened now now_left so.is_opened so.bytes lost (Consumes-trans _ _ _ so.bytes lost so.read read) one (omega (arith, so.many, below)) so.pressed all
+                (keys held, ended_list keys so.bytes held pressed_keys so.keys_are) (inl whole);
+          };
+          below = omega (arith, so.many, below);
+        },
+        refl,
+      )
 
   -- ---- no byte comes any more
+  module _ (read : Consumes left now_left []) (within : number ≤ options.key_limit) (over : IsOver options (told_at now_left now) so.bytes) where
+    all_read : Consumes before.left now_left so.bytes
+    all_read = subst (Consumes before.left now_left) (append-nil so.bytes) (Consumes-trans _ _ _ so.bytes [] so.read read)
 
-  -- the key that isn't complete
-  abbrev unfinished : List Key
-  unfinished = option_to_list (unfinished_key reader)
+    all_keys : keys so.bytes ≡ pressed_keys ++ keys held
+    all_keys = ended_list keys so.bytes held pressed_keys so.keys_are
 
-  -- all keys
-  all_keys : keys reader0 so.bytes ≡ completed reader0 so.bytes ++ unfinished
-  all_keys = ap (λ r. completed reader0 so.bytes ++ option_to_list (unfinished_key r)) (sym so.reader_is)
+    in_turn_still : (earlier : List PressedKey) → InTurn so.bytes (so.pressed ++ earlier)
+    in_turn_still earlier seen newest e =
+        front_trans _ _ _ (so.in_turn seen newest e) (keys_pressed earlier, keys_pressed-append so.pressed earlier)
 
-  -- nothing more was read, and what isn't complete was shown
-  all_moved : (s1 : PlainSession) → Consumes mid.left now.left [] → AllShown mid.taken now.taken s s1 unfinished
-      → Moved before now so.bytes (written s0 reader0 so.bytes)
-  all_moved s1 read shown = record {
-    read = subst (Consumes before.left now.left) (append-nil so.bytes) (Consumes-trans _ _ _ so.bytes [] so.read read);
-    wrote = subst (Appends before.taken now.taken) (sym (ap (written_by s0) all_keys ∙ writes_more unfinished))
-        (Appends-trans _ _ _ (written_by s0 (completed reader0 so.bytes)) (screens s unfinished) so.wrote shown.wrote);
-  }
+    -- what isn't complete ended the run
+    pub ended_by_rest : (status : Status) → Pressed (Over status) (keys held) m now → Ended status options before (told_at now_left now)
+    ended_by_rest status next =
+        stopped_at_key so.bytes (keys held) all_read (omega (arith, so.many, within)) ([], all_keys ∙ sym (append-nil (pressed_keys ++ keys held))) (inr over)
+        in_turn_still status next
 
-  -- the screen of what isn't complete was cut short
-  unfinished_cut : (limit : ℕ) → count ≤ limit → IsAtEnd now.left ⊎ (count ≡ limit) → Consumes mid.left now.left [] → OneCut mid.taken now.taken s unfinished
-      → ScreenCut limit before now s0 reader0
-  unfinished_cut limit within alone read cut =
-      screen_cut limit [] unfinished [] (omega arith) (omega (arith, within)) (λ none. alone) read
-      (ap (keys reader0) (append-nil so.bytes) ∙ all_keys ∙ sym (append-nil (completed reader0 so.bytes ++ unfinished))) cut
+    -- all was shown
+    pub all_pressed : KeysShown (keys held) m now
+        → (course : Course options before (told_at now_left now)) × (length (written (first_state options before.files course.loads) course.pressed) ≤ course.count)
+        × (course.lost ≡ []) × (course.bytes ≡ so.bytes) × PressedAll course (keys course.bytes) × (course.rescue ≡ NoRescue)
+    all_pressed next =
+        let ps = so.pressed ++ next.pressed in
+        let all : AllShown so.opened now ps = both_shown so.opened m so.pressed so.all now next.pressed next.shown in
+        let keys_are : keys_pressed ps ≡ keys so.bytes = keys_pressed-append so.pressed next.pressed ∙ ap (λ l. pressed_keys ++ l) next.all ∙ sym all_keys in
+        let order : IsFront (keys_pressed ps) (keys so.bytes) = ([], sym keys_are ∙ sym (append-nil (keys_pressed ps))) in
+        let read_all = subst (Consumes before.left now_left) (sym (append-nil so.bytes)) all_read in (
+          all_course options before so.opened now now_left so.is_opened so.bytes [] read_all (omega arith) (omega (arith, so.many, within)) ps all order (inr over),
+          omega arith,
+          refl,
+          refl,
+          record {
+            pressed = keys_are;
+            going = all_going options before so.opened now now_left so.is_opened so.bytes [] read_all (omega arith) (omega (arith, so.many, within)) ps all order (inr over);
+          },
+          refl,
+        )
 
-  -- the source ended
-  pub ended_at_end : (turn : Turn) (limit : ℕ) (s1 : PlainSession) → count < limit → Consumes mid.left now.left [] → IsAtEnd now.left → quits s unfinished ≡ false
-      → Turned turn mid.taken now.taken s s1 unfinished → Ended (ended_as turn Done) limit before now s0 reader0
-  ended_at_end Next limit s1 below read end going shown =
-      inl (record { bytes = so.bytes; below = subst (λ n. n < limit) (sym so.many) below; moved = all_moved s1 read shown; ended = end; going = so.going })
-  ended_at_end (End Done) limit s1 below read end going quit = absurd (true_false (sym quit.quit ∙ going))
-  ended_at_end (End WriteFault) limit s1 below read end going cut = inr (unfinished_cut limit (omega (arith, below)) (inl end) read cut)
-  ended_at_end (End NoMemory) limit s1 below read end going cut = inr (inr (unfinished_cut limit (omega (arith, below)) (inl end) read cut))
-  ended_at_end (End ReadFault) limit s1 below read end going turned = absurd turned
-  ended_at_end (End BadWords) limit s1 below read end going turned = absurd turned
-  ended_at_end (End KeyLimit) limit s1 below read end going turned = absurd turned
+    -- the source ended
+    pub ended_at_end : (going : Going) → number < options.key_limit → IsAtEnd now_left → Pressed going (keys held) m now
+        → Ended (ended_as going Done) options before (told_at now_left now)
+    ended_at_end On below ended next =
+        let p = all_pressed next in
+        record { course = p.0; stopped = (p.1, p.2, inl (record { all = p.4; below = omega (arith, ap length p.3, so.many, below); ended = ended })); rescued = p.5 }
+    ended_at_end (Over status) below ended next = ended_by_rest status next
 
-  -- as many bytes were read as the limit allows
-  pub ended_at_limit : (turn : Turn) (limit : ℕ) (s1 : PlainSession) → count ≡ limit → Consumes mid.left now.left [] → quits s unfinished ≡ false
-      → Turned turn mid.taken now.taken s s1 unfinished → Ended (ended_as turn KeyLimit) limit before now s0 reader0
-  ended_at_limit Next limit s1 all read going shown = record {
-    bytes = so.bytes;
-    moved = all_moved s1 read shown;
-    many = so.many ∙ all;
-    going = ap (quits s0) all_keys ∙ quits_more unfinished ∙ going;
-  }
-  ended_at_limit (End Done) limit s1 all read going quit = absurd (true_false (sym quit.quit ∙ going))
-  ended_at_limit (End WriteFault) limit s1 all read going cut = inr (unfinished_cut limit (omega (arith, all)) (inr all) read cut)
-  ended_at_limit (End NoMemory) limit s1 all read going cut = inr (inr (unfinished_cut limit (omega (arith, all)) (inr all) read cut))
-  ended_at_limit (End ReadFault) limit s1 all read going turned = absurd turned
-  ended_at_limit (End BadWords) limit s1 all read going turned = absurd turned
-  ended_at_limit (End KeyLimit) limit s1 all read going turned = absurd turned
+    -- as many bytes were read as the limit allows
+    pub ended_at_limit : (going : Going) → number ≡ options.key_limit → Pressed going (keys held) m now → Ended (ended_as going KeyLimit) options before (told_at now_left now)
+    ended_at_limit On all next =
+        let p = all_pressed next in
+        record { course = p.0; stopped = (p.1, p.2, record { all = p.4; many = ap length p.3 ∙ so.many ∙ all }); rescued = p.5 }
+    ended_at_limit (Over status) all next = ended_by_rest status next

@@ -1,49 +1,77 @@
 -- The keys that bytes stand for.
-use Rattle.std.specs.Prelude.{ℕ, ◌==◌, ◌||◌, List, [], ◌∷◌, ◌++◌, None, Some, Option, option_to_list, if◌then◌else◌}
+use Rattle.std.specs.Prelude.{◌≡◌, ◌⊎◌, ℕ, ◌==◌, ◌||◌, ◌&&◌, Bool, List, [], ◌∷◌, ◌++◌, option_to_list, if◌then◌else◌}
 use Rattle.plcs_base.specs.Byte.{is_printable}
 use Rattle.synth_top.specs.declared.key.Key.{Key}
-use Rattle.synth_top.specs.declared.key.Key.TheVariants.{Char, Enter, Other}
+use Rattle.synth_top.specs.declared.key.Key.TheVariants.{Char, Enter, Erase, Clear, Tab, Up, Down, Left, Right, Other}
 use Rattle.synth_top.specs.declared.key.Keys.{Keys}
-use Rattle.synth_top.specs.declared.key.KeyReader.{KeyReader}
+use Rattle.synth_top.specs.declared.key.Held.{Held}
+use Rattle.synth_top.specs.declared.key.Held.TheVariants.{Nothing, Escape, Bracket}
 
--- the key of a byte: a printable byte is itself, and both line ends are Enter
+-- ---- the table
+
+-- the key of a byte by itself: a printable byte is itself, both line ends are Enter, and a byte that
+-- stands for nothing is Other, as ESC is where no move follows
 abbrev pub key_of : ℕ → Key
 key_of byte =
     if is_printable byte then Char byte
-    else (if byte == 13 || byte == 10 then Enter else Other)
+    else (if byte == 13 || byte == 10 then Enter
+    else (if byte == 127 || byte == 8 then Erase
+    else (if byte == 21 then Clear
+    else (if byte == 9 then Tab
+    else Other))))
 
--- a reader that has read nothing
-abbrev pub new_reader : KeyReader
-new_reader = record {}
+-- the key of ESC, [ and this byte
+abbrev pub move_of : ℕ → Key
+move_of byte =
+    if byte == 65 then Up
+    else (if byte == 66 then Down
+    else (if byte == 67 then Right
+    else (if byte == 68 then Left
+    else Other)))
 
--- the keys that a reader's next byte completes
-unfoldable pub keys_of_byte : KeyReader → ℕ → Keys
-keys_of_byte reader byte = record { first = Some (key_of byte); second = None }
+-- ESC and [, behind which one byte more makes a key
+abbrev pub begins_move : ℕ → ℕ → Bool
+begins_move byte next = byte == 27 && next == 91
 
--- the reader behind that byte
-unfoldable pub reader_behind : KeyReader → ℕ → KeyReader
-reader_behind reader byte = reader
+-- the keys of bytes behind which nothing comes: what isn't complete at their end is one Other
+unfoldable pub keys : List ℕ → List Key
+keys [] = []
+keys (byte ∷ []) = key_of byte ∷ []
+keys (byte ∷ next ∷ []) =
+    if begins_move byte next then Other ∷ [] else key_of byte ∷ keys (next ∷ [])
+keys (byte ∷ next ∷ last ∷ rest) =
+    if begins_move byte next then move_of last ∷ keys rest
+    else key_of byte ∷ keys (next ∷ last ∷ rest)
 
--- the key that stands for what isn't complete when the bytes end
-unfoldable pub unfinished_key : KeyReader → Option Key
-unfinished_key reader = None
+-- the keys of bytes behind which others may come: what isn't complete at their end is none yet
+unfoldable pub completed : List ℕ → List Key
+completed [] = []
+completed (byte ∷ []) = if byte == 27 then [] else key_of byte ∷ []
+completed (byte ∷ next ∷ []) =
+    if begins_move byte next then [] else key_of byte ∷ completed (next ∷ [])
+completed (byte ∷ next ∷ last ∷ rest) =
+    if begins_move byte next then move_of last ∷ completed rest
+    else key_of byte ∷ completed (next ∷ last ∷ rest)
+
+-- ---- the reader
+
+-- the bytes that are read and are no key yet
+abbrev pub held_bytes : Held → List ℕ
+held_bytes Nothing = []
+held_bytes Escape = 27 ∷ []
+held_bytes Bracket = 27 ∷ 91 ∷ []
 
 -- keys in the order in which they are pressed
 abbrev pub listed : Keys → List Key
 listed keys = option_to_list keys.first ++ option_to_list keys.second
 
--- the reader behind some bytes
-abbrev pub reader_after : KeyReader → List ℕ → KeyReader
-reader_after reader [] = reader
-reader_after reader (byte ∷ bytes) = reader_after (reader_behind reader byte) bytes
+-- a byte behind those held back gives these keys, and leaves those bytes held back: whatever comes
+-- behind, the keys of all are these and then the others'
+pub record Feeds (held : List ℕ) (byte : ℕ) (given : Keys) (now : List ℕ) : Type 0 where
+  pub all : (rest : List ℕ) → keys (held ++ byte ∷ rest) ≡ listed given ++ keys (now ++ rest)
+  pub complete : (rest : List ℕ) →
+      completed (held ++ byte ∷ rest) ≡ listed given ++ completed (now ++ rest)
 
--- the keys that some bytes complete
-abbrev pub completed : KeyReader → List ℕ → List Key
-completed reader [] = []
-completed reader (byte ∷ bytes) =
-    listed (keys_of_byte reader byte) ++ completed (reader_behind reader byte) bytes
-
--- the keys of bytes behind which nothing comes
-abbrev pub keys : KeyReader → List ℕ → List Key
-keys reader bytes =
-    completed reader bytes ++ option_to_list (unfinished_key (reader_after reader bytes))
+-- bytes that a reader may hold back: none, ESC, or ESC and [
+abbrev pub IsHeld : List ℕ → Type 0
+IsHeld bytes = (bytes ≡ []) ⊎ ((bytes ≡ 27 ∷ []) ⊎ (bytes ≡ 27 ∷ 91 ∷ []))

@@ -14,5 +14,5 @@ is_number most text =
     nat_le (value_of text) most
 
 -- the number that a text is, if it is one
-unfoldable pub number_of : ℕ → List ℕ → Option ℕ
-number_of most text = if is_number most text then Some (value_of text) else None
+unfoldable pub number_in_digits : ℕ → List ℕ → Option ℕ
+number_in_digits most text = if is_number most text then Some (value_of text) else None

@@ -34,13 +34,13 @@ cut_before cell [] = if cell == 32 then [] else cell ∷ []
 cut_before cell (next ∷ rest) = cell ∷ next ∷ rest
 
 -- cells up to the last that isn't a blank in default image
-abbrev pub trimmed : List ℕ → List ℕ
-trimmed [] = []
-trimmed (cell ∷ cells) = cut_before cell (trimmed cells)
+abbrev pub visible : List ℕ → List ℕ
+visible [] = []
+visible (cell ∷ cells) = cut_before cell (visible cells)
 
 -- one row: the cursor goes there, its cells are written, and the rest of the row is blanked
 unfoldable pub row_piece : ℕ → List ℕ → List ℕ
-row_piece number cells = go_to number 1 ++ (spelled false (trimmed cells) ++ control (codes "K"))
+row_piece number cells = go_to number 1 ++ (spelled false (visible cells) ++ control (codes "K"))
 
 -- a row is written only where it differs
 abbrev pub row_paint : ℕ → List ℕ → List ℕ → List ℕ

@@ -1,40 +1,21 @@
 -- A whole run: from the bytes of keys to the bytes of screens.
-use Rattle.std.specs.Prelude.{◌≡◌, ◌⊎◌, ℕ, ◌<◌, ◌≤◌, Bool, true, false, ◌||◌, List, [], ◌∷◌, ◌++◌, length, take, Option, codes, if◌then◌else◌}
+use Rattle.std.specs.Prelude.{◌≡◌, ◌⊎◌, ℕ, ◌+◌, ◌-◌, ◌^◌, ◌<◌, ◌≤◌, min, true, false, List, [], ◌∷◌, ◌++◌, length, map, take, Option, Some, None, codes}
 use Rattle.std.specs.Io.KnownBytes.{Appends, Consumes, IsAtEnd}
-use Rattle.synth_outside.specs.Sink.{AppendsFront}
+use Rattle.synth_outside.specs.Files.{FileMap}
 use Rattle.synth_top.specs.declared.key.Key.{Key}
-use Rattle.synth_top.specs.declared.key.KeyReader.{KeyReader}
 use Rattle.synth_top.specs.declared.status.Status.{Status}
 use Rattle.synth_top.specs.declared.status.Status.TheVariants.{Done, ReadFault, WriteFault, NoMemory, BadWords, KeyLimit}
 use Rattle.synth_top.specs.Keys.{completed, keys}
-use Rattle.synth_top.specs.Session.{PlainSession, press, is_quit}
-use Rattle.synth_top.specs.Screen.{grid, blank}
 use Rattle.synth_top.specs.Paint.{paint, control}
+use Rattle.synth_top.specs.Reply.{Reply, NotAsked, failure}
+use Rattle.synth_top.specs.Screen.{PlainGrid, grid, blank}
+use Rattle.synth_top.specs.Session.{PlainSession, new_session}
+use Rattle.synth_top.specs.Turn.{State, PressedKey, Replied, after, ends, failures, grids}
+use Rattle.synth_top.specs.Words.{PlainOptions}
 
--- ---- sessions and screens along a list of keys
+-- ---- what is written
 
--- the session behind some keys
-abbrev pub after : PlainSession → List Key → PlainSession
-after s [] = s
-after s (key ∷ keys) = after (press s key).after keys
-
--- whether one of the keys ends the session
-abbrev pub quits : PlainSession → List Key → Bool
-quits s [] = false
-quits s (key ∷ keys) = is_quit (press s key).answer || quits (press s key).after keys
-
--- the screen of a key, painted over the one before
-unfoldable pub screen_of_key : PlainSession → Key → List ℕ
-screen_of_key s key = paint (grid s) (grid (press s key).after)
-
--- the screens of some keys, up to one that ends the session, which has none
-abbrev pub screens : PlainSession → List Key → List ℕ
-screens s [] = []
-screens s (key ∷ keys) =
-    if is_quit (press s key).answer then []
-    else screen_of_key s key ++ screens (press s key).after keys
-
--- the first piece, which clears the screen and sets the default image
+-- the first piece, which sets the default image and clears the screen
 abbrev pub clear_piece : List ℕ
 clear_piece = control (codes "0m") ++ control (codes "2J")
 
@@ -42,107 +23,178 @@ clear_piece = control (codes "0m") ++ control (codes "2J")
 unfoldable pub opening : PlainSession → List ℕ
 opening s = clear_piece ++ paint (blank s.size) (grid s)
 
--- the opening screen, and the screens of some keys
-unfoldable pub written_by : PlainSession → List Key → List ℕ
-written_by s keys = opening s ++ screens s keys
+-- each screen painted over the one before, the first over the one that is shown
+abbrev pub painted_over : PlainGrid → List PlainGrid → List ℕ
+painted_over shown [] = []
+painted_over shown (next ∷ rest) = paint shown next ++ painted_over next rest
 
--- all that is written for some bytes behind which nothing comes
-abbrev pub written : PlainSession → KeyReader → List ℕ → List ℕ
-written s reader bytes = written_by s (keys reader bytes)
+-- all that is written: the opening screen, and then turn by turn each screen over the one before
+unfoldable pub written : State → List PressedKey → List ℕ
+written state pressed =
+    opening state.session ++ painted_over (grid state.session) (grids state pressed)
 
--- ---- how a run may end
+-- ---- what a run begins with
 
--- how many bytes of keys the editor takes at most
-abbrev pub key_limit : ℕ
-key_limit = 1000000000
-
--- what is told of the bytes that the source has left, and of those that the sink took
+-- what is told of the outside: the bytes that the source has left, those that the sink took, the map
+-- of the files, and how many faults these counted
 pub record Told : Type 0 where
   pub left : Option (List ℕ)
   pub taken : Option (List ℕ)
+  pub files : Option FileMap
+  pub file_faults : ℕ
 
--- the bytes were taken from the source, each once and in order, and these were given to the sink
-pub record Moved (before now : Told) (bytes written : List ℕ) : Type 0 where
-  pub read : Consumes before.left now.left bytes
-  pub wrote : Appends before.taken now.taken written
+-- what the files did where the program and its input were loaded, before the first screen
+pub record Loads : Type 0 where
+  pub program : Reply
+  pub input : Reply
 
--- the source ended below the limit, and no key had ended the session
-pub record SourceEnded (limit : ℕ) (before now : Told) (s : PlainSession) (reader : KeyReader)
-    : Type 0 where
+-- no words name a file to be loaded yet
+pub record CanLoad (options : PlainOptions) (files : Option FileMap) (loads : Loads) : Type 0 where
+  pub program : loads.program ≡ NotAsked
+  pub input : loads.input ≡ NotAsked
+
+-- the state of the opening screen
+abbrev pub first_state : PlainOptions → Option FileMap → Loads → State
+first_state options files loads = record { session = new_session options.size; files = files }
+
+-- ---- what a run has done
+
+-- the keys of pressed keys
+abbrev pub keys_pressed : List PressedKey → List Key
+keys_pressed pressed = map (λ p. p.key) pressed
+
+-- some keys are the first of others
+abbrev pub IsFront : List Key → List Key → Type 0
+IsFront front whole = (rest : List Key) × (whole ≡ front ++ rest)
+
+-- a count rose by so much, or is at its last value
+abbrev pub RoseBy : ℕ → ℕ → ℕ → Type 0
+RoseBy much before now = min (before + much) (2 ^ 64 - 1) ≤ now
+
+-- no byte comes behind these: the source is at its end, or the limit is met
+abbrev pub IsOver : PlainOptions → Told → List ℕ → Type 0
+IsOver options now bytes = IsAtEnd now.left ⊎ (length bytes ≡ options.key_limit)
+
+-- files that told a map before have this one now
+abbrev pub HaveMap : Option FileMap → Option FileMap → Type 0
+HaveMap None now = Unit {0}
+HaveMap (Some map) now = now ≡ Some map
+
+-- what was saved at the end of a run
+pub data Rescue : Type 0 where
+  NoRescue : Rescue
+
+-- whether this has to be saved where a run ends so: nothing has, since no session has a listing yet
+abbrev pub IsRescue : Status → Rescue → Type 0
+IsRescue status rescue = rescue ≡ NoRescue
+
+-- the map of the files with what was saved
+abbrev pub map_with : Rescue → Option FileMap → Option FileMap
+map_with NoRescue files = files
+
+-- what a run with these options has done between two moments
+pub record Course (options : PlainOptions) (before now : Told) : Type 0 where
+  -- the loads
+  pub loads : Loads
+  pub can_load : CanLoad options before.files loads
+  -- the bytes of keys, each taken once and in order, and at most one that a failed read lost
   pub bytes : List ℕ
-  pub below : length bytes < limit
-  pub moved : Moved before now bytes (written s reader bytes)
-  pub ended : IsAtEnd now.left
-  pub going : quits s (completed reader bytes) ≡ false
-
--- a key of the last byte ended the session, and none before
-pub record QuitPressed (limit : ℕ) (before now : Told) (s : PlainSession) (reader : KeyReader)
-    : Type 0 where
-  pub earlier : List ℕ
-  pub last : ℕ
-  pub below : length earlier < limit
-  pub moved : Moved before now (earlier ++ last ∷ []) (written s reader (earlier ++ last ∷ []))
-  pub going : quits s (completed reader earlier) ≡ false
-  pub quit : quits s (completed reader (earlier ++ last ∷ [])) ≡ true
-
--- so many bytes were taken, and no key of them ended the session
-pub record LimitReached (limit : ℕ) (before now : Told) (s : PlainSession) (reader : KeyReader)
-    : Type 0 where
-  pub bytes : List ℕ
-  pub moved : Moved before now bytes (written s reader bytes)
-  pub many : length bytes ≡ limit
-  pub going : quits s (keys reader bytes) ≡ false
-
--- a read gave no answer: what isn't complete wasn't pressed, and the source may have lost one
--- byte more
-pub record ReadCut (limit : ℕ) (before now : Told) (s : PlainSession) (reader : KeyReader)
-    : Type 0 where
-  pub bytes : List ℕ
-  pub below : length bytes < limit
   pub lost : List ℕ
-  pub one : length lost ≤ 1
   pub read : Consumes before.left now.left (bytes ++ lost)
-  pub wrote : Appends before.taken now.taken (written_by s (completed reader bytes))
-  pub going : quits s (completed reader bytes) ≡ false
-
--- the opening screen was cut short, before any key was read
-pub record OpeningCut (before now : Told) (s : PlainSession) : Type 0 where
-  pub read : Consumes before.left now.left []
-  pub front : AppendsFront before.taken now.taken (opening s)
-
--- the screen of a key was cut short: all screens of the keys before it were written, and of its
--- own a front; no byte was read before the keys of those before it were pressed, and what isn't
--- complete was pressed only where no byte comes any more
-pub record ScreenCut (limit : ℕ) (before now : Told) (s : PlainSession) (reader : KeyReader)
-    : Type 0 where
-  pub seen : List ℕ
-  pub newest : List ℕ
-  pub one : length newest ≤ 1
-  pub within : length (seen ++ newest) ≤ limit
-  pub alone : newest ≡ [] → IsAtEnd now.left ⊎ (length seen ≡ limit)
-  pub read : Consumes before.left now.left (seen ++ newest)
-  pub earlier : List Key
-  pub last : Key
-  pub rest : List Key
-  pub in_order : keys reader (seen ++ newest) ≡ earlier ++ last ∷ rest
-  pub of_newest : List Key
-  pub in_turn : earlier ≡ completed reader seen ++ of_newest
-  pub going : quits s (earlier ++ last ∷ []) ≡ false
+  pub one : length lost ≤ 1
+  pub within : length bytes ≤ options.key_limit
+  -- the keys pressed, each with what the files did in it; what isn't complete is pressed only where
+  -- no byte comes any more
+  pub pressed : List PressedKey
+  pub can_reply : Replied (first_state options before.files loads) pressed
+  pub in_order : IsFront (keys_pressed pressed) (keys bytes)
+  pub complete : IsFront (keys_pressed pressed) (completed bytes) ⊎ IsOver options now bytes
+  -- how many bytes of all that is written the sink took
   pub count : ℕ
-  pub wrote : Appends before.taken now.taken (take count (written_by s (earlier ++ last ∷ [])))
-  pub whole : length (written_by s earlier) ≤ count
+  pub wrote : Appends before.taken now.taken
+      (take count (written (first_state options before.files loads) pressed))
+  -- the map of the files as the turns and what was saved make it, and at least as many faults of
+  -- theirs as failures
+  pub rescue : Rescue
+  pub files : HaveMap
+      (map_with rescue (after (first_state options before.files loads) pressed).files) now.files
+  pub faults : RoseBy (failure loads.program + failure loads.input + failures pressed)
+      before.file_faults now.file_faults
 
--- a write gave no answer
-abbrev pub WriteCut : ℕ → Told → Told → PlainSession → KeyReader → Type 0
-WriteCut limit before now s reader = OpeningCut before now s ⊎ ScreenCut limit before now s reader
+-- ---- why a run stopped
 
--- what each status says of a run from the session s, with at most so many bytes
-abbrev pub Ended : Status → ℕ → Told → Told → PlainSession → KeyReader → Type 0
-Ended Done limit before now s reader =
-    SourceEnded limit before now s reader ⊎ QuitPressed limit before now s reader
-Ended ReadFault limit before now s reader = ReadCut limit before now s reader
-Ended WriteFault limit before now s reader = WriteCut limit before now s reader
-Ended NoMemory limit before now s reader =
-    ReadCut limit before now s reader ⊎ WriteCut limit before now s reader
-Ended BadWords limit before now s reader = ⊥
-Ended KeyLimit limit before now s reader = LimitReached limit before now s reader
+module _ {options : PlainOptions} {before now : Told} (course : Course options before now) where
+  -- the state of the run's opening screen
+  abbrev pub state_at_first : State
+  state_at_first = first_state options before.files course.loads
+
+  -- the sink took all that is written
+  abbrev pub AllWritten : Type 0
+  AllWritten = length (written state_at_first course.pressed) ≤ course.count
+
+  -- no byte was lost
+  abbrev pub NoneLost : Type 0
+  NoneLost = course.lost ≡ []
+
+  -- just these keys were pressed, and none ended the session
+  pub record PressedAll (all : List Key) : Type 0 where
+    pub pressed : keys_pressed course.pressed ≡ all
+    pub going : ends state_at_first course.pressed ≡ false
+
+  -- the source ended below the limit, and then what isn't complete was pressed too
+  pub record SourceEnded : Type 0 where
+    pub all : PressedAll (keys course.bytes)
+    pub below : length course.bytes < options.key_limit
+    pub ended : IsAtEnd now.left
+
+  -- as many bytes were taken as the limit says, and then what isn't complete was pressed too
+  pub record LimitMet : Type 0 where
+    pub all : PressedAll (keys course.bytes)
+    pub many : length course.bytes ≡ options.key_limit
+
+  -- a read gave no answer below the limit, and what isn't complete wasn't pressed
+  pub record ReadCut : Type 0 where
+    pub all : PressedAll (completed course.bytes)
+    pub below : length course.bytes < options.key_limit
+
+  -- the run stopped at the last key pressed: none before it ended the session, the screens of those
+  -- were all written, and the newest byte was taken only behind the keys that the bytes before it
+  -- complete
+  pub record AtLastKey : Type 0 where
+    pub earlier : List PressedKey
+    pub last : PressedKey
+    pub is_last : course.pressed ≡ earlier ++ last ∷ []
+    pub going : ends state_at_first earlier ≡ false
+    pub shown : length (written state_at_first earlier) ≤ course.count
+    pub in_turn : (seen : List ℕ) (newest : ℕ) → course.bytes ≡ seen ++ newest ∷ [] →
+        IsFront (completed seen) (keys_pressed earlier)
+
+  -- the last key pressed ended the session
+  pub record QuitPressed : Type 0 where
+    pub at_key : AtLastKey
+    pub quit : ends state_at_first course.pressed ≡ true
+
+  -- a write of the opening screen gave no answer, before any byte was taken
+  pub record OpeningCut : Type 0 where
+    pub no_byte : course.bytes ≡ []
+    pub no_key : course.pressed ≡ []
+
+  -- a write of a screen of the last key pressed gave no answer
+  pub record ScreenCut : Type 0 where
+    pub at_key : AtLastKey
+    pub going : ends state_at_first course.pressed ≡ false
+
+  -- what each status says of the run
+  abbrev pub Stopped : Status → Type 0
+  Stopped Done = AllWritten × NoneLost × (SourceEnded ⊎ QuitPressed)
+  Stopped KeyLimit = AllWritten × NoneLost × LimitMet
+  Stopped ReadFault = AllWritten × ReadCut
+  Stopped WriteFault = NoneLost × (OpeningCut ⊎ ScreenCut)
+  Stopped NoMemory = (AllWritten × ReadCut) ⊎ (NoneLost × (OpeningCut ⊎ ScreenCut))
+  Stopped BadWords = ⊥
+
+-- the run did this, and stopped and saved as its status says
+pub record Ended (status : Status) (options : PlainOptions) (before now : Told) : Type 0 where
+  pub course : Course options before now
+  pub stopped : Stopped course status
+  pub rescued : IsRescue status course.rescue

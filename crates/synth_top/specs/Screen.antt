@@ -5,8 +5,6 @@ use Rattle.plcs_grammar.specs.declared.category.Category.TheVariants.{Expression
 use Rattle.plcs_grammar.specs.Placeholder.{placeholder, placeholder_word}
 use Rattle.synth_top.specs.declared.session.Statement.{Statement}
 use Rattle.synth_top.specs.declared.session.Statement.TheVariants.{Hole, Put}
-use Rattle.synth_top.specs.declared.session.Refusal.{Refusal}
-use Rattle.synth_top.specs.declared.session.Refusal.TheVariants.{NotHere, PhraseFull, NotBuilt}
 use Rattle.synth_top.specs.Extent.{Extent}
 use Rattle.synth_top.specs.Session.{PlainSession}
 
@@ -24,15 +22,23 @@ abbrev pub part_text : Option ℕ → List ℕ
 part_text None = placeholder (placeholder_word ExpressionList)
 part_text (Some number) = decimal number
 
+-- what stands before a line that is one level in
+abbrev pub level : List ℕ
+level = codes "  "
+
+-- the words of a PUT before its part
+abbrev pub put_words : List ℕ
+put_words = codes "PUT LIST ( "
+
 -- the line of the statement, which stands one level in
 abbrev pub statement_line : Statement → List ℕ
-statement_line Hole = codes "  {statement}"
-statement_line (Put part) = codes "  PUT LIST ( " ++ (part_text part ++ codes " );")
+statement_line Hole = level ++ codes "{statement}"
+statement_line (Put part) = level ++ (put_words ++ (part_text part ++ codes " );"))
 
 -- the lines of the program, without their ends
 abbrev pub program_lines : Statement → List (List ℕ)
 program_lines statement =
-    codes "main: PROCEDURE OPTIONS ( MAIN );" ∷ codes "  {declaration}" ∷
+    codes "main: PROCEDURE OPTIONS ( MAIN );" ∷ (level ++ codes "{declaration}") ∷
     statement_line statement ∷ codes "END;" ∷ codes "{procedure}" ∷ []
 
 -- ---- the rows of the screen
@@ -41,20 +47,13 @@ program_lines statement =
 abbrev pub window_rows : Extent → ℕ
 window_rows size = size.rows - 6
 
--- a row of the window: a margin of two columns and the program's line, or nothing below the last
+-- the columns before each line of the program
+abbrev pub margin : List ℕ
+margin = codes "  "
+
+-- a row of the window: the margin and the program's line, or nothing below the last
 unfoldable pub window_text : PlainSession → ℕ → List ℕ
-window_text s row = codes "  " ++ slice_index_or (program_lines s.statement) row []
-
--- the text of a refusal
-abbrev pub refusal_text : Refusal → List ℕ
-refusal_text NotHere = codes "NOT HERE"
-refusal_text PhraseFull = codes "PHRASE FULL"
-refusal_text NotBuilt = codes "NOT BUILT"
-
--- the row of the message
-abbrev pub message_text : Option Refusal → List ℕ
-message_text None = []
-message_text (Some why) = refusal_text why
+window_text s row = margin ++ slice_index_or (program_lines s.statement) row []
 
 -- what the prompt asks for: the word of what stands at the cursor
 abbrev pub prompt_word : Statement → List ℕ
@@ -80,7 +79,7 @@ unfoldable pub row_text : PlainSession → ℕ → List ℕ
 row_text s row =
     if nat_lt row (window_rows s.size) then window_text s row
     else (if row == window_rows s.size then replicate (s.size.cols - 1) 45
-    else (if row == s.size.rows - 2 then message_text s.message
+    else (if row == s.size.rows - 2 then s.message
     else (if row == s.size.rows - 1 then input_text s
     else [])))
 
@@ -95,11 +94,11 @@ shown cols text = map (cell_of cols text) (range_with_len 0 cols)
 
 -- ---- the cursor
 
--- the column of the stop: the hole stands one level in behind the margin, the part of a PUT behind
--- the words of its template
+-- the column of the stop: the hole stands behind the margin and its level, the part of a PUT also
+-- behind the words before it
 abbrev pub stop_col : Statement → ℕ
-stop_col Hole = 5
-stop_col (Put part) = 16
+stop_col Hole = length margin + length level + 1
+stop_col (Put part) = length margin + length level + length put_words + 1
 
 -- behind the typed line where there is one, else at the stop, which stands in the third line
 abbrev pub cursor_row : PlainSession → ℕ

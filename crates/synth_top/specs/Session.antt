@@ -9,14 +9,16 @@ use Rattle.synth_top.specs.declared.session.Refusal.TheVariants.{NotHere, Phrase
 use Rattle.synth_top.specs.declared.session.Answer.{Answer}
 use Rattle.synth_top.specs.declared.session.Answer.TheVariants.{Done, Refused, Quit}
 use Rattle.synth_top.specs.Extent.{Extent}
-use Rattle.synth_top.specs.Number.{number_of}
+use Rattle.synth_top.specs.Number.{number_in_digits}
+use Rattle.synth_top.specs.Reply.{Reply}
+use Rattle.synth_top.specs.declared.session.TheConstants.{GREATEST_NUMBER, LINE_LIMIT}
 
--- all that the screen and the next key depend on
+-- all that the screen and the next key depend on; the message is the text that its row shows
 pub record PlainSession : Type 0 where
   pub size : Extent
   pub statement : Statement
   pub typed : List ℕ
-  pub message : Option Refusal
+  pub message : List ℕ
 
 -- the session behind a key, and the answer to the key
 pub record Outcome : Type 0 where
@@ -24,26 +26,41 @@ pub record Outcome : Type 0 where
   pub answer : Answer
 
 -- a new program, with nothing typed
-abbrev pub opened : Extent → PlainSession
-opened size = record { size = size; statement = Hole; typed = []; message = None }
+abbrev pub new_session : Extent → PlainSession
+new_session size = record { size = size; statement = Hole; typed = []; message = [] }
+
+-- ---- messages
+
+-- the text of a refusal
+abbrev pub refusal_text : Refusal → List ℕ
+refusal_text NotHere = codes "NOT HERE"
+refusal_text PhraseFull = codes "PHRASE FULL"
+refusal_text NotBuilt = codes "NOT BUILT"
+
+-- the text of the last refusal, if there was one
+abbrev pub message_text : Option Refusal → List ℕ
+message_text None = []
+message_text (Some why) = refusal_text why
+
+-- ---- keys
 
 -- a refused key changes the message alone
 abbrev pub refused : PlainSession → Refusal → Outcome
-refused s why = record { after = record s { message = Some why }; answer = Refused why }
+refused s why = record { after = record s { message = refusal_text why }; answer = Refused why }
 
 -- a command or a phrase that is carried out empties the typed line and the message
 abbrev pub done : PlainSession → Statement → Outcome
 done s statement = record {
-  after = record s { statement = statement; typed = []; message = None };
+  after = record s { statement = statement; typed = []; message = [] };
   answer = Done;
 }
 
--- a printable byte is appended to the typed line, which holds 200
+-- a printable byte is appended to the typed line, where it has room
 abbrev pub char_typed : PlainSession → ℕ → Outcome
 char_typed s byte =
-    if nat_lt (length s.typed) 200
+    if nat_lt (length s.typed) LINE_LIMIT
     then record {
-      after = record s { typed = s.typed ++ byte ∷ []; message = None };
+      after = record s { typed = s.typed ++ byte ∷ []; message = [] };
       answer = Done;
     }
     else refused s PhraseFull
@@ -69,20 +86,21 @@ abbrev pub line_entered : PlainSession → Outcome
 line_entered s =
     if bytes_eq s.typed (codes ".put") then put_filled s s.statement
     else (if bytes_eq s.typed (codes ".quit") then quit s
-    else phrase_entered s s.statement (number_of 2147483647 s.typed))
+    else phrase_entered s s.statement (number_in_digits GREATEST_NUMBER s.typed))
 
--- what a key makes of the session; every key but a printable byte and Enter isn't built yet
-unfoldable pub press : PlainSession → Key → Outcome
-press s (Char byte) = char_typed s byte
-press s Enter = line_entered s
-press s Erase = refused s NotBuilt
-press s Clear = refused s NotBuilt
-press s Tab = refused s NotBuilt
-press s Up = refused s NotBuilt
-press s Down = refused s NotBuilt
-press s Left = refused s NotBuilt
-press s Right = refused s NotBuilt
-press s Other = refused s NotBuilt
+-- what a key makes of the session, where the files did this in it; every key but a printable byte and
+-- Enter isn't built yet, and no key asks anything of the files
+unfoldable pub press : PlainSession → Key → Reply → Outcome
+press s (Char byte) reply = char_typed s byte
+press s Enter reply = line_entered s
+press s Erase reply = refused s NotBuilt
+press s Clear reply = refused s NotBuilt
+press s Tab reply = refused s NotBuilt
+press s Up reply = refused s NotBuilt
+press s Down reply = refused s NotBuilt
+press s Left reply = refused s NotBuilt
+press s Right reply = refused s NotBuilt
+press s Other reply = refused s NotBuilt
 
 -- whether an answer ends the session
 abbrev pub is_quit : Answer → Bool

@@ -1,51 +1,69 @@
--- What pressing some keys does to the session and the screen.
-use Rattle.std.specs.Prelude.{◌≡◌, ℕ, ◌≤◌, true, false, List, [], ◌∷◌, ◌++◌, length, take, Option}
-use Rattle.std.specs.Io.KnownBytes.{Appends}
+-- The turns of keys: what each makes of the session and the files, and the screens that it shows.
+use Rattle.std.specs.Prelude.{◌≡◌, ℕ, ◌+◌, Bool, false, ◌||◌, List, [], ◌∷◌, ◌++◌, Option, if◌then◌else◌}
+use Rattle.synth_outside.specs.Files.{FileMap}
 use Rattle.synth_top.specs.declared.key.Key.{Key}
-use Rattle.synth_top.specs.declared.status.Status.{Status}
-use Rattle.synth_top.specs.declared.status.Status.TheVariants.{Done, ReadFault, WriteFault, NoMemory, BadWords, KeyLimit}
-use Rattle.synth_top.specs.declared.run.Turn.{Turn}
-use Rattle.synth_top.specs.declared.run.Turn.TheVariants.{Next, End}
-use Rattle.synth_top.specs.Session.{PlainSession}
-use Rattle.synth_top.specs.Run.{after, quits, screens}
+use Rattle.synth_top.specs.Reply.{Reply, NotAsked, failure}
+use Rattle.synth_top.specs.Session.{PlainSession, Outcome, press, is_quit}
+use Rattle.synth_top.specs.Screen.{PlainGrid, grid}
 
--- all keys were pressed and all their screens were written
-pub record AllShown (before now : Option (List ℕ)) (s s1 : PlainSession) (keys : List Key)
-    : Type 0 where
-  pub going : quits s keys ≡ false
-  pub session : s1 ≡ after s keys
-  pub wrote : Appends before now (screens s keys)
+-- what a key's turn begins with: the session, and the map of the files where they tell it
+pub record State : Type 0 where
+  pub session : PlainSession
+  pub files : Option FileMap
 
--- one of the keys ended the session
-pub record OneQuit (before now : Option (List ℕ)) (s : PlainSession) (keys : List Key)
-    : Type 0 where
-  pub quit : quits s keys ≡ true
-  pub wrote : Appends before now (screens s keys)
+-- a key that is pressed, and what the files did in it
+pub record PressedKey : Type 0 where
+  pub key : Key
+  pub reply : Reply
 
--- the screen of one of the keys was cut short
-pub record OneCut (before now : Option (List ℕ)) (s : PlainSession) (keys : List Key)
-    : Type 0 where
-  pub earlier : List Key
-  pub last : Key
-  pub rest : List Key
-  pub in_order : keys ≡ earlier ++ last ∷ rest
-  pub going : quits s (earlier ++ last ∷ []) ≡ false
-  pub count : ℕ
-  pub wrote : Appends before now (take count (screens s (earlier ++ last ∷ [])))
-  pub whole : length (screens s earlier) ≤ count
+-- ---- one turn
 
--- the status that ended the session, or else this one
-abbrev pub ended_as : Turn → Status → Status
-ended_as Next status = status
-ended_as (End ended) status = ended
+-- what a turn gives: the screens that are painted in their order, the state behind it, and whether
+-- the session ends
+pub record Turn : Type 0 where
+  pub grids : List PlainGrid
+  pub after : State
+  pub ends : Bool
 
--- what pressing the keys did, from the session s to s1
-abbrev pub Turned : Turn → Option (List ℕ) → Option (List ℕ) → PlainSession → PlainSession →
-    List Key → Type 0
-Turned Next before now s s1 keys = AllShown before now s s1 keys
-Turned (End Done) before now s s1 keys = OneQuit before now s keys
-Turned (End WriteFault) before now s s1 keys = OneCut before now s keys
-Turned (End NoMemory) before now s s1 keys = OneCut before now s keys
-Turned (End ReadFault) before now s s1 keys = ⊥
-Turned (End BadWords) before now s s1 keys = ⊥
-Turned (End KeyLimit) before now s s1 keys = ⊥
+-- the turn of a key with this outcome: one screen, but none where the session ends
+abbrev pub turn_with : State → Outcome → Turn
+turn_with state outcome = record {
+  grids = if is_quit outcome.answer then [] else grid outcome.after ∷ [];
+  after = record state { session = outcome.after };
+  ends = is_quit outcome.answer;
+}
+
+-- the turn of a key
+unfoldable pub turn : State → PressedKey → Turn
+turn state pressed = turn_with state (press state.session pressed.key pressed.reply)
+
+-- whether the files can have done this in the key: no key asks anything of them yet
+abbrev pub CanReply : State → PressedKey → Type 0
+CanReply state pressed = pressed.reply ≡ NotAsked
+
+-- ---- one turn after the other
+
+-- the state behind some keys
+abbrev pub after : State → List PressedKey → State
+after state [] = state
+after state (first ∷ rest) = after (turn state first).after rest
+
+-- the screens of some keys
+abbrev pub grids : State → List PressedKey → List PlainGrid
+grids state [] = []
+grids state (first ∷ rest) = (turn state first).grids ++ grids (turn state first).after rest
+
+-- whether one of the keys ends the session
+abbrev pub ends : State → List PressedKey → Bool
+ends state [] = false
+ends state (first ∷ rest) = (turn state first).ends || ends (turn state first).after rest
+
+-- what the files did in each key is what they can have done
+abbrev pub Replied : State → List PressedKey → Type 0
+Replied state [] = Unit {0}
+Replied state (first ∷ rest) = CanReply state first × Replied (turn state first).after rest
+
+-- in how many keys a call on the files failed
+abbrev pub failures : List PressedKey → ℕ
+failures [] = 0
+failures (first ∷ rest) = failure first.reply + failures rest

@@ -1,12 +1,15 @@
+//! The screen as rows of cells, and how a session is drawn on it.
+
 ghost use Rattle.std.specs.Prelude.{◌≡◌, ◌+◌, ◌-◌, ◌≤◌, ◌<◌, [], ◌++◌, length, replicate, slice_index_or, IfOk};
 ghost use Rattle.arrayvec.specs.ArrayVec.{array_vec_len};
-ghost use Rattle.synth_top.specs.Screen.{cursor_col, cursor_row, grid, blank, input_text, message_text, part_text, prompt, row_text, shown, statement_line, window_text};
-ghost use Rattle.synth_top.specs.View.{plain_session, plain_grid};
+ghost use Rattle.synth_top.specs.Screen.{cursor_col, cursor_row, grid, blank, input_text, part_text, prompt, row_text, shown, statement_line, window_text};
+ghost use Rattle.synth_top.specs.PlainForms.{plain_session, plain_grid};
+ghost use Rattle.synth_top.specs.Session.{message_text};
 ghost use Rattle.synth_top.specs.Sized.{IsSized};
 
-use crate::putting::put;
 use crate::session::{Refusal, Session, Statement};
 use crate::size::ScreenSize;
+use crate::text::put;
 use arrayvec::ArrayVec;
 use plcs_grammar::Category;
 use std::alloc::{AllocError, Global};
@@ -27,13 +30,6 @@ pub struct Grid {
     pub lines: Vec<Vec<u16>>,
     pub row: u16,
     pub col: u16,
-}
-
-/// A row of blanks.
-fn blank_row(alloc: Global, cols: u16) -> Result<Vec<u16>, AllocError>
-    ensures { IfOk result (λ row. row.items ≡ replicate cols 32) }
-{
-    vec![in alloc; BLANK; usize::from(cols)]
 }
 
 impl Grid {
@@ -77,6 +73,13 @@ impl Grid {
         self.row = row_of_cursor(session);
         self.col = col_of_cursor(session);
     }
+}
+
+/// A row of blanks.
+fn blank_row(alloc: Global, cols: u16) -> Result<Vec<u16>, AllocError>
+    ensures { IfOk result (λ row. row.items ≡ replicate cols 32) }
+{
+    vec![in alloc; BLANK; usize::from(cols)]
 }
 
 /// Shows a text in a row of cells.

@@ -2,84 +2,112 @@
 #![tactic(auto)]
 
 ghost use Rattle.std.specs.Prelude.{◌≡◌, map, IfSome, string_bytes};
-ghost use Rattle.plcs_base.specs.Count.{Rose};
-ghost use Rattle.synth_top.specs.Keys.{new_reader};
-ghost use Rattle.synth_top.specs.Run.{Ended, key_limit};
-ghost use Rattle.synth_top.specs.Session.{opened};
-ghost use Rattle.synth_top.specs.Words.{size_of};
+ghost use Rattle.synth_top.specs.PlainForms.{plain_options};
+ghost use Rattle.synth_top.specs.Run.{Ended};
+ghost use Rattle.synth_top.specs.Status.{CausedBy, LeftAs};
+ghost use Rattle.synth_top.specs.Words.{options_of};
 
 mod grid;
 mod key;
 mod number;
-mod painting;
-mod putting;
+mod paint;
 mod run;
 mod session;
 mod size;
 mod status;
+mod text;
 mod words;
 
 pub use key::{Key, KeyReader, Keys};
 use plcs_base::Work;
 use run::Editor;
-use size::ScreenSize;
 pub use status::Status;
 use std::alloc::Global;
 use synth_outside::{Files, Sink, Source};
-
-/// How many bytes of keys are taken at most.
-const KEY_LIMIT: u64 = 1_000_000_000;
+use words::Options;
 
 /// Edits a program: reads the words that follow the program's name, and then writes the opening
 /// screen and one screen after each key to the screen's sink, until a key ends the session or the
 /// source of keys ends. Key bytes are taken one a read, and no byte is read behind a quit.
 ///
 /// The words are none, for a screen of 24 rows and 80 columns, or `--rows N --cols M`. Files and
-/// work aren't used yet. Where source or sink tell nothing of their bytes, nothing is claimed of
-/// them.
+/// work aren't used yet. Where source, sink or files tell nothing of their bytes, what is claimed of
+/// the others stands all the same.
 pub fn synth<S: Source, K: Sink, F: Files, W: Work>(
     alloc: Global,
     words: &[String],
     keys: &mut S,
     screen: &mut K,
-    _files: &mut F,
+    files: &mut F,
     _work: &mut W,
 ) -> Status
     // Words that aren't of the command are refused before anything is read or written.
-    ensures bad_words { size_of (map string_bytes words.now) ≡ None →
+    ensures bad_words { options_of (map string_bytes words.now) ≡ None →
         (result ≡ Status.BadWords) × (keys.new ≡ keys.old) × (screen.new ≡ screen.old) }
 
-    // With words of the command the bytes written are those of the bytes read, as the status says.
-    ensures ended { IfSome (size_of (map string_bytes words.now)) (λ size. Ended result key_limit
-        (record { left = S.left keys.old; taken = K.taken screen.old })
-        (record { left = S.left keys.new; taken = K.taken screen.new })
-        (opened size) new_reader) }
+    // With words of the command the run did what its record says, and stopped as the status says.
+    ensures ended { IfSome (options_of (map string_bytes words.now)) (λ options.
+        Ended result options
+        (record {
+          left = S.left keys.old;
+          taken = K.taken screen.old;
+          files = F.stored files.old;
+          file_faults = F.faults files.old;
+        })
+        (record {
+          left = S.left keys.new;
+          taken = K.taken screen.new;
+          files = F.stored files.new;
+          file_faults = F.faults files.new;
+        })) }
 
-    // A fault is answered only where the count of its own cause rose.
-    ensures read { result ≡ Status.ReadFault → Rose (S.faults keys.old) (S.faults keys.new) }
-    ensures write { result ≡ Status.WriteFault → Rose (K.faults screen.old) (K.faults screen.new) }
+    // A fault is answered exactly where the count of its own cause rose.
+    ensures read { CausedBy (result ≡ Status.ReadFault) (S.faults keys.old) (S.faults keys.new) }
+    ensures write { CausedBy (result ≡ Status.WriteFault)
+        (K.faults screen.old) (K.faults screen.new) }
+
+    // Of what the source keeps besides its bytes, its own relations hold.
+    ensures source { LeftAs result (S.leads_to keys.old keys.new) (S.breaks_at keys.old keys.new) }
 
     // No key uses files or counted work yet.
-    ensures files { _files.new ≡ _files.old }
+    ensures files { files.new ≡ files.old }
     ensures work { _work.new ≡ _work.old }
 {
-    match words::size_of(words) {
-        Some(size) => edit(alloc, size, keys, screen),
+    match words::options_of(words) {
+        Some(options) => edit(alloc, options, keys, screen, files),
         None => Status::BadWords,
     }
 }
 
-/// Edits on a screen of this size.
-fn edit<S: Source, K: Sink>(alloc: Global, size: ScreenSize, keys: &mut S, screen: &mut K) -> Status
-    ensures ended { Ended result key_limit
-        (record { left = S.left keys.old; taken = K.taken screen.old })
-        (record { left = S.left keys.new; taken = K.taken screen.new })
-        (opened size) new_reader }
-    ensures read { result ≡ Status.ReadFault → Rose (S.faults keys.old) (S.faults keys.new) }
-    ensures write { result ≡ Status.WriteFault → Rose (K.faults screen.old) (K.faults screen.new) }
+/// Edits as the words ask for.
+fn edit<S: Source, K: Sink, F: Files>(
+    alloc: Global,
+    options: Options,
+    keys: &mut S,
+    screen: &mut K,
+    files: &mut F,
+) -> Status
+    ensures ended { Ended result (plain_options options)
+        (record {
+          left = S.left keys.old;
+          taken = K.taken screen.old;
+          files = F.stored files.old;
+          file_faults = F.faults files.old;
+        })
+        (record {
+          left = S.left keys.new;
+          taken = K.taken screen.new;
+          files = F.stored files.new;
+          file_faults = F.faults files.new;
+        }) }
+    ensures read { CausedBy (result ≡ Status.ReadFault) (S.faults keys.old) (S.faults keys.new) }
+    ensures write { CausedBy (result ≡ Status.WriteFault)
+        (K.faults screen.old) (K.faults screen.new) }
+    ensures source { LeftAs result (S.leads_to keys.old keys.new) (S.breaks_at keys.old keys.new) }
+    ensures files { files.new ≡ files.old }
 {
-    match Editor::open(alloc, size) {
-        Ok(mut editor) => editor.run(KEY_LIMIT, keys, screen),
+    match Editor::open(alloc, options.size) {
+        Ok(mut editor) => editor.run(options.key_limit, keys, screen, files),
         Err(_) => Status::NoMemory,
     }
 }

@@ -1,10 +1,28 @@
+//! Numbers written in decimal digits.
+
 ghost use Rattle.std.specs.Prelude.{◌≡◌, ◌≤◌, ◌<◌, ◌^◌, length, IsTrue, IfSome};
 ghost use Rattle.std.specs.List.{list_all};
 ghost use Rattle.std.specs.Char.{is_ascii_digit};
-ghost use Rattle.synth_top.specs.Number.{value_of, number_of};
+ghost use Rattle.synth_top.specs.Number.{value_of, number_in_digits};
 
 /// How many digits a number has at most.
 const MOST_DIGITS: usize = 10;
+
+/// The number that a text of 1 to 10 digits spells, where it is at most `most`.
+#[tactic(auto, unfolding(crate::specs::Number::number_in_digits))]
+pub fn number_in_digits(most: u32, text: &[u8]) -> Option<u32>
+    ensures value { result ≡ number_in_digits most text.now }
+    ensures bound { IfSome result (λ n. n ≤ most) }
+{
+    if text.is_empty() || text.len() > MOST_DIGITS || !are_digits(text) {
+        return None;
+    }
+    let value = digits_value(text);
+    if value > u64::from(most) {
+        return None;
+    }
+    Some(value as u32)
+}
 
 /// Whether a text consists of digits alone.
 fn are_digits(text: &[u8]) -> bool
@@ -25,20 +43,4 @@ fn digits_value(digits: &[u8]) -> u64
         value = 10 * value + u64::from(*digit - b'0');
     }
     value
-}
-
-/// The number that a text of 1 to 10 digits spells, where it is at most `most`.
-#[tactic(auto, unfolding(crate::specs::Number::number_of))]
-pub fn number_of(most: u32, text: &[u8]) -> Option<u32>
-    ensures value { result ≡ number_of most text.now }
-    ensures bound { IfSome result (λ n. n ≤ most) }
-{
-    if text.is_empty() || text.len() > MOST_DIGITS || !are_digits(text) {
-        return None;
-    }
-    let value = digits_value(text);
-    if value > u64::from(most) {
-        return None;
-    }
-    Some(value as u32)
 }

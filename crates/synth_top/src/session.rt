@@ -1,11 +1,16 @@
+//! The program that is edited, and what each key does to it.
+
 ghost use Rattle.std.specs.Prelude.{◌≡◌};
-ghost use Rattle.synth_top.specs.Session.{opened, refused, done, char_typed, put_filled, phrase_entered, line_entered, press};
-ghost use Rattle.synth_top.specs.View.{plain_session};
+ghost use Rattle.synth_top.specs.PlainForms.{plain_session};
+ghost use Rattle.synth_top.specs.Pressing.{IsPressed};
+ghost use Rattle.synth_top.specs.Reply.{NotAsked};
+ghost use Rattle.synth_top.specs.Session.{new_session, refused, done, char_typed, put_filled, phrase_entered, line_entered, press};
 
 use crate::key::Key;
-use crate::number::number_of;
+use crate::number::number_in_digits;
 use crate::size::ScreenSize;
 use arrayvec::ArrayVec;
+use synth_outside::Files;
 
 /// How many bytes the typed line holds.
 pub const LINE_LIMIT: usize = 200;
@@ -57,7 +62,7 @@ pub struct Session {
 impl Session {
     /// A session with a new program.
     pub fn open(size: ScreenSize) -> Self
-        ensures { plain_session result ≡ opened size }
+        ensures { plain_session result ≡ new_session size }
     {
         Session {
             size,
@@ -96,10 +101,22 @@ impl Session {
     }
 
     /// Does what a key asks for.
+    pub fn press<F: Files>(&mut self, key: Key, _files: &mut F) -> Answer
+        ensures pressed { IsPressed key result
+            (record { session = plain_session self.old; files = F.stored _files.old })
+            (record { session = plain_session self.new; files = F.stored _files.new })
+            (F.faults _files.old) (F.faults _files.new) }
+        ensures size { self.new.size ≡ self.old.size }
+        ensures files { _files.new ≡ _files.old }
+    {
+        self.act(key)
+    }
+
+    /// Does what a key asks for that needs no files.
     #[tactic(auto, unfolding(crate::specs::Session::press))]
-    pub fn press(&mut self, key: Key) -> Answer
+    fn act(&mut self, key: Key) -> Answer
         ensures pressed { record { after = plain_session self.new; answer = result } ≡
-            press (plain_session self.old) key }
+            press (plain_session self.old) key NotAsked }
         ensures size { self.new.size ≡ self.old.size }
     {
         match key {
@@ -107,26 +124,6 @@ impl Session {
             Key::Enter => self.enter_line(),
             _ => self.refuse(Refusal::NotBuilt),
         }
-    }
-
-    /// Refuses a key, which changes the message alone.
-    fn refuse(&mut self, why: Refusal) -> Answer
-        ensures { record { after = plain_session self.new; answer = result } ≡
-            refused (plain_session self.old) why }
-    {
-        self.message = Some(why);
-        Answer::Refused(why)
-    }
-
-    /// Sets the statement, and empties the typed line and the message.
-    fn carry_out(&mut self, statement: Statement) -> Answer
-        ensures { record { after = plain_session self.new; answer = result } ≡
-            done (plain_session self.old) statement }
-    {
-        self.statement = statement;
-        self.typed.clear();
-        self.message = None;
-        Answer::Done
     }
 
     /// Appends a byte to the typed line.
@@ -153,7 +150,7 @@ impl Session {
         if self.typed.as_slice() == b".quit".as_slice() {
             return Answer::Quit;
         }
-        let phrase = number_of(GREATEST_NUMBER, self.typed.as_slice());
+        let phrase = number_in_digits(GREATEST_NUMBER, self.typed.as_slice());
         self.enter_phrase(phrase)
     }
 
@@ -177,5 +174,25 @@ impl Session {
             (Statement::Put(_), Some(_)) => self.carry_out(Statement::Put(phrase)),
             _ => self.refuse(Refusal::NotBuilt),
         }
+    }
+
+    /// Refuses a key, which changes the message alone.
+    fn refuse(&mut self, why: Refusal) -> Answer
+        ensures { record { after = plain_session self.new; answer = result } ≡
+            refused (plain_session self.old) why }
+    {
+        self.message = Some(why);
+        Answer::Refused(why)
+    }
+
+    /// Sets the statement, and empties the typed line and the message.
+    fn carry_out(&mut self, statement: Statement) -> Answer
+        ensures { record { after = plain_session self.new; answer = result } ≡
+            done (plain_session self.old) statement }
+    {
+        self.statement = statement;
+        self.typed.clear();
+        self.message = None;
+        Answer::Done
     }
 }

@@ -1,3 +1,5 @@
+//! The size of a screen.
+
 ghost use Rattle.std.specs.Prelude.{◌≡◌, ◌≤◌};
 
 use std::marker::Model;

@@ -1,3 +1,5 @@
+//! How the editor ends.
+
 ghost use Rattle.std.specs.Prelude.{◌≡◌};
 
 /// How the editor ended. A program ends with the status's number.

@@ -1,38 +1,59 @@
-ghost use Rattle.std.specs.Prelude.{◌≡◌, ◌≤◌, map, IfSome};
-ghost use Rattle.std.specs.String.{string_bytes};
-ghost use Rattle.synth_top.specs.Words.{count_between, size_of};
+//! The words that follow the program's name, and what they ask for.
 
-use crate::number::number_of;
+ghost use Rattle.std.specs.Prelude.{◌≡◌, ◌≤◌, map, option_map, IfSome};
+ghost use Rattle.std.specs.String.{string_bytes};
+ghost use Rattle.synth_top.specs.PlainForms.{plain_options};
+ghost use Rattle.synth_top.specs.Words.{count_between, options_of};
+
+use crate::number::number_in_digits;
 use crate::size::ScreenSize;
 
-/// The number that a word is, where it lies between the two bounds, which are part of the range.
-fn count_between(least: u16, most: u16, word: &str) -> Option<u16>
-    ensures value { result ≡ count_between least most word.now }
-    ensures range { IfSome result (λ n. (least ≤ n) × (n ≤ most)) }
-{
-    let count = number_of(u32::from(most), word.as_bytes())?;
-    if count < u32::from(least) {
-        return None;
-    }
-    Some(count as u16)
+/// How many bytes of keys are taken at most.
+const KEY_LIMIT: u64 = 1_000_000_000;
+
+/// What the words ask for.
+#[derive(Clone, Copy, Debug)]
+pub struct Options {
+    /// The size of the screen.
+    pub size: ScreenSize,
+    /// How many bytes of keys are taken at most.
+    pub key_limit: u64,
 }
 
-/// The size of the screen that the words after the program's name ask for: 24 by 80 where there are
-/// none, or that of `--rows N --cols M`. `None` where the words are any others.
-#[tactic(auto, unfolding(crate::specs::Words::size_of))]
-pub fn size_of(words: &[String]) -> Option<ScreenSize>
-    ensures { result ≡ size_of (map string_bytes words.now) }
+/// What the words after the program's name ask for: a screen of 24 by 80 where there are none, or
+/// that of `--rows N --cols M`. `None` where the words are any others.
+#[tactic(auto, unfolding(crate::specs::Words::options_of))]
+pub fn options_of(words: &[String]) -> Option<Options>
+    ensures { option_map plain_options result ≡ options_of (map string_bytes words.now) }
 {
     match words {
-        [] => Some(ScreenSize::new(24, 80)),
+        [] => Some(Options {
+            size: ScreenSize::new(24, 80),
+            key_limit: KEY_LIMIT,
+        }),
         [first, rows, second, cols] => {
             if first.as_str() != "--rows" || second.as_str() != "--cols" {
                 return None;
             }
             let rows = count_between(12, 100, rows.as_str())?;
             let cols = count_between(40, 160, cols.as_str())?;
-            Some(ScreenSize::new(rows, cols))
+            Some(Options {
+                size: ScreenSize::new(rows, cols),
+                key_limit: KEY_LIMIT,
+            })
         }
         _ => None,
     }
+}
+
+/// The number that a word is, where it lies between the two bounds, which are part of the range.
+fn count_between(least: u16, most: u16, word: &str) -> Option<u16>
+    ensures value { result ≡ count_between least most word.now }
+    ensures range { IfSome result (λ n. (least ≤ n) × (n ≤ most)) }
+{
+    let count = number_in_digits(u32::from(most), word.as_bytes())?;
+    if count < u32::from(least) {
+        return None;
+    }
+    Some(count as u16)
 }

@@ -1,10 +1,55 @@
-use Rattle.synth_top.proofs.Pressing.{one_cut}
+use Rattle.std.proofs.Common.{ap, refl, arith, rules, Err}
+use Rattle.synth_top.specs.declared.session.Session.{Session}
+use Rattle.synth_top.specs.PlainForms.{plain_session}
+use Rattle.synth_top.proofs.OneKey.{one_shown, one_quit, one_cut}
 use Rattle.synth_top.proofs.run.Editor.press.Goals as goal
 
-pub returns-in-Err-Failed-clause-turned : goal.returns-in-Err-Failed-clause-turned
-returns-in-Err-Failed-clause-turned g c =
-    one_cut _ _ _ _ c.args.key _ _ c.press.ensures.pressed c.in_default.not-Quit c.requires.shown c.in-Err-Failed.ensures.front
+-- the key ended the session
+pub returns-in-Quit-clause-presses : goal.returns-in-Quit-clause-presses
+returns-in-Quit-clause-presses g c = record {
+  pressed = one_quit c.args.key c.press.result _ _ _ c.press.ensures.pressed refl c.in-Quit.is refl;
+  cause = record { later = omega arith; rose = λ e. absurd (cc); same = λ other. refl; last = λ e. refl };
+  ready = search rules;
+}
 
-pub returns-in-Err-OutOfMemory-clause-turned : goal.returns-in-Err-OutOfMemory-clause-turned
-returns-in-Err-OutOfMemory-clause-turned g c =
-    one_cut _ _ _ _ c.args.key _ _ c.press.ensures.pressed c.in_default.not-Quit c.requires.shown c.in-Err-OutOfMemory.ensures.front
+-- its screen was written
+pub returns-in-Ok-clause-presses : goal.returns-in-Ok-clause-presses
+returns-in-Ok-clause-presses g c =
+    record {
+      pressed = one_shown c.args.key c.press.result _ _ _ c.press.ensures.pressed (ap (λ (z : Session). record { session = plain_session z; files = g.F.Files.stored c.press.new._files }) c.show.ensures.session) c.in_default.not-Quit c.in-Ok.ensures.wrote.all c.in-Ok.ensures.shown;
+      cause = record {
+        later = c.in-Ok.ensures.wrote.cause.later;
+        rose = λ e. absurd (cc);
+        same = λ other. c.in-Ok.ensures.wrote.cause.same (λ e. absurd (cc));
+        last = c.in-Ok.ensures.wrote.cause.last;
+      };
+      ready = c.show.ensures.ready;
+    }
+
+-- a write of its screen failed
+pub returns-in-Err-Failed-clause-presses : goal.returns-in-Err-Failed-clause-presses
+returns-in-Err-Failed-clause-presses g c =
+    record {
+      pressed = one_cut c.args.key c.press.result _ _ _ c.press.ensures.pressed (ap (λ (z : Session). record { session = plain_session z; files = g.F.Files.stored c.press.new._files }) c.show.ensures.session) c.in_default.not-Quit c.in-Err-Failed.ensures.wrote.front;
+      cause = record {
+        later = c.in-Err-Failed.ensures.wrote.cause.later;
+        rose = λ e. c.in-Err-Failed.ensures.wrote.cause.rose (ap Err c.in-Err-Failed.field-0-is);
+        same = λ other. absurd (other refl);
+        last = c.in-Err-Failed.ensures.wrote.cause.last;
+      };
+      ready = c.show.ensures.ready;
+    }
+
+-- a write of its screen wanted memory
+pub returns-in-Err-OutOfMemory-clause-presses : goal.returns-in-Err-OutOfMemory-clause-presses
+returns-in-Err-OutOfMemory-clause-presses g c =
+    record {
+      pressed = one_cut c.args.key c.press.result _ _ _ c.press.ensures.pressed (ap (λ (z : Session). record { session = plain_session z; files = g.F.Files.stored c.press.new._files }) c.show.ensures.session) c.in_default.not-Quit c.in-Err-OutOfMemory.ensures.wrote.front;
+      cause = record {
+        later = c.in-Err-OutOfMemory.ensures.wrote.cause.later;
+        rose = λ e. absurd (cc);
+        same = λ other. c.in-Err-OutOfMemory.ensures.wrote.cause.same (λ e. absurd (cc));
+        last = c.in-Err-OutOfMemory.ensures.wrote.cause.last;
+      };
+      ready = c.show.ensures.ready;
+    }

@@ -1,7 +1,14 @@
-use Rattle.synth_top.proofs.Turns.{turned_then}
+use Rattle.synth_top.proofs.KeysInOrder.{pressed_then}
+use Rattle.synth_top.proofs.WritesInTurn.{caused_behind}
 use Rattle.synth_top.proofs.run.Editor.press_keys.Goals as goal
 
 -- the second key comes behind the first
-pub returns-clause-turned : goal.returns-clause-turned
-returns-clause-turned g c =
-    turned_then c.press_if-2.result _ _ _ _ _ _ _ _ c.in_default.ensures.turned c.press_if-2.ensures.turned
+pub returns-clause-presses : goal.returns-clause-presses
+returns-clause-presses g c =
+    let first = c.in_default.ensures.presses in
+    let second = c.press_if-2.ensures.presses in
+    record {
+      pressed = pressed_then c.press_if-2.result _ _ _ _ _ first.pressed second.pressed;
+      cause = caused_behind _ _ _ (first.cause.same (λ e. absurd (cc))) second.cause;
+      ready = second.ready;
+    }

@@ -1,42 +1,88 @@
-use Rattle.std.proofs.Common.{refl, ap, arith}
+use Rattle.std.proofs.Common.{◌≡◌, ◌∙◌, refl, ap, arith, subst, inl, inr}
 use Rattle.std.proofs.KnownBytes.{Consumes-nil}
-use Rattle.synth_top.specs.View.{plain_session}
-use Rattle.synth_top.proofs.Runs.{so_far_none, so_far_more, ended_by_byte, ended_at_end, ended_at_limit}
+use Rattle.std.specs.Io.KnownBytes.{Appends}
+use Rattle.synth_outside.specs.Sink.{AppendsFront}
+use Rattle.synth_top.specs.PlainForms.{plain_session}
+use Rattle.synth_top.specs.Run.{opening}
+use Rattle.synth_top.specs.Screen.{grid}
+use Rattle.synth_top.specs.Session.{PlainSession}
+use Rattle.synth_top.proofs.Courses.{opening_failed, opening_wanted}
+use Rattle.synth_top.proofs.Runs.{so_far_none, so_far_more, ended_by_byte, read_cut, ended_at_end, ended_at_limit}
 use Rattle.synth_top.proofs.run.Editor.run.Goals as goal
 
+-- the opening screen was cut short
+pub returns-in-Err-Failed-clause-ended : goal.returns-in-Err-Failed-clause-ended
+returns-in-Err-Failed-clause-ended g c =
+    let front = subst (λ (s : PlainSession). AppendsFront (g.K.Sink.taken c.args.screen.now) (g.K.Sink.taken c.start.new.screen) (opening s))
+    c.requires.session c.in-Err-Failed.ensures.wrote.front in
+    opening_failed _ _ _ refl front refl (omega arith)
+
+pub returns-in-Err-OutOfMemory-clause-ended : goal.returns-in-Err-OutOfMemory-clause-ended
+returns-in-Err-OutOfMemory-clause-ended g c =
+    let front = subst (λ (s : PlainSession). AppendsFront (g.K.Sink.taken c.args.screen.now) (g.K.Sink.taken c.start.new.screen) (opening s))
+    c.requires.session c.in-Err-OutOfMemory.ensures.wrote.front in
+    opening_wanted _ _ _ refl front refl (omega arith)
+
+-- the opening screen was written
 pub loop-init : goal.loop-init
 loop-init g c = record {
-  so_far = so_far_none _ _ _ _ _ _ _ c.in-Ok.ensures.all (ap plain_session c.start.ensures.session) c.start.ensures.reader;
+  so_far = so_far_none _ _ _ _ _ refl (c.start.ensures.reader ∙ c.requires.reader)
+      (record {
+        wrote = subst (λ (s : PlainSession). Appends (g.K.Sink.taken c.args.screen.now) (g.K.Sink.taken c.start.new.screen) (opening s))
+            c.requires.session c.in-Ok.ensures.wrote.all;
+        state = ap (λ (s : PlainSession). record { session = s; files = g.F.Files.stored c.args.files.now }) (ap plain_session c.start.ensures.session ∙ c.requires.session);
+        shown = c.in-Ok.ensures.shown ∙ ap grid c.requires.session;
+        faults = refl;
+      });
   ready = c.start.ensures.ready;
-  shown = c.in-Ok.ensures.shown;
-  read_later = omega arith;
-  write_later = c.start.ensures.cause.later;
+  unfailed_reads = refl;
+  unfailed_writes = c.in-Ok.ensures.wrote.cause.same (λ e. absurd (cc));
+  led = g.S.Source.leads_to_itself c.args.keys.now;
+  files = refl;
 }
 
-pub returns-in-End-clause-ended : goal.returns-in-End-clause-ended
-returns-in-End-clause-ended g c =
-    ended_by_byte _ _ _ _ _ _ _ _ c.loop.invariant.so_far c.in-End.status c.args.limit c.in-Ok-Some.byte (plain_session c.take.new.self.session) (omega arith)
-    (rw c.in-Ok-Some.field-0-is at c.in-Ok-Some.ensures.byte) c.in-End.ensures.turned
+-- a key of the byte ended the run
+pub returns-in-Over-clause-ended : goal.returns-in-Over-clause-ended
+returns-in-Over-clause-ended g c =
+    ended_by_byte _ _ _ _ _ _ c.loop.invariant.so_far _ _ c.in-Ok-Some.byte _ _ c.feed-given.ensures.keys c.feed-given.ensures.held
+    (rw c.in-Ok-Some.field-0-is at c.in-Ok-Some.ensures.byte) c.in-Over.status (omega arith) c.in-Over.ensures.presses.pressed
 
+-- all keys of the byte were shown
+pub loop-preserved : goal.loop-preserved
+loop-preserved g c = record {
+  so_far = so_far_more _ _ _ _ _ _ c.loop.invariant.so_far _ _ c.in-Ok-Some.byte _ _ c.feed-given.ensures.keys c.feed-given.ensures.held
+      (rw c.in-Ok-Some.field-0-is at c.in-Ok-Some.ensures.byte) _ c.press_keys.ensures.reader c.in_default.ensures.presses.pressed;
+  ready = c.press_keys.ensures.presses.ready;
+  unfailed_reads = c.in-Ok-Some.ensures.cause.same (λ e. absurd (cc)) ∙ c.loop.invariant.unfailed_reads;
+  unfailed_writes = c.in_default.ensures.presses.cause.same (λ e. absurd (cc)) ∙ c.loop.invariant.unfailed_writes;
+  led = c.in-Ok-Some.ensures.led _ c.loop.invariant.led;
+  files = c.press_keys.ensures.files ∙ c.loop.invariant.files;
+}
+
+-- a read gave no answer
+pub returns-in-Err-Failed-read_byte-clause-ended : goal.returns-in-Err-Failed-read_byte-clause-ended
+returns-in-Err-Failed-read_byte-clause-ended g c =
+    let lost = c.in-Err-Failed-read_byte.ensures.lost in
+    let cut = read_cut _ _ _ _ _ _ c.loop.invariant.so_far _ _ lost.0 (omega arith) lost.1 lost.2 refl in
+    record { course = cut.0; stopped = (cut.1, cut.2); rescued = cut.3 }
+
+pub returns-in-Err-OutOfMemory-read_byte-clause-ended : goal.returns-in-Err-OutOfMemory-read_byte-clause-ended
+returns-in-Err-OutOfMemory-read_byte-clause-ended g c =
+    let lost = c.in-Err-OutOfMemory-read_byte.ensures.lost in
+    let cut = read_cut _ _ _ _ _ _ c.loop.invariant.so_far _ _ lost.0 (omega arith) lost.1 lost.2 refl in
+    record { course = cut.0; stopped = inl (cut.1, cut.2); rescued = cut.3 }
+
+-- the source ended
 pub returns-in-Ok-None-clause-ended : goal.returns-in-Ok-None-clause-ended
 returns-in-Ok-None-clause-ended g c =
     let read = rw c.in-Ok-None.field-0-is at c.in-Ok-None.ensures.byte in
     rw c.or.ensures
-    (ended_at_end _ _ _ _ _ _ _ _ c.loop.invariant.so_far c.finish.result c.args.limit (plain_session c.finish.new.self.session) (omega arith) read.0 read.1
-    c.finish.ensures.going c.finish.ensures.turned)
+    (ended_at_end _ _ _ _ _ _ c.loop.invariant.so_far _ _ read.0 (omega arith) (inl read.1) c.finish.result (omega arith) read.1 c.finish.ensures.presses.pressed)
 
-pub loop-preserved : goal.loop-preserved
-loop-preserved g c = record {
-  so_far = so_far_more _ _ _ _ _ _ _ _ c.loop.invariant.so_far c.in-Ok-Some.byte _ _ (rw c.in-Ok-Some.field-0-is at c.in-Ok-Some.ensures.byte)
-      c.in_default.ensures.turned c.take.ensures.reader;
-  ready = c.take.ensures.ready;
-  shown = c.in_default.ensures.shown refl;
-  read_later = omega (arith, c.read_byte.ensures.cause.later);
-  write_later = omega (arith, c.take.ensures.later);
-}
-
+-- the limit was met
 pub returns-clause-ended : goal.returns-clause-ended
 returns-clause-ended g c =
+    let all : c.loop.counter ≡ c.args.limit = omega arith in
     rw c.or-2.ensures
-    (ended_at_limit _ _ _ _ _ _ _ _ c.loop.invariant.so_far c.finish-2.result c.args.limit (plain_session c.finish-2.new.self.session) (omega arith)
-    (Consumes-nil _) c.finish-2.ensures.going c.finish-2.ensures.turned)
+    (ended_at_limit _ _ _ _ _ _ c.loop.invariant.so_far _ _ (Consumes-nil _) (omega arith) (inr (c.loop.invariant.so_far.many ∙ all)) c.finish-2.result all
+    c.finish-2.ensures.presses.pressed)

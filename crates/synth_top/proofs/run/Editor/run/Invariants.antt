@@ -1,18 +1,18 @@
-use Rattle.std.proofs.Common.{◌≤◌}
-use Rattle.synth_top.specs.Editing.{IsReady, IsShown}
-use Rattle.synth_top.specs.View.{plain_session}
-use Rattle.synth_top.proofs.Progress.{SoFar}
+use Rattle.std.proofs.Common.{◌≡◌}
+use Rattle.synth_top.specs.Pressing.{IsReady, moment_of}
+use Rattle.synth_top.proofs.Runs.{SoFar}
 use Rattle.synth_top.proofs.run.Editor.run.Given as goal
 
--- as many bytes were read as turns were made, and the screen shows the session
+-- as many bytes were read as turns were made, and all their keys were shown
 abbrev pub invariant-loop : goal.invariant-loop
 invariant-loop g l = record {
-  so_far : SoFar l.counter
-      (record { left = g.S.Source.left l.fn.keys; taken = g.K.Sink.taken l.fn.screen })
-      (record { left = g.S.Source.left l.keys; taken = g.K.Sink.taken l.screen })
-      (plain_session l.fn.self.session) l.fn.self.reader (plain_session l.self.session) l.self.reader;
+  so_far : SoFar l.counter (record { size = l.fn.self.session.size; key_limit = l.limit })
+      (record { left = g.S.Source.left l.fn.keys; taken = g.K.Sink.taken l.fn.screen; files = g.F.Files.stored l.fn.files; file_faults = g.F.Files.faults l.fn.files })
+      (g.S.Source.left l.keys) l.self.reader
+      (moment_of l.self (g.K.Sink.taken l.screen) (g.F.Files.stored l.files) (g.F.Files.faults l.files));
   ready : IsReady l.self;
-  shown : IsShown l.self;
-  read_later : g.S.Source.faults l.fn.keys ≤ g.S.Source.faults l.keys;
-  write_later : g.K.Sink.faults l.fn.screen ≤ g.K.Sink.faults l.screen;
+  unfailed_reads : g.S.Source.faults l.keys ≡ g.S.Source.faults l.fn.keys;
+  unfailed_writes : g.K.Sink.faults l.screen ≡ g.K.Sink.faults l.fn.screen;
+  led : g.S.Source.leads_to l.fn.keys l.keys;
+  files : l.files ≡ l.fn.files;
 }

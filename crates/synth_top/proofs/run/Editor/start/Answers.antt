@@ -1,18 +1,17 @@
-use Rattle.std.proofs.lemmas.Result.{err_from_is_err_and, on_err_weaker}
+use Rattle.std.proofs.lemmas.Result.{err_from_is_err_and}
 use Rattle.synth_top.specs.Run.{opening}
-use Rattle.synth_top.proofs.Fronts.{AppendsFront-append, AppendsFront-first}
+use Rattle.synth_top.proofs.WritesInTurn.{writes_both, writes_first}
 use Rattle.synth_top.proofs.run.Editor.start.Goals as goal
 
 -- the first piece was cut short
-pub returns-in_err-write_piece-clause-front : goal.returns-in_err-write_piece-clause-front
+pub returns-in_err-write_piece-clause-wrote : goal.returns-in_err-write_piece-clause-wrote
 unfolding opening
-returns-in_err-write_piece-clause-front g c =
+returns-in_err-write_piece-clause-wrote g c =
     let p = err_from_is_err_and c.from_residual.result c.from_residual.ensures.1 in
-    rw p.1 (AppendsFront-first _ _ _ _ c.in_err-write_piece.ensures.front)
+    rw (p.1, p.2) (writes_first _ _ _ _ _ _ _ c.in_err-write_piece.ensures)
 
--- the first piece was taken, and the screen was cut short
-pub returns-clause-front : goal.returns-clause-front
+-- the first piece was taken, and then the screen or some of it
+pub returns-clause-wrote : goal.returns-clause-wrote
 unfolding opening
-returns-clause-front g c =
-    rw (← c.requires.painted)
-    (on_err_weaker c.show.result (λ h. AppendsFront-append _ _ _ _ _ c.in_ok-write_piece.ensures.all h) c.show.ensures.front)
+returns-clause-wrote g c =
+    rw (← c.requires.painted) (writes_both _ _ _ _ _ _ _ _ _ _ c.in_ok-write_piece.ensures c.show.ensures.wrote)

@@ -1,0 +1,184 @@
+-- What a run has done, from what its keys did.
+use Rattle.std.proofs.Common.{◌≡◌, ◌≤◌, ◌⊎◌, ℕ, ◌+◌, false, List, [], ◌∷◌, ◌++◌, Option, Some, None, length, take, refl, sym, ap, ◌∙◌, subst, append-nil, arith, length-append, inl, inr}
+use Rattle.std.proofs.lemmas.List.{take_all}
+use Rattle.std.proofs.Math.Seq.{take-append-add}
+use Rattle.std.proofs.KnownBytes.{Appends-trans, Consumes-nil}
+use Rattle.std.specs.Io.KnownBytes.{Appends, Consumes}
+use Rattle.synth_outside.specs.Sink.{AppendsFront}
+use Rattle.synth_outside.specs.Files.{FileMap}
+use Rattle.synth_top.specs.declared.status.Status.TheVariants.{WriteFault, NoMemory}
+use Rattle.synth_top.specs.Keys.{completed, keys}
+use Rattle.synth_top.specs.Pressing.{Moment, AllShown, UpToLast}
+use Rattle.synth_top.specs.Reply.{NotAsked}
+use Rattle.synth_top.specs.Run.{Told, Loads, HaveMap, NoRescue, IsFront, IsOver, Course, AtLastKey, Ended, keys_pressed, first_state, opening, painted_over, written}
+use Rattle.synth_top.specs.Screen.{grid}
+use Rattle.synth_top.specs.Session.{new_session}
+use Rattle.synth_top.specs.Turn.{State, PressedKey, Replied, after, ends, grids}
+use Rattle.synth_top.specs.Words.{PlainOptions}
+
+-- no file was loaded
+abbrev pub no_loads : Loads
+no_loads = record { program = NotAsked; input = NotAsked }
+
+-- the state of the opening screen
+abbrev pub unloaded_state : PlainOptions → Option FileMap → State
+unloaded_state options files = first_state options files no_loads
+
+-- what is told at a moment
+abbrev pub told_at : Option (List ℕ) → Moment → Told
+told_at left m = record { left = left; taken = m.taken; files = m.state.files; file_faults = m.file_faults }
+
+-- the opening screen was written
+pub record Opened (options : PlainOptions) (before : Told) (m : Moment) : Type 0 where
+  pub wrote : Appends before.taken m.taken (opening (new_session options.size))
+  pub state : m.state ≡ unloaded_state options before.files
+  pub shown : m.shown ≡ grid (new_session options.size)
+  pub faults : m.file_faults ≡ before.file_faults
+
+-- no byte of keys was read before the keys that those before it complete
+abbrev pub InTurn : List ℕ → List PressedKey → Type 0
+InTurn bytes pressed = (seen : List ℕ) (newest : ℕ) → bytes ≡ seen ++ newest ∷ [] → IsFront (completed seen) (keys_pressed pressed)
+
+-- files whose map is this one
+pub have_map : (map now : Option FileMap) → now ≡ map → HaveMap map now
+have_map None now same = tt
+have_map (Some map) now same = same
+
+-- ---- the opening screen was cut short
+
+-- no list with a byte at its end is empty
+pub one_byte : (seen : List ℕ) (newest : ℕ) → [] ≡ seen ++ newest ∷ [] → ⊥
+one_byte [] newest e = absurd (cc)
+one_byte (first ∷ rest) newest e = absurd (cc)
+
+module _ (options : PlainOptions) (before now : Told) (read : now.left ≡ before.left) (front : AppendsFront before.taken now.taken (opening (new_session options.size)))
+    (files : now.files ≡ before.files) (faults : before.file_faults ≤ now.file_faults) where
+  opening_wrote : Appends before.taken now.taken (take front.0 (written (unloaded_state options before.files) []))
+  unfolding written
+  opening_wrote = subst (λ l. Appends before.taken now.taken (take front.0 l)) (sym (append-nil (opening (new_session options.size)))) front.1
+
+  abbrev opening_course : Course options before now
+  opening_course = record {
+    loads = no_loads;
+    can_load = record { program = refl; input = refl };
+    bytes = [];
+    lost = [];
+    read = subst (λ left. Consumes before.left left []) (sym read) (Consumes-nil before.left);
+    one = omega arith;
+    within = omega arith;
+    pressed = [];
+    can_reply = tt;
+    in_order = (keys [], refl);
+    complete = inl (completed [], refl);
+    count = front.0;
+    wrote = opening_wrote;
+    rescue = NoRescue;
+    files = have_map before.files now.files files;
+    faults = omega (arith, faults);
+  }
+
+  pub opening_failed : Ended WriteFault options before now
+  opening_failed = record { course = opening_course; stopped = (refl, inl (record { no_byte = refl; no_key = refl })); rescued = refl }
+
+  pub opening_wanted : Ended NoMemory options before now
+  opening_wanted = record { course = opening_course; stopped = inr (refl, inl (record { no_byte = refl; no_key = refl })); rescued = refl }
+
+module _ (options : PlainOptions) (before : Told) (opened m : Moment) (left : Option (List ℕ)) (is_opened : Opened options before opened) where
+  -- all that is written, from the opening screen on
+  written_is : (ps : List PressedKey)
+      → written (unloaded_state options before.files) ps ≡ opening (new_session options.size) ++ painted_over opened.shown (grids opened.state ps)
+  unfolding written
+  written_is ps =
+      ap (λ s. opening (new_session options.size) ++ painted_over (grid (new_session options.size)) (grids s ps)) (sym is_opened.state)
+      ∙ ap (λ g. opening (new_session options.size) ++ painted_over g (grids opened.state ps)) (sym is_opened.shown)
+
+  length_is : (ps : List PressedKey)
+      → length (written (unloaded_state options before.files) ps) ≡ length (opening (new_session options.size)) + length (painted_over opened.shown (grids opened.state ps))
+  length_is ps = ap length (written_is ps) ∙ length-append (opening (new_session options.size)) (painted_over opened.shown (grids opened.state ps))
+
+  -- ---- all keys were shown
+  module _ (bytes lost : List ℕ) (read : Consumes before.left left (bytes ++ lost)) (one : length lost ≤ 1) (within : length bytes ≤ options.key_limit)
+      (ps : List PressedKey) (all : AllShown opened m ps) (order : IsFront (keys_pressed ps) (keys bytes))
+      (complete : IsFront (keys_pressed ps) (completed bytes) ⊎ IsOver options (told_at left m) bytes) where
+    pub all_wrote : Appends before.taken m.taken (take (length (written (unloaded_state options before.files) ps)) (written (unloaded_state options before.files) ps))
+    all_wrote =
+        subst (Appends before.taken m.taken)
+        (sym (take_all (length (written (unloaded_state options before.files) ps)) (written (unloaded_state options before.files) ps) (omega arith) ∙ written_is ps))
+        (Appends-trans before.taken opened.taken m.taken _ _ is_opened.wrote all.wrote)
+
+    abbrev pub all_course : Course options before (told_at left m)
+    all_course = record {
+      loads = no_loads;
+      can_load = record { program = refl; input = refl };
+      bytes = bytes;
+      lost = lost;
+      read = read;
+      one = one;
+      within = within;
+      pressed = ps;
+      can_reply = subst (λ s. Replied s ps) is_opened.state all.can_reply;
+      in_order = order;
+      complete = complete;
+      count = length (written (unloaded_state options before.files) ps);
+      wrote = all_wrote;
+      rescue = NoRescue;
+      files = have_map (after (unloaded_state options before.files) ps).files m.state.files (ap (λ (s : State). s.files) (all.state ∙ ap (λ s. after s ps) is_opened.state));
+      faults = omega (arith, is_opened.faults, all.faults);
+    }
+
+    -- none ended the session
+    pub all_going : ends (unloaded_state options before.files) ps ≡ false
+    all_going = subst (λ s. ends s ps ≡ false) is_opened.state all.going
+
+  -- ---- keys were shown up to a last one
+  module _ (bytes : List ℕ) (read : Consumes before.left left (bytes ++ [])) (within : length bytes ≤ options.key_limit)
+      (earlier : List PressedKey) (last : PressedKey) (count : ℕ) (up_to : UpToLast opened m earlier last count)
+      (order : IsFront (keys_pressed (earlier ++ last ∷ [])) (keys bytes))
+      (complete : IsFront (keys_pressed (earlier ++ last ∷ [])) (completed bytes) ⊎ IsOver options (told_at left m) bytes) where
+    pub last_wrote : Appends before.taken m.taken
+        (take (length (opening (new_session options.size)) + count) (written (unloaded_state options before.files) (earlier ++ last ∷ [])))
+    last_wrote =
+        let screens = painted_over opened.shown (grids opened.state (earlier ++ last ∷ [])) in
+        let first = opening (new_session options.size) in
+        subst (Appends before.taken m.taken)
+        (sym (ap (take (length first + count)) (written_is (earlier ++ last ∷ [])) ∙ take-append-add first screens count))
+        (Appends-trans before.taken opened.taken m.taken first (take count screens) is_opened.wrote up_to.wrote)
+
+    abbrev pub last_course : Course options before (told_at left m)
+    last_course = record {
+      loads = no_loads;
+      can_load = record { program = refl; input = refl };
+      bytes = bytes;
+      lost = [];
+      read = read;
+      one = omega arith;
+      within = within;
+      pressed = earlier ++ last ∷ [];
+      can_reply = subst (λ s. Replied s (earlier ++ last ∷ [])) is_opened.state up_to.can_reply;
+      in_order = order;
+      complete = complete;
+      count = length (opening (new_session options.size)) + count;
+      wrote = last_wrote;
+      rescue = NoRescue;
+      files = have_map (after (unloaded_state options before.files) (earlier ++ last ∷ [])).files m.state.files (up_to.files ∙ ap (λ (s : State). (after s (earlier ++ last ∷ [])).files) is_opened.state);
+      faults = omega (arith, is_opened.faults, up_to.faults);
+    }
+
+    pub at_last : InTurn bytes earlier → AtLastKey last_course
+    at_last in_turn = record {
+      earlier = earlier;
+      last = last;
+      is_last = refl;
+      going = subst (λ s. ends s earlier ≡ false) is_opened.state up_to.going;
+      shown = omega (arith, length_is earlier, up_to.whole);
+      in_turn = in_turn;
+    }
+
+    -- whether the last one ended the session
+    pub last_ends : ends (unloaded_state options before.files) (earlier ++ last ∷ []) ≡ ends opened.state (earlier ++ last ∷ [])
+    last_ends = ap (λ s. ends s (earlier ++ last ∷ [])) (sym is_opened.state)
+
+    -- all was written
+    pub last_all : length (painted_over opened.shown (grids opened.state (earlier ++ last ∷ []))) ≤ count
+        → length (written (unloaded_state options before.files) (earlier ++ last ∷ [])) ≤ length (opening (new_session options.size)) + count
+    last_all all = omega (arith, length_is (earlier ++ last ∷ []), all)

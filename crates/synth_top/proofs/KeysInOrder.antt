@@ -1,0 +1,178 @@
+-- Keys that are pressed, and then others.
+use Rattle.std.proofs.Common.{◌≡◌, ◌≤◌, ℕ, ◌+◌, true, false, List, [], ◌∷◌, ◌++◌, length, take, sym, ap, ◌∙◌, subst, append_assoc, arith, length-append}
+use Rattle.std.proofs.lemmas.List.{map-append}
+use Rattle.std.proofs.Math.Seq.{take-append-add}
+use Rattle.std.proofs.KnownBytes.{Appends-trans}
+use Rattle.std.specs.Io.KnownBytes.{Appends}
+use Rattle.synth_top.specs.declared.key.Key.{Key}
+use Rattle.synth_top.specs.declared.run.Going.{Going}
+use Rattle.synth_top.specs.declared.run.Going.TheVariants.{On, Over}
+use Rattle.synth_top.specs.declared.status.Status.{Status}
+use Rattle.synth_top.specs.declared.status.Status.TheVariants.{Done, ReadFault, WriteFault, NoMemory, BadWords, KeyLimit}
+use Rattle.synth_top.specs.Pressing.{Moment, AllShown, UpToLast, KeysShown, KeysQuit, KeysCut, Pressed, last_shown}
+use Rattle.synth_top.specs.Run.{IsFront, keys_pressed, painted_over}
+use Rattle.synth_top.specs.Turn.{State, PressedKey, Replied, after, ends, failures, grids}
+use Rattle.synth_top.proofs.TurnsInOrder.{after-append, ends-going, grids-append, Replied-append, failures-append, painted_over-append, last_shown-append}
+
+-- the keys of some and of others
+pub keys_pressed-append : (ps qs : List PressedKey) → keys_pressed (ps ++ qs) ≡ keys_pressed ps ++ keys_pressed qs
+keys_pressed-append ps qs = map-append (λ (p : PressedKey). p.key) ps qs
+
+module _ (a b : Moment) (ps : List PressedKey) (shown : AllShown a b ps) where
+  -- the bytes of all screens
+  pub painted_more : (qs : List PressedKey)
+      → painted_over a.shown (grids a.state (ps ++ qs)) ≡ painted_over a.shown (grids a.state ps) ++ painted_over b.shown (grids b.state qs)
+  painted_more qs =
+      ap (painted_over a.shown) (grids-append a.state ps qs)
+      ∙ painted_over-append a.shown (grids a.state ps) (grids (after a.state ps) qs)
+      ∙ ap (λ g. painted_over a.shown (grids a.state ps) ++ painted_over g (grids (after a.state ps) qs)) (sym shown.shown)
+      ∙ ap (λ s. painted_over a.shown (grids a.state ps) ++ painted_over b.shown (grids s qs)) (sym shown.state)
+
+  -- whether the others end the session
+  pub ends_more : (qs : List PressedKey) → ends a.state (ps ++ qs) ≡ ends b.state qs
+  ends_more qs = ends-going a.state ps qs shown.going ∙ ap (λ s. ends s qs) (sym shown.state)
+
+  -- the state behind
+  pub after_more : (qs : List PressedKey) → after a.state (ps ++ qs) ≡ after b.state qs
+  after_more qs = after-append a.state ps qs ∙ ap (λ s. after s qs) (sym shown.state)
+
+  -- the last screen
+  last_more : (qs : List PressedKey) → last_shown a.shown (grids a.state (ps ++ qs)) ≡ last_shown b.shown (grids b.state qs)
+  last_more qs =
+      ap (last_shown a.shown) (grids-append a.state ps qs)
+      ∙ last_shown-append a.shown (grids a.state ps) (grids (after a.state ps) qs)
+      ∙ ap (λ g. last_shown g (grids (after a.state ps) qs)) (sym shown.shown)
+      ∙ ap (λ s. last_shown b.shown (grids s qs)) (sym shown.state)
+
+  -- what the files did
+  replied_more : (qs : List PressedKey) → Replied b.state qs → Replied a.state (ps ++ qs)
+  replied_more qs replied = Replied-append a.state ps qs shown.can_reply (subst (λ s. Replied s qs) shown.state replied)
+
+  -- all of some keys and all of others
+  pub both_shown : (c : Moment) (qs : List PressedKey) → AllShown b c qs → AllShown a c (ps ++ qs)
+  both_shown c qs next = record {
+    can_reply = replied_more qs next.can_reply;
+    going = ends_more qs ∙ next.going;
+    state = next.state ∙ sym (after_more qs);
+    shown = next.shown ∙ sym (last_more qs);
+    wrote = subst (Appends a.taken c.taken) (sym (painted_more qs))
+        (Appends-trans a.taken b.taken c.taken (painted_over a.shown (grids a.state ps)) (painted_over b.shown (grids b.state qs)) shown.wrote next.wrote);
+    faults = omega (arith, shown.faults, next.faults, failures-append ps qs);
+  }
+
+  -- all of some keys, and others up to a last one
+  pub then_up_to : (c : Moment) (earlier : List PressedKey) (last : PressedKey) (count : ℕ) → UpToLast b c earlier last count
+      → UpToLast a c (ps ++ earlier) last (length (painted_over a.shown (grids a.state ps)) + count)
+  then_up_to c earlier last count next =
+      let front = painted_over a.shown (grids a.state ps) in
+      let all = earlier ++ last ∷ [] in
+      let joined : ps ++ all ≡ (ps ++ earlier) ++ last ∷ [] = sym (append_assoc ps earlier (last ∷ [])) in
+      let bytes : front ++ painted_over b.shown (grids b.state all) ≡ painted_over a.shown (grids a.state ((ps ++ earlier) ++ last ∷ [])) =
+      sym (painted_more all) ∙ ap (λ l. painted_over a.shown (grids a.state l)) joined in
+      let whole : length (painted_over a.shown (grids a.state (ps ++ earlier))) ≡ length front + length (painted_over b.shown (grids b.state earlier)) =
+      ap length (painted_more earlier) ∙ length-append front (painted_over b.shown (grids b.state earlier)) in
+      let faults = ap failures (sym joined) ∙ failures-append ps all in
+      record {
+        can_reply = subst (Replied a.state) joined (replied_more all next.can_reply);
+        going = ends_more earlier ∙ next.going;
+        files = next.files ∙ ap (λ (s : State). s.files) (sym (after_more all) ∙ ap (after a.state) joined);
+        wrote = subst (Appends a.taken c.taken)
+            (sym (take-append-add front (painted_over b.shown (grids b.state all)) count) ∙ ap (take (length front + count)) bytes)
+            (Appends-trans a.taken b.taken c.taken front (take count (painted_over b.shown (grids b.state all))) shown.wrote next.wrote);
+        whole = omega (arith, whole, next.whole);
+        faults = omega (arith, shown.faults, next.faults, faults);
+      }
+
+-- keys in front of others
+pub front_behind : (ps : List PressedKey) (keys more : List Key) (qs : List PressedKey) → keys_pressed ps ≡ keys → IsFront (keys_pressed qs) more
+    → IsFront (keys_pressed (ps ++ qs)) (keys ++ more)
+front_behind ps keys more qs all front = (
+  front.0,
+  ap (λ l. keys ++ l) front.1 ∙ ap (λ l. l ++ (keys_pressed qs ++ front.0)) (sym all) ∙ sym (append_assoc (keys_pressed ps) (keys_pressed qs) front.0)
+      ∙ ap (λ l. l ++ front.0) (sym (keys_pressed-append ps qs)),
+)
+
+module _ (keys more : List Key) (a b c : Moment) (first : KeysShown keys a b) where
+  then_all : KeysShown more b c → KeysShown (keys ++ more) a c
+  then_all next = record {
+    pressed = first.pressed ++ next.pressed;
+    all = keys_pressed-append first.pressed next.pressed ∙ ap (λ l. l ++ keys_pressed next.pressed) first.all ∙ ap (λ l. keys ++ l) next.all;
+    shown = both_shown a b first.pressed first.shown c next.pressed next.shown;
+  }
+
+  then_quit : KeysQuit more b c → KeysQuit (keys ++ more) a c
+  then_quit next =
+      let ps = first.pressed in
+      let all = next.earlier ++ next.last ∷ [] in
+      let joined : ps ++ all ≡ (ps ++ next.earlier) ++ next.last ∷ [] = sym (append_assoc ps next.earlier (next.last ∷ [])) in
+      let bytes = ap length (painted_more a b ps first.shown all) ∙ length-append (painted_over a.shown (grids a.state ps)) (painted_over b.shown (grids b.state all)) in
+      record {
+        earlier = ps ++ next.earlier;
+        last = next.last;
+        front = subst (λ l. IsFront (keys_pressed l) (keys ++ more)) joined (front_behind ps keys more all first.all next.front);
+        count = length (painted_over a.shown (grids a.state ps)) + next.count;
+        up_to = then_up_to a b ps first.shown c next.earlier next.last next.count next.up_to;
+        quit = subst (λ l. ends a.state l ≡ true) joined (ends_more a b ps first.shown all ∙ next.quit);
+        all = subst (λ l. length (painted_over a.shown (grids a.state l)) ≤ length (painted_over a.shown (grids a.state ps)) + next.count) joined
+            (omega (arith, bytes, next.all));
+      }
+
+  then_cut : KeysCut more b c → KeysCut (keys ++ more) a c
+  then_cut next =
+      let ps = first.pressed in
+      let all = next.earlier ++ next.last ∷ [] in
+      let joined : ps ++ all ≡ (ps ++ next.earlier) ++ next.last ∷ [] = sym (append_assoc ps next.earlier (next.last ∷ [])) in
+      record {
+        earlier = ps ++ next.earlier;
+        last = next.last;
+        front = subst (λ l. IsFront (keys_pressed l) (keys ++ more)) joined (front_behind ps keys more all first.all next.front);
+        count = length (painted_over a.shown (grids a.state ps)) + next.count;
+        up_to = then_up_to a b ps first.shown c next.earlier next.last next.count next.up_to;
+        going = subst (λ l. ends a.state l ≡ false) joined (ends_more a b ps first.shown all ∙ next.going);
+      }
+
+-- all of some keys, and then what became of others
+pub pressed_then : (going : Going) (keys more : List Key) (a b c : Moment) → KeysShown keys a b → Pressed going more b c → Pressed going (keys ++ more) a c
+pressed_then On keys more a b c first next = then_all keys more a b c first next
+pressed_then (Over Done) keys more a b c first next = then_quit keys more a b c first next
+pressed_then (Over WriteFault) keys more a b c first next = then_cut keys more a b c first next
+pressed_then (Over NoMemory) keys more a b c first next = then_cut keys more a b c first next
+pressed_then (Over ReadFault) keys more a b c first next = absurd next
+pressed_then (Over BadWords) keys more a b c first next = absurd next
+pressed_then (Over KeyLimit) keys more a b c first next = absurd next
+
+-- the first of some keys are the first of those and others
+pub front_more : (front keys more : List Key) → IsFront front keys → IsFront front (keys ++ more)
+front_more front keys more is_front =
+    (is_front.0 ++ more, ap (λ l. l ++ more) is_front.1 ∙ append_assoc front is_front.0 more)
+
+-- where one of some keys ended the session, others behind them don't matter
+pub pressed_before : (status : Status) (keys more : List Key) (a b : Moment) → Pressed (Over status) keys a b → Pressed (Over status) (keys ++ more) a b
+pressed_before Done keys more a b pressed = record {
+  earlier = pressed.earlier;
+  last = pressed.last;
+  front = front_more _ keys more pressed.front;
+  count = pressed.count;
+  up_to = pressed.up_to;
+  quit = pressed.quit;
+  all = pressed.all;
+}
+pressed_before WriteFault keys more a b pressed = record {
+  earlier = pressed.earlier;
+  last = pressed.last;
+  front = front_more _ keys more pressed.front;
+  count = pressed.count;
+  up_to = pressed.up_to;
+  going = pressed.going;
+}
+pressed_before NoMemory keys more a b pressed = record {
+  earlier = pressed.earlier;
+  last = pressed.last;
+  front = front_more _ keys more pressed.front;
+  count = pressed.count;
+  up_to = pressed.up_to;
+  going = pressed.going;
+}
+pressed_before ReadFault keys more a b pressed = absurd pressed
+pressed_before BadWords keys more a b pressed = absurd pressed
+pressed_before KeyLimit keys more a b pressed = absurd pressed

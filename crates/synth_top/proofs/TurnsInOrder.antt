@@ -1,0 +1,53 @@
+-- Turns of some keys and then of others.
+use Rattle.std.proofs.Common.{◌≡◌, ◌+◌, Bool, true, false, ◌||◌, List, [], ◌∷◌, ◌++◌, refl, sym, ap, ◌∙◌, append_assoc, arith}
+use Rattle.synth_top.specs.Run.{painted_over}
+use Rattle.synth_top.specs.Paint.{paint}
+use Rattle.synth_top.specs.Pressing.{last_shown}
+use Rattle.synth_top.specs.Screen.{PlainGrid}
+use Rattle.synth_top.specs.Turn.{State, PressedKey, Replied, after, ends, failures, grids, turn}
+
+-- a test that fails, and then another
+or_false : (a b : Bool) → a ≡ false → (a || b) ≡ b
+or_false a b e = ap (λ c. c || b) e
+
+or_parts : (a b : Bool) → (a || b) ≡ false → (a ≡ false) × (b ≡ false)
+or_parts true b e = absurd (cc)
+or_parts false b e = (refl, e)
+
+-- the state behind
+pub after-append : (s : State) (ps qs : List PressedKey) → after s (ps ++ qs) ≡ after (after s ps) qs
+after-append s [] qs = refl
+after-append s (p ∷ ps) qs = after-append (turn s p).after ps qs
+
+-- where the first don't end the session, the others may
+pub ends-going : (s : State) (ps qs : List PressedKey) → ends s ps ≡ false → ends s (ps ++ qs) ≡ ends (after s ps) qs
+ends-going s [] qs going = refl
+ends-going s (p ∷ ps) qs going =
+    let parts = or_parts (turn s p).ends (ends (turn s p).after ps) going in
+    or_false (turn s p).ends (ends (turn s p).after (ps ++ qs)) parts.0 ∙ ends-going (turn s p).after ps qs parts.1
+
+-- all screens
+pub grids-append : (s : State) (ps qs : List PressedKey) → grids s (ps ++ qs) ≡ grids s ps ++ grids (after s ps) qs
+grids-append s [] qs = refl
+grids-append s (p ∷ ps) qs =
+    ap (λ l. (turn s p).grids ++ l) (grids-append (turn s p).after ps qs)
+    ∙ sym (append_assoc (turn s p).grids (grids (turn s p).after ps) (grids (after s (p ∷ ps)) qs))
+
+-- what the files did
+pub Replied-append : (s : State) (ps qs : List PressedKey) → Replied s ps → Replied (after s ps) qs → Replied s (ps ++ qs)
+Replied-append s [] qs first second = second
+Replied-append s (p ∷ ps) qs first second = (first.0, Replied-append (turn s p).after ps qs first.1 second)
+
+pub failures-append : (ps qs : List PressedKey) → failures (ps ++ qs) ≡ failures ps + failures qs
+failures-append [] qs = omega arith
+failures-append (p ∷ ps) qs = let rest = failures-append ps qs in omega (arith, rest)
+
+-- some screens, and then others over the last of them
+pub painted_over-append : (g : PlainGrid) (xs ys : List PlainGrid) → painted_over g (xs ++ ys) ≡ painted_over g xs ++ painted_over (last_shown g xs) ys
+painted_over-append g [] ys = refl
+painted_over-append g (x ∷ xs) ys =
+    ap (λ l. paint g x ++ l) (painted_over-append x xs ys) ∙ sym (append_assoc (paint g x) (painted_over x xs) (painted_over (last_shown x xs) ys))
+
+pub last_shown-append : (g : PlainGrid) (xs ys : List PlainGrid) → last_shown g (xs ++ ys) ≡ last_shown (last_shown g xs) ys
+last_shown-append g [] ys = refl
+last_shown-append g (x ∷ xs) ys = last_shown-append x xs ys

@@ -1,0 +1,8 @@
+use Rattle.std.proofs.Common.{refl, arith}
+use Rattle.std.proofs.KnownBytes.{Appends-nil}
+use Rattle.synth_top.proofs.Courses.{opening_wanted}
+use Rattle.synth_top.proofs.edit.Goals as goal
+
+-- there was no memory for the screens
+pub returns-in-Err-clause-ended : goal.returns-in-Err-clause-ended
+returns-in-Err-clause-ended g c = opening_wanted _ _ _ refl (0, Appends-nil _) refl (omega arith)

@@ -1,0 +1,142 @@
+-- What pressing some keys does, between two moments of a run.
+use Rattle.std.specs.Prelude.{◌≡◌, ℕ, ◌≤◌, true, false, List, [], ◌∷◌, ◌++◌, length, take, Option, Some, None}
+use Rattle.std.specs.Io.KnownBytes.{Appends, Consumes, IsAtEnd}
+use Rattle.synth_outside.specs.Files.{FileMap}
+use Rattle.synth_top.specs.declared.key.Key.{Key}
+use Rattle.synth_top.specs.declared.run.Editor.{Editor}
+use Rattle.synth_top.specs.declared.run.Going.{Going}
+use Rattle.synth_top.specs.declared.run.Going.TheVariants.{On, Over}
+use Rattle.synth_top.specs.declared.session.Answer.{Answer}
+use Rattle.synth_top.specs.declared.status.Status.{Status}
+use Rattle.synth_top.specs.declared.status.Status.TheVariants.{Done, ReadFault, WriteFault, NoMemory, BadWords, KeyLimit}
+use Rattle.synth_top.specs.Extent.{Extent}
+use Rattle.synth_top.specs.PlainForms.{plain_grid, plain_session}
+use Rattle.synth_top.specs.Reply.{Reply, failure}
+use Rattle.synth_top.specs.Run.{IsFront, RoseBy, keys_pressed, painted_over}
+use Rattle.synth_top.specs.Screen.{PlainGrid, blank}
+use Rattle.synth_top.specs.Session.{new_session, press}
+use Rattle.synth_top.specs.Sized.{IsSized}
+use Rattle.synth_top.specs.Status.{CausedBy}
+use Rattle.synth_top.specs.Turn.{State, PressedKey, CanReply, Replied, after, ends, failures, grids}
+
+-- ---- an editor
+
+-- both screens have the session's size
+pub record IsReady (e : Editor) : Type 0 where
+  pub painted : IsSized e.session.size (plain_grid e.painted)
+  pub next : IsSized e.session.size (plain_grid e.next)
+
+-- an editor for a new session on a screen of this size, before its first screen
+pub record IsNew (size : Extent) (e : Editor) : Type 0 where
+  pub ready : IsReady e
+  pub session : plain_session e.session ≡ new_session size
+  pub painted : plain_grid e.painted ≡ blank size
+  pub reader : e.reader ≡ []
+
+-- the next byte was read, or nothing is left
+abbrev pub ReadsByte : Option ℕ → Option (List ℕ) → Option (List ℕ) → Type 0
+ReadsByte (Some byte) before now = Consumes before now (byte ∷ [])
+ReadsByte None before now = Consumes before now [] × IsAtEnd now
+
+-- ---- one key
+
+-- a key was pressed in this state, and the files did in it what they can do
+pub record IsPressed (key : Key) (answer : Answer) (before now : State)
+    (faults_before faults_now : ℕ) : Type 0 where
+  pub reply : Reply
+  pub can_reply : CanReply before (record { key = key; reply = reply })
+  pub outcome : record { after = now.session; answer = answer } ≡ press before.session key reply
+  pub files : now.files ≡ before.files
+  pub faults : RoseBy (failure reply) faults_before faults_now
+
+-- ---- some keys
+
+-- a moment of a run: its state, the screen that is shown, the bytes that the sink took, and how many
+-- faults the files counted
+pub record Moment : Type 0 where
+  pub state : State
+  pub shown : PlainGrid
+  pub taken : Option (List ℕ)
+  pub file_faults : ℕ
+
+-- the moment that an editor, a sink and files are in
+abbrev pub moment_of : Editor → Option (List ℕ) → Option FileMap → ℕ → Moment
+moment_of e taken files file_faults = record {
+  state = record { session = plain_session e.session; files = files };
+  shown = plain_grid e.painted;
+  taken = taken;
+  file_faults = file_faults;
+}
+
+-- the last of some screens, where the first is painted over this one
+abbrev pub last_shown : PlainGrid → List PlainGrid → PlainGrid
+last_shown shown [] = shown
+last_shown shown (next ∷ rest) = last_shown next rest
+
+-- these keys were pressed, none ended the session, and all their screens were written
+pub record AllShown (before now : Moment) (pressed : List PressedKey) : Type 0 where
+  pub can_reply : Replied before.state pressed
+  pub going : ends before.state pressed ≡ false
+  pub state : now.state ≡ after before.state pressed
+  pub shown : now.shown ≡ last_shown before.shown (grids before.state pressed)
+  pub wrote : Appends before.taken now.taken (painted_over before.shown (grids before.state pressed))
+  pub faults : RoseBy (failures pressed) before.file_faults now.file_faults
+
+-- these keys were pressed up to a last one: none before it ended the session, all screens before its
+-- own were written, and of its own so much that `count` bytes were written in all
+pub record UpToLast (before now : Moment) (earlier : List PressedKey) (last : PressedKey) (count : ℕ)
+    : Type 0 where
+  pub can_reply : Replied before.state (earlier ++ last ∷ [])
+  pub going : ends before.state earlier ≡ false
+  pub files : now.state.files ≡ (after before.state (earlier ++ last ∷ [])).files
+  pub wrote : Appends before.taken now.taken
+      (take count (painted_over before.shown (grids before.state (earlier ++ last ∷ []))))
+  pub whole : length (painted_over before.shown (grids before.state earlier)) ≤ count
+  pub faults : RoseBy (failures (earlier ++ last ∷ [])) before.file_faults now.file_faults
+
+-- all of these keys were pressed
+pub record KeysShown (keys : List Key) (before now : Moment) : Type 0 where
+  pub pressed : List PressedKey
+  pub all : keys_pressed pressed ≡ keys
+  pub shown : AllShown before now pressed
+
+-- these keys were pressed up to one that ended the session
+pub record KeysQuit (keys : List Key) (before now : Moment) : Type 0 where
+  pub earlier : List PressedKey
+  pub last : PressedKey
+  pub front : IsFront (keys_pressed (earlier ++ last ∷ [])) keys
+  pub count : ℕ
+  pub up_to : UpToLast before now earlier last count
+  pub quit : ends before.state (earlier ++ last ∷ []) ≡ true
+  pub all : length (painted_over before.shown (grids before.state (earlier ++ last ∷ []))) ≤ count
+
+-- these keys were pressed up to one a screen of which was cut short
+pub record KeysCut (keys : List Key) (before now : Moment) : Type 0 where
+  pub earlier : List PressedKey
+  pub last : PressedKey
+  pub front : IsFront (keys_pressed (earlier ++ last ∷ [])) keys
+  pub count : ℕ
+  pub up_to : UpToLast before now earlier last count
+  pub going : ends before.state (earlier ++ last ∷ []) ≡ false
+
+-- what became of the keys, by whether the session goes on
+abbrev pub Pressed : Going → List Key → Moment → Moment → Type 0
+Pressed On keys before now = KeysShown keys before now
+Pressed (Over Done) keys before now = KeysQuit keys before now
+Pressed (Over WriteFault) keys before now = KeysCut keys before now
+Pressed (Over NoMemory) keys before now = KeysCut keys before now
+Pressed (Over ReadFault) keys before now = ⊥
+Pressed (Over BadWords) keys before now = ⊥
+Pressed (Over KeyLimit) keys before now = ⊥
+
+-- keys were pressed: what became of them, the count of the sink's faults, and the editor behind
+pub record PressesKeys (going : Going) (keys : List Key) (before now : Moment)
+    (faults_before faults_now : ℕ) (e : Editor) : Type 0 where
+  pub pressed : Pressed going keys before now
+  pub cause : CausedBy (going ≡ Over WriteFault) faults_before faults_now
+  pub ready : IsReady e
+
+-- the status that ended the run, or else this one
+abbrev pub ended_as : Going → Status → Status
+ended_as On status = status
+ended_as (Over ended) status = ended
