@@ -8,6 +8,7 @@ use Rattle.plcs_base.specs.Byte.{is_letter, is_digit, is_name_byte}
 use Rattle.plcs_base.specs.Name.{is_word, IsName}
 use Rattle.plcs_grammar.specs.declared.category.Category.{Category}
 use Rattle.plcs_grammar.specs.declared.category.Category.TheVariants.{CommentText}
+use Rattle.plcs_grammar.specs.declared.category.Category.TheVariants as category
 use Rattle.plcs_grammar.specs.declared.sign.Sign.{Sign}
 use Rattle.plcs_grammar.specs.Sign.{sign_bytes}
 use Rattle.plcs_grammar.specs.Token.{begins_with, EndsWord}
@@ -73,6 +74,21 @@ phrase_no_keyword c p no_comment (inl (pieces, cut), limits) behind ends =
     phrase_front NoKeyword no_keyword_at_tokens p writable.fits writable.tokens behind ends
 phrase_no_keyword c p no_comment (inr comment, limits) behind ends = absurd (no_comment comment.category_is)
 
+-- a placeholder begins with a brace
+placeholder_no_letter : (c : Category) (behind : List ℕ) → begins_with is_letter (placeholder c ++ behind) ≡ false
+placeholder_no_letter category.Assignment behind = refl
+placeholder_no_letter category.Condition behind = refl
+placeholder_no_letter category.Expression behind = refl
+placeholder_no_letter category.ExpressionList behind = refl
+placeholder_no_letter category.VariableList behind = refl
+placeholder_no_letter category.Variable behind = refl
+placeholder_no_letter category.CallRef behind = refl
+placeholder_no_letter category.DeclaredList behind = refl
+placeholder_no_letter category.ProcedureName behind = refl
+placeholder_no_letter category.NameList behind = refl
+placeholder_no_letter category.Length behind = refl
+placeholder_no_letter category.CommentText behind = refl
+
 -- nor where a placeholder does
 pub no_keyword_begins : (c : Category) (x behind : List ℕ) → c ≢ CommentText → IsPart c x → EndsWord behind
     → ¬ (BeginsWithKeyword (x ++ behind))
@@ -81,4 +97,4 @@ no_keyword_begins c x behind no_comment (inl (p, formed, is)) ends =
     (phrase_no_keyword c p no_comment formed behind (not-true (begins_with is_name_byte behind) ends))
 no_keyword_begins c x behind no_comment (inr is) ends =
     subst (λ (z : List ℕ). NoKeyword (z ++ behind)) (sym is)
-    (no_letter_no_keyword (placeholder c ++ behind) refl)
+    (no_letter_no_keyword (placeholder c ++ behind) (placeholder_no_letter c behind))

@@ -45,7 +45,7 @@ pub record Reaches (p : PlainPhrase) : Type 0 where
   pub begins : start (category_of p) ≡ Some first
   pub goes : Goes first (spell_phrase p) traced end
   pub ends : phrase_of end ≡ Some p
-  pub agrees : (pieces : List Piece) → first_over pieces traced ≡ first_over pieces (phrase_opened p)
+  pub agrees : (pieces : List Piece) → first_over pieces traced ≡ first_over pieces (phrase_opened_levels p)
 
 -- an expression that stands in no other is read
 at_base : (b : Base) (t : PlainExpr) → Fits t 1
@@ -196,7 +196,7 @@ module _ {X : Type 0} (g : X → List ℕ) (h : (x : X) → NoLevels (g x)) wher
   listed_none (x ∷ xs) = no_levels_append (g x) (levels_more g xs) (h x) (more_none xs)
 
 reaches_expression : (p : PlainPhrase) (b : Base) (t : PlainExpr) → Fits t 1 → start (category_of p) ≡ Some (State.wanted (Stack.base b))
-    → spell_phrase p ≡ spell t → phrase_of_stack (Stack.base b) t ≡ Some p → depth (Stack.base b) ≡ 0 → phrase_opened p ≡ levels t 0
+    → spell_phrase p ≡ spell t → phrase_of_stack (Stack.base b) t ≡ Some p → depth (Stack.base b) ≡ 0 → phrase_opened_levels p ≡ levels t 0
     → Reaches p
 reaches_expression p b t f begins tokens ends zero opens =
     let r = at_base b t f in
@@ -336,7 +336,7 @@ reaches (PlainPhrase.comment bytes) f = absurd f
 -- where the machine comes to over the tokens of a phrase, and the levels that it opens
 runs_form : (c : Category) (ks : List Token) (p : PlainPhrase) → Form c ks p
     → (z : State) × (run ks (start c) ≡ Some z) × (phrase_of z ≡ Some p)
-    × ((pieces : List Piece) → first_over pieces (trace ks (start c)) ≡ first_over pieces (phrase_opened p))
+    × ((pieces : List Piece) → first_over pieces (trace ks (start c)) ≡ first_over pieces (phrase_opened_levels p))
 runs_form c ks p h =
     let f = form_spelled c ks p h in
     let r = reaches p f.1 in
