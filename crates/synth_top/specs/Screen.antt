@@ -19,7 +19,7 @@ pub record PlainGrid : Type 0 where
 
 -- the part of a PUT: its number, or the placeholder
 abbrev pub part_text : Option ℕ → List ℕ
-part_text None = placeholder (placeholder_word ExpressionList)
+part_text None = placeholder ExpressionList
 part_text (Some number) = decimal number
 
 -- what stands before a line that is one level in

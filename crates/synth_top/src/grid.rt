@@ -154,11 +154,7 @@ fn put_part(text: &mut RowText, part: Option<u32>)
     ensures short { array_vec_len text.new ≤ 60 }
 {
     match part {
-        None => {
-            put(text, b"{");
-            put(text, Category::ExpressionList.placeholder_word());
-            put(text, b"}");
-        }
+        None => put(text, Category::ExpressionList.placeholder()),
         Some(number) => put(text, itoa::Buffer::new().format(number).as_bytes()),
     }
 }
