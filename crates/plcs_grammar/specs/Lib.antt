@@ -21,5 +21,7 @@ pub mod Syntax
 pub mod Canon
 pub mod Placeholder
 pub mod ShownText
+-- ---- what is written for each kind of node, and what stands inside it
+pub mod Template
 -- ---- what private contracts alone cite
 pub mod Private
