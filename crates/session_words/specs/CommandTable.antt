@@ -1,12 +1,12 @@
 -- The commands: their words, what each takes behind its word, and the command that it then is.
-use Rattle.std.specs.Prelude.{ℕ, List, [], ◌∷◌, ◌++◌, map, codes, bytes_eq, find, Option}
-use Rattle.std.specs.Option.{option_map}
+use Rattle.std.specs.Prelude.{ℕ, List, [], ◌∷◌, codes, bytes_eq, find, Option}
+use Rattle.std.specs.Option.{option_map, option_or}
 use Rattle.plcs_grammar.specs.declared.template.Template.{Template}
+use Rattle.plcs_grammar.specs.Template.{template_of}
 use Rattle.session_words.specs.declared.limit.TheConstants.{MOST_STEPS, MOST_STEPS_BACK, GREATEST_CODE_NUMBER}
 use Rattle.session_words.specs.PlainCommand as command
 use Rattle.session_words.specs.Argument as argument
 use Rattle.session_words.specs.Argument.{PlainArgumentRule}
-use Rattle.session_words.specs.TemplateWord.{template_word, templates}
 
 -- a command's word, and what it takes
 pub record PlainCommandRow : Type 0 where
@@ -16,10 +16,6 @@ pub record PlainCommandRow : Type 0 where
 -- the row of a word and what its command takes
 abbrev pub row : List ℕ → PlainArgumentRule → PlainCommandRow
 row word rule = record { word = word; rule = rule }
-
--- the row of a template's command
-abbrev pub template_row : Template → PlainCommandRow
-template_row t = row (template_word t) (argument.nothing (command.template t))
 
 -- the commands that fill in no template
 abbrev pub other_commands : List PlainCommandRow
@@ -46,14 +42,14 @@ other_commands =
     ∷ row (codes "quit") (argument.nothing command.quit)
     ∷ []
 
--- all commands
-abbrev pub commands : List PlainCommandRow
-commands = map template_row templates ++ other_commands
-
 -- what the row of the word among these takes, if there is one
 abbrev pub argument_rule_in : List PlainCommandRow → List ℕ → Option PlainArgumentRule
 argument_rule_in rows word = option_map (λ r. r.rule) (find (λ r. bytes_eq word r.word) rows)
 
--- what the command of the word takes, if there is one
+-- what a template's command takes
+abbrev pub template_rule : Template → PlainArgumentRule
+template_rule t = argument.nothing (command.template t)
+
+-- what the command of the word takes, if there is one: the words of templates stand in their own table
 unfoldable pub argument_rule_of : List ℕ → Option PlainArgumentRule
-argument_rule_of word = argument_rule_in commands word
+argument_rule_of word = option_or (option_map template_rule (template_of word)) (argument_rule_in other_commands word)

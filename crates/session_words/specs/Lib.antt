@@ -1,7 +1,6 @@
 -- ---- commands as plain data
 pub mod PlainCommand
 -- ---- the table of commands
-pub mod TemplateWord
 pub mod Argument
 pub mod CommandTable
 -- ---- which command a line is

@@ -7,7 +7,7 @@ ghost use Rattle.session_words.specs.Private.PlainCommandRow.{plain_command_row}
 
 use crate::argument_rule::{Alone, ArgumentRule, Filed, Named, Numbered, Range, Texted};
 use crate::limit::{GREATEST_CODE_NUMBER, MOST_STEPS, MOST_STEPS_BACK};
-use crate::template_word::template_of;
+use plcs_grammar::Template;
 
 /// A command's word, and what it takes.
 #[derive(Clone, Copy)]
@@ -122,10 +122,11 @@ const COMMANDS: [CommandRow; 20] = [
 ];
 
 /// What the command of the word takes behind it, or `None` where the word is no command's.
+#[tactic(auto, unfolding(crate::specs::CommandTable::argument_rule_of))]
 pub fn argument_rule_of(word: &[u8]) -> Option<ArgumentRule>
     ensures { option_map plain_argument_rule result ≡ argument_rule_of word.now }
 {
-    match template_of(word) {
+    match Template::read(word) {
         Some(template) => Some(ArgumentRule::Nothing(Alone::Template(template))),
         None => other_argument_rule_of(word),
     }

@@ -10,7 +10,6 @@ mod limit;
 mod message;
 mod message_text;
 mod number;
-mod template_word;
 #[cfg(test)]
 mod tests;
 mod trimmed;
