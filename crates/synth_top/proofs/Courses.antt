@@ -8,7 +8,7 @@ use Rattle.synth_outside.specs.Sink.{AppendsFront}
 use Rattle.synth_outside.specs.Files.{FileMap}
 use Rattle.synth_top.specs.declared.status.Status.TheVariants.{WriteFault, NoMemory}
 use Rattle.synth_top.specs.Keys.{completed, keys}
-use Rattle.synth_top.specs.Pressing.{Moment, AllShown, UpToLast}
+use Rattle.synth_top.specs.Private.Pressing.{Moment, AllShown, UpToLast}
 use Rattle.synth_top.specs.Reply.{NotAsked}
 use Rattle.synth_top.specs.Run.{Told, Loads, HaveMap, NoRescue, IsFront, IsOver, Course, AtLastKey, Ended, keys_pressed, first_state, opening, painted_over, written}
 use Rattle.synth_top.specs.Screen.{grid}

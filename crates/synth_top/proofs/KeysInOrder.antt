@@ -9,7 +9,7 @@ use Rattle.synth_top.specs.declared.run.Going.{Going}
 use Rattle.synth_top.specs.declared.run.Going.TheVariants.{On, Over}
 use Rattle.synth_top.specs.declared.status.Status.{Status}
 use Rattle.synth_top.specs.declared.status.Status.TheVariants.{Done, ReadFault, WriteFault, NoMemory, BadWords, KeyLimit}
-use Rattle.synth_top.specs.Pressing.{Moment, AllShown, UpToLast, KeysShown, KeysQuit, KeysCut, Pressed, last_shown}
+use Rattle.synth_top.specs.Private.Pressing.{Moment, AllShown, UpToLast, KeysShown, KeysQuit, KeysCut, Pressed, last_shown}
 use Rattle.synth_top.specs.Run.{IsFront, keys_pressed, painted_over}
 use Rattle.synth_top.specs.Turn.{State, PressedKey, Replied, after, ends, failures, grids}
 use Rattle.synth_top.proofs.TurnsInOrder.{after-append, ends-going, grids-append, Replied-append, failures-append, painted_over-append, last_shown-append}

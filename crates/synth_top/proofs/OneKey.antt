@@ -7,7 +7,7 @@ use Rattle.synth_top.specs.declared.key.Key.{Key}
 use Rattle.synth_top.specs.declared.session.Answer.{Answer}
 use Rattle.synth_top.specs.declared.session.Answer.TheVariants.{Done, Refused, Quit}
 use Rattle.synth_top.specs.Paint.{paint}
-use Rattle.synth_top.specs.Pressing.{IsPressed, Moment, KeysShown, KeysQuit, KeysCut, last_shown}
+use Rattle.synth_top.specs.Private.Pressing.{IsPressed, Moment, KeysShown, KeysQuit, KeysCut, last_shown}
 use Rattle.synth_top.specs.Run.{painted_over}
 use Rattle.synth_top.specs.Screen.{grid}
 use Rattle.synth_top.specs.Session.{is_quit}

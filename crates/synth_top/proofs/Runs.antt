@@ -10,7 +10,7 @@ use Rattle.synth_top.specs.declared.run.Going.TheVariants.{On, Over}
 use Rattle.synth_top.specs.declared.status.Status.{Status}
 use Rattle.synth_top.specs.declared.status.Status.TheVariants.{Done, ReadFault, WriteFault, NoMemory, BadWords, KeyLimit}
 use Rattle.synth_top.specs.Keys.{Feeds, IsHeld, completed, keys, listed}
-use Rattle.synth_top.specs.Pressing.{Moment, AllShown, UpToLast, KeysShown, Pressed, ended_as}
+use Rattle.synth_top.specs.Private.Pressing.{Moment, AllShown, UpToLast, KeysShown, Pressed, ended_as}
 use Rattle.synth_top.specs.Run.{Told, NoRescue, IsFront, IsOver, Course, AtLastKey, PressedAll, ReadCut, Ended, keys_pressed, first_state, painted_over, written}
 use Rattle.synth_top.specs.Turn.{PressedKey, ends, grids}
 use Rattle.synth_top.specs.Words.{PlainOptions}

@@ -2,7 +2,7 @@
 use Rattle.std.proofs.Common.{◌≡◌, ◌+◌, Bool, true, false, ◌||◌, List, [], ◌∷◌, ◌++◌, refl, sym, ap, ◌∙◌, append_assoc, arith}
 use Rattle.synth_top.specs.Run.{painted_over}
 use Rattle.synth_top.specs.Paint.{paint}
-use Rattle.synth_top.specs.Pressing.{last_shown}
+use Rattle.synth_top.specs.Private.Pressing.{last_shown}
 use Rattle.synth_top.specs.Screen.{PlainGrid}
 use Rattle.synth_top.specs.Turn.{State, PressedKey, Replied, after, ends, failures, grids, turn}
 

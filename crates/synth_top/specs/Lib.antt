@@ -1,17 +1,16 @@
--- What a user has to believe: what public contracts cite.
+-- ---- sizes, numbers and the words of the command
 pub mod Extent
 pub mod Number
 pub mod Words
+-- ---- keys, the session, and its screen
 pub mod Keys
 pub mod Reply
 pub mod Session
 pub mod Screen
 pub mod Paint
+-- ---- whole runs
 pub mod Turn
 pub mod Status
 pub mod Run
--- What private contracts alone cite.
-pub mod PlainForms
-pub mod Sized
-pub mod Writes
-pub mod Pressing
+-- ---- what private contracts alone cite
+pub mod Private

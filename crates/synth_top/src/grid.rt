@@ -3,9 +3,9 @@
 ghost use Rattle.std.specs.Prelude.{◌≡◌, ◌+◌, ◌-◌, ◌≤◌, ◌<◌, [], ◌++◌, length, replicate, slice_index_or, IfOk};
 ghost use Rattle.arrayvec.specs.ArrayVec.{array_vec_len};
 ghost use Rattle.synth_top.specs.Screen.{cursor_col, cursor_row, grid, blank, input_text, part_text, prompt, row_text, shown, statement_line, window_text};
-ghost use Rattle.synth_top.specs.PlainForms.{plain_session, plain_grid};
+ghost use Rattle.synth_top.specs.Private.PlainForms.{plain_session, plain_grid};
 ghost use Rattle.synth_top.specs.Session.{message_text};
-ghost use Rattle.synth_top.specs.Sized.{IsSized};
+ghost use Rattle.synth_top.specs.Private.Sized.{IsSized};
 
 use crate::session::{Refusal, Session, Statement};
 use crate::size::ScreenSize;

@@ -2,7 +2,7 @@
 #![tactic(auto)]
 
 ghost use Rattle.std.specs.Prelude.{◌≡◌, map, IfSome, string_bytes};
-ghost use Rattle.synth_top.specs.PlainForms.{plain_options};
+ghost use Rattle.synth_top.specs.Private.PlainForms.{plain_options};
 ghost use Rattle.synth_top.specs.Run.{Ended};
 ghost use Rattle.synth_top.specs.Status.{CausedBy, LeftAs};
 ghost use Rattle.synth_top.specs.Words.{options_of};

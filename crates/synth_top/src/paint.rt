@@ -3,9 +3,9 @@
 ghost use Rattle.std.specs.Prelude.{◌≡◌, ◌+◌, ◌≤◌, [], ◌++◌, false, decimal, length, take};
 ghost use Rattle.arrayvec.specs.ArrayVec.{array_vec_len};
 ghost use Rattle.synth_top.specs.Paint.{go_to, image_change, paint, row_piece, row_paint, rows_paint, spelled, visible};
-ghost use Rattle.synth_top.specs.Sized.{IsSized};
-ghost use Rattle.synth_top.specs.PlainForms.{plain_grid};
-ghost use Rattle.synth_top.specs.Writes.{Writes};
+ghost use Rattle.synth_top.specs.Private.Sized.{IsSized};
+ghost use Rattle.synth_top.specs.Private.PlainForms.{plain_grid};
+ghost use Rattle.synth_top.specs.Private.Writes.{Writes};
 
 use crate::grid::Grid;
 use crate::size::ScreenSize;

@@ -5,12 +5,12 @@ ghost use Rattle.synth_outside.specs.Cause.{HasCause};
 ghost use Rattle.synth_outside.specs.Source.{LosesAtMost};
 ghost use Rattle.synth_top.specs.Keys.{keys, listed};
 ghost use Rattle.synth_top.specs.Paint.{paint};
-ghost use Rattle.synth_top.specs.PlainForms.{plain_grid, plain_session};
-ghost use Rattle.synth_top.specs.Pressing.{IsNew, IsReady, PressesKeys, ReadsByte, ended_as, moment_of};
+ghost use Rattle.synth_top.specs.Private.PlainForms.{plain_grid, plain_session};
+ghost use Rattle.synth_top.specs.Private.Pressing.{IsNew, IsReady, PressesKeys, ReadsByte, ended_as, moment_of};
 ghost use Rattle.synth_top.specs.Run.{Ended, opening};
 ghost use Rattle.synth_top.specs.Screen.{grid};
 ghost use Rattle.synth_top.specs.Status.{CausedBy, LeftAs};
-ghost use Rattle.synth_top.specs.Writes.{Writes};
+ghost use Rattle.synth_top.specs.Private.Writes.{Writes};
 
 use crate::grid::Grid;
 use crate::key::{Key, KeyReader, Keys};

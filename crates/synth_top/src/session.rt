@@ -1,8 +1,8 @@
 //! The program that is edited, and what each key does to it.
 
 ghost use Rattle.std.specs.Prelude.{◌≡◌};
-ghost use Rattle.synth_top.specs.PlainForms.{plain_session};
-ghost use Rattle.synth_top.specs.Pressing.{IsPressed};
+ghost use Rattle.synth_top.specs.Private.PlainForms.{plain_session};
+ghost use Rattle.synth_top.specs.Private.Pressing.{IsPressed};
 ghost use Rattle.synth_top.specs.Reply.{NotAsked};
 ghost use Rattle.synth_top.specs.Session.{new_session, refused, done, char_typed, put_filled, phrase_entered, line_entered, press};
 

@@ -2,7 +2,7 @@
 
 ghost use Rattle.std.specs.Prelude.{◌≡◌, ◌≤◌, map, option_map, IfSome};
 ghost use Rattle.std.specs.String.{string_bytes};
-ghost use Rattle.synth_top.specs.PlainForms.{plain_options};
+ghost use Rattle.synth_top.specs.Private.PlainForms.{plain_options};
 ghost use Rattle.synth_top.specs.Words.{count_between, options_of};
 
 use crate::number::number_in_digits;

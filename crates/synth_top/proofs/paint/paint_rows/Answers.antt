@@ -1,7 +1,7 @@
 use Rattle.std.proofs.Common.{◌<◌, ◌+◌, [], length, arith, ap}
 use Rattle.std.proofs.lemmas.Grind.{common_steps}
 use Rattle.std.proofs.lemmas.Result.{err_from_is_err_and}
-use Rattle.synth_top.specs.PlainForms.{plain_grid}
+use Rattle.synth_top.specs.Private.PlainForms.{plain_grid}
 use Rattle.synth_top.proofs.Owing.{owes_more, owes_failed, owes_row}
 use Rattle.synth_top.proofs.WritesInTurn.{cause_passed}
 use Rattle.synth_top.proofs.paint.paint_rows.Goals as goal

@@ -1,6 +1,6 @@
 use Rattle.std.proofs.Common.{◌≡◌, ◌+◌, drop}
 use Rattle.synth_top.specs.Paint.{rows_paint}
-use Rattle.synth_top.specs.PlainForms.{plain_grid}
+use Rattle.synth_top.specs.Private.PlainForms.{plain_grid}
 use Rattle.synth_top.proofs.Owing.{Owes}
 use Rattle.synth_top.proofs.paint.paint_rows.Given as goal
 

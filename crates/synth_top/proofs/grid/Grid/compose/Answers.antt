@@ -2,7 +2,7 @@ use Rattle.std.proofs.Common.{◌≡◌, ◌<◌, ℕ, List, [], length, map, ge
 use Rattle.std.proofs.lemmas.List.{length-map, length-set}
 use Rattle.std.proofs.lemmas.List.FromFn.{fill_by_all}
 use Rattle.synth_top.specs.Screen.{row_text, shown, grid}
-use Rattle.synth_top.specs.PlainForms.{plain_session}
+use Rattle.synth_top.specs.Private.PlainForms.{plain_session}
 use Rattle.synth_top.proofs.Drawing.{length-shown, width_at, drawn_more, widths_kept}
 use Rattle.synth_top.proofs.grid.Grid.compose.Goals as goal
 

@@ -1,7 +1,7 @@
 use Rattle.std.proofs.Common.{◌≡◌, ℕ, ◌<◌, get_or, []}
 use Rattle.synth_top.specs.Screen.{row_text, shown}
-use Rattle.synth_top.specs.Sized.{IsSized}
-use Rattle.synth_top.specs.PlainForms.{plain_grid, plain_session}
+use Rattle.synth_top.specs.Private.Sized.{IsSized}
+use Rattle.synth_top.specs.Private.PlainForms.{plain_grid, plain_session}
 use Rattle.synth_top.proofs.grid.Grid.compose.Given as goal
 
 -- the rows above this one are drawn

@@ -1,6 +1,6 @@
 use Rattle.std.proofs.Common.{ap, refl, arith, rules, Err}
 use Rattle.synth_top.specs.declared.session.Session.{Session}
-use Rattle.synth_top.specs.PlainForms.{plain_session}
+use Rattle.synth_top.specs.Private.PlainForms.{plain_session}
 use Rattle.synth_top.proofs.OneKey.{one_shown, one_quit, one_cut}
 use Rattle.synth_top.proofs.run.Editor.press.Goals as goal
 

@@ -2,7 +2,7 @@ use Rattle.std.proofs.Common.{◌≡◌, ◌∙◌, refl, ap, arith, subst, inl,
 use Rattle.std.proofs.KnownBytes.{Consumes-nil}
 use Rattle.std.specs.Io.KnownBytes.{Appends}
 use Rattle.synth_outside.specs.Sink.{AppendsFront}
-use Rattle.synth_top.specs.PlainForms.{plain_session}
+use Rattle.synth_top.specs.Private.PlainForms.{plain_session}
 use Rattle.synth_top.specs.Run.{opening}
 use Rattle.synth_top.specs.Screen.{grid}
 use Rattle.synth_top.specs.Session.{PlainSession}

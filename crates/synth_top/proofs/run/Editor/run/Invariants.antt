@@ -1,5 +1,5 @@
 use Rattle.std.proofs.Common.{◌≡◌}
-use Rattle.synth_top.specs.Pressing.{IsReady, moment_of}
+use Rattle.synth_top.specs.Private.Pressing.{IsReady, moment_of}
 use Rattle.synth_top.proofs.Runs.{SoFar}
 use Rattle.synth_top.proofs.run.Editor.run.Given as goal
 

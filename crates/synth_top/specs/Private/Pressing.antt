@@ -10,12 +10,12 @@ use Rattle.synth_top.specs.declared.session.Answer.{Answer}
 use Rattle.synth_top.specs.declared.status.Status.{Status}
 use Rattle.synth_top.specs.declared.status.Status.TheVariants.{Done, ReadFault, WriteFault, NoMemory, BadWords, KeyLimit}
 use Rattle.synth_top.specs.Extent.{Extent}
-use Rattle.synth_top.specs.PlainForms.{plain_grid, plain_session}
+use Rattle.synth_top.specs.Private.PlainForms.{plain_grid, plain_session}
 use Rattle.synth_top.specs.Reply.{Reply, failure}
 use Rattle.synth_top.specs.Run.{IsFront, RoseBy, keys_pressed, painted_over}
 use Rattle.synth_top.specs.Screen.{PlainGrid, blank}
 use Rattle.synth_top.specs.Session.{new_session, press}
-use Rattle.synth_top.specs.Sized.{IsSized}
+use Rattle.synth_top.specs.Private.Sized.{IsSized}
 use Rattle.synth_top.specs.Status.{CausedBy}
 use Rattle.synth_top.specs.Turn.{State, PressedKey, CanReply, Replied, after, ends, failures, grids}
 
