@@ -20,6 +20,8 @@ pub mod Syntax
 -- ---- what is written
 pub mod Canon
 pub mod Placeholder
+-- ---- what is written for each kind of node, and what stands inside it
+pub mod Template
 -- ---- what private contracts alone cite
 pub mod Chain
 pub mod Separator
