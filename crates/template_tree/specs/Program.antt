@@ -71,11 +71,22 @@ Fill [] items = items ≡ []
 Fill (section ∷ sections) items =
     (own others : List Sort) × (items ≡ own ++ others) × AreItems section.amount section.sort own × Fill sections others
 
--- whether a node of the kind may be elided: comments alone
-abbrev pub may_be_elided : NodeKind → Bool
-may_be_elided NodeKind.DeclarationHole = false
-may_be_elided NodeKind.StatementHole = false
-may_be_elided NodeKind.ProcedureHole = false
-may_be_elided NodeKind.Main = false
-may_be_elided NodeKind.Assign = false
-may_be_elided (NodeKind.Filled template) = may_be_elided_template template
+-- a node is what its row asks for, where what stands inside it has these sorts; a comment alone may be elided
+pub record IsNode (label : Label) (items : List Sort) : Type 0 where
+  pub parts : AreParts (parts_of (row_of label.kind).line) label.parts
+  pub inner : Fill (row_of label.kind).sections items
+  pub elision : label.elided ≡ true → label.kind ≡ NodeKind.Filled Template.Comment
+
+-- each of the nodes, and each that stands inside them, is what its row asks for
+abbrev pub AreNodes : Forest → Type 0
+AreNodes Forest.nil = Unit {0}
+AreNodes (Forest.cons label inner rest) = IsNode label (sorts inner) × AreNodes inner × AreNodes rest
+
+-- the node, with what stands inside it, is a part of a program
+abbrev pub IsSubtree : PlainNode → Type 0
+IsSubtree node = IsNode node.label (sorts node.inner) × AreNodes node.inner
+
+-- the nodes are a program: main, and a list of procedures
+pub record IsProgram (items : Forest) : Type 0 where
+  pub listed : Fill program_sections (sorts items)
+  pub sound : AreNodes items

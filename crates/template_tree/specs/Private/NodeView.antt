@@ -7,9 +7,9 @@ use Rattle.template_tree.specs.PlainPlace.{plain_place}
 -- its fields, with the parts in plain form and the list of what stands inside as nodes in order
 abbrev pub seen : Inside → PlainNode
 seen a =
-    record
-      { label =
+    record {
+      label =
           record
-            { slot = a.slot.0; kind = a.kind; parts = map plain_place a.parts.items; elided = a.elided; spare = a.inner.spare }
-      ; inner = forest a.inner.items
-      }
+          { slot = a.slot.0; kind = a.kind; parts = map plain_place a.parts.items; elided = a.elided; spare = a.inner.spare };
+      inner = forest a.inner.items;
+    }

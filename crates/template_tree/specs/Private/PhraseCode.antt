@@ -108,11 +108,11 @@ reference_of mark a (twig other left right) = PlainVarRef.subscripted (name_in m
 abbrev pub built : Bush → Built
 built leaf = record { expr = PlainExpr.bit false; reference = PlainVarRef.simple []; exprs = PlainExprs.nil }
 built (twig mark left right) =
-    record
-      { expr = expr_of mark (built left) (built right)
-      ; reference = reference_of mark (built left) right
-      ; exprs = PlainExprs.cons (built left).expr (built right).exprs
-      }
+    record {
+      expr = expr_of mark (built left) (built right);
+      reference = reference_of mark (built left) right;
+      exprs = PlainExprs.cons (built left).expr (built right).exprs;
+    }
 
 mutual
   pub expr_back : (e : PlainExpr) → (built (expr_bush e)).expr ≡ e
@@ -216,13 +216,13 @@ phrase_back (PlainPhrase.comment bytes) = refl
 abbrev pub phrase_code : Coded PlainPhrase
 phrase_code =
     code_by
-      (Category × (List PlainVarRef × (PlainExprs × (List Item × (List (List ℕ) × ℕ)))))
-      (coded× category_row.the_row.coded
-        (coded× (coded_list reference_code)
-          (coded× exprs_code (coded× (coded_list item_row.the_row.coded) (coded× (coded_list (coded_list coded_ℕ)) coded_ℕ)))))
-      (λ p. let m = made_of p in (m.category, (m.references, (m.exprs, (m.items, (m.names, m.number))))))
-      (λ t.
-        phrase_from t.0
-          record
-            { category = t.0; references = t.1.0; exprs = t.1.1.0; items = t.1.1.1.0; names = t.1.1.1.1.0; number = t.1.1.1.1.1 })
-      phrase_back
+    (Category × (List PlainVarRef × (PlainExprs × (List Item × (List (List ℕ) × ℕ)))))
+    (coded× category_row.the_row.coded
+    (coded× (coded_list reference_code)
+    (coded× exprs_code (coded× (coded_list item_row.the_row.coded) (coded× (coded_list (coded_list coded_ℕ)) coded_ℕ)))))
+    (λ p. let m = made_of p in (m.category, (m.references, (m.exprs, (m.items, (m.names, m.number))))))
+    (λ t.
+    phrase_from t.0
+    record
+    { category = t.0; references = t.1.0; exprs = t.1.1.0; items = t.1.1.1.0; names = t.1.1.1.1.0; number = t.1.1.1.1.1 })
+    phrase_back
