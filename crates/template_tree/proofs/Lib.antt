@@ -1,2 +1,6 @@
 -- the value of each limit, which the definitions take from the code
 mod Limits
+-- an edit by slot is the edit at its path
+pub mod SlotEdits
+-- the number of procedures, and of what stands in a node
+pub mod Counts

@@ -6,5 +6,10 @@ pub mod Limit
 pub mod Program
 pub mod Slots
 pub mod Tree
+-- ---- edits
+pub mod Path
+pub mod Edit
+-- ---- the laws
+pub mod Law
 -- ---- what private contracts alone cite
 pub mod Private

@@ -43,6 +43,11 @@ pub forest_nodes : (items : Forest) → forest (nodes items) ≡ items
 forest_nodes nil = refl
 forest_nodes (cons label inner rest) = ap (λ items. cons label inner items) (forest_nodes rest)
 
+-- the ones and then the others
+abbrev pub join : Forest → Forest → Forest
+join nil others = others
+join (cons label inner rest) others = cons label inner (join rest others)
+
 -- a list of nodes, with how many more it has room for
 pub record PlainNodes : Type 0 where
   pub items : List PlainNode

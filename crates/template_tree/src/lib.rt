@@ -1,12 +1,21 @@
 //! The tree of templates: programs, their listing, and how they are read.
 #![tactic(auto, using(crate::specs::PlainTree::nodes_forest))]
 
+mod change;
+mod law;
 mod limit;
 mod node;
+mod node_at;
+mod path;
 mod phrase_place;
+mod side;
 mod tree;
 
+pub use change::{Change, What};
+pub use law::slot_edit_is_path_edit;
 pub use limit::{DEEPEST_PATH, LONGEST_PHRASE, MOST_DRAWN, MOST_SLOTS};
 pub use node::Node;
+pub use path::Path;
 pub use phrase_place::PhrasePlace;
+pub use side::Side;
 pub use tree::Tree;

@@ -1,9 +1,12 @@
 //! Nodes, and the lists in which they stand.
-ghost use Rattle.std.specs.Prelude.{◌≡◌};
+ghost use Rattle.std.specs.Prelude.{◌≡◌, ℕ, ◌+◌, ◌-◌, ◌^◌, ◌<◌, ◌≤◌, [], length, option_map, slice_get, option_copied, IfSome, IfNone, map};
+ghost use Rattle.template_tree.specs.PlainTree.{nodes, forest};
+ghost use Rattle.template_tree.specs.PlainPlace.{plain_place};
 
 use crate::phrase_place::PhrasePlace;
 use plcs_base::Slot;
 use plcs_grammar::NodeKind;
+use std::alloc::Global;
 use std::marker::Model;
 
 /// Main, a procedure, a declaration or a statement with its parts and with what stands inside it, or
@@ -75,5 +78,68 @@ impl Node {
         ensures { result ≡ self.now.label.kind }
     {
         self.kind
+    }
+}
+
+impl Node {
+    /// What stands in the part, or `None` where there is no such part.
+    pub fn part(&self, part: u8) -> Option<&PhrasePlace>
+        ensures { option_map (λ place. plain_place place.now) result ≡ slice_get self.now.label.parts part }
+    {
+        self.parts.get(part as usize)
+    }
+
+    /// Whether it is a comment whose refinement is hidden.
+    pub fn is_elided(&self) -> bool
+        ensures { result ≡ self.now.label.elided }
+    {
+        self.elided
+    }
+
+    /// How many nodes stand in it.
+    pub fn children(&self) -> u32
+        requires few { length (nodes self.now.inner) < 2 ^ 32 }
+        ensures { result ≡ length (nodes self.now.inner) }
+    {
+        self.inner.len() as u32
+    }
+
+    /// The node of this number in it, counted from 0 in listing order, or `None` where there is none.
+    pub fn child(&self, k: u32) -> Option<&Node>
+        ensures { option_map (λ node. node.now) result ≡ slice_get (nodes self.now.inner) k }
+    {
+        self.inner.get(k as usize)
+    }
+}
+
+impl Nodes {
+    /// None, taking no memory.
+    pub(crate) fn new(alloc: Global) -> Nodes
+        ensures { result.items ≡ [] }
+    {
+        Nodes {
+            list: Vec::new(alloc),
+        }
+    }
+
+    /// How many there are.
+    pub(crate) fn len(&self) -> usize
+        ensures { result ≡ length self.now.items }
+    {
+        self.list.len()
+    }
+
+    /// All of them.
+    pub(crate) fn as_slice(&self) -> &[Node]
+        ensures { result.now ≡ self.now.items }
+    {
+        self.list.as_slice()
+    }
+
+    /// The one of this number.
+    pub(crate) fn get(&self, k: usize) -> Option<&Node>
+        ensures { option_map (λ node. node.now) result ≡ slice_get self.now.items k }
+    {
+        self.list.get(k)
     }
 }

@@ -1,5 +1,6 @@
 //! The tree: main and the procedures, with the slots that were drawn.
-ghost use Rattle.std.specs.Prelude.{◌≡◌};
+ghost use Rattle.std.specs.Prelude.{◌≡◌, ◌+◌, length};
+ghost use Rattle.template_tree.specs.PlainTree.{nodes};
 ghost use Rattle.template_tree.specs.Slots.{count};
 ghost use Rattle.template_tree.specs.Tree.{IsTree};
 
@@ -12,9 +13,9 @@ use std::marker::Model;
 /// does not keep it, since `node_mut` lends a node for writing.
 #[derive(Drop)]
 pub struct Tree {
-    items: Nodes,
-    drawn: u32,
-    live: u32,
+    pub(crate) items: Nodes,
+    pub(crate) drawn: u32,
+    pub(crate) live: u32,
 }
 
 impl Model for Tree {
@@ -35,5 +36,13 @@ impl Tree {
         ensures { result ≡ count self.now.items }
     {
         self.live
+    }
+
+    /// How many items the procedure list has.
+    pub fn procedures(&self) -> u32
+        requires tree { IsTree self.now }
+        ensures { result + 1 ≡ length (nodes self.now.items) }
+    {
+        self.items.len() as u32 - 1
     }
 }
