@@ -9,6 +9,7 @@ pub mod Tree
 -- ---- edits
 pub mod Path
 pub mod Edit
+pub mod Lend
 -- ---- the laws
 pub mod Law
 -- ---- what private contracts alone cite

@@ -1,5 +1,9 @@
 //! Nodes, and the lists in which they stand.
-ghost use Rattle.std.specs.Prelude.{◌≡◌, ℕ, ◌+◌, ◌-◌, ◌^◌, ◌<◌, ◌≤◌, [], length, option_map, slice_get, option_copied, IfSome, IfNone, map};
+ghost use Rattle.std.specs.Prelude.{◌≡◌, ℕ, ◌+◌, ◌-◌, ◌^◌, ◌<◌, ◌≤◌, [], length, option_map, slice_get, map, Some};
+ghost use Rattle.std.specs.Borrow.{LendsIf, sem};
+ghost use Rattle.template_tree.specs.contracts.node.Node as node_row;
+ghost use Rattle.template_tree.specs.contracts.node.Nodes as list_row;
+ghost use Rattle.template_tree.specs.Lend.{with_item, with_more, without_item};
 ghost use Rattle.template_tree.specs.PlainTree.{nodes, forest};
 ghost use Rattle.template_tree.specs.PlainPlace.{plain_place};
 
@@ -141,5 +145,33 @@ impl Nodes {
         ensures { option_map (λ node. node.now) result ≡ slice_get self.now.items k }
     {
         self.list.get(k)
+    }
+}
+
+impl Nodes {
+    /// Lends the one of this number.
+    pub(crate) fn get_mut(&mut self, k: usize) -> Option<&mut Node>
+        ensures* writes_back { sem 𝓛 (LendsIf list_row.the_row node_row.the_row self.entry result (with_item self.old k) self.old) }
+        ensures found { option_map (λ node. node.now) result ≡ slice_get self.old.items k }
+    {
+        self.list.get_mut(k)
+    }
+
+    /// Takes the one of this number out; the others close up, and its room stays.
+    pub(crate) fn remove(&mut self, k: usize) -> Node
+        requires there { k < length self.old.items }
+        ensures taken { Some result ≡ slice_get self.old.items k }
+        ensures others { self.new ≡ without_item self.old k }
+    {
+        self.list.remove(k)
+    }
+
+    /// Puts one in before the one of this number, into the room that is there.
+    pub(crate) fn insert_within(&mut self, k: usize, node: Node)
+        requires there { k ≤ length self.old.items }
+        requires room { 0 < self.old.spare }
+        ensures { self.new ≡ with_more self.old k node }
+    {
+        if let Err(_) = self.list.insert(k, node) {}
     }
 }
