@@ -12,5 +12,10 @@ pub mod Edit
 pub mod Lend
 -- ---- the laws
 pub mod Law
+-- ---- the listing, and what the cursor may stand on
+pub mod Section
+pub mod Line
+pub mod Listing
+pub mod Stop
 -- ---- what private contracts alone cite
 pub mod Private

@@ -1,0 +1,72 @@
+-- The lines of a program.
+use Rattle.std.specs.Prelude.{ℕ, ◌+◌, ◌-◌, ◌*◌, Bool, true, false, ◌&&◌, if◌then◌else◌, List, [], ◌∷◌, ◌++◌, replicate, codes, Option, Some, None}
+use Rattle.plcs_grammar.specs.declared.category.Category.{Category}
+use Rattle.plcs_grammar.specs.PlainPhrase.{PlainPhrase}
+use Rattle.plcs_grammar.specs.Canon.{Canon}
+use Rattle.plcs_grammar.specs.Placeholder.{placeholder}
+use Rattle.plcs_grammar.specs.Template.{PlainPiece, PlainSection, row_of, program_sections}
+use Rattle.template_tree.specs.PlainTree.{Label, Forest}
+use Rattle.template_tree.specs.Program.{sort_of}
+use Rattle.template_tree.specs.Section.{left_for, left_after, next_lead}
+
+-- a line: its level, and what is written behind the level's blanks
+pub record Line : Type 0 where
+  pub level : ℕ
+  pub text : List ℕ
+
+-- the line with its blanks, two for each level
+abbrev pub whole_line : Line → List ℕ
+whole_line line = replicate (2 * line.level) 32 ++ line.text
+
+-- what is written for the first of the parts: its phrase, or the placeholder of the category where it is empty
+abbrev pub part_text : Category → List (Option PlainPhrase) → List ℕ
+part_text category [] = placeholder category
+part_text category (None ∷ parts) = placeholder category
+part_text category (Some phrase ∷ parts) = Canon phrase
+
+-- the parts behind the first
+abbrev pub other_parts : List (Option PlainPhrase) → List (Option PlainPhrase)
+other_parts [] = []
+other_parts (part ∷ parts) = parts
+
+-- what is written for the pieces of a line, with these parts in them
+abbrev pub pieces_text : List PlainPiece → List (Option PlainPhrase) → List ℕ
+pieces_text [] parts = []
+pieces_text (PlainPiece.words bytes ∷ pieces) parts = bytes ++ pieces_text pieces parts
+pieces_text (PlainPiece.part category ∷ pieces) parts = part_text category parts ++ pieces_text pieces (other_parts parts)
+
+-- a line of the table that is there or not
+abbrev pub fixed_line : ℕ → Option (List ℕ) → List Line
+fixed_line level None = []
+fixed_line level (Some text) = record { level = level; text = text } ∷ []
+
+-- the first line of a node
+abbrev pub head_line : ℕ → Label → Line
+head_line level label = record { level = level; text = pieces_text (row_of label.kind).line label.parts }
+
+-- what stands for an elided refinement
+abbrev pub elision_line : ℕ → Line
+elision_line level = record { level = level; text = codes "..." }
+
+-- the lines of nodes in order at a level, where these sections are left for them. A line before a section stands at the
+-- level of the node that the section is in; what stands inside a node, one level deeper than it. Where `elides`, one
+-- line stands for an elided refinement
+abbrev pub lines : (elides : Bool) (level : ℕ) (left : List PlainSection) → Forest → List Line
+lines elides level left Forest.nil = []
+lines elides level left (Forest.cons label inner rest) =
+    let here = left_for (sort_of label.kind) left in
+    fixed_line (level - 1) (next_lead here)
+    ++ (head_line level label
+    ∷ ((if elides && label.elided
+        then elision_line (level + 1) ∷ []
+        else lines elides (level + 1) (row_of label.kind).sections inner)
+    ++ (fixed_line level (row_of label.kind).last
+    ++ lines elides level (left_after here) rest)))
+
+-- the lines of the listing: elided refinements too
+abbrev pub listing_lines : Forest → List Line
+listing_lines = lines false 0 program_sections
+
+-- the lines that are shown: one for each elided refinement
+abbrev pub shown_lines : Forest → List Line
+shown_lines = lines true 0 program_sections
