@@ -4,3 +4,5 @@ mod Limits
 pub mod SlotEdits
 -- the number of procedures, and of what stands in a node
 pub mod Counts
+-- what `put_listing` puts for each line
+pub mod PutLines

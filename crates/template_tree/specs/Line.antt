@@ -18,22 +18,27 @@ pub record Line : Type 0 where
 abbrev pub whole_line : Line → List ℕ
 whole_line line = replicate (2 * line.level) 32 ++ line.text
 
--- what is written for the first of the parts: its phrase, or the placeholder of the category where it is empty
-abbrev pub part_text : Category → List (Option PlainPhrase) → List ℕ
-part_text category [] = placeholder category
-part_text category (None ∷ parts) = placeholder category
-part_text category (Some phrase ∷ parts) = Canon phrase
+-- what is written for a part: its phrase, or the placeholder of its category where it is empty
+abbrev pub part_text : Category → Option PlainPhrase → List ℕ
+part_text category None = placeholder category
+part_text category (Some phrase) = Canon phrase
 
--- the parts behind the first
-abbrev pub other_parts : List (Option PlainPhrase) → List (Option PlainPhrase)
-other_parts [] = []
-other_parts (part ∷ parts) = parts
+-- what is written for a piece where these parts are left: its words, or the first of the parts
+abbrev pub piece_text : PlainPiece → List (Option PlainPhrase) → List ℕ
+piece_text (PlainPiece.words bytes) parts = bytes
+piece_text (PlainPiece.part category) [] = part_text category None
+piece_text (PlainPiece.part category) (part ∷ parts) = part_text category part
+
+-- the parts that are left after the piece
+abbrev pub parts_after : PlainPiece → List (Option PlainPhrase) → List (Option PlainPhrase)
+parts_after (PlainPiece.words bytes) parts = parts
+parts_after (PlainPiece.part category) [] = []
+parts_after (PlainPiece.part category) (part ∷ parts) = parts
 
 -- what is written for the pieces of a line, with these parts in them
 abbrev pub pieces_text : List PlainPiece → List (Option PlainPhrase) → List ℕ
 pieces_text [] parts = []
-pieces_text (PlainPiece.words bytes ∷ pieces) parts = bytes ++ pieces_text pieces parts
-pieces_text (PlainPiece.part category ∷ pieces) parts = part_text category parts ++ pieces_text pieces (other_parts parts)
+pieces_text (piece ∷ pieces) parts = piece_text piece parts ++ pieces_text pieces (parts_after piece parts)
 
 -- a line of the table that is there or not
 abbrev pub fixed_line : ℕ → Option (List ℕ) → List Line

@@ -4,3 +4,6 @@ pub mod PhraseCode
 pub mod NodeCode
 pub mod Weight
 pub mod NodeView
+-- ---- the listing while it is put
+pub mod PlainLeft
+pub mod NodeLines

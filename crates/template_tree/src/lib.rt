@@ -4,10 +4,12 @@
 mod change;
 mod law;
 mod limit;
+mod listing;
 mod node;
 mod node_at;
 mod path;
 mod phrase_place;
+mod sections_left;
 mod side;
 mod tree;
 
