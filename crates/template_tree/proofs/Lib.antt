@@ -4,3 +4,6 @@ mod Limits
 pub mod SlotEdits
 -- the number of procedures, and of what stands in a node
 pub mod Counts
+-- a node lent for writing
+pub mod LentNodes
+pub mod PutNodes

@@ -10,6 +10,8 @@ pub mod Tree
 pub mod Path
 pub mod Edit
 pub mod Lend
+pub mod Descent
+pub mod TreeLend
 -- ---- the laws
 pub mod Law
 -- ---- what private contracts alone cite

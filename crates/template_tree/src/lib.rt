@@ -2,6 +2,7 @@
 #![tactic(auto, using(crate::specs::PlainTree::nodes_forest))]
 
 mod change;
+mod descent;
 mod law;
 mod limit;
 mod node;
