@@ -9,7 +9,7 @@ use Rattle.plcs_grammar.specs.PlainPhrase.{PlainExprs, PlainPhrase}
 use Rattle.plcs_grammar.specs.PlainForm.{plain_phrase}
 use Rattle.plcs_grammar.specs.Cuts.{Piece, tokens_of}
 use Rattle.plcs_grammar.specs.Limit.{IsWithinLimits}
-use Rattle.plcs_grammar.specs.Opened.{phrase_opened}
+use Rattle.plcs_grammar.specs.OpenedLevel.{phrase_opened_levels}
 use Rattle.plcs_grammar.specs.Reads.{IsCutAs, IsCommentAs, Reads}
 use Rattle.plcs_grammar.specs.Canon.{canon, canon_reference, canon_list, more_joined, joined, canon_sized, canon_item, canon_call, Canon, IsWellFormed}
 use Rattle.phrase_parser.specs.declared.fault.PhraseFault.{PhraseFault}
@@ -113,11 +113,11 @@ sound_fine_writable (token ∷ tokens) (level ∷ levels) sound fine = ((sound.0
 pub cut_writable : (c : Category) (x : List ℕ) (pieces : List Piece) (p : PlainPhrase) → IsCutAs c x pieces p → IsWithinLimits p → IsWritable p
 cut_writable c x pieces p cut limits =
     let form = form_spelled c (tokens_of pieces) p cut.form in
-    let fine = none_fine pieces (phrase_opened p) (within c pieces p cut.form limits) in
+    let fine = none_fine pieces (phrase_opened_levels p) (within c pieces p cut.form limits) in
     record {
       fits = form.1;
       tokens = subst AllWritable form.2
-          (sound_fine_writable (tokens_of pieces) (phrase_opened p) (cut_sound pieces 0 x None cut.cuts) fine);
+          (sound_fine_writable (tokens_of pieces) (phrase_opened_levels p) (cut_sound pieces 0 x None cut.cuts) fine);
     }
 
 -- the canonical text of a phrase that is tokens is cut as the phrase

@@ -11,7 +11,7 @@ use Rattle.plcs_grammar.specs.Token.{Token}
 use Rattle.plcs_grammar.specs.Cuts.{Piece, tokens_of}
 use Rattle.plcs_grammar.specs.PlainPhrase.{PlainExpr, PlainExprs, PlainVarRef, PlainPhrase, category_of}
 use Rattle.plcs_grammar.specs.Form.{Form, Begins}
-use Rattle.plcs_grammar.specs.Opened.{opened as levels, reference_opened as reference_levels, opened_by_all as levels_of_all, references_behind, phrase_opened}
+use Rattle.plcs_grammar.specs.OpenedLevel.{opened_levels as levels, reference_opened_levels as reference_levels, opened_levels_of_all as levels_of_all, opened_levels_of_more_references, phrase_opened_levels}
 use Rattle.plcs_grammar.specs.Over.{first_over, over_at}
 use Rattle.phrase_parser.specs.Machine.{Base, Stack, State, Role, Operand, step, run, start, closed_at, ended_at, ended, ended_if}
 use Rattle.phrase_parser.specs.Trace.{depth, opens, trace}
@@ -45,7 +45,7 @@ pub record Reaches (p : PlainPhrase) : Type 0 where
   pub begins : start (category_of p) ≡ Some first
   pub goes : Goes first (spell_phrase p) traced end
   pub ends : ended end ≡ Some p
-  pub agrees : (pieces : List Piece) → first_over pieces traced ≡ first_over pieces (phrase_opened p)
+  pub agrees : (pieces : List Piece) → first_over pieces traced ≡ first_over pieces (phrase_opened_levels p)
 
 -- an expression that stands in no other is read
 at_base : (b : Base) (t : PlainExpr) → Fits t 1
@@ -114,7 +114,7 @@ variables_listing = record {
   none = variable_opens;
 }
 
-variables_levels : (targets : List PlainVarRef) → levels_more variable_levels targets ≡ references_behind targets
+variables_levels : (targets : List PlainVarRef) → levels_more variable_levels targets ≡ opened_levels_of_more_references targets
 variables_levels [] = refl
 variables_levels (reference ∷ rest) = ap (λ z. 0 ∷ (variable_levels reference ++ z)) (variables_levels rest)
 
@@ -196,7 +196,7 @@ module _ {X : Type 0} (g : X → List ℕ) (h : (x : X) → NoLevels (g x)) wher
   listed_none (x ∷ xs) = no_levels_append (g x) (levels_more g xs) (h x) (more_none xs)
 
 reaches_expression : (p : PlainPhrase) (b : Base) (t : PlainExpr) → Fits t 1 → start (category_of p) ≡ Some (State.wanted (Stack.base b))
-    → spell_phrase p ≡ spell t → ended_at (Stack.base b) t ≡ Some p → depth (Stack.base b) ≡ 0 → phrase_opened p ≡ levels t 0
+    → spell_phrase p ≡ spell t → ended_at (Stack.base b) t ≡ Some p → depth (Stack.base b) ≡ 0 → phrase_opened_levels p ≡ levels t 0
     → Reaches p
 reaches_expression p b t f begins tokens ends zero opens =
     let r = at_base b t f in
@@ -336,7 +336,7 @@ reaches (PlainPhrase.comment bytes) f = absurd f
 -- where the machine comes to over the tokens of a phrase, and the levels that it opens
 runs_form : (c : Category) (ks : List Token) (p : PlainPhrase) → Form c ks p
     → (z : State) × (run ks (start c) ≡ Some z) × (ended z ≡ Some p)
-    × ((pieces : List Piece) → first_over pieces (trace ks (start c)) ≡ first_over pieces (phrase_opened p))
+    × ((pieces : List Piece) → first_over pieces (trace ks (start c)) ≡ first_over pieces (phrase_opened_levels p))
 runs_form c ks p h =
     let f = form_spelled c ks p h in
     let r = reaches p f.1 in
@@ -354,7 +354,7 @@ complete c ks p h = let r = runs_form c ks p h in ap ended_if r.1 ∙ r.2
 
 -- by the levels that the machine opens, the first token over a limit is the phrase's
 pub traced_over : (c : Category) (pieces : List Piece) (p : PlainPhrase) → Form c (tokens_of pieces) p
-    → first_over pieces (trace (tokens_of pieces) (start c)) ≡ first_over pieces (phrase_opened p)
+    → first_over pieces (trace (tokens_of pieces) (start c)) ≡ first_over pieces (phrase_opened_levels p)
 traced_over c pieces p h = (runs_form c (tokens_of pieces) p h).3 pieces
 
 -- tokens are one phrase of a category at most

@@ -5,7 +5,7 @@ use Rattle.plcs_grammar.specs.Sign.{prefix_sign, infix_sign}
 use Rattle.plcs_grammar.specs.Token.{Token}
 use Rattle.plcs_grammar.specs.PlainPhrase.{PlainExpr, PlainExprs, PlainVarRef}
 use Rattle.plcs_grammar.specs.Builtin.{builtin_name}
-use Rattle.plcs_grammar.specs.Level.{Level, IsReference, Joined, Behind, IsNoCall, priority, tightest, in_parentheses}
+use Rattle.plcs_grammar.specs.Level.{Level, IsReference, IsExprList, IsMoreExprs, IsNoCall, priority, tightest, in_parentheses}
 
 abbrev mutual
   -- the tokens of an expression
@@ -95,7 +95,7 @@ mutual
       (r.0, h.1 ∙ ap (λ z. Token.name name ∷ in_parentheses z) r.1)
 
   -- the same for expressions joined by commas
-  pub spelled_all : (ts : PlainExprs) (ks : List Token) → Joined ts ks → FitsAll ts × (ks ≡ spell_all ts)
+  pub spelled_all : (ts : PlainExprs) (ks : List Token) → IsExprList ts ks → FitsAll ts × (ks ≡ spell_all ts)
   spelled_all PlainExprs.nil ks h = absurd h
   spelled_all (PlainExprs.cons a rest) ks h =
       let p = spelled a 1 h.0 h.3 in
@@ -103,7 +103,7 @@ mutual
       ((p.0, q.0), h.2 ∙ ap₂ (λ x y. x ++ y) p.1 q.1)
 
   -- the same for expressions, each behind a comma
-  pub spelled_behind : (ts : PlainExprs) (ks : List Token) → Behind ts ks → FitsBehind ts × (ks ≡ spell_behind ts)
+  pub spelled_behind : (ts : PlainExprs) (ks : List Token) → IsMoreExprs ts ks → FitsBehind ts × (ks ≡ spell_behind ts)
   spelled_behind PlainExprs.nil ks h = (tt, h)
   spelled_behind (PlainExprs.cons a rest) ks h =
       let p = spelled a 1 h.0 h.3 in
@@ -131,11 +131,11 @@ mutual
   levelled_reference (PlainVarRef.subscripted name index) f = (spell index, refl, levelled index 1 f)
 
   -- the same for expressions joined by commas
-  pub levelled_all : (ts : PlainExprs) → FitsAll ts → Joined ts (spell_all ts)
+  pub levelled_all : (ts : PlainExprs) → FitsAll ts → IsExprList ts (spell_all ts)
   levelled_all PlainExprs.nil f = absurd f
   levelled_all (PlainExprs.cons a rest) f = (spell a, spell_behind rest, refl, levelled a 1 f.0, levelled_behind rest f.1)
 
   -- the same for expressions, each behind a comma
-  pub levelled_behind : (ts : PlainExprs) → FitsBehind ts → Behind ts (spell_behind ts)
+  pub levelled_behind : (ts : PlainExprs) → FitsBehind ts → IsMoreExprs ts (spell_behind ts)
   levelled_behind PlainExprs.nil f = refl
   levelled_behind (PlainExprs.cons a rest) f = (spell a, spell_behind rest, refl, levelled a 1 f.0, levelled_behind rest f.1)

@@ -11,7 +11,7 @@ use Rattle.plcs_grammar.specs.Token.{Token}
 use Rattle.plcs_grammar.specs.PlainPhrase.{PlainExpr, PlainExprs, PlainVarRef}
 use Rattle.plcs_grammar.specs.Builtin.{builtin_name}
 use Rattle.plcs_grammar.specs.Level.{IsNoCall, priority, tightest}
-use Rattle.plcs_grammar.specs.Opened.{opened as levels, opened_by_all as levels_of_all, opened_behind as levels_behind}
+use Rattle.plcs_grammar.specs.OpenedLevel.{opened_levels as levels, opened_levels_of_all as levels_of_all, opened_levels_behind as levels_behind}
 use Rattle.phrase_parser.specs.Machine.{Stack, State, Operand, expr_push, reduced, joined, step, closed_at, separated_at, named_open}
 use Rattle.phrase_parser.specs.Trace.{depth, opens}
 use Rattle.phrase_parser.proofs.ExprSpelling.{spell, spell_all, spell_behind, Fits, FitsReference, FitsAll, FitsBehind}

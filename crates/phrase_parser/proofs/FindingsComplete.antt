@@ -8,7 +8,7 @@ use Rattle.plcs_grammar.specs.PlainPhrase.{PlainPhrase}
 use Rattle.plcs_grammar.specs.Form.{Form}
 use Rattle.plcs_grammar.specs.Syntax.{GoesWrong}
 use Rattle.plcs_grammar.specs.Limit.{IsWithinLimits}
-use Rattle.plcs_grammar.specs.Opened.{phrase_opened}
+use Rattle.plcs_grammar.specs.OpenedLevel.{phrase_opened_levels}
 use Rattle.plcs_grammar.specs.Over.{OverLimit, first_over, over_at}
 use Rattle.phrase_parser.specs.Recognizer.{Shape, kind_of, next, next_if, first_shape, may_end, level_of}
 use Rattle.phrase_parser.specs.Findings.{Finding, finding_of, found_at, found_at_end, seen_of, seen_over, findings}
@@ -58,7 +58,7 @@ comes_all pieces stop end shape z e =
 
 finds_end : (c : Category) (pieces : List Piece) (end : ℕ) (shape : Shape) (p : PlainPhrase) → first_shape c ≡ Some shape
     → Form c (tokens_of pieces) p
-    → findings (map seen_of pieces) None end shape None ≡ finding_of (first_over pieces (phrase_opened p))
+    → findings (map seen_of pieces) None end shape None ≡ finding_of (first_over pieces (phrase_opened_levels p))
 finds_end c pieces end shape p e f =
     let r = form_taken c (tokens_of pieces) p f in
     comes_all pieces None end shape r.0 (sym (ap (follow_pieces pieces) e) ∙ r.1)
@@ -72,7 +72,7 @@ finds_fine c pieces end shape p e f w = finds_end c pieces end shape p e f ∙ a
 
 -- the first token of a phrase that goes past a limit is found
 pub finds_over : (c : Category) (pieces : List Piece) (end : ℕ) (shape : Shape) (p : PlainPhrase) (o : OverLimit)
-    → first_shape c ≡ Some shape → Form c (tokens_of pieces) p → first_over pieces (phrase_opened p) ≡ Some o
+    → first_shape c ≡ Some shape → Form c (tokens_of pieces) p → first_over pieces (phrase_opened_levels p) ≡ Some o
     → findings (map seen_of pieces) None end shape None ≡ Finding.over o
 finds_over c pieces end shape p o e f w = finds_end c pieces end shape p e f ∙ ap finding_of w
 

@@ -4,7 +4,7 @@ use Rattle.plcs_grammar.specs.declared.category.Category.{Category}
 use Rattle.plcs_grammar.specs.PlainPhrase.{PlainPhrase}
 use Rattle.plcs_grammar.specs.Cuts.{Piece, Cuts, tokens_of}
 use Rattle.plcs_grammar.specs.Form.{Form}
-use Rattle.plcs_grammar.specs.Opened.{phrase_opened}
+use Rattle.plcs_grammar.specs.OpenedLevel.{phrase_opened_levels}
 use Rattle.plcs_grammar.specs.Over.{OverLimit, first_over}
 use Rattle.plcs_grammar.specs.Reads.{Outline, Reads, IsOver}
 use Rattle.plcs_grammar.specs.Syntax.{GoesWrong}
@@ -22,7 +22,7 @@ use Rattle.phrase_parser.proofs.FindingsComplete.{finds_fine, finds_over, finds_
 
 -- what is found in a phrase is no place of wrong syntax
 form_found : (c : Category) (pieces : List Piece) (end place : ℕ) (shape : Shape) (p : PlainPhrase) (over : Option OverLimit)
-    → first_shape c ≡ Some shape → Form c (tokens_of pieces) p → first_over pieces (phrase_opened p) ≡ over
+    → first_shape c ≡ Some shape → Form c (tokens_of pieces) p → first_over pieces (phrase_opened_levels p) ≡ over
     → findings (map seen_of pieces) None end shape None ≡ Finding.syntax_at place → ⊥
 form_found c pieces end place shape p None e f o w =
     let k = finds_fine c pieces end shape p e f (none_over c pieces p f o) in absurd (cc)
@@ -38,7 +38,7 @@ no_outline c x pieces stop shape place e cut h (p, inl (qs, q)) =
     ap (λ z. findings (map seen_of qs) z (length x) shape None) (sym same.1)
     ∙ ap (λ z. findings (map seen_of z) stop (length x) shape None) (sym same.0)
     ∙ finds_wrong c pieces stop (length x) shape place e h in
-    form_found c qs (length x) place shape p (first_over qs (phrase_opened p)) e q.form refl wrong
+    form_found c qs (length x) place shape p (first_over qs (phrase_opened_levels p)) e q.form refl wrong
 no_outline c x pieces stop shape place e cut h (p, inr k) =
     let a = sym e ∙ ap first_shape k.category_is in absurd (cc)
 

@@ -9,7 +9,7 @@ use Rattle.plcs_grammar.specs.PlainPhrase.{PlainPhrase}
 use Rattle.plcs_grammar.specs.Form.{Form, Begins}
 use Rattle.plcs_grammar.specs.Syntax.{GoesWrong}
 use Rattle.plcs_grammar.specs.Limit.{greatest_number, greatest_nesting, IsWithinLimits}
-use Rattle.plcs_grammar.specs.Opened.{phrase_opened}
+use Rattle.plcs_grammar.specs.OpenedLevel.{phrase_opened_levels}
 use Rattle.plcs_grammar.specs.Over.{OverLimit, is_too_large, first_over, over_at}
 use Rattle.phrase_parser.specs.Recognizer.{Shape, kind_of, next, next_if, follow, first_shape, may_end, level_of, follow_levels}
 use Rattle.phrase_parser.specs.Findings.{Finding, finding_of, found_at, found_at_end, seen_of, is_large, seen_over, findings}
@@ -141,11 +141,11 @@ abbrev pub SaysOfPieces : Category → List Piece → Option ℕ → ℕ → Fin
 SaysOfPieces c pieces stop end Finding.fine = (stop ≡ None) × (p : PlainPhrase) × Form c (tokens_of pieces) p × IsWithinLimits p
 SaysOfPieces c pieces stop end (Finding.syntax_at place) = GoesWrong c pieces end stop place
 SaysOfPieces c pieces stop end (Finding.over o) =
-    (stop ≡ None) × (p : PlainPhrase) × Form c (tokens_of pieces) p × (first_over pieces (phrase_opened p) ≡ Some o)
+    (stop ≡ None) × (p : PlainPhrase) × Form c (tokens_of pieces) p × (first_over pieces (phrase_opened_levels p) ≡ Some o)
 
 ends_form : (c : Category) (pieces : List Piece) (stop : Option ℕ) (shape : Shape) (first : Option OverLimit)
     → first_shape c ≡ Some shape → Ends pieces stop shape None first
-    → (p : PlainPhrase) × Form c (tokens_of pieces) p × (first_over pieces (phrase_opened p) ≡ first)
+    → (p : PlainPhrase) × Form c (tokens_of pieces) p × (first_over pieces (phrase_opened_levels p) ≡ first)
 ends_form c pieces stop shape first e h =
     let r = whole_form c (tokens_of pieces) h.end (ap (follow_pieces pieces) e ∙ h.leads) h.may in
     (r.0, r.1, sym (levels_over c pieces r.0 r.1) ∙ ap (over_pieces pieces) e ∙ h.over)

@@ -11,7 +11,7 @@ use Rattle.plcs_grammar.specs.Cuts.{Piece, tokens_of}
 use Rattle.plcs_grammar.specs.PlainPhrase.{PlainExpr, PlainExprs, PlainVarRef, PlainPhrase}
 use Rattle.plcs_grammar.specs.Form.{Form}
 use Rattle.plcs_grammar.specs.Limit.{greatest_number, greatest_nesting, nesting, reference_nesting, deepest, deepest_reference, arguments_nesting, phrase_nesting, numbers, reference_numbers, numbers_of_all, size_numbers, phrase_numbers, IsWithinLimits}
-use Rattle.plcs_grammar.specs.Opened.{opened, reference_opened, opened_by_all, opened_behind, references_behind, opened_by_references, opened_by_call, phrase_opened}
+use Rattle.plcs_grammar.specs.OpenedLevel.{opened_levels, reference_opened_levels, opened_levels_of_all, opened_levels_behind, opened_levels_of_more_references, opened_levels_of_references, opened_levels_of_call, phrase_opened_levels}
 use Rattle.plcs_grammar.specs.Over.{OverLimit, is_too_large, over_at, first_over}
 use Rattle.phrase_parser.proofs.AllOfLists.{all_append, append_all}
 use Rattle.phrase_parser.proofs.ExprSpelling.{spell, spell_reference, spell_all, spell_behind}
@@ -100,7 +100,7 @@ even_append done q = q
 even_append (more p) q = more (even_append p q)
 
 mutual
-  even_expr : (t : PlainExpr) (d : ℕ) → Even (spell t) (opened t d)
+  even_expr : (t : PlainExpr) (d : ℕ) → Even (spell t) (opened_levels t d)
   even_expr (PlainExpr.number z) d = more done
   even_expr (PlainExpr.text value) d = more done
   even_expr (PlainExpr.bit value) d = more done
@@ -110,15 +110,15 @@ mutual
   even_expr (PlainExpr.builtin function ts) d = more (more (even_append (even_all ts (d + 1)) (more done)))
   even_expr (PlainExpr.parenthesized a) d = more (even_append (even_expr a (d + 1)) (more done))
 
-  even_reference : (reference : PlainVarRef) (d : ℕ) → Even (spell_reference reference) (reference_opened reference d)
+  even_reference : (reference : PlainVarRef) (d : ℕ) → Even (spell_reference reference) (reference_opened_levels reference d)
   even_reference (PlainVarRef.simple name) d = more done
   even_reference (PlainVarRef.subscripted name index) d = more (more (even_append (even_expr index (d + 1)) (more done)))
 
-  even_all : (ts : PlainExprs) (d : ℕ) → Even (spell_all ts) (opened_by_all ts d)
+  even_all : (ts : PlainExprs) (d : ℕ) → Even (spell_all ts) (opened_levels_of_all ts d)
   even_all PlainExprs.nil d = done
   even_all (PlainExprs.cons a rest) d = even_append (even_expr a d) (even_behind rest d)
 
-  even_behind : (ts : PlainExprs) (d : ℕ) → Even (spell_behind ts) (opened_behind ts d)
+  even_behind : (ts : PlainExprs) (d : ℕ) → Even (spell_behind ts) (opened_levels_behind ts d)
   even_behind PlainExprs.nil d = done
   even_behind (PlainExprs.cons a rest) d = more (even_append (even_expr a d) (even_behind rest d))
 
@@ -163,7 +163,7 @@ fine_close = (tt, zero-le, tt)
 
 mutual
   -- an expression within the limits, so many levels in, has no token that goes past one
-  pub expr_fine : (t : PlainExpr) (d : ℕ) → Small (numbers t) → nesting t + d ≤ greatest_nesting → AllFine (spell t) (opened t d)
+  pub expr_fine : (t : PlainExpr) (d : ℕ) → Small (numbers t) → nesting t + d ≤ greatest_nesting → AllFine (spell t) (opened_levels t d)
   expr_fine (PlainExpr.number z) d h n = (h.0, zero-le, tt)
   expr_fine (PlainExpr.text value) d h n = (tt, zero-le, tt)
   expr_fine (PlainExpr.bit value) d h n = (tt, zero-le, tt)
@@ -180,14 +180,14 @@ mutual
 
   -- the same for a variable
   pub reference_fine : (reference : PlainVarRef) (d : ℕ) → Small (reference_numbers reference)
-      → reference_nesting reference + d ≤ greatest_nesting → AllFine (spell_reference reference) (reference_opened reference d)
+      → reference_nesting reference + d ≤ greatest_nesting → AllFine (spell_reference reference) (reference_opened_levels reference d)
   reference_fine (PlainVarRef.simple name) d h n = (tt, zero-le, tt)
   reference_fine (PlainVarRef.subscripted name index) d h n =
       (tt, zero-le, (tt, omega arith, fine_append _ _ (even_expr index (d + 1)) (expr_fine index (d + 1) h (omega arith)) fine_close))
 
   -- the same for expressions joined by commas
   pub all_fine : (ts : PlainExprs) (d : ℕ) → Small (numbers_of_all ts) → deepest ts + d ≤ greatest_nesting
-      → AllFine (spell_all ts) (opened_by_all ts d)
+      → AllFine (spell_all ts) (opened_levels_of_all ts d)
   all_fine PlainExprs.nil d h n = tt
   all_fine (PlainExprs.cons a rest) d h n =
       let s = append_small (numbers a) (numbers_of_all rest) h in
@@ -195,7 +195,7 @@ mutual
       fine_append _ _ (even_expr a d) (expr_fine a d s.0 m.0) (behind_fine rest d s.1 m.1)
 
   behind_fine : (ts : PlainExprs) (d : ℕ) → Small (numbers_of_all ts) → deepest ts + d ≤ greatest_nesting
-      → AllFine (spell_behind ts) (opened_behind ts d)
+      → AllFine (spell_behind ts) (opened_levels_behind ts d)
   behind_fine PlainExprs.nil d h n = tt
   behind_fine (PlainExprs.cons a rest) d h n =
       let s = append_small (numbers a) (numbers_of_all rest) h in
@@ -204,7 +204,7 @@ mutual
 
 mutual
   -- an expression none of whose tokens goes past a limit is within the limits
-  pub fine_expr : (t : PlainExpr) (d : ℕ) → d ≤ greatest_nesting → AllFine (spell t) (opened t d)
+  pub fine_expr : (t : PlainExpr) (d : ℕ) → d ≤ greatest_nesting → AllFine (spell t) (opened_levels t d)
       → Small (numbers t) × (nesting t + d ≤ greatest_nesting)
   fine_expr (PlainExpr.number z) d le h = ((h.0, tt), omega arith)
   fine_expr (PlainExpr.text value) d le h = (tt, omega arith)
@@ -227,7 +227,7 @@ mutual
 
   -- the same for a variable
   pub fine_reference : (reference : PlainVarRef) (d : ℕ) → d ≤ greatest_nesting
-      → AllFine (spell_reference reference) (reference_opened reference d)
+      → AllFine (spell_reference reference) (reference_opened_levels reference d)
       → Small (reference_numbers reference) × (reference_nesting reference + d ≤ greatest_nesting)
   fine_reference (PlainVarRef.simple name) d le h = (tt, omega arith)
   fine_reference (PlainVarRef.subscripted name index) d le h =
@@ -236,7 +236,7 @@ mutual
       (r.0, omega (arith, r.1))
 
   -- the same for expressions joined by commas
-  pub fine_all : (ts : PlainExprs) (d : ℕ) → d ≤ greatest_nesting → AllFine (spell_all ts) (opened_by_all ts d)
+  pub fine_all : (ts : PlainExprs) (d : ℕ) → d ≤ greatest_nesting → AllFine (spell_all ts) (opened_levels_of_all ts d)
       → Small (numbers_of_all ts) × (deepest ts + d ≤ greatest_nesting)
   fine_all PlainExprs.nil d le h = (tt, omega arith)
   fine_all (PlainExprs.cons a rest) d le h =
@@ -245,7 +245,7 @@ mutual
       let r = fine_behind rest d le p.1 in
       (small_append (numbers a) (numbers_of_all rest) q.0 r.0, under_max (nesting a) (deepest rest) d greatest_nesting q.1 r.1)
 
-  fine_behind : (ts : PlainExprs) (d : ℕ) → d ≤ greatest_nesting → AllFine (spell_behind ts) (opened_behind ts d)
+  fine_behind : (ts : PlainExprs) (d : ℕ) → d ≤ greatest_nesting → AllFine (spell_behind ts) (opened_levels_behind ts d)
       → Small (numbers_of_all ts) × (deepest ts + d ≤ greatest_nesting)
   fine_behind PlainExprs.nil d le h = (tt, omega arith)
   fine_behind (PlainExprs.cons a rest) d le h =
@@ -255,14 +255,14 @@ mutual
       (small_append (numbers a) (numbers_of_all rest) q.0 r.0, under_max (nesting a) (deepest rest) d greatest_nesting q.1 r.1)
 
 references_fine : (targets : List PlainVarRef) → Small (flat_map reference_numbers targets) → deepest_reference targets + 0 ≤ greatest_nesting
-    → AllFine (spell_more spell_reference targets) (references_behind targets)
+    → AllFine (spell_more spell_reference targets) (opened_levels_of_more_references targets)
 references_fine [] h n = tt
 references_fine (reference ∷ rest) h n =
     let s = append_small (reference_numbers reference) (flat_map reference_numbers rest) h in
     let m = max_under (reference_nesting reference) (deepest_reference rest) 0 greatest_nesting n in
     (tt, zero-le, fine_append _ _ (even_reference reference 0) (reference_fine reference 0 s.0 m.0) (references_fine rest s.1 m.1))
 
-fine_references : (targets : List PlainVarRef) → AllFine (spell_more spell_reference targets) (references_behind targets)
+fine_references : (targets : List PlainVarRef) → AllFine (spell_more spell_reference targets) (opened_levels_of_more_references targets)
     → Small (flat_map reference_numbers targets) × (deepest_reference targets + 0 ≤ greatest_nesting)
 fine_references [] h = (tt, zero-le)
 fine_references (reference ∷ rest) h =
@@ -329,12 +329,12 @@ abbrev pub KeepsLimits : PlainPhrase → Type 0
 KeepsLimits p = Small (phrase_numbers p) × (phrase_nesting p ≤ greatest_nesting)
 
 call_fine : (name : List ℕ) (passed : PlainExprs) → Small (numbers_of_all passed) → arguments_nesting passed ≤ greatest_nesting
-    → AllFine (spell_call name passed) (opened_by_call passed)
+    → AllFine (spell_call name passed) (opened_levels_of_call passed)
 call_fine name PlainExprs.nil h n = (tt, zero-le, tt)
 call_fine name (PlainExprs.cons a rest) h n =
     (tt, zero-le, (tt, lit≤ tt, fine_append _ _ (even_all (PlainExprs.cons a rest) 1) (all_fine (PlainExprs.cons a rest) 1 h n) fine_close))
 
-fine_call : (name : List ℕ) (passed : PlainExprs) → AllFine (spell_call name passed) (opened_by_call passed)
+fine_call : (name : List ℕ) (passed : PlainExprs) → AllFine (spell_call name passed) (opened_levels_of_call passed)
     → Small (numbers_of_all passed) × (arguments_nesting passed ≤ greatest_nesting)
 fine_call name PlainExprs.nil h = (tt, zero-le)
 fine_call name (PlainExprs.cons a rest) h =
@@ -342,14 +342,14 @@ fine_call name (PlainExprs.cons a rest) h =
     fine_all (PlainExprs.cons a rest) 1 (lit≤ tt) p.0
 
 listed_references_fine : (targets : List PlainVarRef) → Small (flat_map reference_numbers targets) → deepest_reference targets ≤ greatest_nesting
-    → AllFine (spell_listed spell_reference targets) (opened_by_references targets)
+    → AllFine (spell_listed spell_reference targets) (opened_levels_of_references targets)
 listed_references_fine [] h n = tt
 listed_references_fine (reference ∷ rest) h n =
     let s = append_small (reference_numbers reference) (flat_map reference_numbers rest) h in
     let m = max_under (reference_nesting reference) (deepest_reference rest) 0 greatest_nesting (outside _ _ n) in
     fine_append _ _ (even_reference reference 0) (reference_fine reference 0 s.0 m.0) (references_fine rest s.1 m.1)
 
-fine_listed_references : (targets : List PlainVarRef) → AllFine (spell_listed spell_reference targets) (opened_by_references targets)
+fine_listed_references : (targets : List PlainVarRef) → AllFine (spell_listed spell_reference targets) (opened_levels_of_references targets)
     → Small (flat_map reference_numbers targets) × (deepest_reference targets ≤ greatest_nesting)
 fine_listed_references [] h = (tt, zero-le)
 fine_listed_references (reference ∷ rest) h =
@@ -361,7 +361,7 @@ fine_listed_references (reference ∷ rest) h =
     )
 
 -- a phrase within the limits has no token that goes past one
-phrase_fine : (p : PlainPhrase) → KeepsLimits p → AllFine (spell_phrase p) (phrase_opened p)
+phrase_fine : (p : PlainPhrase) → KeepsLimits p → AllFine (spell_phrase p) (phrase_opened_levels p)
 phrase_fine (PlainPhrase.assignment target value) h =
     let s = append_small (reference_numbers target) (numbers value) h.0 in
     let m = max_under (reference_nesting target) (nesting value) 0 greatest_nesting (outside _ _ h.1) in
@@ -381,7 +381,7 @@ phrase_fine (PlainPhrase.greatest_length n) h = (h.0.0, tt)
 phrase_fine (PlainPhrase.comment bytes) h = tt
 
 -- a phrase none of whose tokens goes past a limit is within the limits
-fine_phrase : (p : PlainPhrase) → AllFine (spell_phrase p) (phrase_opened p) → KeepsLimits p
+fine_phrase : (p : PlainPhrase) → AllFine (spell_phrase p) (phrase_opened_levels p) → KeepsLimits p
 fine_phrase (PlainPhrase.assignment target value) h =
     let p = append_fine _ _ (even_reference target 0) h in
     let q = fine_reference target 0 zero-le p.0 in
@@ -407,17 +407,17 @@ fine_phrase (PlainPhrase.comment bytes) h = (tt, zero-le)
 
 -- a phrase within the limits has no token over one
 pub within : (c : Category) (pieces : List Piece) (p : PlainPhrase) → Form c (tokens_of pieces) p → IsWithinLimits p
-    → first_over pieces (phrase_opened p) ≡ None
+    → first_over pieces (phrase_opened_levels p) ≡ None
 within c pieces p f w =
     let s = form_spelled c (tokens_of pieces) p f in
-    fine_none pieces (phrase_opened p)
-    (subst (λ ks. AllFine ks (phrase_opened p)) (sym s.2)
+    fine_none pieces (phrase_opened_levels p)
+    (subst (λ ks. AllFine ks (phrase_opened_levels p)) (sym s.2)
     (phrase_fine p (recursion_from_All _ (phrase_numbers p) w.numbers_fit, w.nesting_fits)))
 
 -- a phrase with no token over a limit is within the limits
 pub none_over : (c : Category) (pieces : List Piece) (p : PlainPhrase) → Form c (tokens_of pieces) p
-    → first_over pieces (phrase_opened p) ≡ None → IsWithinLimits p
+    → first_over pieces (phrase_opened_levels p) ≡ None → IsWithinLimits p
 none_over c pieces p f e =
     let s = form_spelled c (tokens_of pieces) p f in
-    let k = fine_phrase p (subst (λ ks. AllFine ks (phrase_opened p)) s.2 (none_fine pieces (phrase_opened p) e)) in
+    let k = fine_phrase p (subst (λ ks. AllFine ks (phrase_opened_levels p)) s.2 (none_fine pieces (phrase_opened_levels p) e)) in
     record { numbers_fit = All-from_recursion _ (phrase_numbers p) k.0; nesting_fits = k.1 }

@@ -9,7 +9,7 @@ use Rattle.plcs_grammar.specs.PlainForm.{plain_phrase}
 use Rattle.plcs_grammar.specs.Cuts.{Piece, tokens_of}
 use Rattle.plcs_grammar.specs.Form.{Form, Begins}
 use Rattle.plcs_grammar.specs.Limit.{IsWithinLimits}
-use Rattle.plcs_grammar.specs.Opened.{phrase_opened}
+use Rattle.plcs_grammar.specs.OpenedLevel.{phrase_opened_levels}
 use Rattle.plcs_grammar.specs.Over.{OverLimit, first_over}
 use Rattle.plcs_grammar.specs.Reads.{IsCutAs, HasReading, Outline, Reads, IsOver}
 use Rattle.plcs_grammar.specs.Syntax.{GoesWrong, SyntaxAt}
@@ -76,8 +76,8 @@ pub one_over : (c : Category) (x : List ℕ) (f g : OverLimit) → IsOver c x f 
 one_over c x f g (ps, p, a, e) (qs, q, b, k) =
     let cut = one_cut ps qs 0 x None None a.cuts b.cuts in
     let phrase = one_phrase c x ps qs p q a b in
-    let same : first_over ps (phrase_opened p) ≡ first_over qs (phrase_opened q) =
-    ap (λ z. first_over z (phrase_opened p)) cut.0 ∙ ap (λ z. first_over qs (phrase_opened z)) phrase in
+    let same : first_over ps (phrase_opened_levels p) ≡ first_over qs (phrase_opened_levels q) =
+    ap (λ z. first_over z (phrase_opened_levels p)) cut.0 ∙ ap (λ z. first_over qs (phrase_opened_levels z)) phrase in
     cc
 
 -- what reads goes past no limit

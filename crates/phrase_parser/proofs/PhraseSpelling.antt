@@ -7,7 +7,7 @@ use Rattle.plcs_grammar.specs.declared.sign.Sign.{Sign}
 use Rattle.plcs_grammar.specs.Token.{Token}
 use Rattle.plcs_grammar.specs.PlainPhrase.{PlainExprs, PlainPhrase, category_of}
 use Rattle.plcs_grammar.specs.Level.{in_parentheses, IsReference, IsNameToken}
-use Rattle.plcs_grammar.specs.Form.{Form, IsPhrase, IsCall, IsItem, IsSizedName, JoinedBy, MoreBehind}
+use Rattle.plcs_grammar.specs.Form.{Form, IsPhrase, IsCall, IsItem, IsSizedName, IsListOf, IsMoreOf}
 use Rattle.phrase_parser.proofs.ExprSpelling.{spell, spell_reference, spell_all, Fits, FitsReference, FitsAll, spelled, spelled_reference, spelled_all, levelled, levelled_reference, levelled_all}
 
 module _ {X : Type 0} (f : X → List Token) where
@@ -34,7 +34,7 @@ module _ {X : Type 0} (Fit : X → Type 0) where
 
 module _ {X : Type 0} (Is : X → List Token → Type 0) (f : X → List Token) (Fit : X → Type 0)
     (reads : (x : X) (ks : List Token) → Is x ks → Fit x × (ks ≡ f x)) where
-  spelled_more : (xs : List X) (ks : List Token) → MoreBehind Is xs ks → EachFits Fit xs × (ks ≡ spell_more f xs)
+  spelled_more : (xs : List X) (ks : List Token) → IsMoreOf Is xs ks → EachFits Fit xs × (ks ≡ spell_more f xs)
   spelled_more [] ks h = (tt, h)
   spelled_more (x ∷ xs) ks h =
       let p = reads x h.0 h.3 in
@@ -42,7 +42,7 @@ module _ {X : Type 0} (Is : X → List Token → Type 0) (f : X → List Token) 
       ((p.0, q.0), h.2 ∙ ap₂ (λ a b. Token.sign Sign.Comma ∷ (a ++ b)) p.1 q.1)
 
   -- what is joined by commas is those tokens
-  pub spelled_listed : (xs : List X) (ks : List Token) → JoinedBy Is xs ks → FitsListed Fit xs × (ks ≡ spell_listed f xs)
+  pub spelled_listed : (xs : List X) (ks : List Token) → IsListOf Is xs ks → FitsListed Fit xs × (ks ≡ spell_listed f xs)
   spelled_listed [] ks h = absurd h
   spelled_listed (x ∷ xs) ks h =
       let p = reads x h.0 h.3 in
@@ -51,12 +51,12 @@ module _ {X : Type 0} (Is : X → List Token → Type 0) (f : X → List Token) 
 
 module _ {X : Type 0} (Is : X → List Token → Type 0) (f : X → List Token) (Fit : X → Type 0)
     (makes : (x : X) → Fit x → Is x (f x)) where
-  more_is : (xs : List X) → EachFits Fit xs → MoreBehind Is xs (spell_more f xs)
+  more_is : (xs : List X) → EachFits Fit xs → IsMoreOf Is xs (spell_more f xs)
   more_is [] h = refl
   more_is (x ∷ xs) h = (f x, spell_more f xs, refl, makes x h.0, more_is xs h.1)
 
   -- those tokens are joined by commas
-  pub listed_is : (xs : List X) → FitsListed Fit xs → JoinedBy Is xs (spell_listed f xs)
+  pub listed_is : (xs : List X) → FitsListed Fit xs → IsListOf Is xs (spell_listed f xs)
   listed_is [] h = absurd h
   listed_is (x ∷ xs) h = (f x, spell_more f xs, refl, makes x h.0, more_is xs h.1)
 

@@ -11,7 +11,7 @@ use Rattle.plcs_grammar.specs.PlainPhrase.{PlainPhrase}
 use Rattle.plcs_grammar.specs.Cuts.{Piece, Cuts, tokens_of}
 use Rattle.plcs_grammar.specs.Form.{Form}
 use Rattle.plcs_grammar.specs.Limit.{IsWithinLimits, greatest_number}
-use Rattle.plcs_grammar.specs.Opened.{phrase_opened}
+use Rattle.plcs_grammar.specs.OpenedLevel.{phrase_opened_levels}
 use Rattle.phrase_parser.specs.Kept.{kept_kind, kept, greatest_kept}
 use Rattle.phrase_parser.specs.Recognizer as model
 use Rattle.phrase_parser.specs.Findings.{seen_of}
@@ -119,4 +119,4 @@ fine_fit (piece ∷ pieces) [] h = (h.0, fine_fit pieces [] h.1)
 fine_fit (piece ∷ pieces) (level ∷ levels) h = (h.0, fine_fit pieces levels h.2)
 
 pub form_fit : (c : Category) (pieces : List Piece) (p : PlainPhrase) → Form c (tokens_of pieces) p → IsWithinLimits p → AllFit pieces
-form_fit c pieces p form fits = fine_fit pieces (phrase_opened p) (none_fine pieces (phrase_opened p) (within c pieces p form fits))
+form_fit c pieces p form fits = fine_fit pieces (phrase_opened_levels p) (none_fine pieces (phrase_opened_levels p) (within c pieces p form fits))

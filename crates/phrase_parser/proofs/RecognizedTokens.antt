@@ -7,7 +7,7 @@ use Rattle.plcs_grammar.specs.Token.{Token}
 use Rattle.plcs_grammar.specs.Cuts.{Piece, tokens_of}
 use Rattle.plcs_grammar.specs.PlainPhrase.{PlainExpr, PlainVarRef, PlainPhrase}
 use Rattle.plcs_grammar.specs.Form.{Form, Begins}
-use Rattle.plcs_grammar.specs.Opened.{phrase_opened}
+use Rattle.plcs_grammar.specs.OpenedLevel.{phrase_opened_levels}
 use Rattle.plcs_grammar.specs.Over.{first_over}
 use Rattle.phrase_parser.specs.Machine
 use Rattle.phrase_parser.specs.Machine.{Stack, Role, State, step, run, start, ended_if}
@@ -211,7 +211,7 @@ part_form c ks shape e m p h =
 
 -- by the levels that they open, the first token over a limit is the phrase's
 pub levels_over : (c : Category) (pieces : List Piece) (p : PlainPhrase) → Form c (tokens_of pieces) p
-    → first_over pieces (follow_levels (kinds_of (tokens_of pieces)) (first_shape c)) ≡ first_over pieces (phrase_opened p)
+    → first_over pieces (follow_levels (kinds_of (tokens_of pieces)) (first_shape c)) ≡ first_over pieces (phrase_opened_levels p)
 levels_over c pieces p h =
     let ks = tokens_of pieces in
     let r = state_ended (run ks (start c)) p (complete c ks p h) in

@@ -1,6 +1,7 @@
 -- Which bytes are a name.
 use Rattle.std.specs.Prelude.{ℕ, Bool, false, ◌&&◌, not, nat_le, bytes_eq, List, [], ◌∷◌, length, codes, IsTrue}
 use Rattle.std.specs.List.{list_all, list_any}
+use Rattle.plcs_base.specs.declared.name.TheConstants.{LONGEST_NAME}
 use Rattle.plcs_base.specs.Byte.{is_letter, is_name_byte}
 
 -- the words that are no names
@@ -22,7 +23,7 @@ is_word (first ∷ rest) = is_letter first && list_all is_name_byte rest
 
 -- how many bytes a name may have
 abbrev pub longest_name : ℕ
-longest_name = 31
+longest_name = LONGEST_NAME
 
 -- a word, not too long, that is no keyword
 abbrev pub is_name : List ℕ → Bool

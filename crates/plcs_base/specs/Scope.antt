@@ -2,7 +2,7 @@
 use Rattle.std.specs.Prelude.{ℕ, List, Option, option_and_then, slice_get}
 use Rattle.std.specs.Ordering.{nat_cmp}
 use Rattle.std.specs.FinMap.{FinMap, get}
-use Rattle.plcs_base.specs.declared.item.Declared.{Declared}
+use Rattle.plcs_base.specs.declared.declared.Declared.{Declared}
 
 -- the effective items of each procedure, by its slot, in listing order
 abbrev pub ItemMap : Type 0

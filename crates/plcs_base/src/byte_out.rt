@@ -1,4 +1,6 @@
+//! What bytes are put into.
 ghost use Rattle.std.specs.Prelude.{ℕ};
+ghost use Rattle.plcs_base.specs.Put.{PutsAll};
 
 /// Something that bytes are put into, one after the other.
 ///
@@ -11,4 +13,13 @@ pub trait ByteOut {
     /// Puts one byte.
     fn put(&mut self, byte: u8)
         ensures { puts self.old byte self.new };
+}
+
+/// Puts the bytes in order.
+pub fn put_bytes<O: ByteOut>(bytes: &[u8], out: &mut O)
+    ensures { PutsAll O.puts out.old bytes.now out.new }
+{
+    for byte in bytes {
+        out.put(*byte);
+    }
 }

@@ -4,7 +4,8 @@
 
 mod byte;
 mod byte_out;
-mod item;
+mod declared;
+mod law;
 mod mark;
 mod memory;
 mod name;
@@ -17,8 +18,9 @@ mod value;
 mod work;
 
 pub use byte::{is_digit, is_letter, is_name_byte, is_printable};
-pub use byte_out::ByteOut;
-pub use item::{Declared, ItemType};
+pub use byte_out::{ByteOut, put_bytes};
+pub use declared::{Declared, ItemType};
+pub use law::puts_in_turn;
 pub use mark::{MarkKind, Marked};
 pub use memory::OutOfMemory;
 pub use name::{LONGEST_NAME, Name};

@@ -1,3 +1,4 @@
+//! What is wrong with phrases.
 use crate::place::PhraseAt;
 
 /// What is wrong with a phrase: its first offence.
@@ -32,7 +33,7 @@ pub enum MarkKind {
     Reserved,
 }
 
-/// The marks of a program's phrases.
+/// The marks of a program's phrases. For the layers that make code of them and show them.
 ///
 /// They are a finite map from phrases to what is wrong with them.
 pub trait Marked {

@@ -1,3 +1,4 @@
+//! Want of memory.
 use std::alloc::{AllocError, AllocFailed};
 
 /// Memory ran out. Unless a call says otherwise, it changed nothing.

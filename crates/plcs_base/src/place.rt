@@ -1,3 +1,5 @@
+//! Where something stands in a program.
+
 /// The number of a node: of a main procedure, a procedure, a declaration or a statement.
 ///
 /// Numbers are given out in order from 0, and none is given out twice.
@@ -9,7 +11,7 @@ pub struct Slot(pub u32);
 #[derive(Clone, Copy, Debug, PartialEq, Eq, PartialOrd, Ord, Hash)]
 pub struct Point(pub u16);
 
-/// A place of a run.
+/// A place of a run. For the layers that make code and run it.
 #[derive(Clone, Copy, Debug, PartialEq, Eq, PartialOrd, Ord, Hash)]
 pub struct Place {
     /// The node.

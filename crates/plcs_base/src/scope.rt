@@ -1,7 +1,8 @@
-use crate::item::Declared;
+//! What the procedures of a program declare.
+use crate::declared::Declared;
 use crate::place::Slot;
 
-/// The effective items of a program's procedures.
+/// The effective items of a program's procedures. For the layers that check phrases against declarations.
 ///
 /// They are a finite map from the slots of procedures to lists of items.
 ///

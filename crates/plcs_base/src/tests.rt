@@ -1,3 +1,4 @@
+//! Tests of each public call.
 use super::*;
 use std::test::Fail;
 

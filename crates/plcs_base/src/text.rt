@@ -1,3 +1,4 @@
+//! The texts that values hold.
 ghost use Rattle.std.specs.Prelude.{◌≡◌, ◌↔◌, ◌≤◌, IsSome, IfSome, IsTrue};
 ghost use Rattle.plcs_base.specs.Text.{IsTextValue};
 

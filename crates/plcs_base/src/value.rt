@@ -1,6 +1,7 @@
+//! Values, and their kinds.
 use crate::text::TextValue;
 
-/// What kind of value an expression has.
+/// What kind of value an expression has. For the layers that check and run programs.
 #[derive(Clone, Copy, Debug, PartialEq, Eq)]
 pub enum Kind {
     /// A whole number.
@@ -11,7 +12,7 @@ pub enum Kind {
     Text,
 }
 
-/// A value that a program computes with.
+/// A value that a program computes with. For the layers that run programs.
 #[derive(Debug, Drop, PartialEq, Eq)]
 pub enum Value {
     /// A whole number.

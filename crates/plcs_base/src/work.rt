@@ -1,3 +1,4 @@
+//! Counts of the editor's work.
 ghost use Rattle.std.specs.Prelude.{◌≡◌, ℕ};
 ghost use Rattle.plcs_base.specs.Count.{raised};
 

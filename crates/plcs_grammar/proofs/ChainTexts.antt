@@ -3,7 +3,7 @@ use Rattle.std.proofs.Common.{ℕ, zero, suc, ◌+◌, ◌≡◌, ◌++◌, refl
 use Rattle.std.proofs.lemmas.List.{append-nil}
 use Rattle.plcs_grammar.specs.PlainPhrase.{PlainExpr}
 use Rattle.plcs_grammar.specs.Canon.{canon}
-use Rattle.plcs_grammar.specs.Chain.{leftmost, chain_text, operator_text}
+use Rattle.plcs_grammar.specs.Private.Chain.{leftmost, chain_text, operator_text}
 
 -- the leftmost operand comes first, and the rest of the chain behind it
 pub chain_whole : (t : PlainExpr) (n : ℕ) → canon (leftmost t n) ++ chain_text t n ≡ canon t

@@ -11,7 +11,7 @@ use Rattle.plcs_grammar.specs.Token.{Token, IsToken, IsNumeral, First, quoted, b
 use Rattle.plcs_grammar.specs.Cuts.{Piece, Cuts}
 use Rattle.plcs_grammar.specs.Level.{Level, in_parentheses}
 use Rattle.plcs_grammar.specs.Comment.{comment_syntax, trimmed}
-use Rattle.plcs_grammar.specs.Opened.{phrase_opened}
+use Rattle.plcs_grammar.specs.OpenedLevel.{phrase_opened_levels}
 use Rattle.plcs_grammar.specs.Over.{OverLimit, first_over}
 use Rattle.plcs_grammar.specs.Form.{Form}
 use Rattle.plcs_grammar.specs.Syntax.{GoesWrong, SyntaxAt}
@@ -82,16 +82,16 @@ nested_tokens n =
     times n (Token.sign Sign.OpenParenthesis) (Token.number 1 ∷ times n (Token.sign Sign.CloseParenthesis) [])
 
 -- the 33rd parenthesis is one too many, and 32 are not
-thirty_three : first_over (placed 0 (nested_tokens 33)) (phrase_opened (PlainPhrase.expression (nested 33))) ≡ Some (OverLimit.too_deep 32)
+thirty_three : first_over (placed 0 (nested_tokens 33)) (phrase_opened_levels (PlainPhrase.expression (nested 33))) ≡ Some (OverLimit.too_deep 32)
 thirty_three = refl
 
-thirty_two : first_over (placed 0 (nested_tokens 32)) (phrase_opened (PlainPhrase.expression (nested 32))) ≡ None
+thirty_two : first_over (placed 0 (nested_tokens 32)) (phrase_opened_levels (PlainPhrase.expression (nested 32))) ≡ None
 thirty_two = refl
 
 -- an array's size may be too large, and opens no level
 large_size :
     first_over (placed 0 (Token.name (codes "a") ∷ in_parentheses (Token.number 2147483648 ∷ [])))
-    (phrase_opened (PlainPhrase.declared_list (record { name = codes "a"; size = Some 2147483648 } ∷ [])))
+    (phrase_opened_levels (PlainPhrase.declared_list (record { name = codes "a"; size = Some 2147483648 } ∷ [])))
     ≡ Some (OverLimit.number_too_large 2)
 large_size = refl
 

@@ -4,7 +4,7 @@ use Rattle.std.proofs.lemmas.List.{append-nil, take_more, length-take-le}
 use Rattle.plcs_grammar.specs.declared.expr.Expr.{Expr}
 use Rattle.plcs_grammar.specs.PlainForm.{plain_expr, plain_exprs}
 use Rattle.plcs_grammar.specs.Canon.{canon, canon_list, canon_behind, canon_call, parenthesized_bytes, comma, joined, more_joined}
-use Rattle.plcs_grammar.specs.Separator.{separator}
+use Rattle.plcs_grammar.specs.Private.Separator.{separator}
 
 -- one item more
 pub more_joined_push : {X : Type 0} (bytes_of : X → List ℕ) (xs : List X) (x : X)

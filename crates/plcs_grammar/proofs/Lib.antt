@@ -1,14 +1,40 @@
 -- ---- the definitions at work
+-- the values of the limits of phrases
+mod Limits
+-- small cases that the definitions give by computing; no clause needs them
 mod Examples
+-- ---- plain forms
+-- each variant of an expression: `show`, `copy_phrase`
+mod PlainFormCases
+-- plain forms that are equal part by part: `same_phrase`
+mod EqualForms
 -- ---- bytes that are put in turn
-mod Putting
+-- a text in parentheses behind a name: `show` of calls, subscripts and sizes
+mod ParenthesizedTexts
+-- bytes that are counted: `shown_len`
 mod CountedBytes
+-- a number with its sign: `put_number`
 mod NegativeNumbers
+-- quotes that are doubled: `put_quoted`
 mod DoubledQuotes
 -- ---- canonical texts
-mod PlainFormCases
+-- the text of a value that is known in another way: `show`
 mod EqualShown
+-- the text of a list, item by item: `show` of lists and arguments
 mod JoinedTexts
+-- the text of a chain of operators, half by half: `show` of expressions
 mod ChainTexts
+-- ---- the law `canonical_texts_show`
+-- texts that begin and end with a byte of a token
+mod SolidTexts
+-- what is known of the names and constants among the tokens of a text
+mod FineTokens
+-- each phrase that such tokens are has such a text
+mod ShownPhrases
+-- a trimmed text has no blank at its ends: comments
+mod TrimmedEnds
+-- the law itself
+mod ShownTexts
 -- ---- copies
+-- a chain that is taken apart and put together again: `copy_phrase`
 mod LinkedChains

@@ -3,7 +3,7 @@ use Rattle.std.proofs.Common.{◌≡◌, List, [], ◌∷◌, ◌++◌, refl, ap
 use Rattle.plcs_grammar.specs.declared.expr_copy.Link.{Link}
 use Rattle.plcs_grammar.specs.PlainPhrase.{PlainExpr}
 use Rattle.plcs_grammar.specs.PlainForm.{plain_expr}
-use Rattle.plcs_grammar.specs.Link.{linked}
+use Rattle.plcs_grammar.specs.Private.Link.{linked}
 
 pub linked_push : (operand : PlainExpr) (links : List Link) (link : Link)
     → linked operand (links ++ (link ∷ [])) ≡ linked (PlainExpr.binary link.op operand (plain_expr link.right)) links

@@ -12,7 +12,7 @@ use Rattle.plcs_grammar.specs.declared.expr.Expr.TheVariants.{Prefix, Infix, Bui
 use Rattle.plcs_grammar.specs.declared.expr.Expr.TheFolds.{fold-roll-Expr}
 use Rattle.plcs_grammar.specs.declared.expr.VarRef.{VarRef, fold_out-VarRef, map-VarRef}
 use Rattle.plcs_grammar.specs.PlainPhrase.{PlainExpr, PlainVarRef}
-use Rattle.plcs_grammar.specs.Chain.{chain_text}
+use Rattle.plcs_grammar.specs.Private.Chain.{chain_text}
 use Rattle.plcs_grammar.specs.PlainForm.{plain_expr, expr_step, reference_step, plain_exprs, plain_var_ref}
 
 pub expr_prefix : (e : Expr) (op : PrefixOp) (a : Box Expr Global) → e ≡ Prefix op a → plain_expr e ≡ PlainExpr.unary op (plain_expr a.value)

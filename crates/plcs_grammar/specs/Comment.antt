@@ -4,7 +4,7 @@ use Rattle.std.specs.Str.{bytes_eq}
 use Rattle.std.specs.List.{list_all, starts_with}
 use Rattle.plcs_base.specs.Byte.{is_printable}
 use Rattle.plcs_grammar.specs.declared.category.Category.TheVariants.{CommentText}
-use Rattle.plcs_grammar.specs.Placeholder.{placeholder, placeholder_word}
+use Rattle.plcs_grammar.specs.Placeholder.{placeholder}
 use Rattle.plcs_grammar.specs.Cuts.{unblanked}
 
 -- the text without the blanks at both its ends
@@ -17,7 +17,7 @@ comment_end = codes "*/"
 
 -- what stands for a comment that isn't there yet
 abbrev pub comment_placeholder : List ℕ
-comment_placeholder = placeholder (placeholder_word CommentText)
+comment_placeholder = placeholder CommentText
 
 -- the text can stand in a comment
 pub record IsCommentText (x : List ℕ) : Type 0 where

@@ -6,7 +6,7 @@ use Rattle.plcs_grammar.specs.declared.item.Item.{Item}
 use Rattle.plcs_grammar.specs.declared.sign.Sign.{Sign}
 use Rattle.plcs_grammar.specs.Token.{Token}
 use Rattle.plcs_grammar.specs.PlainPhrase.{PlainExprs, PlainPhrase, category_of}
-use Rattle.plcs_grammar.specs.Level.{Level, IsNameToken, IsReference, Joined, in_parentheses}
+use Rattle.plcs_grammar.specs.Level.{Level, IsNameToken, IsReference, IsExprList, in_parentheses}
 
 -- the tokens are a declared name, with the size of an array, which is at least 1, or without one
 abbrev pub IsSizedName : List ℕ → Option ℕ → List Token → Type 0
@@ -19,21 +19,21 @@ IsItem item tokens = IsSizedName item.name item.size tokens
 
 module _ {X : Type 0} (Is : X → List Token → Type 0) where
   -- the tokens are more of them, each behind a comma
-  abbrev pub MoreBehind : List X → List Token → Type 0
-  MoreBehind [] tokens = tokens ≡ []
-  MoreBehind (x ∷ xs) tokens =
-      (left right : List Token) × (tokens ≡ Token.sign Sign.Comma ∷ (left ++ right)) × Is x left × MoreBehind xs right
+  abbrev pub IsMoreOf : List X → List Token → Type 0
+  IsMoreOf [] tokens = tokens ≡ []
+  IsMoreOf (x ∷ xs) tokens =
+      (left right : List Token) × (tokens ≡ Token.sign Sign.Comma ∷ (left ++ right)) × Is x left × IsMoreOf xs right
 
   -- the tokens are one or more of them, joined by commas
-  abbrev pub JoinedBy : List X → List Token → Type 0
-  JoinedBy [] tokens = ⊥
-  JoinedBy (x ∷ xs) tokens = (left right : List Token) × (tokens ≡ left ++ right) × Is x left × MoreBehind xs right
+  abbrev pub IsListOf : List X → List Token → Type 0
+  IsListOf [] tokens = ⊥
+  IsListOf (x ∷ xs) tokens = (left right : List Token) × (tokens ≡ left ++ right) × Is x left × IsMoreOf xs right
 
 -- the tokens are a call: a name, or a name and arguments in parentheses
 abbrev pub IsCall : List ℕ → PlainExprs → List Token → Type 0
 IsCall name PlainExprs.nil tokens = IsNameToken name tokens
 IsCall name (PlainExprs.cons a rest) tokens =
-    (inner : List Token) × (tokens ≡ Token.name name ∷ in_parentheses inner) × Joined (PlainExprs.cons a rest) inner
+    (inner : List Token) × (tokens ≡ Token.name name ∷ in_parentheses inner) × IsExprList (PlainExprs.cons a rest) inner
 
 -- the tokens are the phrase
 abbrev pub IsPhrase : PlainPhrase → List Token → Type 0
@@ -41,13 +41,13 @@ IsPhrase (PlainPhrase.assignment target value) tokens =
     (left right : List Token) × (tokens ≡ left ++ (Token.sign Sign.Equal ∷ right)) × IsReference target left × Level value 1 right
 IsPhrase (PlainPhrase.condition e) tokens = Level e 1 tokens
 IsPhrase (PlainPhrase.expression e) tokens = Level e 1 tokens
-IsPhrase (PlainPhrase.expression_list es) tokens = Joined es tokens
-IsPhrase (PlainPhrase.variable_list targets) tokens = JoinedBy IsReference targets tokens
+IsPhrase (PlainPhrase.expression_list es) tokens = IsExprList es tokens
+IsPhrase (PlainPhrase.variable_list targets) tokens = IsListOf IsReference targets tokens
 IsPhrase (PlainPhrase.variable_name name) tokens = IsNameToken name tokens
 IsPhrase (PlainPhrase.call name arguments) tokens = IsCall name arguments tokens
-IsPhrase (PlainPhrase.declared_list items) tokens = JoinedBy IsItem items tokens
+IsPhrase (PlainPhrase.declared_list items) tokens = IsListOf IsItem items tokens
 IsPhrase (PlainPhrase.procedure_name name) tokens = IsNameToken name tokens
-IsPhrase (PlainPhrase.name_list names) tokens = JoinedBy IsNameToken names tokens
+IsPhrase (PlainPhrase.name_list names) tokens = IsListOf IsNameToken names tokens
 IsPhrase (PlainPhrase.greatest_length n) tokens = (1 ≤ n) × (n ≤ longest_text) × (tokens ≡ Token.number n ∷ [])
 IsPhrase (PlainPhrase.comment bytes) tokens = ⊥
 

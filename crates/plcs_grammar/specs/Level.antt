@@ -55,7 +55,7 @@ abbrev mutual
       (level ≤ priority op) × (left right : List Token) × (tokens ≡ left ++ (Token.sign (infix_sign op) ∷ right))
       × Level a (priority op) left × Level b (priority op + 1) right
   Level (PlainExpr.builtin function arguments) level tokens =
-      (inner : List Token) × (tokens ≡ Token.name (builtin_name function) ∷ in_parentheses inner) × Joined arguments inner
+      (inner : List Token) × (tokens ≡ Token.name (builtin_name function) ∷ in_parentheses inner) × IsExprList arguments inner
   Level (PlainExpr.parenthesized a) level tokens =
       (inner : List Token) × (tokens ≡ in_parentheses inner) × Level a 1 inner
 
@@ -66,13 +66,13 @@ abbrev mutual
       (inner : List Token) × (tokens ≡ Token.name name ∷ in_parentheses inner) × Level index 1 inner
 
   -- the tokens are the expressions, one or more, joined by commas
-  pub Joined : PlainExprs → List Token → Type 0
-  Joined PlainExprs.nil tokens = ⊥
-  Joined (PlainExprs.cons a rest) tokens =
-      (left right : List Token) × (tokens ≡ left ++ right) × Level a 1 left × Behind rest right
+  pub IsExprList : PlainExprs → List Token → Type 0
+  IsExprList PlainExprs.nil tokens = ⊥
+  IsExprList (PlainExprs.cons a rest) tokens =
+      (left right : List Token) × (tokens ≡ left ++ right) × Level a 1 left × IsMoreExprs rest right
 
   -- the tokens are more expressions, each behind a comma
-  pub Behind : PlainExprs → List Token → Type 0
-  Behind PlainExprs.nil tokens = tokens ≡ []
-  Behind (PlainExprs.cons a rest) tokens =
-      (left right : List Token) × (tokens ≡ Token.sign Sign.Comma ∷ (left ++ right)) × Level a 1 left × Behind rest right
+  pub IsMoreExprs : PlainExprs → List Token → Type 0
+  IsMoreExprs PlainExprs.nil tokens = tokens ≡ []
+  IsMoreExprs (PlainExprs.cons a rest) tokens =
+      (left right : List Token) × (tokens ≡ Token.sign Sign.Comma ∷ (left ++ right)) × Level a 1 left × IsMoreExprs rest right

@@ -12,7 +12,7 @@ pub mod Form
 pub mod Comment
 -- ---- limits
 pub mod Limit
-pub mod Opened
+pub mod OpenedLevel
 pub mod Over
 -- ---- what a text reads as, and where it goes wrong
 pub mod Reads
@@ -20,9 +20,11 @@ pub mod Syntax
 -- ---- what is written
 pub mod Canon
 pub mod Placeholder
+<<<<<<< HEAD
 -- ---- what is written for each kind of node, and what stands inside it
 pub mod Template
+=======
+pub mod ShownText
+>>>>>>> 916bc390b2d7f4a8c453a3495b3438c298126ad3
 -- ---- what private contracts alone cite
-pub mod Chain
-pub mod Separator
-pub mod Link
+pub mod Private

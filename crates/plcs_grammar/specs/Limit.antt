@@ -1,14 +1,15 @@
 -- The limits of numbers and of nesting.
 use Rattle.std.specs.Prelude.{ℕ, ◌+◌, ◌≤◌, max, nat_abs, List, [], ◌∷◌, ◌++◌, flat_map, Option, Some, None, All}
+use Rattle.plcs_grammar.specs.declared.limit.TheConstants.{GREATEST_NUMBER, GREATEST_NESTING}
 use Rattle.plcs_grammar.specs.PlainPhrase.{PlainExpr, PlainExprs, PlainVarRef, PlainPhrase}
 
 -- the greatest number that a phrase may have
 abbrev pub greatest_number : ℕ
-greatest_number = 2147483647
+greatest_number = GREATEST_NUMBER
 
 -- how deep a phrase may be nested
 abbrev pub greatest_nesting : ℕ
-greatest_nesting = 32
+greatest_nesting = GREATEST_NESTING
 
 abbrev mutual
   -- how deep an expression is nested

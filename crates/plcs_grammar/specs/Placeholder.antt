@@ -1,23 +1,23 @@
 -- What is written where a part is empty.
-use Rattle.std.specs.Prelude.{ℕ, List, ◌++◌, codes}
+use Rattle.std.specs.Prelude.{ℕ, ◌-◌, List, length, take, drop, codes}
 use Rattle.plcs_grammar.specs.declared.category.Category.{Category}
 use Rattle.plcs_grammar.specs.declared.category.Category.TheVariants.{Assignment, Condition, Expression, ExpressionList, VariableList, Variable, CallRef, DeclaredList, ProcedureName, NameList, Length, CommentText}
 
--- the word that names the phrase that is wanted
-abbrev pub placeholder_word : Category → List ℕ
-placeholder_word Assignment = codes "statement"
-placeholder_word Condition = codes "condition"
-placeholder_word Expression = codes "expression"
-placeholder_word ExpressionList = codes "expressions"
-placeholder_word VariableList = codes "variables"
-placeholder_word Variable = codes "variable"
-placeholder_word CallRef = codes "call"
-placeholder_word DeclaredList = codes "names"
-placeholder_word ProcedureName = codes "name"
-placeholder_word NameList = codes "parameters"
-placeholder_word Length = codes "length"
-placeholder_word CommentText = codes "comment"
+-- what stands for the phrase that is wanted; for an assignment, the statement hole in which it is typed
+abbrev pub placeholder : Category → List ℕ
+placeholder Assignment = codes "{statement}"
+placeholder Condition = codes "{condition}"
+placeholder Expression = codes "{expression}"
+placeholder ExpressionList = codes "{expressions}"
+placeholder VariableList = codes "{variables}"
+placeholder Variable = codes "{variable}"
+placeholder CallRef = codes "{call}"
+placeholder DeclaredList = codes "{names}"
+placeholder ProcedureName = codes "{name}"
+placeholder NameList = codes "{parameters}"
+placeholder Length = codes "{length}"
+placeholder CommentText = codes "{comment}"
 
--- a word between braces
-abbrev pub placeholder : List ℕ → List ℕ
-placeholder word = codes "{" ++ (word ++ codes "}")
+-- its word, without the braces
+abbrev pub placeholder_word : Category → List ℕ
+placeholder_word category = let whole = placeholder category in take (length whole - 2) (drop 1 whole)

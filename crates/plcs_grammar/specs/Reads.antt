@@ -7,7 +7,7 @@ use Rattle.plcs_grammar.specs.Cuts.{Piece, Cuts, tokens_of}
 use Rattle.plcs_grammar.specs.Form.{Form}
 use Rattle.plcs_grammar.specs.Comment.{IsCommentText, trimmed}
 use Rattle.plcs_grammar.specs.Limit.{IsWithinLimits}
-use Rattle.plcs_grammar.specs.Opened.{phrase_opened}
+use Rattle.plcs_grammar.specs.OpenedLevel.{phrase_opened_levels}
 use Rattle.plcs_grammar.specs.Over.{OverLimit, first_over}
 
 -- the whole text is cut into the pieces, and they are the phrase
@@ -38,4 +38,4 @@ Reads category x phrase = HasReading category x phrase × IsWithinLimits phrase
 abbrev pub IsOver : Category → List ℕ → OverLimit → Type 0
 IsOver category x over =
     (pieces : List Piece) × (phrase : PlainPhrase) × IsCutAs category x pieces phrase
-    × (first_over pieces (phrase_opened phrase) ≡ Some over)
+    × (first_over pieces (phrase_opened_levels phrase) ≡ Some over)

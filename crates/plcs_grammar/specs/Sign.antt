@@ -1,5 +1,5 @@
 -- The signs of phrases, and the operators that they stand for.
-use Rattle.std.specs.Prelude.{ℕ, List, codes}
+use Rattle.std.specs.Prelude.{ℕ, List, [], ◌∷◌, codes, bytes_eq, find, Option}
 use Rattle.plcs_grammar.specs.declared.operator.PrefixOp.{PrefixOp}
 use Rattle.plcs_grammar.specs.declared.operator.PrefixOp.TheVariants as before
 use Rattle.plcs_grammar.specs.declared.operator.InfixOp.{InfixOp}
@@ -25,6 +25,17 @@ sign_bytes Sign.Caret = codes "^"
 sign_bytes Sign.OpenParenthesis = codes "("
 sign_bytes Sign.CloseParenthesis = codes ")"
 sign_bytes Sign.Comma = codes ","
+
+-- all signs
+abbrev pub signs : List Sign
+signs =
+    Sign.Plus ∷ Sign.Minus ∷ Sign.Times ∷ Sign.Divide ∷ Sign.Join ∷ Sign.Equal
+    ∷ Sign.NotEqual ∷ Sign.Less ∷ Sign.LessEqual ∷ Sign.Greater ∷ Sign.GreaterEqual ∷ Sign.Ampersand
+    ∷ Sign.Bar ∷ Sign.Caret ∷ Sign.OpenParenthesis ∷ Sign.CloseParenthesis ∷ Sign.Comma ∷ []
+
+-- the sign that is written so, if there is one
+abbrev pub sign_of : List ℕ → Option Sign
+sign_of bytes = find (λ sign. bytes_eq bytes (sign_bytes sign)) signs
 
 -- the sign of an operator before its operand
 abbrev pub prefix_sign : PrefixOp → Sign

@@ -1,3 +1,4 @@
+//! The built-in functions.
 ghost use Rattle.std.specs.Prelude.{◌≡◌};
 ghost use Rattle.plcs_grammar.specs.Builtin.{builtin_name, builtin_of};
 
@@ -43,7 +44,7 @@ impl Builtin {
     }
 
     /// Its name.
-    pub(crate) fn name(self) -> &'static [u8]
+    pub fn name(self) -> &'static [u8]
         ensures { result.now ≡ builtin_name self }
     {
         match self {

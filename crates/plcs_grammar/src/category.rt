@@ -1,3 +1,4 @@
+//! The categories of phrases, and what stands for a phrase of each that is not there yet.
 ghost use Rattle.std.specs.Prelude.{◌≡◌};
 
 /// What kind of phrase a part of a template holds.
@@ -30,26 +31,34 @@ pub enum Category {
 }
 
 impl Category {
-    ghost use Rattle.plcs_grammar.specs.Placeholder.{placeholder_word};
+    ghost use Rattle.plcs_grammar.specs.Placeholder.{placeholder, placeholder_word};
 
-    /// The word of the placeholder that stands for an empty part; for an assignment, which is never
-    /// empty, that of the statement hole in which it is typed.
+    /// What is shown in an empty part, braces included; for an assignment, which is never empty, the
+    /// statement hole in which it is typed.
+    pub fn placeholder(self) -> &'static [u8]
+        ensures { result.now ≡ placeholder self }
+    {
+        match self {
+            Category::Assignment => b"{statement}",
+            Category::Condition => b"{condition}",
+            Category::Expression => b"{expression}",
+            Category::ExpressionList => b"{expressions}",
+            Category::VariableList => b"{variables}",
+            Category::Variable => b"{variable}",
+            Category::CallRef => b"{call}",
+            Category::DeclaredList => b"{names}",
+            Category::ProcedureName => b"{name}",
+            Category::NameList => b"{parameters}",
+            Category::Length => b"{length}",
+            Category::CommentText => b"{comment}",
+        }
+    }
+
+    /// The placeholder's word, without the braces.
     pub fn placeholder_word(self) -> &'static [u8]
         ensures { result.now ≡ placeholder_word self }
     {
-        match self {
-            Category::Assignment => b"statement",
-            Category::Condition => b"condition",
-            Category::Expression => b"expression",
-            Category::ExpressionList => b"expressions",
-            Category::VariableList => b"variables",
-            Category::Variable => b"variable",
-            Category::CallRef => b"call",
-            Category::DeclaredList => b"names",
-            Category::ProcedureName => b"name",
-            Category::NameList => b"parameters",
-            Category::Length => b"length",
-            Category::CommentText => b"comment",
-        }
+        let whole = self.placeholder();
+        &whole[1..whole.len() - 1]
     }
 }

@@ -1,3 +1,4 @@
+//! Copies of phrases.
 ghost use Rattle.std.specs.Prelude.{◌≡◌, IfOk, map};
 ghost use Rattle.plcs_grammar.specs.PlainForm.{plain_phrase, plain_var_ref};
 

@@ -1,3 +1,4 @@
+//! Expressions.
 use crate::builtin::Builtin;
 use crate::operator::{InfixOp, PrefixOp};
 use plcs_base::{Name, TextValue};

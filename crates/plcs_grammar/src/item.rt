@@ -1,3 +1,4 @@
+//! Items of a declaration, as they are typed.
 use plcs_base::Name;
 
 /// A name in a declaration.

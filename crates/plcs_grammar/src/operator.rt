@@ -1,3 +1,4 @@
+//! Operators, and their signs.
 ghost use Rattle.std.specs.Prelude.{◌≡◌};
 ghost use Rattle.plcs_grammar.specs.Sign.{prefix_sign, infix_sign};
 
@@ -47,7 +48,7 @@ pub enum InfixOp {
 
 impl PrefixOp {
     /// Its sign.
-    pub(crate) fn sign(self) -> Sign
+    pub fn sign(self) -> Sign
         ensures { result ≡ prefix_sign self }
     {
         match self {
@@ -60,7 +61,7 @@ impl PrefixOp {
 
 impl InfixOp {
     /// Its sign.
-    pub(crate) fn sign(self) -> Sign
+    pub fn sign(self) -> Sign
         ensures { result ≡ infix_sign self }
     {
         match self {

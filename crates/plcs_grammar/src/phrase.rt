@@ -1,3 +1,9 @@
+//! Phrases: what is typed into the parts of templates.
+ghost use Rattle.std.specs.Prelude.{◌≡◌};
+ghost use Rattle.plcs_grammar.specs.PlainPhrase.{category_of};
+ghost use Rattle.plcs_grammar.specs.PlainForm.{plain_phrase};
+
+use crate::category::Category;
 use crate::expr::{Expr, VarRef};
 use crate::item::Item;
 use plcs_base::Name;
@@ -29,4 +35,26 @@ pub enum Phrase {
     Length(u16),
     /// The text of a comment.
     CommentText(Vec<u8>),
+}
+
+impl Phrase {
+    /// Its category.
+    pub fn category(&self) -> Category
+        ensures { result ≡ category_of (plain_phrase self.now) }
+    {
+        match self {
+            Phrase::Assignment(_, _) => Category::Assignment,
+            Phrase::Condition(_) => Category::Condition,
+            Phrase::Expression(_) => Category::Expression,
+            Phrase::ExpressionList(_) => Category::ExpressionList,
+            Phrase::VariableList(_) => Category::VariableList,
+            Phrase::Variable(_) => Category::Variable,
+            Phrase::CallRef(_, _) => Category::CallRef,
+            Phrase::DeclaredList(_) => Category::DeclaredList,
+            Phrase::ProcedureName(_) => Category::ProcedureName,
+            Phrase::NameList(_) => Category::NameList,
+            Phrase::Length(_) => Category::Length,
+            Phrase::CommentText(_) => Category::CommentText,
+        }
+    }
 }

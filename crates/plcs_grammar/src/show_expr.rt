@@ -1,14 +1,16 @@
+//! Expressions as they are shown.
 ghost use Rattle.std.specs.Prelude.{◌≡◌};
 ghost use Rattle.plcs_base.specs.Put.{PutsAll};
 ghost use Rattle.plcs_grammar.specs.PlainForm.{plain_expr, plain_exprs, plain_var_ref};
 ghost use Rattle.plcs_grammar.specs.Canon.{canon, canon_list, canon_reference};
-ghost use Rattle.plcs_grammar.specs.Chain.{chain_text, operator_text};
+ghost use Rattle.plcs_grammar.specs.Private.Chain.{chain_text, operator_text};
 
 use crate::chain::{count_operators, leftmost};
+use crate::constant::{put_bit, put_number, put_quoted};
 use crate::expr::{Expr, VarRef};
 use crate::operator::InfixOp;
-use crate::put_bytes::{put_bit, put_bytes, put_number, put_quoted, put_separator};
-use plcs_base::ByteOut;
+use crate::separator::put_separator;
+use plcs_base::{ByteOut, put_bytes};
 
 /// Puts the canonical text of an expression.
 #[cycle(show_expr)]

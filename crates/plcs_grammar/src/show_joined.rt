@@ -1,13 +1,15 @@
+//! Lists as they are shown, joined by commas.
 ghost use Rattle.std.specs.Prelude.{List, ℕ};
 ghost use Rattle.plcs_base.specs.Put.{PutsAll};
 ghost use Rattle.plcs_grammar.specs.PlainForm.{plain_var_ref};
 ghost use Rattle.plcs_grammar.specs.Canon.{joined, canon_reference, canon_item};
 
+use crate::constant::put_decimal;
 use crate::expr::VarRef;
 use crate::item::Item;
-use crate::put_bytes::{put_bytes, put_decimal, put_separator};
+use crate::separator::put_separator;
 use crate::show_expr::show_variable;
-use plcs_base::{ByteOut, Name};
+use plcs_base::{ByteOut, Name, put_bytes};
 
 /// What stands in a list, joined by commas.
 pub(crate) trait Shown {

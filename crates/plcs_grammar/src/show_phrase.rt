@@ -1,13 +1,14 @@
+//! Phrases as they are shown.
 ghost use Rattle.plcs_base.specs.Put.{PutsAll};
 ghost use Rattle.plcs_grammar.specs.PlainForm.{plain_phrase, plain_exprs};
 ghost use Rattle.plcs_grammar.specs.Canon.{Canon, canon_call};
 
+use crate::constant::put_decimal;
 use crate::expr::Expr;
 use crate::phrase::Phrase;
-use crate::put_bytes::{put_bytes, put_decimal};
 use crate::show_expr::{show_expr, show_exprs, show_variable};
 use crate::show_joined::show_joined;
-use plcs_base::{ByteOut, Name};
+use plcs_base::{ByteOut, Name, put_bytes};
 
 /// Puts the canonical text of a phrase, as `specs/Canon.antt` defines it.
 ///

@@ -1,5 +1,6 @@
+//! The signs of phrases.
 ghost use Rattle.std.specs.Prelude.{◌≡◌};
-ghost use Rattle.plcs_grammar.specs.Sign.{sign_bytes};
+ghost use Rattle.plcs_grammar.specs.Sign.{sign_bytes, sign_of};
 
 /// A sign of phrases.
 #[derive(Clone, Copy, Debug, PartialEq, Eq)]
@@ -40,9 +41,37 @@ pub enum Sign {
     Comma,
 }
 
+/// All of them.
+const SIGNS: [Sign; 17] = [
+    Sign::Plus,
+    Sign::Minus,
+    Sign::Times,
+    Sign::Divide,
+    Sign::Join,
+    Sign::Equal,
+    Sign::NotEqual,
+    Sign::Less,
+    Sign::LessEqual,
+    Sign::Greater,
+    Sign::GreaterEqual,
+    Sign::Ampersand,
+    Sign::Bar,
+    Sign::Caret,
+    Sign::OpenParenthesis,
+    Sign::CloseParenthesis,
+    Sign::Comma,
+];
+
 impl Sign {
+    /// The sign that is written so, or `None` where none is.
+    pub fn read(bytes: &[u8]) -> Option<Sign>
+        ensures { result ≡ sign_of bytes.now }
+    {
+        SIGNS.iter().copied().find(|sign| bytes == sign.bytes())
+    }
+
     /// How it is written.
-    pub(crate) fn bytes(self) -> &'static [u8]
+    pub fn bytes(self) -> &'static [u8]
         ensures { result.now ≡ sign_bytes self }
     {
         match self {

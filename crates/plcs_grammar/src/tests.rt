@@ -1,5 +1,6 @@
+//! Tests of each public call.
 use super::*;
-use plcs_base::{ByteOut, Name, TextValue};
+use plcs_base::{ByteOut, Name, TextValue, put_bytes};
 use std::alloc::{AllocError, Global};
 use std::test::Fail;
 
@@ -21,14 +22,24 @@ impl ByteOut for Awaited<'_> {
     }
 }
 
+/// What is awaited of these bytes.
+fn awaiting(bytes: &[u8]) -> Awaited<'_> {
+    Awaited {
+        left: bytes,
+        same: true,
+    }
+}
+
+/// Whether all that was awaited was put, and nothing else.
+fn came(out: &Awaited<'_>) -> bool {
+    out.same && out.left.is_empty()
+}
+
 /// Whether the phrase has this canonical text.
 fn has_text(phrase: &Phrase, text: &[u8]) -> bool {
-    let mut out = Awaited {
-        left: text,
-        same: true,
-    };
+    let mut out = awaiting(text);
     show(phrase, &mut out);
-    out.same && out.left.is_empty() && shown_len(phrase) as usize == text.len()
+    came(&out) && shown_len(phrase) as usize == text.len()
 }
 
 /// Whether the phrase, and a copy of it, has this canonical text.
@@ -70,7 +81,12 @@ fn paren(alloc: Global, inside: Expr) -> Result<Expr, AllocError> {
 
 /// `1 + 1 + .. + 1`, with so many operators.
 fn chain(alloc: Global, operators: u32) -> Result<Expr, AllocError> {
-    let mut sum = Expr::Number(1);
+    chain_from(alloc, 1, operators)
+}
+
+/// The same from another first number.
+fn chain_from(alloc: Global, first: i32, operators: u32) -> Result<Expr, AllocError> {
+    let mut sum = Expr::Number(first);
     for _ in 0..operators {
         sum = infix(alloc, sum, InfixOp::Plus, Expr::Number(1))?;
     }
@@ -89,6 +105,54 @@ fn names_are_read_as_builtin_functions(rt: HostRuntime) {
     for name in others {
         assert!(rt; Builtin::read(name).is_none());
     }
+}
+
+#[test]
+fn signs_are_read_by_their_bytes(rt: HostRuntime) {
+    let all: [&[u8]; 17] = [
+        b"+", b"-", b"*", b"/", b"||", b"=", b"^=", b"<", b"<=", b">", b">=", b"&", b"|", b"^",
+        b"(", b")", b",",
+    ];
+    for bytes in all {
+        assert!(rt; matches!(Sign::read(bytes), Some(sign) if sign.bytes() == bytes));
+    }
+    let others: [&[u8]; 5] = [b"", b"~", b"|||", b"=<", b"+ "];
+    for bytes in others {
+        assert!(rt; Sign::read(bytes).is_none());
+    }
+    assert_eq!(rt; PrefixOp::Not.sign(), Sign::Caret);
+    assert_eq!(rt; InfixOp::Or.sign(), Sign::Bar);
+}
+
+#[test]
+fn bytes_and_constants_are_put(rt: HostRuntime) {
+    let mut out = awaiting(b"SUBSTR 4294967295 -2147483648 'it''s' '1'B");
+    put_bytes(Builtin::Substr.name(), &mut out);
+    out.put(b' ');
+    put_decimal(4294967295, &mut out);
+    out.put(b' ');
+    put_number(i32::MIN, &mut out);
+    out.put(b' ');
+    put_quoted(b"it's", &mut out);
+    out.put(b' ');
+    put_bit(true, &mut out);
+    assert!(rt; came(&out));
+}
+
+#[test]
+fn placeholders_have_braces(rt: HostRuntime) {
+    assert_eq!(rt;
+        Category::CommentText.placeholder(),
+        b"{comment}".as_slice()
+    );
+    assert_eq!(rt;
+        Category::CommentText.placeholder_word(),
+        b"comment".as_slice()
+    );
+    assert_eq!(rt;
+        Category::Assignment.placeholder(),
+        b"{statement}".as_slice()
+    );
 }
 
 #[test]
@@ -204,5 +268,109 @@ fn a_long_chain_is_copied(rt: HostRuntime) -> Result<(), Fail> {
     let copy = copy_phrase(rt.alloc(), &sum).map_err(|_| "a copy")?;
     drop(sum);
     assert!(rt; matches!(&copy, Phrase::Expression(Expr::Infix(_, _, _))));
+    Ok(())
+}
+
+#[test]
+fn long_chains_are_compared(rt: HostRuntime) -> Result<(), Fail> {
+    let alloc = rt.alloc();
+    let sum = Phrase::Expression(chain(alloc, 1_000_000)?);
+    let equal = Phrase::Expression(chain(alloc, 1_000_000)?);
+    let shorter = Phrase::Expression(chain(alloc, 999_999)?);
+    let other_first = Phrase::Expression(chain_from(alloc, 2, 1_000_000)?);
+    assert!(rt; same_phrase(&sum, &equal));
+    assert!(rt; !same_phrase(&sum, &shorter));
+    assert!(rt; !same_phrase(&shorter, &sum));
+    assert!(rt; !same_phrase(&sum, &other_first));
+    Ok(())
+}
+
+/// Phrases that differ from each other, one of each category or more.
+fn unlike(alloc: Global) -> Result<Vec<Phrase>, Fail> {
+    let mut all = Vec::new(alloc);
+    let simple = VarRef {
+        name: name(b"x")?,
+        index: None,
+    };
+    all.push(Phrase::Assignment(simple, variable(b"y")?))?;
+    let target = cell(alloc, b"x", Expr::Number(1))?;
+    all.push(Phrase::Assignment(target, variable(b"y")?))?;
+    all.push(Phrase::Condition(variable(b"x")?))?;
+    all.push(Phrase::Expression(variable(b"x")?))?;
+    all.push(Phrase::Expression(Expr::Bit(true)))?;
+    all.push(Phrase::Expression(text(alloc, b"x")?))?;
+    all.push(Phrase::Expression(paren(alloc, variable(b"x")?)?))?;
+    let negative = Expr::Prefix(PrefixOp::Minus, Box::new(alloc, variable(b"x")?)?);
+    all.push(Phrase::Expression(negative))?;
+    for op in [InfixOp::Plus, InfixOp::Minus] {
+        let both = infix(alloc, variable(b"x")?, op, variable(b"y")?)?;
+        all.push(Phrase::Expression(both))?;
+    }
+    let crossed = infix(alloc, variable(b"y")?, InfixOp::Plus, variable(b"x")?)?;
+    all.push(Phrase::Expression(crossed))?;
+    for function in [Builtin::Min, Builtin::Max] {
+        let arguments = vec![in alloc; variable(b"x")?, Expr::Number(2)]?;
+        all.push(Phrase::Expression(Expr::Builtin(function, arguments)))?;
+    }
+    let fewer = vec![in alloc; variable(b"x")?]?;
+    all.push(Phrase::Expression(Expr::Builtin(Builtin::Max, fewer)))?;
+    Ok(all)
+}
+
+/// More of them.
+fn unlike_lists(alloc: Global) -> Result<Vec<Phrase>, Fail> {
+    let mut all = Vec::new(alloc);
+    all.push(Phrase::ExpressionList(vec![in alloc; variable(b"x")?]?))?;
+    let targets = vec![in alloc; cell(alloc, b"x", Expr::Number(1))?]?;
+    all.push(Phrase::VariableList(targets))?;
+    let targets = vec![in alloc; cell(alloc, b"x", Expr::Number(2))?]?;
+    all.push(Phrase::VariableList(targets))?;
+    all.push(Phrase::Variable(name(b"x")?))?;
+    all.push(Phrase::CallRef(name(b"x")?, Vec::new(alloc)))?;
+    let passed = vec![in alloc; variable(b"x")?]?;
+    all.push(Phrase::CallRef(name(b"x")?, passed))?;
+    for size in [None, Some(1), Some(2)] {
+        let items = vec![in alloc;
+            Item {
+                name: name(b"x")?,
+                size
+            },
+        ]?;
+        all.push(Phrase::DeclaredList(items))?;
+    }
+    all.push(Phrase::ProcedureName(name(b"x")?))?;
+    all.push(Phrase::NameList(vec![in alloc; name(b"x")?]?))?;
+    all.push(Phrase::NameList(vec![in alloc; name(b"x")?, name(b"y")?]?))?;
+    all.push(Phrase::Length(1))?;
+    all.push(Phrase::Length(2))?;
+    all.push(Phrase::CommentText(Vec::from_slice(alloc, b"x")?))?;
+    all.push(Phrase::CommentText(Vec::from_slice(alloc, b"y")?))?;
+    Ok(all)
+}
+
+#[test]
+fn phrases_are_compared(rt: HostRuntime) -> Result<(), Fail> {
+    for all in [unlike(rt.alloc())?, unlike_lists(rt.alloc())?] {
+        for (i, one) in all.iter().enumerate() {
+            let copy = copy_phrase(rt.alloc(), one).map_err(|_| "a copy")?;
+            assert!(rt; same_phrase(one, &copy));
+            for (j, other) in all.iter().enumerate() {
+                assert_eq!(rt; same_phrase(one, other), i == j);
+            }
+        }
+    }
+    Ok(())
+}
+
+#[test]
+fn a_phrase_has_its_category(rt: HostRuntime) -> Result<(), Fail> {
+    let alloc = rt.alloc();
+    let value = Phrase::Expression(variable(b"x")?);
+    assert_eq!(rt; value.category(), Category::Expression);
+    let tested = Phrase::Condition(variable(b"x")?);
+    assert_eq!(rt; tested.category(), Category::Condition);
+    let names = Phrase::NameList(vec![in alloc; name(b"x")?]?);
+    assert_eq!(rt; names.category(), Category::NameList);
+    assert_eq!(rt; Phrase::Length(1).category(), Category::Length);
     Ok(())
 }

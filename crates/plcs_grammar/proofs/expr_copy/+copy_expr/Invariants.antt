@@ -1,7 +1,7 @@
 use Rattle.std.proofs.Common.{◌≡◌, ◌≤◌, map, take}
 use Rattle.plcs_grammar.specs.declared.expr.Expr.{size-Expr}
 use Rattle.plcs_grammar.specs.PlainForm.{plain_expr}
-use Rattle.plcs_grammar.specs.Link.{linked}
+use Rattle.plcs_grammar.specs.Private.Link.{linked}
 use Rattle.plcs_grammar.proofs.expr_copy.+copy_expr.Given as goal
 
 abbrev pub invariant-copy_expr-loop-at : goal.invariant-copy_expr-loop-at

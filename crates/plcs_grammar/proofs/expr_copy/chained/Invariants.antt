@@ -1,6 +1,6 @@
 use Rattle.std.proofs.Common.{◌≡◌, length}
 use Rattle.plcs_grammar.specs.PlainForm.{plain_expr}
-use Rattle.plcs_grammar.specs.Link.{linked}
+use Rattle.plcs_grammar.specs.Private.Link.{linked}
 use Rattle.plcs_grammar.proofs.expr_copy.chained.Given as goal
 
 abbrev pub invariant-loop-last : goal.invariant-loop-last

@@ -4,8 +4,9 @@ use Rattle.plcs_base.specs.Put.{puts_nothing, puts_next}
 use Rattle.plcs_grammar.specs.PlainForm.{plain_expr, plain_exprs}
 use Rattle.plcs_grammar.specs.Sign.{sign_bytes}
 use Rattle.plcs_grammar.specs.Canon.{canon, canon_list, joined}
-use Rattle.plcs_grammar.specs.Chain.{leftmost, chain_text, operator_text}
-use Rattle.plcs_grammar.proofs.Putting.{puts_append, puts_same, puts_three, puts_parenthesized}
+use Rattle.plcs_grammar.specs.Private.Chain.{leftmost, chain_text, operator_text}
+use Rattle.plcs_base.proofs.Putting.{puts_append, puts_same, puts_three}
+use Rattle.plcs_grammar.proofs.ParenthesizedTexts.{puts_parenthesized}
 use Rattle.plcs_grammar.proofs.EqualShown.{shown_plain, shown_reference, shown_expr}
 use Rattle.plcs_grammar.proofs.ChainTexts.{chain_whole, chain_halves}
 use Rattle.plcs_grammar.proofs.JoinedTexts.{joined_next, list_is}

@@ -1,0 +1,67 @@
+//! Numbers, and the constants of phrases, as they are written.
+ghost use Rattle.std.specs.Prelude.{if◌then◌else◌, [], ◌∷◌, decimal};
+ghost use Rattle.std.specs.Fmt.{signed_decimal};
+ghost use Rattle.plcs_base.specs.Put.{PutsAll};
+ghost use Rattle.plcs_grammar.specs.Token.{quoted, with_quotes_doubled, bit_bytes};
+
+use plcs_base::{ByteOut, put_bytes};
+
+/// Puts the digits of a number, without leading zeros.
+pub fn put_decimal<O: ByteOut>(number: u32, out: &mut O)
+    ensures { PutsAll O.puts out.old (decimal number) out.new }
+{
+    if number < 10 {
+        out.put(b'0' + number as u8);
+    } else {
+        put_decimal(number / 10, out);
+        out.put(b'0' + (number % 10) as u8);
+    }
+}
+
+/// Puts a number, with its sign before it where it is negative.
+pub fn put_number<O: ByteOut>(number: i32, out: &mut O)
+    ensures { PutsAll O.puts out.old (signed_decimal number) out.new }
+{
+    if number < 0 {
+        out.put(b'-');
+        put_decimal(number.unsigned_abs(), out);
+    } else {
+        put_decimal(number as u32, out);
+    }
+}
+
+/// Puts a character constant: the bytes between quotes, with each quote among them doubled.
+pub fn put_quoted<O: ByteOut>(bytes: &[u8], out: &mut O)
+    ensures { PutsAll O.puts out.old (quoted bytes.now) out.new }
+{
+    out.put(b'\'');
+    put_with_quotes_doubled(bytes, out);
+    out.put(b'\'');
+}
+
+/// Puts the bytes, each quote among them twice.
+fn put_with_quotes_doubled<O: ByteOut>(bytes: &[u8], out: &mut O)
+    ensures { PutsAll O.puts out.old (with_quotes_doubled bytes.now) out.new }
+{
+    for byte in bytes {
+        put_with_quote_doubled(*byte, out);
+    }
+}
+
+/// Puts the byte, twice if it is a quote.
+fn put_with_quote_doubled<O: ByteOut>(byte: u8, out: &mut O)
+    ensures { PutsAll O.puts out.old (with_quotes_doubled (byte ∷ [])) out.new }
+{
+    if byte == b'\'' {
+        put_bytes(b"''", out);
+    } else {
+        out.put(byte);
+    }
+}
+
+/// Puts a bit constant.
+pub fn put_bit<O: ByteOut>(bit: bool, out: &mut O)
+    ensures { PutsAll O.puts out.old (bit_bytes bit) out.new }
+{
+    put_bytes(if bit { b"'1'B" } else { b"'0'B" }, out);
+}
