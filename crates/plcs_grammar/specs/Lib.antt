@@ -20,11 +20,8 @@ pub mod Syntax
 -- ---- what is written
 pub mod Canon
 pub mod Placeholder
-<<<<<<< HEAD
 -- ---- what is written for each kind of node, and what stands inside it
 pub mod Template
-=======
 pub mod ShownText
->>>>>>> 916bc390b2d7f4a8c453a3495b3438c298126ad3
 -- ---- what private contracts alone cite
 pub mod Private

@@ -4,6 +4,7 @@ pub mod PlainPlace
 -- ---- programs and trees
 pub mod Limit
 pub mod Program
+pub mod Part
 pub mod Slots
 pub mod Tree
 -- ---- edits
@@ -12,6 +13,7 @@ pub mod Edit
 pub mod Lend
 pub mod Descent
 pub mod TreeLend
+pub mod Elision
 -- ---- the laws
 pub mod Law
 -- ---- what private contracts alone cite

@@ -3,13 +3,16 @@
 
 mod change;
 mod descent;
+mod elide;
 mod law;
 mod limit;
 mod node;
 mod node_at;
 mod path;
 mod phrase_place;
+mod put_part;
 mod side;
+mod slot_count;
 mod tree;
 
 pub use change::{Change, What};
