@@ -7,3 +7,7 @@ pub mod Counts
 -- a node lent for writing
 pub mod LentNodes
 pub mod PutNodes
+-- an edit where nothing stands, and one that does what another does
+pub mod SameEdits
+-- a part that takes something is there
+pub mod PartLists

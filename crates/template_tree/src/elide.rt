@@ -1,9 +1,10 @@
 //! Refinements that are hidden.
-ghost use Rattle.std.specs.Prelude.{◌≡◌, option_and_then};
-ghost use Rattle.template_tree.specs.Elision.{turned_at, turned};
+ghost use Rattle.std.specs.Prelude.{◌≡◌, ◌∷◌, [], option_and_then};
+ghost use Rattle.template_tree.specs.Elision.{turn, turned, turned_at};
 ghost use Rattle.template_tree.specs.Path.{node_at};
 ghost use Rattle.template_tree.specs.Tree.{IsTree};
 
+use crate::node::Node;
 use crate::path::Path;
 use crate::tree::Tree;
 use plcs_grammar::{NodeKind, Template};
@@ -19,10 +20,21 @@ impl Tree {
         let Some(node) = self.node_mut(path) else {
             return None;
         };
-        if node.kind != NodeKind::Filled(Template::Comment) {
+        node.turn()
+    }
+}
+
+impl Node {
+    /// Hides its refinement or shows it again, where it is a comment, and tells whether it is hidden
+    /// now.
+    fn turn(&mut self) -> Option<bool>
+        ensures told { result ≡ turned self.old }
+        ensures turned { turn self.old ≡ self.new ∷ [] }
+    {
+        if self.kind != NodeKind::Filled(Template::Comment) {
             return None;
         }
-        node.elided = !node.elided;
-        Some(node.elided)
+        self.elided = !self.elided;
+        Some(self.elided)
     }
 }
