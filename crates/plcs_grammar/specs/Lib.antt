@@ -20,8 +20,8 @@ pub mod Syntax
 -- ---- what is written
 pub mod Canon
 pub mod Placeholder
-pub mod ShownText
 -- ---- what is written for each kind of node, and what stands inside it
 pub mod Template
+pub mod ShownText
 -- ---- what private contracts alone cite
 pub mod Private

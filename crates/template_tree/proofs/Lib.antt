@@ -6,3 +6,12 @@ pub mod SlotEdits
 pub mod Counts
 -- what `put_listing` puts for each line
 pub mod PutLines
+-- the lines of a listing are its bytes, split at each byte 10
+mod PrintableLines
+-- a node lent for writing
+pub mod LentNodes
+pub mod PutNodes
+-- an edit where nothing stands, and one that does what another does
+pub mod SameEdits
+-- a part that takes something is there
+pub mod PartLists

@@ -8,6 +8,7 @@ use Rattle.template_tree.specs.declared.change.Change.{Change}
 use Rattle.template_tree.specs.declared.change.What.{What}
 use Rattle.template_tree.specs.PlainTree.{Label, Forest, PlainNode, PlainTree, nodes, forest, join}
 use Rattle.template_tree.specs.Program.{sort_of}
+use Rattle.template_tree.specs.Part.{with_part}
 use Rattle.template_tree.specs.Slots.{count, times, numbered}
 
 -- the nodes after the one in the slot gave way to a list of items
@@ -53,10 +54,6 @@ hole_list slot (Some kind) = lone slot kind ∷ []
 abbrev pub with_hole : ℕ → Side → PlainNode → List PlainNode
 with_hole slot Side.Before item = hole_list slot (hole_of (sort_of item.label.kind)) ++ item ∷ []
 with_hole slot Side.After item = item ∷ hole_list slot (hole_of (sort_of item.label.kind))
-
--- a node with this in a part
-abbrev pub with_part : ℕ → Option PlainPhrase → PlainNode → PlainNode
-with_part part place node = record node { label = record node.label { parts = slice_set node.label.parts part place } }
 
 -- the tree with the node in place of what stood in the slot
 abbrev pub Put : PlainTree → ℕ → PlainNode → PlainTree

@@ -4,12 +4,16 @@ pub mod PlainPlace
 -- ---- programs and trees
 pub mod Limit
 pub mod Program
+pub mod Part
 pub mod Slots
 pub mod Tree
 -- ---- edits
 pub mod Path
 pub mod Edit
 pub mod Lend
+pub mod Descent
+pub mod TreeLend
+pub mod Elision
 -- ---- the laws
 pub mod Law
 -- ---- the listing, and what the cursor may stand on
