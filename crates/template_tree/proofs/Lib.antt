@@ -6,6 +6,8 @@ pub mod SlotEdits
 pub mod Counts
 -- what `put_listing` puts for each line
 pub mod PutLines
+-- small cases of lines, the listing and stops, which the definitions give by computing; no clause needs them
+mod ListingExamples
 -- the lines of a listing are its bytes, split at each byte 10
 mod PrintableLines
 -- a node lent for writing
