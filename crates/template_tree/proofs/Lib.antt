@@ -17,3 +17,6 @@ pub mod PutNodes
 pub mod SameEdits
 -- a part that takes something is there
 pub mod PartLists
+-- the new program is a tree, whatever room its lists have
+pub mod Rooms
+pub mod NewPrograms

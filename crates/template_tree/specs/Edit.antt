@@ -6,7 +6,7 @@ use Rattle.plcs_grammar.specs.PlainPhrase.{PlainPhrase}
 use Rattle.template_tree.specs.declared.side.Side.{Side}
 use Rattle.template_tree.specs.declared.change.Change.{Change}
 use Rattle.template_tree.specs.declared.change.What.{What}
-use Rattle.template_tree.specs.PlainTree.{Label, Forest, PlainNode, PlainTree, nodes, forest, join}
+use Rattle.template_tree.specs.PlainTree.{Label, Forest, PlainNode, PlainTree, nodes, forest, join, roomless}
 use Rattle.template_tree.specs.Program.{sort_of}
 use Rattle.template_tree.specs.Part.{with_part}
 use Rattle.template_tree.specs.Slots.{count, times, numbered}
@@ -71,11 +71,6 @@ Drop tree slot = with_items tree (edit_slot slot (λ _. []) tree.items) tree.dra
 -- the tree with this in a part of the node in the slot
 abbrev pub Part : PlainTree → ℕ → ℕ → Option PlainPhrase → PlainTree
 Part tree slot part place = with_items tree (edit_slot slot (λ node. with_part part place node ∷ []) tree.items) tree.drawn
-
--- nodes without the room of their lists
-abbrev pub roomless : Forest → Forest
-roomless Forest.nil = Forest.nil
-roomless (Forest.cons label inner rest) = Forest.cons (record label { spare = 0 }) (roomless inner) (roomless rest)
 
 -- the slot of main, the procedure or the procedure hole in which the slot stands
 abbrev pub procedure_of : Forest → ℕ → Option ℕ

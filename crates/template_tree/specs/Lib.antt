@@ -7,6 +7,7 @@ pub mod Program
 pub mod Part
 pub mod Slots
 pub mod Tree
+pub mod NewTree
 -- ---- edits
 pub mod Path
 pub mod Edit

@@ -23,6 +23,10 @@ pub record PlainNode : Type 0 where
   pub label : Label
   pub inner : Forest
 
+-- a node whose list has this much room
+abbrev pub with_spare : ℕ → PlainNode → PlainNode
+with_spare spare node = record node { label = record node.label { spare = spare } }
+
 -- nodes in order as a list
 abbrev pub nodes : Forest → List PlainNode
 nodes nil = []
@@ -47,6 +51,11 @@ forest_nodes (cons label inner rest) = ap (λ items. cons label inner items) (fo
 abbrev pub join : Forest → Forest → Forest
 join nil others = others
 join (cons label inner rest) others = cons label inner (join rest others)
+
+-- nodes without the room of their lists
+abbrev pub roomless : Forest → Forest
+roomless nil = nil
+roomless (cons label inner rest) = cons (record label { spare = 0 }) (roomless inner) (roomless rest)
 
 -- a list of nodes, with how many more it has room for
 pub record PlainNodes : Type 0 where

@@ -1,14 +1,15 @@
 //! Nodes, and the lists in which they stand.
-ghost use Rattle.std.specs.Prelude.{◌≡◌, ℕ, ◌+◌, ◌-◌, ◌^◌, ◌<◌, ◌≤◌, [], length, option_map, slice_get, map, Some};
+ghost use Rattle.std.specs.Prelude.{◌≡◌, ℕ, ◌+◌, ◌-◌, ◌^◌, ◌<◌, ◌≤◌, ◌∷◌, ◌++◌, [], IfOk, OnErr, OnOk, length, option_map, slice_get, map, Some};
 ghost use Rattle.std.specs.Borrow.{LendsIf, sem};
 ghost use Rattle.template_tree.specs.contracts.node.Node as node_row;
 ghost use Rattle.template_tree.specs.contracts.node.Nodes as list_row;
 ghost use Rattle.template_tree.specs.Lend.{with_item, with_more, without_item};
-ghost use Rattle.template_tree.specs.PlainTree.{nodes, forest};
+ghost use Rattle.template_tree.specs.NewTree.{bare_label};
+ghost use Rattle.template_tree.specs.PlainTree.{nodes, forest, with_spare};
 ghost use Rattle.template_tree.specs.PlainPlace.{plain_place};
 
 use crate::phrase_place::PhrasePlace;
-use plcs_base::Slot;
+use plcs_base::{OutOfMemory, Slot};
 use plcs_grammar::NodeKind;
 use std::alloc::Global;
 use std::marker::Model;
@@ -70,6 +71,20 @@ impl Model for Nodes {
 }
 
 impl Node {
+    /// A node with no parts and nothing inside: a hole, or main before its lists are there. It takes no
+    /// memory.
+    pub(crate) fn bare(alloc: Global, slot: Slot, kind: NodeKind) -> Node
+        ensures { with_spare 0 result ≡ record { label = bare_label slot.0 kind; inner = forest [] } }
+    {
+        Node {
+            slot,
+            kind,
+            elided: false,
+            parts: Vec::new(alloc),
+            inner: Nodes::new(alloc),
+        }
+    }
+
     /// Its slot.
     pub fn slot(&self) -> Slot
         ensures { result.0 ≡ self.now.label.slot }
@@ -173,5 +188,27 @@ impl Nodes {
         ensures { self.new ≡ with_more self.old k node }
     {
         if let Err(_) = self.list.insert(k, node) {}
+    }
+}
+
+impl Nodes {
+    /// Two of them.
+    pub(crate) fn two(alloc: Global, first: Node, second: Node) -> Result<Nodes, OutOfMemory>
+        ensures { IfOk result (λ list. list.items ≡ first ∷ (second ∷ [])) }
+    {
+        let mut list = Nodes::new(alloc);
+        list.push(first)?;
+        list.push(second)?;
+        Ok(list)
+    }
+
+    /// Puts one at the end.
+    pub(crate) fn push(&mut self, node: Node) -> Result<(), OutOfMemory>
+        ensures put { OnOk result (self.new.items ≡ self.old.items ++ node ∷ []) }
+        ensures refused { OnErr result (self.new.items ≡ self.old.items) }
+    {
+        self.list.reserve(1)?;
+        self.list.push_reserved(node);
+        Ok(())
     }
 }
