@@ -1,0 +1,22 @@
+-- the value of each limit, which the definitions take from the code
+mod Limits
+-- an edit by slot is the edit at its path
+pub mod SlotEdits
+-- the number of procedures, and of what stands in a node
+pub mod Counts
+-- what `put_listing` puts for each line
+pub mod PutLines
+-- small cases of lines, the listing and stops, which the definitions give by computing; no clause needs them
+mod ListingExamples
+-- the lines of a listing are its bytes, split at each byte 10
+mod PrintableLines
+-- a node lent for writing
+pub mod LentNodes
+pub mod PutNodes
+-- an edit where nothing stands, and one that does what another does
+pub mod SameEdits
+-- a part that takes something is there
+pub mod PartLists
+-- the new program is a tree, whatever room its lists have
+pub mod Rooms
+pub mod NewPrograms

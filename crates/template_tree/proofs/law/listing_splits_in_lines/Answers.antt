@@ -1,0 +1,5 @@
+use Rattle.template_tree.proofs.law.listing_splits_in_lines.Goals as goal
+use Rattle.template_tree.proofs.PrintableLines.{listing_splits}
+
+pub returns : goal.returns
+returns c = listing_splits c.canonical_texts_show.ensures

@@ -1,0 +1,103 @@
+-- Edits of a tree, each at a slot.
+use Rattle.std.specs.Prelude.{◌≡◌, ℕ, ◌+◌, Bool, false, if◌then◌else◌, ◌==◌, nat_lt, List, [], ◌∷◌, ◌++◌, map, find, Option, Some, None, option_map, slice_set}
+use Rattle.plcs_grammar.specs.declared.node_kind.NodeKind.{NodeKind}
+use Rattle.plcs_grammar.specs.declared.node_kind.Sort.{Sort}
+use Rattle.plcs_grammar.specs.PlainPhrase.{PlainPhrase}
+use Rattle.template_tree.specs.declared.side.Side.{Side}
+use Rattle.template_tree.specs.declared.change.Change.{Change}
+use Rattle.template_tree.specs.declared.change.What.{What}
+use Rattle.template_tree.specs.PlainTree.{Label, Forest, PlainNode, PlainTree, nodes, forest, join, roomless}
+use Rattle.template_tree.specs.Program.{sort_of}
+use Rattle.template_tree.specs.Part.{with_part}
+use Rattle.template_tree.specs.Slots.{count, times, numbered}
+
+-- the nodes after the one in the slot gave way to a list of items
+abbrev pub edit_slot : ℕ → (PlainNode → List PlainNode) → Forest → Forest
+edit_slot slot change Forest.nil = Forest.nil
+edit_slot slot change (Forest.cons label inner rest) =
+    if label.slot == slot
+    then join (forest (change record { label = label; inner = inner })) (edit_slot slot change rest)
+    else Forest.cons label (edit_slot slot change inner) (edit_slot slot change rest)
+
+-- the tree with these items and so many slots drawn
+abbrev pub with_items : PlainTree → Forest → ℕ → PlainTree
+with_items tree items drawn = record { items = items; spare = tree.spare; drawn = drawn; live = count items }
+
+-- nodes with nothing elided
+abbrev pub whole : Forest → Forest
+whole Forest.nil = Forest.nil
+whole (Forest.cons label inner rest) = Forest.cons (record label { elided = false }) (whole inner) (whole rest)
+
+-- a node as it comes into a slot: its inner nodes take the next slots in listing order, and nothing in it is elided
+abbrev pub placed : ℕ → ℕ → PlainNode → PlainNode
+placed slot next node =
+    record { label = record node.label { slot = slot; elided = false }; inner = numbered next (whole node.inner) }
+
+-- the kind of the hole that stands where nodes of the sort stand; main has none
+abbrev pub hole_of : Sort → Option NodeKind
+hole_of Sort.Main = None
+hole_of Sort.Procedure = Some NodeKind.ProcedureHole
+hole_of Sort.Declaration = Some NodeKind.DeclarationHole
+hole_of Sort.Statement = Some NodeKind.StatementHole
+
+-- a node of the kind with no parts and nothing inside
+abbrev pub lone : ℕ → NodeKind → PlainNode
+lone slot kind =
+    record { label = record { slot = slot; kind = kind; parts = []; elided = false; spare = 0 }; inner = Forest.nil }
+
+-- the hole of the sort in the slot, where there is one
+abbrev pub hole_list : ℕ → Option NodeKind → List PlainNode
+hole_list slot None = []
+hole_list slot (Some kind) = lone slot kind ∷ []
+
+-- an item with a hole of its sort, in the slot, on this side of it
+abbrev pub with_hole : ℕ → Side → PlainNode → List PlainNode
+with_hole slot Side.Before item = hole_list slot (hole_of (sort_of item.label.kind)) ++ item ∷ []
+with_hole slot Side.After item = item ∷ hole_list slot (hole_of (sort_of item.label.kind))
+
+-- the tree with the node in place of what stood in the slot
+abbrev pub Put : PlainTree → ℕ → PlainNode → PlainTree
+Put tree slot node =
+    with_items tree (edit_slot slot (λ _. placed slot tree.drawn node ∷ []) tree.items) (tree.drawn + count node.inner)
+
+-- the tree with a hole beside the item in the slot
+abbrev pub Add : PlainTree → ℕ → Side → PlainTree
+Add tree slot side = with_items tree (edit_slot slot (with_hole tree.drawn side) tree.items) (tree.drawn + 1)
+
+-- the tree without the item in the slot
+abbrev pub Drop : PlainTree → ℕ → PlainTree
+Drop tree slot = with_items tree (edit_slot slot (λ _. []) tree.items) tree.drawn
+
+-- the tree with this in a part of the node in the slot
+abbrev pub Part : PlainTree → ℕ → ℕ → Option PlainPhrase → PlainTree
+Part tree slot part place = with_items tree (edit_slot slot (λ node. with_part part place node ∷ []) tree.items) tree.drawn
+
+-- the slot of main, the procedure or the procedure hole in which the slot stands
+abbrev pub procedure_of : Forest → ℕ → Option ℕ
+procedure_of items slot =
+    option_map (λ item. item.label.slot) (find (λ item. nat_lt 0 (times slot (forest (item ∷ [])))) (nodes items))
+
+-- how the nodes before and after differ where this was done in the slot
+abbrev pub DifferBy : What → ℕ → Forest → Forest → Type 0
+DifferBy What.Node slot before after =
+    (node : PlainNode) × (node.label.slot ≡ slot)
+    × (roomless after ≡ roomless (edit_slot slot (λ _. node ∷ []) before))
+DifferBy (What.Part part) slot before after =
+    (place : Option PlainPhrase)
+    × (roomless after ≡ roomless (edit_slot slot (λ node. with_part part place node ∷ []) before))
+DifferBy What.Added slot before after =
+    (times slot after ≡ 1) × (roomless before ≡ roomless (edit_slot slot (λ _. []) after))
+DifferBy What.Dropped slot before after =
+    (times slot before ≡ 1) × (roomless after ≡ roomless (edit_slot slot (λ _. []) before))
+
+-- the nodes in which the slot of a change stands: those before, where it was dropped, or else those after
+abbrev pub changed_in : What → Forest → Forest → Forest
+changed_in What.Node before after = after
+changed_in (What.Part part) before after = after
+changed_in What.Added before after = after
+changed_in What.Dropped before after = before
+
+-- the trees before and after differ by the change
+pub record Differs (before after : PlainTree) (change : Change) : Type 0 where
+  pub by : DifferBy change.what change.slot.0 before.items after.items
+  pub within : procedure_of (changed_in change.what before.items after.items) change.slot.0 ≡ Some change.procedure.0

@@ -1,0 +1,30 @@
+-- Comments whose refinement is hidden.
+use Rattle.std.specs.Prelude.{ℕ, Bool, true, false, not, if◌then◌else◌, List, [], ◌∷◌, Option, Some, None}
+use Rattle.plcs_grammar.specs.declared.node_kind.NodeKind.{NodeKind}
+use Rattle.plcs_grammar.specs.declared.template.Template.{Template}
+use Rattle.plcs_grammar.specs.declared.template.Template.TheVariants.{Fixed, Bit, Char, If, IfElse, While, For, Group, Get, Put, PutSkip, Call, Return, Comment, Proc, ProcP}
+use Rattle.template_tree.specs.PlainTree.{PlainNode, PlainTree}
+use Rattle.template_tree.specs.Path.{edit_at}
+
+-- whether the template is a comment
+abbrev pub is_comment_template : Template → Bool
+is_comment_template Comment = true
+is_comment_template other = false
+
+-- whether nodes of the kind are comments
+abbrev pub is_comment : NodeKind → Bool
+is_comment (NodeKind.Filled template) = is_comment_template template
+is_comment other = false
+
+-- whether a comment is hidden once it is turned; nothing else can be turned
+abbrev pub turned : PlainNode → Option Bool
+turned node = if is_comment node.label.kind then Some (not node.label.elided) else None
+
+-- a comment turned, or another node as it is
+abbrev pub turn : PlainNode → List PlainNode
+turn node =
+    (if is_comment node.label.kind then record node { label = record node.label { elided = not node.label.elided } } else node) ∷ []
+
+-- the tree with the comment at the path turned
+abbrev pub turned_at : List ℕ → PlainTree → PlainTree
+turned_at path tree = record tree { items = edit_at turn path tree.items }

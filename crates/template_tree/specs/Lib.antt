@@ -1,0 +1,26 @@
+-- ---- nodes and trees as plain data
+pub mod PlainTree
+pub mod PlainPlace
+-- ---- programs and trees
+pub mod Limit
+pub mod Program
+pub mod Part
+pub mod Slots
+pub mod Tree
+pub mod NewTree
+-- ---- edits
+pub mod Path
+pub mod Edit
+pub mod Lend
+pub mod Descent
+pub mod TreeLend
+pub mod Elision
+-- ---- the laws
+pub mod Law
+-- ---- the listing, and what the cursor may stand on
+pub mod Section
+pub mod Line
+pub mod Listing
+pub mod Stop
+-- ---- what private contracts alone cite
+pub mod Private

@@ -1,0 +1,19 @@
+-- The limits of a tree.
+use Rattle.std.specs.Prelude.{ℕ}
+use Rattle.template_tree.specs.declared.limit.TheConstants.{DEEPEST_PATH, MOST_SLOTS, MOST_DRAWN, LONGEST_PHRASE}
+
+-- how many numbers a path may have
+abbrev pub deepest_path : ℕ
+deepest_path = DEEPEST_PATH
+
+-- how many slots may be live
+abbrev pub most_slots : ℕ
+most_slots = MOST_SLOTS
+
+-- how many slots may be drawn
+abbrev pub most_drawn : ℕ
+most_drawn = MOST_DRAWN
+
+-- how many bytes the canonical text of a phrase may have
+abbrev pub longest_phrase : ℕ
+longest_phrase = LONGEST_PHRASE

@@ -1,0 +1,27 @@
+-- Parts of nodes, and what they take.
+use Rattle.std.specs.Prelude.{◌≡◌, ℕ, IsTrue, Option, Some, None, slice_get, slice_set}
+use Rattle.plcs_grammar.specs.declared.category.Category.{Category}
+use Rattle.plcs_grammar.specs.declared.node_kind.NodeKind.{NodeKind}
+use Rattle.plcs_grammar.specs.PlainPhrase.{PlainPhrase, category_of}
+use Rattle.plcs_grammar.specs.Template.{row_of}
+use Rattle.template_tree.specs.PlainTree.{PlainNode}
+use Rattle.template_tree.specs.Program.{parts_of, may_be_empty, IsPhrase}
+
+-- the category of a part of a node of the kind, if it has this part
+abbrev pub part_category : NodeKind → ℕ → Option Category
+part_category kind part = slice_get (parts_of (row_of kind).line) part
+
+-- a part of the category, if there is one, takes this
+abbrev pub Takes : Option Category → Option PlainPhrase → Type 0
+Takes None place = ⊥
+Takes (Some category) None = IsTrue (may_be_empty category)
+Takes (Some category) (Some phrase) = category_of phrase ≡ category
+
+-- a phrase, if there is one, that may stand in some part
+abbrev pub IsPlace : Option PlainPhrase → Type 0
+IsPlace None = Unit {0}
+IsPlace (Some phrase) = IsPhrase (category_of phrase) phrase
+
+-- a node with this in a part
+abbrev pub with_part : ℕ → Option PlainPhrase → PlainNode → PlainNode
+with_part part place node = record node { label = record node.label { parts = slice_set node.label.parts part place } }

@@ -1,0 +1,11 @@
+-- The plain form of what stands in a part.
+use Rattle.std.specs.Prelude.{Option, Some, None}
+use Rattle.plcs_grammar.specs.PlainPhrase.{PlainPhrase}
+use Rattle.plcs_grammar.specs.PlainForm.{plain_phrase}
+use Rattle.template_tree.specs.declared.phrase_place.PhrasePlace.{PhrasePlace}
+use Rattle.template_tree.specs.declared.phrase_place.PhrasePlace.TheVariants.{Empty, Filled}
+
+-- the phrase that stands there, or nothing
+abbrev pub plain_place : PhrasePlace → Option PlainPhrase
+plain_place Empty = None
+plain_place (Filled phrase) = Some (plain_phrase phrase)

@@ -1,0 +1,70 @@
+-- Nodes and trees as plain data.
+use Rattle.std.specs.Prelude.{◌≡◌, ℕ, Bool, List, [], ◌∷◌, Option, refl}
+use Rattle.std.proofs.Common.{ap}
+use Rattle.plcs_grammar.specs.declared.node_kind.NodeKind.{NodeKind}
+use Rattle.plcs_grammar.specs.PlainPhrase.{PlainPhrase}
+
+-- what is noted on a node: its slot, its kind, its parts in the order shown with nothing where one is empty, whether
+-- it is elided, and how many more items its list has room for
+pub record Label : Type 0 where
+  pub slot : ℕ
+  pub kind : NodeKind
+  pub parts : List (Option PlainPhrase)
+  pub elided : Bool
+  pub spare : ℕ
+
+-- nodes in order, each with what stands inside it
+pub data Forest : Type 0 where
+  nil : Forest
+  cons : (label : Label) (inner rest : Forest) → Forest
+
+-- a node with what stands inside it
+pub record PlainNode : Type 0 where
+  pub label : Label
+  pub inner : Forest
+
+-- a node whose list has this much room
+abbrev pub with_spare : ℕ → PlainNode → PlainNode
+with_spare spare node = record node { label = record node.label { spare = spare } }
+
+-- nodes in order as a list
+abbrev pub nodes : Forest → List PlainNode
+nodes nil = []
+nodes (cons label inner rest) = record { label = label; inner = inner } ∷ nodes rest
+
+-- a list of nodes as nodes in order
+abbrev pub forest : List PlainNode → Forest
+forest [] = nil
+forest (node ∷ rest) = cons node.label node.inner (forest rest)
+
+-- the one undoes the other
+pub nodes_forest : (items : List PlainNode) → nodes (forest items) ≡ items
+nodes_forest [] = refl
+nodes_forest (node ∷ rest) = ap (λ items. node ∷ items) (nodes_forest rest)
+
+-- and the other the one
+pub forest_nodes : (items : Forest) → forest (nodes items) ≡ items
+forest_nodes nil = refl
+forest_nodes (cons label inner rest) = ap (λ items. cons label inner items) (forest_nodes rest)
+
+-- the ones and then the others
+abbrev pub join : Forest → Forest → Forest
+join nil others = others
+join (cons label inner rest) others = cons label inner (join rest others)
+
+-- nodes without the room of their lists
+abbrev pub roomless : Forest → Forest
+roomless nil = nil
+roomless (cons label inner rest) = cons (record label { spare = 0 }) (roomless inner) (roomless rest)
+
+-- a list of nodes, with how many more it has room for
+pub record PlainNodes : Type 0 where
+  pub items : List PlainNode
+  pub spare : ℕ
+
+-- main and the procedures in order with the room for more, how many slots were drawn, and how many are live
+pub record PlainTree : Type 0 where
+  pub items : Forest
+  pub spare : ℕ
+  pub drawn : ℕ
+  pub live : ℕ

@@ -1,0 +1,21 @@
+-- How large nodes are: what stands inside a node is smaller than the node.
+use Rattle.std.specs.Prelude.{ℕ, suc, ◌+◌, ◌≤◌, List, [], ◌∷◌}
+use Rattle.std.proofs.Common.{arith}
+use denote.Param.Weighed.{most}
+use Rattle.template_tree.specs.PlainTree.{Forest, PlainNode, PlainNodes, forest}
+
+-- two for each node, since a node and its list take turns
+abbrev pub forest_weight : Forest → ℕ
+forest_weight Forest.nil = 0
+forest_weight (Forest.cons label inner rest) = suc (suc (forest_weight inner + forest_weight rest))
+
+abbrev pub weight : PlainNode → ℕ
+weight node = suc (suc (forest_weight node.inner))
+
+abbrev pub nodes_weight : PlainNodes → ℕ
+nodes_weight list = suc (forest_weight (forest list.items))
+
+-- no item is heavier than its list
+pub most_le_weight : (items : List PlainNode) → most (λ node. weight node + 1) items ≤ forest_weight (forest items) + 1
+most_le_weight [] = omega arith
+most_le_weight (node ∷ rest) = omega (arith, most_le_weight rest)

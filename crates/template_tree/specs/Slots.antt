@@ -1,0 +1,29 @@
+-- Slots, and how many nodes there are and how deep they stand.
+use Rattle.std.specs.Prelude.{ℕ, suc, ◌+◌, ◌<◌, max, if◌then◌else◌, ◌==◌, List, [], ◌∷◌, ◌++◌}
+use Rattle.template_tree.specs.PlainTree.{Forest, PlainNode}
+
+-- how many nodes there are, those inside others too
+abbrev pub count : Forest → ℕ
+count Forest.nil = 0
+count (Forest.cons label inner rest) = count inner + count rest + 1
+
+-- how many numbers the longest path has
+abbrev pub depth : Forest → ℕ
+depth Forest.nil = 0
+depth (Forest.cons label inner rest) = max (depth inner + 1) (depth rest)
+
+-- how often a slot stands
+abbrev pub times : ℕ → Forest → ℕ
+times slot Forest.nil = 0
+times slot (Forest.cons label inner rest) = (if label.slot == slot then 1 else 0) + (times slot inner + times slot rest)
+
+-- each slot is below the number
+abbrev pub AllBelow : ℕ → Forest → Type 0
+AllBelow number Forest.nil = Unit {0}
+AllBelow number (Forest.cons label inner rest) = (label.slot < number) × AllBelow number inner × AllBelow number rest
+
+-- the nodes with slots from a number on, drawn in listing order
+abbrev pub numbered : ℕ → Forest → Forest
+numbered first Forest.nil = Forest.nil
+numbered first (Forest.cons label inner rest) =
+    Forest.cons (record label { slot = first }) (numbered (first + 1) inner) (numbered (first + 1 + count inner) rest)

@@ -1,0 +1,52 @@
+-- The stops of the cursor, and the lines on which they stand.
+use Rattle.std.specs.Prelude.{ℕ, ◌+◌, true, if◌then◌else◌, List, [], ◌∷◌, ◌++◌, length, map, flat_map, Option, Some, None}
+use Rattle.std.specs.List.{range_with_len}
+use Rattle.plcs_grammar.specs.declared.node_kind.NodeKind.{NodeKind}
+use Rattle.plcs_grammar.specs.Template.{PlainSection, row_of, program_sections}
+use Rattle.template_tree.specs.PlainTree.{Label, Forest}
+use Rattle.template_tree.specs.Program.{parts_of, sort_of}
+use Rattle.template_tree.specs.Section.{left_for, left_after, next_lead}
+use Rattle.template_tree.specs.Line.{lines, fixed_line}
+
+-- a node that is seen: the path to it, the number of its first line counted from 0, and how many of its parts are stops
+pub record SeenNode : Type 0 where
+  pub path : List ℕ
+  pub line : ℕ
+  pub parts : ℕ
+
+-- a visible stop: a node or one of its parts, and the number of its line
+pub record VisibleStop : Type 0 where
+  pub path : List ℕ
+  pub part : Option ℕ
+  pub line : ℕ
+
+-- how many parts of a node are stops: each, but in an assignment none, since there the node itself is where one types
+abbrev pub part_stops : NodeKind → ℕ
+part_stops NodeKind.Assign = 0
+part_stops kind = length (parts_of (row_of kind).line)
+
+-- a node that stands inside the item of this number
+abbrev pub inside : ℕ → SeenNode → SeenNode
+inside k node = record node { path = k ∷ node.path }
+
+-- the nodes that are seen, in listing order, where the first item has this number and the lines begin at this one:
+-- those inside an elided refinement are not
+abbrev pub seen_nodes : (left : List PlainSection) (k line : ℕ) → Forest → List SeenNode
+seen_nodes left k line Forest.nil = []
+seen_nodes left k line (Forest.cons label inner rest) =
+    let here = left_for (sort_of label.kind) left in
+    let first = line + length (fixed_line 0 (next_lead here)) in
+    map (inside k)
+    (record { path = []; line = first; parts = part_stops label.kind }
+    ∷ (if label.elided then [] else seen_nodes (row_of label.kind).sections 0 (first + 1) inner))
+    ++ seen_nodes (left_after here) (k + 1) (line + length (lines true 0 left (Forest.cons label inner Forest.nil))) rest
+
+-- the stops of a node: its own, then its parts
+abbrev pub stops_of : SeenNode → List VisibleStop
+stops_of node =
+    record { path = node.path; part = None; line = node.line }
+    ∷ map (λ part. record { path = node.path; part = Some part; line = node.line }) (range_with_len 0 node.parts)
+
+-- the visible stops in listing order
+abbrev pub Stops : Forest → List VisibleStop
+Stops items = flat_map stops_of (seen_nodes program_sections 0 0 items)

@@ -1,0 +1,65 @@
+//! A node lent for writing, at the end of a path.
+//!
+//! The contract of a lent node can't be told by a recursion. So the descents double: each goes twice as
+//! far as the one below it, and one step between.
+ghost use Rattle.std.specs.Borrow.{LendsIf, sem};
+ghost use Rattle.std.specs.Prelude.{◌≡◌, ℕ, ◌+◌, ◌≤◌, ◌++◌, ◌∷◌, [], length, option_and_then, option_map, slice_get, IfSome, IfNone, MatchOption};
+ghost use Rattle.template_tree.specs.contracts.node.Node as node_row;
+ghost use Rattle.template_tree.specs.contracts.node.Nodes as list_row;
+ghost use Rattle.template_tree.specs.Descent.{put_in};
+ghost use Rattle.template_tree.specs.Path.{below};
+
+use crate::node::{Node, Nodes};
+use std::marker::PhantomData;
+
+/// Lends the node at a path below an item of a list.
+pub(crate) trait Descent {
+    ghost limit: { ℕ };
+
+    fn down<'a>(list: &'a mut Nodes, k: usize, path: &[u32]) -> Option<&'a mut Node>
+        requires { length path.now ≤ limit }
+        ensures* writes_back { sem 𝓛 (LendsIf list_row.the_row node_row.the_row list.entry result (put_in list.old k path.now) list.old) }
+        ensures found { option_map (λ node. node.now) result ≡ option_and_then (λ item. below item path.now) (slice_get list.old.items k) };
+}
+
+/// Lends the item itself.
+pub(crate) struct Here;
+
+/// Goes twice as far as `D`, and one step.
+pub(crate) struct Twice<D>(PhantomData<D>);
+
+/// Goes 63 steps below an item: to the end of the longest path.
+pub(crate) type Deepest = Twice<Twice<Twice<Twice<Twice<Twice<Here>>>>>>;
+
+impl Descent for Here {
+    ghost limit = { 0 };
+
+    fn down<'a>(list: &'a mut Nodes, k: usize, path: &[u32]) -> Option<&'a mut Node> {
+        list.get_mut(k)
+    }
+}
+
+impl<D: Descent> Descent for Twice<D> {
+    ghost limit = { D.limit + D.limit + 1 };
+
+    fn down<'a>(list: &'a mut Nodes, k: usize, path: &[u32]) -> Option<&'a mut Node> {
+        let Some((front, middle, back)) = halves(path) else {
+            return D::down(list, k, path);
+        };
+        let Some(node) = D::down(list, k, front) else {
+            return None;
+        };
+        D::down(&mut node.inner, middle as usize, back)
+    }
+}
+
+/// The numbers before the middle one, that one, and the others; `None` where there are none.
+fn halves(path: &[u32]) -> Option<(&[u32], u32, &[u32])>
+    ensures parts { IfSome result (λ p. path.now ≡ p.0.now ++ (p.1 ∷ p.2.now)) }
+    ensures short { IfSome result (λ p. (length p.0.now + length p.0.now ≤ length path.now) × (length p.2.now + length p.2.now + 1 ≤ length path.now)) }
+    ensures none { IfNone result (path.now ≡ []) }
+{
+    let (front, rest) = path.split_at(path.len() / 2);
+    let (middle, back) = rest.split_first()?;
+    Some((front, *middle, back))
+}

@@ -1,0 +1,40 @@
+//! Refinements that are hidden.
+ghost use Rattle.std.specs.Prelude.{◌≡◌, ◌∷◌, [], option_and_then};
+ghost use Rattle.template_tree.specs.Elision.{turn, turned, turned_at};
+ghost use Rattle.template_tree.specs.Path.{node_at};
+ghost use Rattle.template_tree.specs.Tree.{IsTree};
+
+use crate::node::Node;
+use crate::path::Path;
+use crate::tree::Tree;
+use plcs_grammar::{NodeKind, Template};
+
+impl Tree {
+    /// Hides the refinement of the comment at the path, or shows it again, and tells whether it is
+    /// hidden now. `None` where no comment stands there. It takes no memory.
+    pub fn elide(&mut self, path: &Path) -> Option<bool>
+        requires tree { IsTree self.old }
+        ensures told { result ≡ option_and_then turned (node_at self.old.items path.now.items) }
+        ensures changed { self.new ≡ turned_at path.now.items self.old }
+    {
+        let Some(node) = self.node_mut(path) else {
+            return None;
+        };
+        node.turn()
+    }
+}
+
+impl Node {
+    /// Hides its refinement or shows it again, where it is a comment, and tells whether it is hidden
+    /// now.
+    fn turn(&mut self) -> Option<bool>
+        ensures told { result ≡ turned self.old }
+        ensures turned { turn self.old ≡ self.new ∷ [] }
+    {
+        if self.kind != NodeKind::Filled(Template::Comment) {
+            return None;
+        }
+        self.elided = !self.elided;
+        Some(self.elided)
+    }
+}

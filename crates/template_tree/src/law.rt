@@ -1,0 +1,17 @@
+//! The laws of trees, each a function that does nothing and whose contract states it.
+ghost use Rattle.template_tree.specs.Law.{SlotEditIsPathEdit};
+ghost use Rattle.template_tree.specs.Listing.{ListingSplitsInLines};
+
+use plcs_grammar::canonical_texts_show;
+
+/// An edit by slot is the edit at the path of the node that stands there.
+pub fn slot_edit_is_path_edit()
+    ensures { SlotEditIsPathEdit }
+{}
+
+/// The lines of a program's listing are its bytes, split at each byte 10.
+pub fn listing_splits_in_lines()
+    ensures { ListingSplitsInLines }
+{
+    canonical_texts_show();
+}

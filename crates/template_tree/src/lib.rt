@@ -1,0 +1,27 @@
+//! The tree of templates: programs, their listing, and how they are read.
+#![tactic(auto, using(crate::specs::PlainTree::nodes_forest))]
+
+mod change;
+mod descent;
+mod elide;
+mod law;
+mod limit;
+mod listing;
+mod node;
+mod node_at;
+mod path;
+mod phrase_place;
+mod put_part;
+mod sections_left;
+mod side;
+mod slot_count;
+mod tree;
+
+pub use change::{Change, What};
+pub use law::{listing_splits_in_lines, slot_edit_is_path_edit};
+pub use limit::{DEEPEST_PATH, LONGEST_PHRASE, MOST_DRAWN, MOST_SLOTS};
+pub use node::Node;
+pub use path::Path;
+pub use phrase_place::PhrasePlace;
+pub use side::Side;
+pub use tree::Tree;

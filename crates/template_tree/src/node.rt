@@ -1,0 +1,214 @@
+//! Nodes, and the lists in which they stand.
+ghost use Rattle.std.specs.Prelude.{◌≡◌, ℕ, ◌+◌, ◌-◌, ◌^◌, ◌<◌, ◌≤◌, ◌∷◌, ◌++◌, [], IfOk, OnErr, OnOk, length, option_map, slice_get, map, Some};
+ghost use Rattle.std.specs.Borrow.{LendsIf, sem};
+ghost use Rattle.template_tree.specs.contracts.node.Node as node_row;
+ghost use Rattle.template_tree.specs.contracts.node.Nodes as list_row;
+ghost use Rattle.template_tree.specs.Lend.{with_item, with_more, without_item};
+ghost use Rattle.template_tree.specs.NewTree.{bare_label};
+ghost use Rattle.template_tree.specs.PlainTree.{nodes, forest, with_spare};
+ghost use Rattle.template_tree.specs.PlainPlace.{plain_place};
+
+use crate::phrase_place::PhrasePlace;
+use plcs_base::{OutOfMemory, Slot};
+use plcs_grammar::NodeKind;
+use std::alloc::Global;
+use std::marker::Model;
+
+/// Main, a procedure, a declaration or a statement with its parts and with what stands inside it, or
+/// a hole. Contracts see it as plain data.
+#[cycle(node)]
+#[derive(Drop)]
+pub struct Node {
+    pub(crate) slot: Slot,
+    pub(crate) kind: NodeKind,
+    pub(crate) elided: bool,
+    pub(crate) parts: Vec<PhrasePlace>,
+    pub(crate) inner: Nodes,
+}
+
+/// Nodes in order, which contracts see as a list with spare room.
+#[cycle(node)]
+#[derive(Drop)]
+pub(crate) struct Nodes {
+    list: Vec<Node>,
+}
+
+impl Model for Node {
+    ghost use Rattle.std.proofs.Common.{arith};
+    ghost use Rattle.template_tree.specs.PlainTree.{PlainNode};
+    ghost use Rattle.template_tree.specs.Private.NodeCode.{node_code};
+    ghost use Rattle.template_tree.specs.Private.Weight.{weight};
+
+    ghost Value = { PlainNode };
+
+    ghost coded = { node_code };
+
+    ghost use Rattle.template_tree.specs.Private.NodeView.{seen};
+
+    ghost view = { seen };
+
+    ghost size = { weight };
+
+    ghost size_decreases = { λ a h. omega arith };
+}
+
+impl Model for Nodes {
+    ghost use Rattle.std.proofs.Common.{arith};
+    ghost use Rattle.std.specs.Prelude.{◌-◌, vec_len, vec_capacity};
+    ghost use Rattle.template_tree.specs.PlainTree.{PlainNodes};
+    ghost use Rattle.template_tree.specs.Private.NodeCode.{nodes_code};
+    ghost use Rattle.template_tree.specs.Private.Weight.{nodes_weight, most_le_weight};
+
+    ghost Value = { PlainNodes };
+
+    ghost coded = { nodes_code };
+
+    ghost view = { λ a. record { items = a.list.items; spare = vec_capacity a.list - vec_len a.list } };
+
+    ghost size = { nodes_weight };
+
+    ghost size_decreases = { λ a h. omega (arith, most_le_weight a.list.items) };
+}
+
+impl Node {
+    /// A node with no parts and nothing inside: a hole, or main before its lists are there. It takes no
+    /// memory.
+    pub(crate) fn bare(alloc: Global, slot: Slot, kind: NodeKind) -> Node
+        ensures { with_spare 0 result ≡ record { label = bare_label slot.0 kind; inner = forest [] } }
+    {
+        Node {
+            slot,
+            kind,
+            elided: false,
+            parts: Vec::new(alloc),
+            inner: Nodes::new(alloc),
+        }
+    }
+
+    /// Its slot.
+    pub fn slot(&self) -> Slot
+        ensures { result.0 ≡ self.now.label.slot }
+    {
+        self.slot
+    }
+
+    /// Its kind.
+    pub fn kind(&self) -> NodeKind
+        ensures { result ≡ self.now.label.kind }
+    {
+        self.kind
+    }
+}
+
+impl Node {
+    /// What stands in the part, or `None` where there is no such part.
+    pub fn part(&self, part: u8) -> Option<&PhrasePlace>
+        ensures { option_map (λ place. plain_place place.now) result ≡ slice_get self.now.label.parts part }
+    {
+        self.parts.get(part as usize)
+    }
+
+    /// Whether it is a comment whose refinement is hidden.
+    pub fn is_elided(&self) -> bool
+        ensures { result ≡ self.now.label.elided }
+    {
+        self.elided
+    }
+
+    /// How many nodes stand in it.
+    pub fn children(&self) -> u32
+        requires few { length (nodes self.now.inner) < 2 ^ 32 }
+        ensures { result ≡ length (nodes self.now.inner) }
+    {
+        self.inner.len() as u32
+    }
+
+    /// The node of this number in it, counted from 0 in listing order, or `None` where there is none.
+    pub fn child(&self, k: u32) -> Option<&Node>
+        ensures { option_map (λ node. node.now) result ≡ slice_get (nodes self.now.inner) k }
+    {
+        self.inner.get(k as usize)
+    }
+}
+
+impl Nodes {
+    /// None, taking no memory.
+    pub(crate) fn new(alloc: Global) -> Nodes
+        ensures { result.items ≡ [] }
+    {
+        Nodes {
+            list: Vec::new(alloc),
+        }
+    }
+
+    /// How many there are.
+    pub(crate) fn len(&self) -> usize
+        ensures { result ≡ length self.now.items }
+    {
+        self.list.len()
+    }
+
+    /// All of them.
+    pub(crate) fn as_slice(&self) -> &[Node]
+        ensures { result.now ≡ self.now.items }
+    {
+        self.list.as_slice()
+    }
+
+    /// The one of this number.
+    pub(crate) fn get(&self, k: usize) -> Option<&Node>
+        ensures { option_map (λ node. node.now) result ≡ slice_get self.now.items k }
+    {
+        self.list.get(k)
+    }
+}
+
+impl Nodes {
+    /// Lends the one of this number.
+    pub(crate) fn get_mut(&mut self, k: usize) -> Option<&mut Node>
+        ensures* writes_back { sem 𝓛 (LendsIf list_row.the_row node_row.the_row self.entry result (with_item self.old k) self.old) }
+        ensures found { option_map (λ node. node.now) result ≡ slice_get self.old.items k }
+    {
+        self.list.get_mut(k)
+    }
+
+    /// Takes the one of this number out; the others close up, and its room stays.
+    pub(crate) fn remove(&mut self, k: usize) -> Node
+        requires there { k < length self.old.items }
+        ensures taken { Some result ≡ slice_get self.old.items k }
+        ensures others { self.new ≡ without_item self.old k }
+    {
+        self.list.remove(k)
+    }
+
+    /// Puts one in before the one of this number, into the room that is there.
+    pub(crate) fn insert_within(&mut self, k: usize, node: Node)
+        requires there { k ≤ length self.old.items }
+        requires room { 0 < self.old.spare }
+        ensures { self.new ≡ with_more self.old k node }
+    {
+        if let Err(_) = self.list.insert(k, node) {}
+    }
+}
+
+impl Nodes {
+    /// Two of them.
+    pub(crate) fn two(alloc: Global, first: Node, second: Node) -> Result<Nodes, OutOfMemory>
+        ensures { IfOk result (λ list. list.items ≡ first ∷ (second ∷ [])) }
+    {
+        let mut list = Nodes::new(alloc);
+        list.push(first)?;
+        list.push(second)?;
+        Ok(list)
+    }
+
+    /// Puts one at the end.
+    pub(crate) fn push(&mut self, node: Node) -> Result<(), OutOfMemory>
+        ensures put { OnOk result (self.new.items ≡ self.old.items ++ node ∷ []) }
+        ensures refused { OnErr result (self.new.items ≡ self.old.items) }
+    {
+        self.list.reserve(1)?;
+        self.list.push_reserved(node);
+        Ok(())
+    }
+}

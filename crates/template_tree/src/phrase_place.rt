@@ -1,0 +1,10 @@
+use plcs_grammar::Phrase;
+
+/// What stands in a part.
+#[derive(Drop)]
+pub enum PhrasePlace {
+    /// Nothing.
+    Empty,
+    /// A phrase.
+    Filled(Phrase),
+}

@@ -1,0 +1,37 @@
+//! How many slots are live below a node.
+ghost use Rattle.std.specs.Prelude.{◌≡◌, ◌+◌, ◌≤◌, option_map};
+ghost use Rattle.template_tree.specs.Path.{node_at};
+ghost use Rattle.template_tree.specs.Slots.{count};
+ghost use Rattle.template_tree.specs.Tree.{IsTree};
+
+use crate::node::Node;
+use crate::path::Path;
+use crate::tree::Tree;
+
+impl Tree {
+    /// How many slots the node at the path has, its own among them, or `None` where the tree has no
+    /// node there. It takes no memory.
+    pub fn slots_at(&self, path: &Path) -> Option<u32>
+        requires tree { IsTree self.now }
+        ensures { result ≡ option_map (λ node. count node.inner + 1) (node_at self.now.items path.now.items) }
+    {
+        let Some(node) = self.node(path) else {
+            return None;
+        };
+        Some(node.slots())
+    }
+}
+
+impl Node {
+    /// How many slots it has, its own among them.
+    pub fn slots(&self) -> u32
+        requires few { count self.now.inner + 1 ≤ 4294967295 }
+        ensures { result ≡ count self.now.inner + 1 }
+    {
+        let mut slots = 1;
+        for node in self.inner.as_slice() {
+            slots += node.slots();
+        }
+        slots
+    }
+}
