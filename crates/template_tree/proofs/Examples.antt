@@ -10,17 +10,17 @@ use Rattle.template_tree.specs.Place.{at, Start, After}
 abbrev sample : Forest
 sample =
     Forest.cons (bare_label 0 NodeKind.Main)
-      (Forest.cons (bare_label 1 NodeKind.DeclarationHole) Forest.nil
-        (Forest.cons (bare_label 4 (NodeKind.Filled Template.While))
-          (Forest.cons (bare_label 5 (NodeKind.Filled Template.Group))
-            (Forest.cons (bare_label 6 NodeKind.StatementHole) Forest.nil
-              (Forest.cons (bare_label 7 NodeKind.StatementHole) Forest.nil Forest.nil))
-            Forest.nil)
-          (Forest.cons (bare_label 8 (NodeKind.Filled Template.IfElse))
-            (Forest.cons (bare_label 9 NodeKind.StatementHole) Forest.nil
-              (Forest.cons (bare_label 10 NodeKind.StatementHole) Forest.nil Forest.nil))
-            (Forest.cons (bare_label 11 NodeKind.StatementHole) Forest.nil Forest.nil))))
-      (Forest.cons (bare_label 3 NodeKind.ProcedureHole) Forest.nil Forest.nil)
+    (Forest.cons (bare_label 1 NodeKind.DeclarationHole) Forest.nil
+    (Forest.cons (bare_label 4 (NodeKind.Filled Template.While))
+    (Forest.cons (bare_label 5 (NodeKind.Filled Template.Group))
+    (Forest.cons (bare_label 6 NodeKind.StatementHole) Forest.nil
+    (Forest.cons (bare_label 7 NodeKind.StatementHole) Forest.nil Forest.nil))
+    Forest.nil)
+    (Forest.cons (bare_label 8 (NodeKind.Filled Template.IfElse))
+    (Forest.cons (bare_label 9 NodeKind.StatementHole) Forest.nil
+    (Forest.cons (bare_label 10 NodeKind.StatementHole) Forest.nil Forest.nil))
+    (Forest.cons (bare_label 11 NodeKind.StatementHole) Forest.nil Forest.nil))))
+    (Forest.cons (bare_label 3 NodeKind.ProcedureHole) Forest.nil Forest.nil)
 
 -- a group begins with its first item
 group_begins_inside : Start sample 5 ≡ Some (at 6 0)

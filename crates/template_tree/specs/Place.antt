@@ -1,13 +1,13 @@
 -- Places of a run: which there are, and where a run goes on.
-use Rattle.std.specs.Prelude.{◌≡◌, ℕ, ◌+◌, Bool, true, false, not, ◌&&◌, ◌||◌, nat_lt, if◌then◌else◌, ◌==◌, List, [], ◌∷◌, length, Option, Some, None, option_map, IsTrue}
+use Rattle.std.specs.Prelude.{ℕ, Bool, true, false, not, ◌&&◌, ◌||◌, nat_lt, if◌then◌else◌, ◌==◌, List, [], ◌∷◌, length, Option, Some, None, option_map, IsTrue}
 use Rattle.std.specs.Option.{option_or}
 use Rattle.plcs_grammar.specs.declared.node_kind.NodeKind.{NodeKind}
 use Rattle.plcs_grammar.specs.declared.node_kind.Sort.{Sort}
-use Rattle.plcs_grammar.specs.declared.node_kind.Sort.TheVariants.{Main, Procedure, Declaration, Statement}
+use Rattle.plcs_grammar.specs.declared.node_kind.Sort.TheVariants.{Statement}
 use Rattle.plcs_grammar.specs.declared.row.Amount.{Amount}
 use Rattle.plcs_grammar.specs.declared.row.Amount.TheVariants.{One, Many}
 use Rattle.plcs_grammar.specs.declared.template.Template.{Template}
-use Rattle.plcs_grammar.specs.declared.template.Template.TheVariants.{Fixed, Bit, Char, If, IfElse, While, For, Group, Get, Put, PutSkip, Call, Return, Comment, Proc, ProcP}
+use Rattle.plcs_grammar.specs.declared.template.Template.TheVariants.{While, For, Group, Get, Call, Comment, Proc, ProcP}
 use Rattle.plcs_grammar.specs.PlainPhrase.{PlainPhrase}
 use Rattle.plcs_grammar.specs.Template.{PlainSection, row_of}
 use Rattle.template_tree.specs.PlainTree.{Label, Forest}
@@ -90,8 +90,8 @@ site_among slot turn (Forest.cons label inner rest) behind =
     if label.slot == slot
     then Some record { label = label; inner = inner; after = after }
     else
-      option_or (site_among slot (in_turn (row_of label.kind).sections) inner (end_at label.slot (inner_end label.kind) after))
-        (site_among slot turn rest behind)
+    option_or (site_among slot (in_turn (row_of label.kind).sections) inner (end_at label.slot (inner_end label.kind) after))
+    (site_among slot turn rest behind)
 
 -- the site of a slot in a program; procedures are not done in turn, and nothing is done behind main
 abbrev pub site : Forest → ℕ → Option Site
