@@ -1,0 +1,8 @@
+-- ---- disks
+pub mod Disk
+-- ---- the journal
+pub mod Recovered
+pub mod Crash
+pub mod Journal
+-- ---- what private contracts alone cite
+pub mod Private
