@@ -4,5 +4,6 @@ pub mod Disk
 pub mod Recovered
 pub mod Crash
 pub mod Journal
+pub mod Reading
 -- ---- what private contracts alone cite
 pub mod Private

@@ -3,6 +3,9 @@
 #![tactic(auto)]
 
 mod disk;
+mod keeping;
+mod replaying;
+mod stage;
 mod writes;
 
 pub use disk::{DISK_END, Disk, DiskFault};

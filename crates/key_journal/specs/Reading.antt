@@ -1,0 +1,39 @@
+-- What a read of a journal does.
+use Rattle.std.specs.Prelude.{◌≡◌, ℕ, ◌+◌, ◌≤◌, ◌⊎◌, List, [], ◌∷◌, ◌++◌, Option, Some, None, Bool, true, false, Result, Ok, Err, length, drop, slice_get, IfOk, OnErr}
+use Rattle.std.specs.Io.KnownBytes.{Consumes, IsAtEnd}
+use Rattle.key_journal.specs.Crash.{LeavesOnly, LeavesOneOf, LeavesAtLeast, Throughout}
+use Rattle.key_journal.specs.Disk.{DiskState, Newest}
+use Rattle.key_journal.specs.Journal.{PlainJournal}
+use Rattle.key_journal.specs.Recovered.{kept}
+
+-- a crash leaves these keys alone, and the one that was given stands among them at this place,
+-- counted from 0
+pub record Gave (place key : ℕ) (keys : List ℕ) (state : DiskState) : Type 0 where
+  pub safe : LeavesOnly keys state
+  pub next : slice_get keys place ≡ Some key
+
+-- the source is at its end, no key was taken, all kept ones were given before, and a crash leaves them
+-- alone
+pub record Ends (left : Option (List ℕ)) (place : ℕ) (keys taken : List ℕ) (past : List DiskState)
+    : Type 0 where
+  pub source : IsAtEnd left
+  pub none : taken ≡ []
+  pub all : drop place keys ≡ []
+  pub safe : Newest (LeavesOnly keys) past
+
+-- the answer of a read: the next key, or the end
+abbrev pub Answers : Option ℕ → Option (List ℕ) → ℕ → List ℕ → List ℕ → List DiskState → Type 0
+Answers (Some key) left place keys taken past = Newest (Gave place key (keys ++ taken)) past
+Answers None left place keys taken past = Ends left place keys taken past
+
+-- one more key was read, or the end, after so many keys
+pub record ReadsKey {E : Type 0} (left left_after : Option (List ℕ)) (place : ℕ)
+    (past past_after : List DiskState) (result : Result (Option ℕ) E) : Type 0 where
+  -- the bytes that were taken from the source: at most one, and only once all kept keys were given
+  pub taken : List ℕ
+  pub few : length taken ≤ 1
+  pub consumes : Consumes left left_after taken
+  pub behind : (taken ≡ []) ⊎ (drop place (kept past) ≡ [])
+  -- at each moment a crash leaves the kept keys, or these and then what was taken
+  pub each : Throughout (LeavesOneOf (kept past) taken) past past_after
+  pub answer : IfOk result (λ key. Answers key left_after place (kept past) taken past_after)
