@@ -24,7 +24,7 @@ synced_leaves state synced = record {
 }
 
 -- the element at the seam of two lists
-get_seam : (front rest : List ℕ) (key : ℕ) → slice_get (front ++ key ∷ rest) (length front) ≡ Some key
+pub get_seam : (front rest : List ℕ) (key : ℕ) → slice_get (front ++ key ∷ rest) (length front) ≡ Some key
 get_seam [] rest key = refl
 get_seam (first ∷ front) rest key = get_seam front rest key
 

@@ -8,3 +8,5 @@ pub mod Blocks
 pub mod KeptKeys
 -- a key that is found, and a gate that is shut behind the last
 pub mod FoundKeys
+-- the next key of a journal
+pub mod ReadKeys

@@ -1,5 +1,6 @@
 -- ---- disks
 pub mod Disk
+pub mod Faults
 -- ---- the journal
 pub mod Recovered
 pub mod Crash

@@ -1,9 +1,12 @@
 -- What a read of a journal does.
-use Rattle.std.specs.Prelude.{◌≡◌, ℕ, ◌+◌, ◌≤◌, ◌⊎◌, List, [], ◌∷◌, ◌++◌, Option, Some, None, Bool, true, false, Result, Ok, Err, length, drop, slice_get, IfOk, OnErr}
+use Rattle.std.specs.Prelude.{◌≡◌, ℕ, ◌+◌, ◌≤◌, ◌⊎◌, List, [], ◌∷◌, ◌++◌, Option, Some, None, Bool, true, false, Result, Ok, Err, length, drop, slice_get, IfOk, OnOk}
 use Rattle.std.specs.Io.KnownBytes.{Consumes, IsAtEnd}
-use Rattle.key_journal.specs.Crash.{LeavesOnly, LeavesOneOf, LeavesAtLeast, Throughout}
+use Rattle.synth_outside.specs.Cause.{HasCause}
+use Rattle.synth_outside.specs.declared.faults.SourceFault.{SourceFault}
+use Rattle.synth_outside.specs.declared.faults.SourceFault.TheVariants.{Failed, OutOfMemory}
+use Rattle.key_journal.specs.Crash.{LeavesOnly, LeavesOneOf, Throughout}
 use Rattle.key_journal.specs.Disk.{DiskState, Newest}
-use Rattle.key_journal.specs.Journal.{PlainJournal}
+use Rattle.key_journal.specs.Journal.{PlainJournal, both_counts}
 use Rattle.key_journal.specs.Recovered.{kept}
 
 -- a crash leaves these keys alone, and the one that was given stands among them at this place,
@@ -37,3 +40,13 @@ pub record ReadsKey {E : Type 0} (left left_after : Option (List ℕ)) (place : 
   -- at each moment a crash leaves the kept keys, or these and then what was taken
   pub each : Throughout (LeavesOneOf (kept past) taken) past past_after
   pub answer : IfOk result (λ key. Answers key left_after place (kept past) taken past_after)
+
+-- the sum of the counts of faults of source and disk has the cause of the answer in it; neither falls,
+-- and both stay where a key or the end is answered
+pub record HasEitherCause {T : Type 0} (source source_after disk disk_after : ℕ)
+    (result : Result T SourceFault) : Type 0 where
+  pub sum : HasCause Failed (both_counts source disk) (both_counts source_after disk_after) result
+  pub source_later : source ≤ source_after
+  pub disk_later : disk ≤ disk_after
+  pub source_same : OnOk result (source_after ≡ source)
+  pub disk_same : OnOk result (disk_after ≡ disk)

@@ -4,6 +4,7 @@ ghost use Rattle.std.specs.Prelude.{◌≡◌, ℕ, ◌+◌, ◌<◌, ◌≤◌,
 ghost use Rattle.key_journal.specs.Disk.{DiskState, Newest, Gives, Writes, Tears, Syncs};
 ghost use Rattle.synth_outside.specs.Cause.{HasCause};
 
+use synth_outside::SourceFault;
 use thiserror::Error;
 
 /// No disk has a byte here or past it; bytes are counted from 0.
@@ -18,6 +19,20 @@ pub enum DiskFault {
     /// Memory ran out, which isn't counted.
     #[error("memory ran out")]
     OutOfMemory,
+}
+
+impl From<DiskFault> for SourceFault {
+    ghost use Rattle.key_journal.specs.Faults.{source_fault};
+
+    ghost from_gives = { λ fault given. given ≡ source_fault fault };
+
+    /// A read of a journal fails as its disk does.
+    fn from(fault: DiskFault) -> Self {
+        match fault {
+            DiskFault::Failed => SourceFault::Failed,
+            DiskFault::OutOfMemory => SourceFault::OutOfMemory,
+        }
+    }
 }
 
 /// One file of bytes, of which a crash may leave something else than it reads as.

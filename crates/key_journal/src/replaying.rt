@@ -2,18 +2,61 @@
 
 ghost use Rattle.std.specs.Prelude.{◌≡◌, ◌+◌, ◌*◌, ◌^◌, ◌≤◌, drop, IfOk, OnOk, IfSome};
 ghost use Rattle.key_journal.specs.Disk.{Newest};
-ghost use Rattle.key_journal.specs.Private.Keeping.{Replays, ShutsGate};
-ghost use Rattle.key_journal.specs.Private.Stages.{Begins, IsCutOff, IsReplaying};
+ghost use Rattle.key_journal.specs.Private.Keeping.{Replays, ReplaysAt, ShutsGate};
+ghost use Rattle.key_journal.specs.Private.Stages.{Begins, HoldsAt, IsCutOff, IsReplaying};
 ghost use Rattle.synth_outside.specs.Cause.{HasCause};
 
 use super::keeping::{OPEN, SHUT};
-use super::stage::Block;
+use super::stage::{Block, Stage};
 use super::writes::write_synced;
 use super::{Disk, DiskFault};
 
-/// The key that stands behind so many others. Where there is none, a gate that isn't open stands at its
-/// place then.
-pub(crate) fn replayed<D: Disk>(disk: &mut D, given: u64) -> Result<Option<u8>, DiskFault>
+/// The next kept key behind those that were given, if there is one. A disk that may not be synced is
+/// synced before.
+pub(crate) fn replay<D: Disk>(
+    disk: &mut D,
+    stage: &mut Stage,
+    given: u64,
+) -> Result<Option<u8>, DiskFault>
+    requires holds { HoldsAt stage.old given (D.past disk.old) }
+    requires few { given ≤ 2 ^ 61 }
+    ensures found { ReplaysAt stage.new given (D.past disk.old) (D.past disk.new) result }
+    ensures few { IfOk result (λ key. IfSome key (λ _. given + 1 ≤ 2 ^ 61)) }
+    ensures cause { HasCause DiskFault.Failed (D.faults disk.old) (D.faults disk.new) result }
+{
+    match *stage {
+        Stage::Unsynced => {
+            disk.sync()?;
+            replay_synced(disk, stage, given)
+        }
+        Stage::Replaying => replay_synced(disk, stage, given),
+        Stage::Appending => Ok(None),
+    }
+}
+
+// The same over a disk that is synced.
+fn replay_synced<D: Disk>(
+    disk: &mut D,
+    stage: &mut Stage,
+    given: u64,
+) -> Result<Option<u8>, DiskFault>
+    requires replaying { Newest (IsReplaying given) (D.past disk.old) }
+    requires few { given ≤ 2 ^ 61 }
+    ensures found { ReplaysAt stage.new given (D.past disk.old) (D.past disk.new) result }
+    ensures few { IfOk result (λ key. IfSome key (λ _. given + 1 ≤ 2 ^ 61)) }
+    ensures cause { HasCause DiskFault.Failed (D.faults disk.old) (D.faults disk.new) result }
+{
+    let key = replayed(disk, given)?;
+    *stage = match key {
+        Some(_) => Stage::Replaying,
+        None => Stage::Appending,
+    };
+    Ok(key)
+}
+
+// The key that stands behind so many others. Where there is none, a gate that isn't open stands at its
+// place then.
+fn replayed<D: Disk>(disk: &mut D, given: u64) -> Result<Option<u8>, DiskFault>
     requires replaying { Newest (IsReplaying given) (D.past disk.old) }
     requires few { given ≤ 2 ^ 61 }
     ensures found { Replays given (D.past disk.old) (D.past disk.new) result }

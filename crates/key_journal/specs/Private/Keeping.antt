@@ -8,6 +8,7 @@ use Rattle.key_journal.specs.Reading.{Gave}
 use Rattle.key_journal.specs.Recovered.{kept}
 use Rattle.key_journal.specs.Private.Stages.{HoldsAt, IsAppending, IsReplaying}
 use Rattle.key_journal.specs.declared.stage.Stage.{Stage}
+use Rattle.key_journal.specs.declared.stage.Stage.TheVariants.{Replaying, Appending}
 
 -- the source gave one byte or is at its end, or may have lost one
 abbrev pub GivesByte : {E : Type 0} → Option (List ℕ) → Option (List ℕ) → Result (Option ℕ) E → Type 0
@@ -39,6 +40,17 @@ pub record Replays {E : Type 0} (given : ℕ) (past past_after : List DiskState)
     (result : Result (Option ℕ) E) : Type 0 where
   pub each : Throughout (LeavesOnly (kept past)) past past_after
   pub found : IfOk result (λ key. FindsKey key given (kept past) past_after)
+
+-- how far a journal has come once a kept key was found, or none
+abbrev pub stage_behind : Option ℕ → Stage
+stage_behind (Some key) = Replaying
+stage_behind None = Appending
+
+-- the same from any stage, and how far the journal has come then
+pub record ReplaysAt {E : Type 0} (stage : Stage) (given : ℕ) (past past_after : List DiskState)
+    (result : Result (Option ℕ) E) : Type 0 where
+  pub replays : Replays given past past_after result
+  pub stage_is : IfOk result (λ key. stage ≡ stage_behind key)
 
 -- what holds of the disk after a read that gave this key, or the end
 abbrev pub HoldsBehind : Stage → ℕ → Option ℕ → List DiskState → Type 0
