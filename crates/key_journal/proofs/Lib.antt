@@ -10,3 +10,11 @@ pub mod KeptKeys
 pub mod FoundKeys
 -- the next key of a journal
 pub mod ReadKeys
+-- a journal that is opened, and cleared
+pub mod Clearings
+-- what a journal's fields keep, and that no key is lost that was given
+pub mod Held
+-- the bytes left of a journal, as a source
+pub mod BytesLeft
+-- what became of a journal after some reads
+pub mod Courses

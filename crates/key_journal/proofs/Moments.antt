@@ -16,7 +16,7 @@ pub throughout_one : (P : DiskState → Type 0) (state : DiskState) (past : List
 throughout_one P state past next now is holds = (next ∷ [], is, (holds, tt))
 
 -- a list with something behind isn't empty
-not_empty : (added : List DiskState) (state : DiskState) (past : List DiskState) →
+pub not_empty : (added : List DiskState) (state : DiskState) (past : List DiskState) →
     added ++ state ∷ past ≡ [] → ⊥
 not_empty [] state past never = cc
 not_empty (first ∷ added) state past never = cc

@@ -5,6 +5,9 @@ pub mod Faults
 pub mod Recovered
 pub mod Crash
 pub mod Journal
+pub mod Opening
 pub mod Reading
+pub mod Clearing
+pub mod Course
 -- ---- what private contracts alone cite
 pub mod Private

@@ -1,5 +1,5 @@
 -- What a read of a journal does.
-use Rattle.std.specs.Prelude.{◌≡◌, ℕ, ◌+◌, ◌≤◌, ◌⊎◌, List, [], ◌∷◌, ◌++◌, Option, Some, None, Bool, true, false, Result, Ok, Err, length, drop, slice_get, IfOk, OnOk}
+use Rattle.std.specs.Prelude.{◌≡◌, ℕ, zero, suc, ◌+◌, ◌≤◌, ◌⊎◌, List, [], ◌∷◌, ◌++◌, Option, Some, None, Bool, true, false, Result, Ok, Err, length, drop, slice_get, slice_index, IfOk, OnOk}
 use Rattle.std.specs.Io.KnownBytes.{Consumes, IsAtEnd}
 use Rattle.synth_outside.specs.Cause.{HasCause}
 use Rattle.synth_outside.specs.declared.faults.SourceFault.{SourceFault}
@@ -50,3 +50,27 @@ pub record HasEitherCause {T : Type 0} (source source_after disk disk_after : �
   pub disk_later : disk ≤ disk_after
   pub source_same : OnOk result (source_after ≡ source)
   pub disk_same : OnOk result (disk_after ≡ disk)
+
+-- the key that a read gave in its buffer, or that it was the end
+abbrev pub key_read : {E : Type 0} → List ℕ → Result ℕ E → Result (Option ℕ) E
+key_read buf (Ok zero) = Ok None
+key_read buf (Ok (suc count)) = Ok (Some (slice_index buf 0))
+key_read buf (Err fault) = Err fault
+
+-- how many keys were given after a read of so many
+abbrev pub given_after : {E : Type 0} → ℕ → Result ℕ E → ℕ
+given_after given (Ok count) = given + count
+given_after given (Err fault) = given
+
+-- whether the answer is the end
+abbrev pub is_end : {E : Type 0} → Result ℕ E → Bool
+is_end (Ok zero) = true
+is_end (Ok (suc count)) = false
+is_end (Err fault) = false
+
+-- a read gave at most one byte, which is counted, and it is noted whether it was the end
+pub record CountsKey {S D E : Type 0} (before now : PlainJournal S D) (result : Result ℕ E)
+    : Type 0 where
+  pub one : IfOk result (λ count. count ≤ 1)
+  pub given : now.given ≡ given_after before.given result
+  pub ended : now.ended ≡ is_end result

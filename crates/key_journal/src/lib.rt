@@ -3,9 +3,11 @@
 #![tactic(auto)]
 
 mod disk;
+mod journal;
 mod keeping;
 mod replaying;
 mod stage;
 mod writes;
 
 pub use disk::{DISK_END, Disk, DiskFault};
+pub use journal::JournalKeys;

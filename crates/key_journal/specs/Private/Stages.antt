@@ -1,5 +1,5 @@
 -- How far a journal has come, and what then holds of its disk.
-use Rattle.std.specs.Prelude.{◌≡◌, ◌≢◌, ℕ, ◌+◌, ◌*◌, ◌≤◌, List, [], ◌∷◌, ◌++◌, length, drop}
+use Rattle.std.specs.Prelude.{◌≡◌, ◌≢◌, ℕ, ◌+◌, ◌*◌, ◌^◌, ◌≤◌, List, [], ◌∷◌, ◌++◌, length, drop}
 use Rattle.key_journal.specs.Crash.{LeavesAtLeast}
 use Rattle.key_journal.specs.Disk.{DiskState, Newest}
 use Rattle.key_journal.specs.Recovered.{recovered}
@@ -58,3 +58,8 @@ abbrev pub Begins : Block → List ℕ → Type 0
 Begins (Open key) bytes = (rest : List ℕ) × (bytes ≡ 1 ∷ key ∷ rest)
 Begins Shut bytes = (gate : ℕ) × (rest : List ℕ) × (bytes ≡ gate ∷ rest) × (gate ≢ 1)
 Begins Cut bytes = length bytes ≤ 1
+
+-- what holds of the fields of a journal
+pub record Stays (stage : Stage) (given : ℕ) (past : List DiskState) : Type 0 where
+  pub holds : HoldsAt stage given past
+  pub few : given ≤ 2 ^ 61
