@@ -18,3 +18,5 @@ pub mod Held
 pub mod BytesLeft
 -- what became of a journal after some reads
 pub mod Courses
+-- the states of a disk in memory
+pub mod MemDisks

@@ -6,3 +6,7 @@ use Rattle.key_journal.specs.declared.disk.DiskFault.{DiskFault}
 abbrev pub source_fault : DiskFault → SourceFault
 source_fault DiskFault.Failed = SourceFault.Failed
 source_fault DiskFault.OutOfMemory = SourceFault.OutOfMemory
+
+-- want of memory
+abbrev pub memory_fault : DiskFault
+memory_fault = DiskFault.OutOfMemory

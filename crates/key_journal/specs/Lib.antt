@@ -1,6 +1,7 @@
 -- ---- disks
 pub mod Disk
 pub mod Faults
+pub mod MemDisk
 -- ---- the journal
 pub mod Recovered
 pub mod Crash

@@ -2,3 +2,4 @@
 pub mod Writes
 pub mod Stages
 pub mod Keeping
+pub mod MemDiskFields

@@ -4,6 +4,7 @@ ghost use Rattle.std.specs.Prelude.{◌≡◌, ℕ, ◌+◌, ◌<◌, ◌≤◌,
 ghost use Rattle.key_journal.specs.Disk.{DiskState, Newest, Gives, Writes, Tears, Syncs};
 ghost use Rattle.synth_outside.specs.Cause.{HasCause};
 
+use std::alloc::AllocError;
 use synth_outside::SourceFault;
 use thiserror::Error;
 
@@ -19,6 +20,17 @@ pub enum DiskFault {
     /// Memory ran out, which isn't counted.
     #[error("memory ran out")]
     OutOfMemory,
+}
+
+impl From<AllocError> for DiskFault {
+    ghost use Rattle.key_journal.specs.Faults.{memory_fault};
+
+    ghost from_gives = { λ _ given. given ≡ memory_fault };
+
+    /// Want of memory.
+    fn from(_: AllocError) -> Self {
+        DiskFault::OutOfMemory
+    }
 }
 
 impl From<DiskFault> for SourceFault {

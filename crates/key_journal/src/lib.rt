@@ -5,9 +5,16 @@
 mod disk;
 mod journal;
 mod keeping;
+mod mem_disk;
 mod replaying;
 mod stage;
+mod std_disk;
 mod writes;
 
 pub use disk::{DISK_END, Disk, DiskFault};
 pub use journal::JournalKeys;
+pub use mem_disk::{DiskCall, MemDisk, Piece};
+pub use std_disk::{JOURNAL, StdDisk};
+
+#[cfg(test)]
+mod tests;
