@@ -9,7 +9,7 @@ use Rattle.key_journal.specs.Opening.{OpensDisk}
 use Rattle.key_journal.specs.Recovered.{recovered, kept}
 use Rattle.key_journal.specs.declared.disk.DiskFault.{DiskFault}
 use Rattle.key_journal.proofs.Blocks.{shut_recovers, torn_first}
-use Rattle.key_journal.proofs.Moments.{throughout_same, throughout_one}
+use Rattle.key_journal.proofs.Moments.{newest_after, throughout_same, throughout_one}
 use Rattle.key_journal.proofs.ReadKeys.{sync_leaves}
 use Rattle.key_journal.proofs.SyncedWrites.{torn_written}
 use Rattle.key_journal.proofs.FoundKeys.{synced_leaves}
@@ -29,6 +29,7 @@ pub opens_disk : {D : Type 0} (past : D → List DiskState) (faults : D → ℕ)
 opens_disk past faults disk now syncs cause = record {
   each = sync_leaves (past disk) (past now) syncs;
   safe = sync_safe (past disk) (past now) syncs;
+  same = tt;
   cause = cause;
 }
 
@@ -39,6 +40,7 @@ pub opens_not : {D : Type 0} (past : D → List DiskState) (faults : D → ℕ) 
 opens_not past faults disk now fault same cause = record {
   each = throughout_same _ (past disk) (past now) same;
   safe = tt;
+  same = same;
   cause = cause;
 }
 
@@ -55,16 +57,28 @@ first_torn state past bytes least torn = record {
   could image left (inl none) = inl none
   could image left (inr same) = inr (left.0, left.1, same)
 
+-- what holds at each moment holds of the newest state, since the call changed nothing before
+clears_so : {E : Type 0} (past now : List DiskState) (result : Result (Unit {0}) E) →
+    Throughout (LeavesNothingOr past) past now → OnOk result (Newest (LeavesOnly []) now) →
+    Clears {E = E} past now result
+clears_so [] now result each cleared =
+    record { each = each; after = newest_after (LeavesNothingOr []) [] now tt each; cleared = cleared }
+clears_so (state ∷ past) now result each cleared = record {
+  each = each;
+  after = newest_after (LeavesNothingOr (state ∷ past)) (state ∷ past) now
+      (record { images = λ image left. inr (image, left, refl); reads = inr refl }) each;
+  cleared = cleared;
+}
+
 pub clear_fails : {E : Type 0} (past now : List DiskState) (fault : E) → Newest (LeavesAtLeast 1) past →
     Tears 0 1 past now → Clears {E = E} past now (Err fault)
-clear_fails [] now fault least tears = record { each = tears; cleared = tt }
-clear_fails (state ∷ past) now fault least tears = record {
-  each = elim tears [
-    inl same ↦ throughout_same _ (state ∷ past) now same
-    | inr torn ↦ throughout_one _ state past _ now torn.2 (first_torn state past torn.0 least torn.1)
-  ];
-  cleared = tt;
-}
+clear_fails [] now fault least tears = clears_so [] now (Err fault) tears tt
+clear_fails (state ∷ past) now fault least tears =
+    let each : Throughout (LeavesNothingOr (state ∷ past)) (state ∷ past) now = elim tears [
+      inl same ↦ throughout_same _ (state ∷ past) now same
+      | inr torn ↦ throughout_one _ state past _ now torn.2 (first_torn state past torn.0 least torn.1)
+    ] in
+    clears_so (state ∷ past) now (Err fault) each tt
 
 -- nothing is recovered behind a first gate that was shut
 zero_first : (bytes : List ℕ) → recovered (written bytes 0 (0 ∷ [])) ≡ []
@@ -75,36 +89,35 @@ pub clear_ends : {E : Type 0} (past between now : List DiskState) (result : Resu
     OnOk result (Syncs between now) → OnErr result (now ≡ between) → Clears {E = E} past now result
 clear_ends [] between now (Ok done) least writes syncs same =
     let none : now ≡ [] = subst (λ (states : List DiskState). Syncs states now) writes syncs in
-    record { each = none; cleared = subst (λ (states : List DiskState). Newest (LeavesOnly []) states) (sym none) tt }
+    clears_so [] now (Ok done) none (subst (λ (states : List DiskState). Newest (LeavesOnly []) states) (sym none) tt)
 clear_ends [] between now (Err fault) least writes syncs same =
-    record { each = same ∙ writes; cleared = tt }
+    clears_so [] now (Err fault) (same ∙ writes) tt
 clear_ends (state ∷ past) between now (Ok done) least writes syncs same =
     let next : DiskState = with_range state 0 1 (written state.bytes 0 (0 ∷ [])) in
     let is : now ≡ with_sync next ∷ next ∷ state ∷ past = subst (λ (states : List DiskState). Syncs states now) writes syncs in
     let torn : LeavesNothingOr (state ∷ past) next =
         first_torn state past (written state.bytes 0 (0 ∷ [])) least
         (torn_written 0 (0 ∷ []) state.bytes (omega arith)) in
-    record {
-      each = (
-        with_sync next ∷ next ∷ [],
-        is,
-        (
-          record {
-            images = λ image left. inl (ap recovered left ∙ zero_first state.bytes);
-            reads = inl (zero_first state.bytes);
-          },
-          (torn, tt),
-        ),
-      );
-      cleared = subst (λ (states : List DiskState). Newest (LeavesOnly []) states) (sym is)
-          (record {
-            images = λ image left. ap recovered left ∙ zero_first state.bytes;
-            reads = zero_first state.bytes;
-          });
-    }
-clear_ends (state ∷ past) between now (Err fault) least writes syncs same = record {
-  each = throughout_one _ state past _ now (same ∙ writes)
+    clears_so (state ∷ past) now (Ok done)
+    (
+      with_sync next ∷ next ∷ [],
+      is,
+      (
+        record {
+          images = λ image left. inl (ap recovered left ∙ zero_first state.bytes);
+          reads = inl (zero_first state.bytes);
+        },
+        (torn, tt),
+      ),
+    )
+    (subst (λ (states : List DiskState). Newest (LeavesOnly []) states) (sym is)
+      (record {
+        images = λ image left. ap recovered left ∙ zero_first state.bytes;
+        reads = zero_first state.bytes;
+      }))
+clear_ends (state ∷ past) between now (Err fault) least writes syncs same =
+    clears_so (state ∷ past) now (Err fault)
+    (throughout_one _ state past _ now (same ∙ writes)
       (first_torn state past (written state.bytes 0 (0 ∷ [])) least
-        (torn_written 0 (0 ∷ []) state.bytes (omega arith)));
-  cleared = tt;
-}
+        (torn_written 0 (0 ∷ []) state.bytes (omega arith))))
+    tt

@@ -17,6 +17,6 @@ pub mod Held
 -- the bytes left of a journal, as a source
 pub mod BytesLeft
 -- what became of a journal after some reads
-pub mod Courses
+pub mod MoreReads
 -- the states of a disk in memory
 pub mod MemDisks

@@ -19,8 +19,10 @@ pub record LeavesNothingOr (before : List DiskState) (state : DiskState) : Type 
       (recovered image ≡ []) ⊎ CouldLeave before (recovered image)
   pub reads : (recovered state.bytes ≡ []) ⊎ (recovered state.bytes ≡ kept before)
 
--- at each moment a crash leaves nothing or what it could leave just before, and once it is Ok nothing
+-- at each moment, and then, a crash leaves nothing or what it could leave just before, and once it is Ok
+-- nothing
 pub record Clears {E : Type 0} (past past_after : List DiskState) (result : Result Unit E)
     : Type 0 where
   pub each : Throughout (LeavesNothingOr past) past past_after
+  pub after : Newest (LeavesNothingOr past) past_after
   pub cleared : OnOk result (Newest (LeavesOnly []) past_after)

@@ -9,6 +9,6 @@ pub mod Journal
 pub mod Opening
 pub mod Reading
 pub mod Clearing
-pub mod Course
+pub mod AfterReads
 -- ---- what private contracts alone cite
 pub mod Private

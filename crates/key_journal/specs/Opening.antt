@@ -1,5 +1,5 @@
 -- What opening a journal does.
-use Rattle.std.specs.Prelude.{◌≡◌, ℕ, List, Bool, false, Result, OnOk}
+use Rattle.std.specs.Prelude.{◌≡◌, ℕ, List, Bool, false, Result, OnOk, OnErr}
 use Rattle.synth_outside.specs.Cause.{HasCause}
 use Rattle.key_journal.specs.Crash.{LeavesOnly, Throughout}
 use Rattle.key_journal.specs.Disk.{DiskState, Newest}
@@ -15,10 +15,11 @@ pub record IsNew {S D : Type 0} (inner : S) (journal : PlainJournal S D) : Type 
   pub not_ended : journal.ended ≡ false
   pub none_read : journal.reads ≡ 0
 
--- the disk was synced: at each moment a crash leaves the kept keys alone, and once it is Ok also at
--- the end, whatever it could leave before
+-- the disk was synced: once it is Ok a crash leaves the kept keys alone, whatever it could leave before,
+-- as at each moment at which it leaves something else than before; where it isn't Ok nothing changes
 pub record OpensDisk {D T : Type 0} (past : D → List DiskState) (faults : D → ℕ) (disk disk_after : D)
     (result : Result T DiskFault) : Type 0 where
   pub each : Throughout (LeavesOnly (kept (past disk))) (past disk) (past disk_after)
   pub safe : OnOk result (Newest (LeavesOnly (kept (past disk))) (past disk_after))
+  pub same : OnErr result (past disk_after ≡ past disk)
   pub cause : HasCause Failed (faults disk) (faults disk_after) result

@@ -3,7 +3,7 @@
 ghost use Rattle.std.specs.Prelude.{◌≡◌, ◌<◌, length, IfOk, IfErr, OnErr, Ok, Err};
 ghost use Rattle.plcs_base.specs.Count.{raised};
 ghost use Rattle.key_journal.specs.Clearing.{Clears};
-ghost use Rattle.key_journal.specs.Course.{LeadsTo, BreaksAt};
+ghost use Rattle.key_journal.specs.AfterReads.{LeadsTo, BreaksAt};
 ghost use Rattle.key_journal.specs.Crash.{LeavesAtLeast};
 ghost use Rattle.key_journal.specs.Disk.{Newest};
 ghost use Rattle.key_journal.specs.Journal.{left_of_both, both_counts};
@@ -159,7 +159,7 @@ impl<S: Source, D: Disk> Source for JournalKeys<S, D> {
     ghost breaks_at = { λ first now.
         BreaksAt S.left S.faults S.leads_to S.breaks_at D.past D.faults first now };
 
-    ghost use Rattle.key_journal.specs.Course.{leads_to_itself};
+    ghost use Rattle.key_journal.specs.AfterReads.{leads_to_itself};
 
     ghost leads_to_itself = { λ journal. leads_to_itself S.left S.faults S.leads_to
         S.leads_to_itself D.past D.faults journal };

@@ -1,6 +1,6 @@
 use Rattle.std.proofs.Common.{refl, arith, set, length-set}
 use Rattle.key_journal.proofs.BytesLeft.{set_first, gives_key, gives_end, gives_fault}
-use Rattle.key_journal.proofs.Courses.{leads_key, leads_end, breaks}
+use Rattle.key_journal.proofs.MoreReads.{leads_key, leads_end, breaks}
 use Rattle.key_journal.proofs.Held.{holds_least, stays_unsynced}
 use Rattle.key_journal.proofs.journal.JournalKeysSource.read.Goals as goal
 

@@ -1,7 +1,7 @@
 -- What became of a journal after some reads, and one more.
 use Rattle.std.proofs.Common.{◌≡◌, ℕ, ◌+◌, ◌≤◌, ◌<◌, ◌⊎◌, inl, inr, List, [], ◌∷◌, ◌++◌, length, drop, refl, sym, ap, ◌∙◌, subst, arith, length-append, append-nil, append_assoc, Ok, Err, Result, Some, None, Option}
 use Rattle.std.specs.Io.KnownBytes.{Consumes}
-use Rattle.key_journal.specs.Course.{BreaksAt, KeepsAll, KeepsAllButLast, LeadsTo, LeavesBetween}
+use Rattle.key_journal.specs.AfterReads.{BreaksAt, KeepsAll, KeepsAllButLast, LeadsTo, LeavesBetween}
 use Rattle.key_journal.specs.Crash.{LeavesOnly, LeavesOneOf, Throughout}
 use Rattle.key_journal.specs.Disk.{DiskState, Newest}
 use Rattle.key_journal.specs.Journal.{PlainJournal}
