@@ -1,7 +1,9 @@
 -- What became of a journal after some reads, and one more.
-use Rattle.std.proofs.Common.{◌≡◌, ℕ, ◌+◌, ◌≤◌, ◌<◌, ◌⊎◌, inl, inr, List, [], ◌∷◌, ◌++◌, length, drop, refl, sym, ap, ◌∙◌, subst, arith, length-append, append-nil, append_assoc, Ok, Err, Result, Some, None, Option}
-use Rattle.std.specs.Io.KnownBytes.{Consumes}
-use Rattle.key_journal.specs.AfterReads.{BreaksAt, KeepsAll, KeepsAllButLast, LeadsTo, LeavesBetween}
+use Rattle.std.proofs.Common.{◌≡◌, ℕ, ◌+◌, ◌≤◌, ◌<◌, ◌⊎◌, inl, inr, List, [], ◌∷◌, ◌++◌, length, drop, refl, sym, ap, ◌∙◌, subst, arith, length-append, append-nil, append_assoc, Ok, Err, Some, None, Option, true, false}
+use Rattle.std.specs.Prelude.{◌≢◌, IsSome}
+use Rattle.plcs_base.specs.Count.{raised}
+use Rattle.std.specs.Io.KnownBytes.{Consumes, IsAtEnd}
+use Rattle.key_journal.specs.AfterReads.{BreaksAt, CountsEnds, KeepsAll, KeepsAllButLast, LeadsTo, LeavesBetween}
 use Rattle.key_journal.specs.Crash.{LeavesOnly, LeavesOneOf, Throughout}
 use Rattle.key_journal.specs.Disk.{DiskState, Newest}
 use Rattle.key_journal.specs.Journal.{PlainJournal}
@@ -174,6 +176,100 @@ consumes_both (Some left) (Some between) None taken more first second = absurd s
 consumes_both (Some left) (Some between) (Some left_after) taken more first second =
     first ∙ ap (λ (bytes : List ℕ). taken ++ bytes) second ∙ sym (append_assoc taken more left_after)
 
+-- what is left of a told source is told
+told_left : (left left_after : Option (List ℕ)) (taken : List ℕ) → Consumes left left_after taken →
+    IsSome left → (bytes : List ℕ) × (left_after ≡ Some bytes)
+told_left None left_after taken consumes told = absurd (cc)
+told_left (Some left) None taken consumes told = absurd consumes
+told_left (Some left) (Some bytes) taken consumes told = (bytes, refl)
+
+none_taken : (taken bytes : List ℕ) → [] ≡ taken ++ bytes → taken ≡ []
+none_taken [] bytes empty = refl
+none_taken (byte ∷ taken) bytes empty = absurd (cc)
+
+-- behind the end of a told source, with all kept keys given, nothing is taken
+ended_takes : (left left_after : Option (List ℕ)) (taken : List ℕ) (bytes : List ℕ) → left ≡ Some bytes →
+    IsAtEnd left → Consumes left left_after taken → taken ≡ []
+ended_takes None left_after taken bytes told ended consumes = absurd (cc)
+ended_takes (Some left) None taken bytes told ended consumes = absurd consumes
+ended_takes (Some left) (Some after) taken bytes told ended consumes =
+    none_taken taken after (sym ended ∙ consumes)
+
+-- and no key is given
+no_key_behind : (old now : List DiskState) (given key : ℕ) (more : List ℕ) → more ≡ [] →
+    drop given (kept old) ≡ [] → Throughout (LeavesOneOf (kept old) more) old now → now ≢ [] →
+    Newest (Gave given key (kept old ++ more)) now → ⊥
+no_key_behind old [] given key more none all each told gave = told refl
+no_key_behind old (next ∷ now) given key more none all each told gave =
+    let below : given < length (kept old ++ more) = get_below _ given key gave.next in
+    let total : length (kept old ++ more) ≡ length (kept old) + length more = length-append (kept old) more in
+    let zero_more : length more ≡ 0 = ap length none in
+    let ends : length (kept old) ≤ given = ends_before _ given all in
+    omega (arith, below, total, zero_more, ends)
+
+-- the ends behind one more key
+counts_key : {S D E : Type 0} (left : S → Option (List ℕ)) (past : D → List DiskState)
+    (first old now : PlainJournal S D) (key : ℕ) (taken : List ℕ) → CountsEnds left past first old →
+    Consumes (left first.inner) (left old.inner) taken →
+    ReadsKey {E = E} (left old.inner) (left now.inner) old.given (past old.disk) (past now.disk) (Ok (Some key)) →
+    now.given ≡ old.given + 1 → now.reads ≡ raised old.reads → now.ended ≡ false →
+    CountsEnds left past first now
+counts_key left past first old now key taken counts consumes reads one read not_ended = record {
+  ends = counts.ends;
+  counted = λ few.
+    let before : old.reads + first.given ≡ first.reads + old.given + counts.ends = counts.counted (omega (arith, few, read)) in
+    omega (arith, few, read, one, before);
+  noted = λ fresh none. not_ended;
+  at_end = λ fresh ended. absurd (cc);
+  stays = λ fresh told disk. still fresh told disk (counts.stays fresh told (old_told disk));
+} where
+  old_told : past now.disk ≢ [] → past old.disk ≢ []
+  old_told disk none = disk (untold (past old.disk) none reads.each) where
+    untold : (before : List DiskState) → before ≡ [] →
+        Throughout (LeavesOneOf (kept (past old.disk)) reads.taken) before (past now.disk) → past now.disk ≡ []
+    untold [] none each = each
+    untold (state ∷ before) none each = absurd (cc)
+  still : first.ended ≡ false → IsSome (left first.inner) → past now.disk ≢ [] →
+      (counts.ends ≡ 0) ⊎ (old.ended ≡ true) → (counts.ends ≡ 0) ⊎ (now.ended ≡ true)
+  still fresh told disk (inl none) = inl none
+  still fresh told disk (inr ended) =
+      let there : (bytes : List ℕ) × (left old.inner ≡ Some bytes) =
+          told_left (left first.inner) (left old.inner) taken consumes told in
+      let end : IsAtEnd (left old.inner) × (drop old.given (kept (past old.disk)) ≡ []) = counts.at_end fresh ended in
+      let none : reads.taken ≡ [] =
+          ended_takes (left old.inner) (left now.inner) reads.taken there.0 there.1 end.0 reads.consumes in
+      absurd (no_key_behind (past old.disk) (past now.disk) old.given key reads.taken none end.1 reads.each disk reads.answer)
+
+-- what is kept doesn't change at the end
+kept_end : (old now : List DiskState) (given : ℕ) (more : List ℕ) (left : Option (List ℕ)) →
+    Throughout (LeavesOneOf (kept old) more) old now → Ends left given (kept old) more now →
+    drop given (kept now) ≡ []
+kept_end [] now given more left each ends =
+    ap (λ (states : List DiskState). drop given (kept states)) each ∙ ends.all
+kept_end (state ∷ old) [] given more left each ends = absurd (told_after _ state old each)
+kept_end (state ∷ old) (next ∷ now) given more left each ends =
+    ap (λ (keys : List ℕ). drop given keys) ends.safe.reads ∙ ends.all
+
+-- the ends behind one more
+counts_end : {S D E : Type 0} (left : S → Option (List ℕ)) (past : D → List DiskState)
+    (first old now : PlainJournal S D) → CountsEnds left past first old →
+    ReadsKey {E = E} (left old.inner) (left now.inner) old.given (past old.disk) (past now.disk) (Ok None) →
+    now.given ≡ old.given → now.reads ≡ raised old.reads → now.ended ≡ true →
+    CountsEnds left past first now
+counts_end left past first old now counts reads same read ended = record {
+  ends = counts.ends + 1;
+  counted = λ few.
+    let before : old.reads + first.given ≡ first.reads + old.given + counts.ends = counts.counted (omega (arith, few, read)) in
+    omega (arith, few, read, same, before);
+  noted = λ fresh none. absurd (omega (arith, none));
+  at_end = λ fresh noted. (
+    reads.answer.source,
+    subst (λ (given : ℕ). drop given (kept (past now.disk)) ≡ []) (sym same)
+    (kept_end (past old.disk) (past now.disk) old.given reads.taken (left now.inner) reads.each reads.answer),
+  );
+  stays = λ fresh told disk. inr ended;
+}
+
 -- a journal after one more key
 pub leads_key : {S D E : Type 0} (left : S → Option (List ℕ)) (source_faults : S → ℕ)
     (leads_to : S → S → Type 0) (past : D → List DiskState) (disk_faults : D → ℕ)
@@ -182,14 +278,16 @@ pub leads_key : {S D E : Type 0} (left : S → Option (List ℕ)) (source_faults
     (leads_to first.inner old.inner → leads_to first.inner now.inner) →
     source_faults now.inner ≡ source_faults old.inner → disk_faults now.disk ≡ disk_faults old.disk →
     ReadsKey {E = E} (left old.inner) (left now.inner) old.given (past old.disk) (past now.disk) (Ok (Some key)) →
-    now.given ≡ old.given + 1 → LeadsTo left source_faults leads_to past disk_faults first now
-leads_key left source_faults leads_to past disk_faults first old now key leads led source_same disk_same reads one = record {
+    now.given ≡ old.given + 1 → now.reads ≡ raised old.reads → now.ended ≡ false →
+    LeadsTo left source_faults leads_to past disk_faults first now
+leads_key left source_faults leads_to past disk_faults first old now key leads led source_same disk_same reads one read not_ended = record {
   source = led leads.source;
   source_same = source_same ∙ leads.source_same;
   disk_same = disk_same ∙ leads.disk_same;
   taken = leads.taken ++ reads.taken;
   consumes = consumes_both (left first.inner) (left old.inner) (left now.inner) leads.taken reads.taken leads.consumes reads.consumes;
   given_later = omega (arith, leads.given_later, one);
+  counts = counts_key left past first old now key leads.taken leads.counts leads.consumes reads one read not_ended;
   keeps = λ few safe.
     subst (λ (given : ℕ). KeepsAll (past first.disk) (past now.disk) given (leads.taken ++ reads.taken)) (sym one)
     (keeps_key (past first.disk) (past old.disk) (past now.disk) old.given key leads.taken reads.taken
@@ -204,14 +302,16 @@ pub leads_end : {S D E : Type 0} (left : S → Option (List ℕ)) (source_faults
     (leads_to first.inner old.inner → leads_to first.inner now.inner) →
     source_faults now.inner ≡ source_faults old.inner → disk_faults now.disk ≡ disk_faults old.disk →
     ReadsKey {E = E} (left old.inner) (left now.inner) old.given (past old.disk) (past now.disk) (Ok None) →
-    now.given ≡ old.given → LeadsTo left source_faults leads_to past disk_faults first now
-leads_end left source_faults leads_to past disk_faults first old now leads led source_same disk_same reads same = record {
+    now.given ≡ old.given → now.reads ≡ raised old.reads → now.ended ≡ true →
+    LeadsTo left source_faults leads_to past disk_faults first now
+leads_end left source_faults leads_to past disk_faults first old now leads led source_same disk_same reads same read ended = record {
   source = led leads.source;
   source_same = source_same ∙ leads.source_same;
   disk_same = disk_same ∙ leads.disk_same;
   taken = leads.taken ++ reads.taken;
   consumes = consumes_both (left first.inner) (left old.inner) (left now.inner) leads.taken reads.taken leads.consumes reads.consumes;
   given_later = omega (arith, leads.given_later, same);
+  counts = counts_end left past first old now leads.counts reads same read ended;
   keeps = λ few safe.
     subst (λ (given : ℕ). KeepsAll (past first.disk) (past now.disk) given (leads.taken ++ reads.taken)) (sym same)
     (keeps_end (past first.disk) (past old.disk) (past now.disk) old.given leads.taken reads.taken (left now.inner)

@@ -1,8 +1,8 @@
 -- What became of a journal after some reads: what was taken, and what a crash leaves.
-use Rattle.std.specs.Prelude.{◌≡◌, ℕ, ◌≤◌, ◌⊎◌, List, [], ◌∷◌, ◌++◌, Option, Some, None, length, refl}
-use Rattle.std.proofs.Common.{inl, subst, sym, append-nil}
+use Rattle.std.specs.Prelude.{◌≡◌, ◌≢◌, ℕ, ◌+◌, ◌-◌, ◌^◌, ◌<◌, ◌≤◌, ◌⊎◌, List, [], ◌∷◌, ◌++◌, Option, Some, None, IsSome, true, false, length, drop, refl}
+use Rattle.std.proofs.Common.{inl, subst, sym, append-nil, arith}
 use Rattle.std.proofs.Math.Nat.{le_refl}
-use Rattle.std.specs.Io.KnownBytes.{Consumes}
+use Rattle.std.specs.Io.KnownBytes.{Consumes, IsAtEnd}
 use Rattle.key_journal.specs.Crash.{EachRecovers, LeavesOnly, LeavesOneOf, Throughout}
 use Rattle.key_journal.specs.Disk.{DiskState, Newest}
 use Rattle.key_journal.specs.Journal.{PlainJournal}
@@ -30,6 +30,20 @@ pub record KeepsAllButLast (past past_after : List DiskState) (given : ℕ) (tak
   pub within : Newest (λ _. given ≤ length (kept past ++ taken)) past_after
   pub behind : (taken ++ last ≡ []) ⊎ Newest (λ _. given ≡ length (kept past ++ taken)) past_after
 
+-- how many answers were the end, over reads that were Ok, behind an answer that wasn't
+pub record CountsEnds {S D : Type 0} (left : S → Option (List ℕ)) (past : D → List DiskState)
+    (first now : PlainJournal S D) : Type 0 where
+  pub ends : ℕ
+  -- each read gave one key or was the end
+  pub counted : now.reads < 2 ^ 64 - 1 →
+      now.reads + first.given ≡ first.reads + now.given + ends
+  pub noted : first.ended ≡ false → ends ≡ 0 → now.ended ≡ false
+  pub at_end : first.ended ≡ false → now.ended ≡ true →
+      IsAtEnd (left now.inner) × (drop now.given (kept (past now.disk)) ≡ [])
+  -- where both are told, no key comes behind the end
+  pub stays : first.ended ≡ false → IsSome (left first.inner) → past now.disk ≢ [] →
+      (ends ≡ 0) ⊎ (now.ended ≡ true)
+
 -- a journal after some reads that were Ok
 pub record LeadsTo {S D : Type 0} (left : S → Option (List ℕ)) (source_faults : S → ℕ)
     (leads_to : S → S → Type 0) (past : D → List DiskState) (disk_faults : D → ℕ)
@@ -41,6 +55,7 @@ pub record LeadsTo {S D : Type 0} (left : S → Option (List ℕ)) (source_fault
   pub taken : List ℕ
   pub consumes : Consumes (left first.inner) (left now.inner) taken
   pub given_later : first.given ≤ now.given
+  pub counts : CountsEnds left past first now
   pub keeps : first.given ≤ length (kept (past first.disk)) →
       Newest (LeavesOnly (kept (past first.disk))) (past first.disk) →
       KeepsAll (past first.disk) (past now.disk) now.given taken
@@ -90,5 +105,12 @@ leads_to_itself left source_faults leads_to itself past disk_faults journal = re
   taken = [];
   consumes = takes_none (left journal.inner);
   given_later = le_refl journal.given;
+  counts = record {
+    ends = 0;
+    counted = λ few. omega arith;
+    noted = λ first none. first;
+    at_end = λ first ended. absurd (cc);
+    stays = λ first told disk. inl refl;
+  };
   keeps = λ few safe. keeps_itself (past journal.disk) journal.given few safe;
 }

@@ -44,13 +44,13 @@ pub returns-in-Ok-Some-clause-led : goal.returns-in-Ok-Some-clause-led
 returns-in-Ok-Some-clause-led g c = λ first. rw (← c.self.view_is) (λ leads.
     leads_key _ _ _ _ _ first _ _ c.in-Ok-Some.key leads (c.in-Ok-Some.ensures.led first.inner)
     c.in-Ok-Some.ensures.cause.source_same c.in-Ok-Some.ensures.cause.disk_same
-    (rw c.in-Ok-Some.field-0-is at c.in-Ok-Some.ensures.read) refl)
+    (rw c.in-Ok-Some.field-0-is at c.in-Ok-Some.ensures.read) refl (omega arith) refl)
 
 pub returns-in-Ok-None-clause-led : goal.returns-in-Ok-None-clause-led
 returns-in-Ok-None-clause-led g c = λ first. rw (← c.self.view_is) (λ leads.
     leads_end _ _ _ _ _ first _ _ leads (c.in-Ok-None.ensures.led first.inner)
     c.in-Ok-None.ensures.cause.source_same c.in-Ok-None.ensures.cause.disk_same
-    (rw c.in-Ok-None.field-0-is at c.in-Ok-None.ensures.read) refl)
+    (rw c.in-Ok-None.field-0-is at c.in-Ok-None.ensures.read) refl (omega arith) refl)
 
 pub returns-in-Err-clause-broke : goal.returns-in-Err-clause-broke
 returns-in-Err-clause-broke g c = λ first. rw (← c.self.view_is) (λ leads.
