@@ -1,13 +1,13 @@
 -- The bytes that are left of a journal: the kept keys that weren't given, and then those of its source.
-use Rattle.std.proofs.Common.{◌≡◌, ℕ, zero, suc, ◌+◌, ◌-◌, ◌≤◌, ◌<◌, ◌⊎◌, inl, inr, List, [], ◌∷◌, ◌++◌, length, take, drop, refl, sym, ap, ◌∙◌, subst, arith, length-append, append-nil, append_assoc, Ok, Err, Result, Some, None, Option, length-drop, set}
+use Rattle.std.proofs.Common.{◌≡◌, ℕ, zero, suc, ◌+◌, ◌-◌, ◌≤◌, ◌<◌, ◌⊎◌, inl, inr, List, [], ◌∷◌, ◌++◌, length, take, drop, refl, sym, ap, ◌∙◌, subst, arith, append_assoc, Ok, Err, Some, None, Option, length-drop, set}
 use Rattle.std.proofs.lemmas.List.{drop-append-le}
 use Rattle.std.specs.Prelude.{slice_get}
 use Rattle.std.specs.Io.KnownBytes.{Consumes, IsAtEnd}
 use Rattle.synth_outside.specs.Source.{GivesBytes, LosesAtMost}
-use Rattle.key_journal.specs.Crash.{LeavesAtLeast, LeavesOnly, LeavesOneOf, Throughout}
+use Rattle.key_journal.specs.Crash.{LeavesAtLeast, LeavesOneOf, Throughout}
 use Rattle.key_journal.specs.Disk.{DiskState, Newest}
 use Rattle.key_journal.specs.Journal.{left_of_both}
-use Rattle.key_journal.specs.Reading.{Ends, Gave, ReadsKey}
+use Rattle.key_journal.specs.Reading.{Ends, ReadsKey}
 use Rattle.key_journal.specs.Recovered.{recovered, kept}
 use Rattle.key_journal.proofs.Moments.{newest_after, not_empty, throughout_weaker}
 
@@ -62,16 +62,16 @@ gives_key (Some left) (Some left_after) given key (state ∷ past) [] buf least 
 gives_key (Some left) (Some left_after) given key (state ∷ past) (next ∷ now) buf least reads first room =
     let keys : List ℕ = recovered state.bytes in
     let found : drop given (keys ++ reads.taken) ≡ key ∷ drop (given + 1) (keys ++ reads.taken) =
-        drop_at (keys ++ reads.taken) given key reads.answer.next in
+    drop_at (keys ++ reads.taken) given key reads.answer.next in
     let front : drop given (keys ++ reads.taken) ≡ drop given keys ++ reads.taken =
-        drop-append-le given keys reads.taken least.reads in
+    drop-append-le given keys reads.taken least.reads in
     let behind : drop (given + 1) (recovered next.bytes) ≡ drop (given + 1) (keys ++ reads.taken) =
-        ap (λ (keys : List ℕ). drop (given + 1) keys) reads.answer.safe.reads in
+    ap (λ (keys : List ℕ). drop (given + 1) keys) reads.answer.safe.reads in
     let same : drop given keys ++ left ≡ key ∷ (drop (given + 1) (recovered next.bytes) ++ left_after) =
-        ap (λ (bytes : List ℕ). drop given keys ++ bytes) reads.consumes ∙
-        sym (append_assoc (drop given keys) reads.taken left_after) ∙
-        ap (λ (bytes : List ℕ). bytes ++ left_after) (sym front ∙ found) ∙
-        ap (λ (bytes : List ℕ). key ∷ (bytes ++ left_after)) (sym behind) in
+    ap (λ (bytes : List ℕ). drop given keys ++ bytes) reads.consumes ∙
+    sym (append_assoc (drop given keys) reads.taken left_after) ∙
+    ap (λ (bytes : List ℕ). bytes ++ left_after) (sym front ∙ found) ∙
+    ap (λ (bytes : List ℕ). key ∷ (bytes ++ left_after)) (sym behind) in
     record {
       count = room;
       given = same ∙ ap (λ (bytes : List ℕ). bytes ++ (drop (given + 1) (recovered next.bytes) ++ left_after)) (sym first);
@@ -79,8 +79,8 @@ gives_key (Some left) (Some left_after) given key (state ∷ past) (next ∷ now
       exact_end = (λ never. absurd (omega (arith, never)), λ none. absurd (not_nil _ _ (sym same ∙ none)));
       lost = tt;
     } where
-  not_nil : (key : ℕ) (rest : List ℕ) → key ∷ rest ≡ [] → ⊥
-  not_nil key rest never = cc
+      not_nil : (key : ℕ) (rest : List ℕ) → key ∷ rest ≡ [] → ⊥
+      not_nil key rest never = cc
 
 -- nothing is left behind the end
 ends_left : (given : ℕ) (state : DiskState) (past : List DiskState) (next : DiskState)
@@ -115,10 +115,10 @@ gives_end (Some left) (Some left_after) given (state ∷ past) [] buf reads =
     absurd (told_after _ state past reads.each)
 gives_end (Some left) (Some left_after) given (state ∷ past) (next ∷ now) buf reads =
     let after : drop given (recovered next.bytes) ++ left_after ≡ [] =
-        ends_left given state past next now left_after reads.answer in
+    ends_left given state past next now left_after reads.answer in
     let before : drop given (recovered state.bytes) ++ left ≡ [] =
-        ap (λ (bytes : List ℕ). bytes ++ left) reads.answer.all ∙ reads.consumes ∙
-        ap (λ (bytes : List ℕ). bytes ++ left_after) reads.answer.none ∙ reads.answer.source in
+    ap (λ (bytes : List ℕ). bytes ++ left) reads.answer.all ∙ reads.consumes ∙
+    ap (λ (bytes : List ℕ). bytes ++ left_after) reads.answer.none ∙ reads.answer.source in
     record {
       count = omega arith;
       given = before ∙ sym after;
@@ -141,24 +141,32 @@ gives_fault left left_after given past now buf fault least reads room = record {
 } where
   none_lost : (before now : Option (List ℕ)) → Consumes before now [] → LosesAtMost before now (length buf)
   none_lost before now consumes = ([], omega arith, consumes)
+
   told : (keys left left_after found : List ℕ) → given ≤ length keys → length reads.taken ≤ 1 →
       left ≡ reads.taken ++ left_after → (reads.taken ≡ []) ⊎ (drop given keys ≡ []) →
       (found ≡ keys) ⊎ (found ≡ keys ++ reads.taken) →
       LosesAtMost (Some (drop given keys ++ left)) (Some (drop given found ++ left_after)) (length buf)
-  told keys left left_after found enough few consumes behind (inr more) =
-      ([], omega arith,
-        ap (λ (bytes : List ℕ). drop given keys ++ bytes) consumes ∙
+  told keys left left_after found enough few consumes behind (inr more) = (
+    [],
+    omega arith,
+    ap (λ (bytes : List ℕ). drop given keys ++ bytes) consumes ∙
         sym (append_assoc (drop given keys) reads.taken left_after) ∙
         ap (λ (bytes : List ℕ). bytes ++ left_after)
-        (sym (drop-append-le given keys reads.taken enough) ∙ ap (λ (keys : List ℕ). drop given keys) (sym more)))
-  told keys left left_after found enough few consumes (inl none) (inl same) =
-      ([], omega arith,
-        ap (λ (bytes : List ℕ). drop given keys ++ bytes) (consumes ∙ ap (λ (bytes : List ℕ). bytes ++ left_after) none) ∙
-        ap (λ (keys : List ℕ). drop given keys ++ left_after) (sym same))
-  told keys left left_after found enough few consumes (inr none) (inl same) =
-      (reads.taken, omega (arith, few, room),
-        ap (λ (bytes : List ℕ). bytes ++ left) none ∙ consumes ∙
-        ap (λ (bytes : List ℕ). reads.taken ++ (bytes ++ left_after)) (sym (ap (λ (keys : List ℕ). drop given keys) same ∙ none)))
+        (sym (drop-append-le given keys reads.taken enough) ∙ ap (λ (keys : List ℕ). drop given keys) (sym more)),
+  )
+  told keys left left_after found enough few consumes (inl none) (inl same) = (
+    [],
+    omega arith,
+    ap (λ (bytes : List ℕ). drop given keys ++ bytes) (consumes ∙ ap (λ (bytes : List ℕ). bytes ++ left_after) none) ∙
+        ap (λ (keys : List ℕ). drop given keys ++ left_after) (sym same),
+  )
+  told keys left left_after found enough few consumes (inr none) (inl same) = (
+    reads.taken,
+    omega (arith, few, room),
+    ap (λ (bytes : List ℕ). bytes ++ left) none ∙ consumes ∙
+        ap (λ (bytes : List ℕ). reads.taken ++ (bytes ++ left_after)) (sym (ap (λ (keys : List ℕ). drop given keys) same ∙ none)),
+  )
+
   loses : (left left_after : Option (List ℕ)) (past now : List DiskState) → Newest (LeavesAtLeast given) past →
       length reads.taken ≤ 1 → Consumes left left_after reads.taken →
       (reads.taken ≡ []) ⊎ (drop given (kept past) ≡ []) →
@@ -174,8 +182,8 @@ gives_fault left left_after given past now buf fault least reads room = record {
   loses (Some left) (Some left_after) (state ∷ past) (next ∷ now) least few consumes behind each =
       told (recovered state.bytes) left left_after (recovered next.bytes) least.reads few consumes behind
       (newest_after (λ other. (recovered other.bytes ≡ recovered state.bytes) ⊎ (recovered other.bytes ≡ recovered state.bytes ++ reads.taken))
-        (state ∷ past) (next ∷ now) (inl refl)
-        (throughout_weaker (LeavesOneOf (recovered state.bytes) reads.taken)
-          (λ other. (recovered other.bytes ≡ recovered state.bytes) ⊎ (recovered other.bytes ≡ recovered state.bytes ++ reads.taken))
-          (state ∷ past) (next ∷ now)
-          (λ (other : DiskState) (one : LeavesOneOf (recovered state.bytes) reads.taken other). one.reads) each))
+      (state ∷ past) (next ∷ now) (inl refl)
+      (throughout_weaker (LeavesOneOf (recovered state.bytes) reads.taken)
+      (λ other. (recovered other.bytes ≡ recovered state.bytes) ⊎ (recovered other.bytes ≡ recovered state.bytes ++ reads.taken))
+      (state ∷ past) (next ∷ now)
+      (λ (other : DiskState) (one : LeavesOneOf (recovered state.bytes) reads.taken other). one.reads) each))

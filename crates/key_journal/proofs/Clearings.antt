@@ -1,10 +1,10 @@
 -- A journal is opened by one sync, and cleared by shutting its first gate.
-use Rattle.std.proofs.Common.{◌≡◌, ℕ, ◌+◌, ◌≤◌, ◌⊎◌, inl, inr, List, [], ◌∷◌, ◌++◌, length, drop, refl, sym, ap, ◌∙◌, subst, arith, Ok, Err, Result}
+use Rattle.std.proofs.Common.{◌≡◌, ℕ, ◌⊎◌, inl, inr, List, [], ◌∷◌, drop, refl, sym, ap, ◌∙◌, subst, arith, Ok, Err, Result}
 use Rattle.std.specs.Prelude.{OnOk, OnErr}
 use Rattle.synth_outside.specs.Cause.{HasCause}
 use Rattle.key_journal.specs.Clearing.{Clears, CouldLeave, LeavesNothingOr}
 use Rattle.key_journal.specs.Crash.{LeavesAtLeast, LeavesOnly, Throughout}
-use Rattle.key_journal.specs.Disk.{DiskState, Leaves, MayLeave, Newest, Syncs, Tears, Torn, Writes, with_range, with_sync, written}
+use Rattle.key_journal.specs.Disk.{DiskState, Leaves, Newest, Syncs, Tears, Torn, Writes, with_range, with_sync, written}
 use Rattle.key_journal.specs.Opening.{OpensDisk}
 use Rattle.key_journal.specs.Recovered.{recovered, kept}
 use Rattle.key_journal.specs.declared.disk.DiskFault.{DiskFault}
@@ -30,17 +30,6 @@ opens_disk past faults disk now syncs cause = record {
   each = sync_leaves (past disk) (past now) syncs;
   safe = sync_safe (past disk) (past now) syncs;
   same = tt;
-  cause = cause;
-}
-
-pub opens_not : {D : Type 0} (past : D → List DiskState) (faults : D → ℕ) (disk now : D)
-    (fault : DiskFault) → past now ≡ past disk →
-    HasCause {T = Unit {0}} DiskFault.Failed (faults disk) (faults now) (Err fault) →
-    OpensDisk {D = D} {T = Unit {0}} past faults disk now (Err fault)
-opens_not past faults disk now fault same cause = record {
-  each = throughout_same _ (past disk) (past now) same;
-  safe = tt;
-  same = same;
   cause = cause;
 }
 
@@ -75,7 +64,7 @@ pub clear_fails : {E : Type 0} (past now : List DiskState) (fault : E) → Newes
 clear_fails [] now fault least tears = clears_so [] now (Err fault) tears tt
 clear_fails (state ∷ past) now fault least tears =
     let each : Throughout (LeavesNothingOr (state ∷ past)) (state ∷ past) now = elim tears [
-      inl same ↦ throughout_same _ (state ∷ past) now same
+      | inl same ↦ throughout_same _ (state ∷ past) now same
       | inr torn ↦ throughout_one _ state past _ now torn.2 (first_torn state past torn.0 least torn.1)
     ] in
     clears_so (state ∷ past) now (Err fault) each tt
@@ -96,10 +85,9 @@ clear_ends (state ∷ past) between now (Ok done) least writes syncs same =
     let next : DiskState = with_range state 0 1 (written state.bytes 0 (0 ∷ [])) in
     let is : now ≡ with_sync next ∷ next ∷ state ∷ past = subst (λ (states : List DiskState). Syncs states now) writes syncs in
     let torn : LeavesNothingOr (state ∷ past) next =
-        first_torn state past (written state.bytes 0 (0 ∷ [])) least
-        (torn_written 0 (0 ∷ []) state.bytes (omega arith)) in
-    clears_so (state ∷ past) now (Ok done)
-    (
+    first_torn state past (written state.bytes 0 (0 ∷ [])) least
+    (torn_written 0 (0 ∷ []) state.bytes (omega arith)) in
+    clears_so (state ∷ past) now (Ok done) (
       with_sync next ∷ next ∷ [],
       is,
       (
@@ -111,13 +99,13 @@ clear_ends (state ∷ past) between now (Ok done) least writes syncs same =
       ),
     )
     (subst (λ (states : List DiskState). Newest (LeavesOnly []) states) (sym is)
-      (record {
-        images = λ image left. ap recovered left ∙ zero_first state.bytes;
-        reads = zero_first state.bytes;
-      }))
+    (record {
+      images = λ image left. ap recovered left ∙ zero_first state.bytes;
+      reads = zero_first state.bytes;
+    }))
 clear_ends (state ∷ past) between now (Err fault) least writes syncs same =
     clears_so (state ∷ past) now (Err fault)
     (throughout_one _ state past _ now (same ∙ writes)
-      (first_torn state past (written state.bytes 0 (0 ∷ [])) least
-        (torn_written 0 (0 ∷ []) state.bytes (omega arith))))
+    (first_torn state past (written state.bytes 0 (0 ∷ [])) least
+    (torn_written 0 (0 ∷ []) state.bytes (omega arith))))
     tt

@@ -1,16 +1,15 @@
 -- A kept key is found, or a gate that isn't open is put behind the last one.
-use Rattle.std.proofs.Common.{◌≡◌, ◌≢◌, ℕ, zero, suc, ◌+◌, ◌*◌, ◌≤◌, ◌<◌, List, [], ◌∷◌, ◌++◌, length, take, drop, refl, sym, ap, ◌∙◌, subst, arith, length-append, length-take, Ok, Err, Result, Some, None}
+use Rattle.std.proofs.Common.{◌≡◌, ℕ, ◌+◌, ◌*◌, ◌≤◌, List, [], ◌∷◌, ◌++◌, length, take, drop, refl, sym, ap, ◌∙◌, subst, arith, length-append, Ok, Result, Some, None}
 use Rattle.std.specs.Prelude.{slice_get}
 use Rattle.std.proofs.lemmas.Grind.{common_steps}
 use Rattle.std.proofs.lemmas.Result.{on_ok_weaker}
 use Rattle.key_journal.specs.Crash.{LeavesOnly, Throughout}
-use Rattle.key_journal.specs.Disk.{DiskState, Torn, Newest, bytes_of, written as written_to}
+use Rattle.key_journal.specs.Disk.{DiskState, Newest, bytes_of, written as written_to}
 use Rattle.key_journal.specs.Reading.{Gave}
 use Rattle.key_journal.specs.Recovered.{recovered, kept}
 use Rattle.key_journal.specs.Private.Keeping.{FindsKey, ShutsGate, Replays}
-use Rattle.key_journal.specs.Private.Stages.{Begins, IsAppending, IsCutOff, IsReplaying, IsShut, IsCut, blocks}
+use Rattle.key_journal.specs.Private.Stages.{Begins, IsAppending, IsCutOff, IsReplaying, IsShut, blocks}
 use Rattle.key_journal.specs.Private.Writes.{IsSynced, IsSyncedAs, IsTornFrom, WritesSynced}
-use Rattle.key_journal.specs.declared.stage.Block.{Block}
 use Rattle.key_journal.specs.declared.stage.Block.TheVariants.{Open, Shut, Cut}
 use Rattle.key_journal.proofs.Blocks.{blocks_of, recovered_blocks, length_blocks, torn_cut, written_cut}
 use Rattle.key_journal.proofs.Moments.{throughout_same, throughout_weaker}
@@ -39,16 +38,15 @@ found_open : (given key : ℕ) (state : DiskState) → IsReplaying given state �
 found_open given key state replaying begins =
     let keys : List ℕ = recovered state.bytes in
     let whole : state.bytes ≡ blocks (take given keys) ++ 1 ∷ key ∷ begins.0 =
-        blocks_of given state.bytes replaying.enough ∙ ap (λ (rest : List ℕ). blocks (take given keys) ++ rest) begins.1 in
+    blocks_of given state.bytes replaying.enough ∙ ap (λ (rest : List ℕ). blocks (take given keys) ++ rest) begins.1 in
     let found : keys ≡ take given keys ++ key ∷ recovered begins.0 =
-        ap recovered whole ∙ recovered_blocks (take given keys) (1 ∷ key ∷ begins.0) in
+    ap recovered whole ∙ recovered_blocks (take given keys) (1 ∷ key ∷ begins.0) in
     let many : length (take given keys) ≡ given = taken_length given keys replaying.enough in
     let there : slice_get (take given keys ++ key ∷ recovered begins.0) given ≡ Some key =
-        subst (λ (place : ℕ). slice_get (take given keys ++ key ∷ recovered begins.0) place ≡ Some key) many
-        (get_seam (take given keys) (recovered begins.0) key) in
+    subst (λ (place : ℕ). slice_get (take given keys ++ key ∷ recovered begins.0) place ≡ Some key) many
+    (get_seam (take given keys) (recovered begins.0) key) in
     let total : length keys ≡ given + (1 + length (recovered begins.0)) =
-        ap length found ∙ rw (length-append, many) (omega arith) in
-    (
+    ap length found ∙ rw (length-append, many) (omega arith) in (
       record {
         safe = synced_leaves state replaying.synced;
         next = subst (λ (keys : List ℕ). slice_get keys given ≡ Some key) (sym found) there;
@@ -101,7 +99,7 @@ pub cut_within : (given : ℕ) (past : List DiskState) → Newest (IsCutOff give
 cut_within given [] cut = tt
 cut_within given (state ∷ past) cut =
     let total : length state.bytes ≡ length (blocks cut.cut.keys) + length cut.cut.rest =
-        rw (cut.cut.whole, length-append) refl in
+    rw (cut.cut.whole, length-append) refl in
     omega (arith, total, length_blocks cut.cut.keys, cut.cut.many)
 
 pub cut_synced : (given : ℕ) (past : List DiskState) → Newest (IsCutOff given) past →
@@ -161,16 +159,3 @@ replays_shut given past now replaying begins same = record {
   each = throughout_same _ past now same;
   found = subst (λ (states : List DiskState). Newest (IsAppending given) states) (sym same) (finds_shut given past replaying begins);
 }
-
--- a gate is shut where none stands
-pub replays_cut : {E : Type 0} (given : ℕ) (past between now : List DiskState) → between ≡ past →
-    ShutsGate {E = E} given between now (Ok tt) → Replays {E = E} given past now (Ok None)
-replays_cut given past between now same shuts = record {
-  each = subst (λ (states : List DiskState). Throughout (LeavesOnly (kept states)) states now) same shuts.each;
-  found = shuts.holds;
-}
-
--- a fault leaves the same keys
-pub replays_fault : {E : Type 0} (given : ℕ) (past now : List DiskState) (fault : E) →
-    Throughout (LeavesOnly (kept past)) past now → Replays {E = E} given past now (Err fault)
-replays_fault given past now fault each = record { each = each; found = tt }

@@ -1,10 +1,10 @@
 -- What a journal's fields keep: no key that was given is lost.
-use Rattle.std.proofs.Common.{◌≡◌, ℕ, ◌+◌, ◌≤◌, ◌^◌, ◌⊎◌, inl, inr, List, [], ◌∷◌, ◌++◌, length, refl, sym, ap, ◌∙◌, subst, arith, length-append, Option, Result}
+use Rattle.std.proofs.Common.{◌≡◌, ℕ, ◌+◌, ◌≤◌, ◌⊎◌, inl, inr, List, [], ◌∷◌, ◌++◌, length, sym, ap, ◌∙◌, subst, arith, length-append, Option, Result}
 use Rattle.key_journal.specs.Reading.{ReadsKey}
 use Rattle.key_journal.specs.Crash.{LeavesAtLeast, LeavesOneOf, Throughout}
 use Rattle.key_journal.specs.Disk.{DiskState, Newest}
 use Rattle.key_journal.specs.Recovered.{recovered, kept}
-use Rattle.key_journal.specs.Private.Stages.{HoldsAt, IsAppending, IsReplaying, Stays}
+use Rattle.key_journal.specs.Private.Stages.{HoldsAt, Stays}
 use Rattle.key_journal.specs.declared.stage.Stage.{Stage}
 use Rattle.key_journal.specs.declared.stage.Stage.TheVariants.{Unsynced, Replaying, Appending}
 use Rattle.key_journal.proofs.Blocks.{shut_count}
@@ -17,7 +17,7 @@ synced_least : (given : ℕ) (state : DiskState) → IsSynced state → given �
     LeavesAtLeast given state
 synced_least given state synced enough = record {
   images = λ image left.
-    subst (λ (keys : List ℕ). given ≤ length keys) (sym ((synced_leaves state synced).images image left)) enough;
+      subst (λ (keys : List ℕ). given ≤ length keys) (sym ((synced_leaves state synced).images image left)) enough;
   reads = enough;
 }
 
@@ -30,7 +30,7 @@ holds_least Replaying given (state ∷ past) holds = synced_least given state ho
 holds_least Appending given [] holds = tt
 holds_least Appending given (state ∷ past) holds =
     let many : length (recovered state.bytes) ≡ given =
-        ap length (shut_count given state.bytes holds.shut) ∙ holds.shut.many in
+    ap length (shut_count given state.bytes holds.shut) ∙ holds.shut.many in
     synced_least given state holds.synced (omega arith)
 
 -- a call that leaves the kept keys or more leaves at least as many
@@ -42,18 +42,18 @@ least_after given taken [] now least each =
 least_after given taken (state ∷ past) now least each =
     newest_after (LeavesAtLeast given) (state ∷ past) now least
     (throughout_weaker _ _ (state ∷ past) now
-      (λ (next : DiskState) (one : LeavesOneOf (recovered state.bytes) taken next). record {
-        images = λ image left. enough (recovered image) (one.images image left);
-        reads = enough (recovered next.bytes) one.reads;
-      })
-      each) where
-  enough : (found : List ℕ) →
-      (found ≡ recovered state.bytes) ⊎ (found ≡ recovered state.bytes ++ taken) → given ≤ length found
-  enough found (inl same) = subst (λ (keys : List ℕ). given ≤ length keys) (sym same) least.reads
-  enough found (inr more) =
-      let many : length found ≡ length (recovered state.bytes) + length taken =
+    (λ (next : DiskState) (one : LeavesOneOf (recovered state.bytes) taken next). record {
+      images = λ image left. enough (recovered image) (one.images image left);
+      reads = enough (recovered next.bytes) one.reads;
+    })
+    each) where
+      enough : (found : List ℕ) →
+          (found ≡ recovered state.bytes) ⊎ (found ≡ recovered state.bytes ++ taken) → given ≤ length found
+      enough found (inl same) = subst (λ (keys : List ℕ). given ≤ length keys) (sym same) least.reads
+      enough found (inr more) =
+          let many : length found ≡ length (recovered state.bytes) + length taken =
           ap length more ∙ length-append (recovered state.bytes) taken in
-      omega (arith, many, least.reads)
+          omega (arith, many, least.reads)
 
 -- at least so many keys are at least fewer ones
 pub least_fewer : (fewer given : ℕ) (past : List DiskState) → fewer ≤ given →

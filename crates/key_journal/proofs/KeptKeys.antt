@@ -1,8 +1,8 @@
 -- A key is kept: it is written behind its gate, and then the gate is opened.
-use Rattle.std.proofs.Common.{◌≡◌, ◌≢◌, ℕ, ◌+◌, ◌*◌, ◌≤◌, ◌⊎◌, inl, inr, List, [], ◌∷◌, ◌++◌, length, refl, sym, ap, ◌∙◌, subst, arith, length-append, Ok, Err, Result}
+use Rattle.std.proofs.Common.{◌≡◌, ℕ, ◌+◌, ◌*◌, ◌≤◌, ◌⊎◌, inl, List, [], ◌∷◌, ◌++◌, length, refl, sym, ap, ◌∙◌, subst, arith, length-append, Ok, Err, Result}
 use Rattle.std.proofs.lemmas.Result.{on_ok_weaker}
 use Rattle.key_journal.specs.Crash.{LeavesOnly, LeavesOneOf, Throughout}
-use Rattle.key_journal.specs.Disk.{DiskState, Torn, MayLeave, Newest, bytes_of, written as written_to}
+use Rattle.key_journal.specs.Disk.{DiskState, Torn, Newest, bytes_of, written as written_to}
 use Rattle.key_journal.specs.Recovered.{recovered, kept}
 use Rattle.key_journal.specs.Private.Keeping.{KeepsKey}
 use Rattle.key_journal.specs.Private.Stages.{IsAppending, IsShut, blocks}
@@ -29,7 +29,7 @@ key_within given [] appending = tt
 key_within given (state ∷ past) appending =
     let shut : IsShut given state.bytes = appending.shut in
     let total : length state.bytes ≡ length (blocks shut.keys) + (1 + length shut.rest) =
-        rw (shut.whole, length-append) (omega arith) in
+    rw (shut.whole, length-append) (omega arith) in
     omega (arith, total, length_blocks shut.keys, shut.many)
 
 pub gate_within : (given key : ℕ) (keys : List ℕ) (past : List DiskState) →
@@ -38,7 +38,7 @@ gate_within given key keys [] stands = tt
 gate_within given key keys (state ∷ past) stands =
     let has : HasKey given key state.bytes = stands.has in
     let total : length state.bytes ≡ length (blocks has.keys) + (3 + length has.rest) =
-        rw (has.whole, length-append) (omega arith) in
+    rw (has.whole, length-append) (omega arith) in
     omega (arith, total, length_blocks has.keys, has.many)
 
 -- such a disk is synced
@@ -76,11 +76,11 @@ key_stands given key (state ∷ past) [] appending each done = tt
 key_stands given key (state ∷ past) (next ∷ between) appending each done =
     let bytes : List ℕ = written_to state.bytes (2 * given + 1) (key ∷ 0 ∷ []) in
     let there : (has : HasKey given key bytes) × (has.keys ≡ recovered state.bytes) =
-        let put : (has : HasKey given key bytes) × (has.keys ≡ appending.shut.keys) =
-            written_key given key state.bytes appending.shut in
-        (put.0, put.1 ∙ sym (shut_count given state.bytes appending.shut)) in
+    let put : (has : HasKey given key bytes) × (has.keys ≡ appending.shut.keys) =
+    written_key given key state.bytes appending.shut in
+    (put.0, put.1 ∙ sym (shut_count given state.bytes appending.shut)) in
     let here : (has : HasKey given key next.bytes) × (has.keys ≡ recovered state.bytes) =
-        subst (λ (bytes : List ℕ). (has : HasKey given key bytes) × (has.keys ≡ recovered state.bytes)) (sym done.reads) there in
+    subst (λ (bytes : List ℕ). (has : HasKey given key bytes) × (has.keys ≡ recovered state.bytes)) (sym done.reads) there in
     record {
       synced = record { none = done.none; synced = done.synced ∙ sym done.reads; reads = refl };
       has = here.0;
@@ -112,9 +112,9 @@ gate_moments : (given key : ℕ) (keys : List ℕ) (between now : List DiskState
 gate_moments given key keys [] now stands each = each
 gate_moments given key keys (state ∷ past) now stands each =
     let one_of : (image : List ℕ) → Torn (2 * given) 1 state.bytes image →
-        (recovered image ≡ keys) ⊎ (recovered image ≡ keys ++ key ∷ []) = λ image torn.
-        subst (λ (keys : List ℕ). (recovered image ≡ keys) ⊎ (recovered image ≡ keys ++ key ∷ [])) stands.same
-        (torn_gate given key state.bytes image stands.has torn) in
+    (recovered image ≡ keys) ⊎ (recovered image ≡ keys ++ key ∷ []) = λ image torn.
+    subst (λ (keys : List ℕ). (recovered image ≡ keys) ⊎ (recovered image ≡ keys ++ key ∷ [])) stands.same
+    (torn_gate given key state.bytes image stands.has torn) in
     throughout_weaker _ _ (state ∷ past) now
     (λ (next : DiskState) (torn : IsTornFrom (2 * given) 1 state.bytes next). record {
       images = λ image left. one_of image (torn.images image left);
@@ -133,13 +133,12 @@ gate_open given key keys [] now stands each done =
 gate_open given key keys (state ∷ past) [] stands each done = (tt, tt)
 gate_open given key keys (state ∷ past) (next ∷ now) stands each done =
     let there : (shut : IsShut (given + 1) (written_to state.bytes (2 * given) (1 ∷ []))) × (shut.keys ≡ stands.has.keys ++ key ∷ []) =
-        written_gate given key state.bytes stands.has in
+    written_gate given key state.bytes stands.has in
     let here : (shut : IsShut (given + 1) next.bytes) × (shut.keys ≡ stands.has.keys ++ key ∷ []) =
-        subst (λ (bytes : List ℕ). (shut : IsShut (given + 1) bytes) × (shut.keys ≡ stands.has.keys ++ key ∷ [])) (sym done.reads) there in
+    subst (λ (bytes : List ℕ). (shut : IsShut (given + 1) bytes) × (shut.keys ≡ stands.has.keys ++ key ∷ [])) (sym done.reads) there in
     let found : recovered next.bytes ≡ keys ++ key ∷ [] =
-        shut_count (given + 1) next.bytes here.0 ∙ here.1 ∙ ap (λ (keys : List ℕ). keys ++ key ∷ []) stands.same in
-    let synced : IsSynced next = record { none = done.none; synced = done.synced ∙ sym done.reads; reads = refl } in
-    (
+    shut_count (given + 1) next.bytes here.0 ∙ here.1 ∙ ap (λ (keys : List ℕ). keys ++ key ∷ []) stands.same in
+    let synced : IsSynced next = record { none = done.none; synced = done.synced ∙ sym done.reads; reads = refl } in (
       record {
         images = λ image left. ap recovered (synced_images next.bytes next synced image left) ∙ found;
         reads = found;
@@ -154,8 +153,8 @@ pub keeps_key : {E : Type 0} (given key : ℕ) (past between now : List DiskStat
     KeepsKey {E = E} given key past now result
 keeps_key given key past between now result puts written =
     let whole : Newest (IsSyncedAs (written_to (bytes_of between) (2 * given) (1 ∷ []))) now →
-        Newest (LeavesOnly (kept past ++ key ∷ [])) now × Newest (IsAppending (given + 1)) now =
-        gate_open given key (kept past) between now puts.stands written.each in
+    Newest (LeavesOnly (kept past ++ key ∷ [])) now × Newest (IsAppending (given + 1)) now =
+    gate_open given key (kept past) between now puts.stands written.each in
     record {
       each = throughout_both _ past between now puts.each
           (gate_moments given key (kept past) between now puts.stands written.each);

@@ -20,3 +20,5 @@ pub mod BytesLeft
 pub mod MoreReads
 -- the states of a disk in memory
 pub mod MemDisks
+-- the laws of what a disk reads as
+pub mod Images

@@ -1,9 +1,9 @@
 -- The states of a disk in memory, from the calls that were done.
-use Rattle.std.proofs.Common.{◌≡◌, ℕ, ◌+◌, ◌-◌, ◌≤◌, ◌^◌, List, [], ◌∷◌, ◌++◌, length, take, drop, refl, sym, ap, ◌∙◌, subst, arith}
+use Rattle.std.proofs.Common.{◌≡◌, ℕ, ◌+◌, ◌-◌, ◌≤◌, ◌^◌, List, [], ◌∷◌, ◌++◌, length, refl, sym, ap, ◌∙◌, subst, arith}
 use Rattle.std.specs.Prelude.{fold}
 use Rattle.std.proofs.lemmas.Grind.{common_steps}
 use Rattle.std.proofs.lemmas.List.Sums.{fold-append}
-use Rattle.key_journal.specs.Disk.{DiskState, Newest, Syncs, Writes, bytes_of, with_range, with_sync, written}
+use Rattle.key_journal.specs.Disk.{DiskState, Newest, bytes_of, with_range, with_sync, written}
 use Rattle.key_journal.specs.MemDisk.{empty_state, states, with_call}
 use Rattle.key_journal.specs.Private.MemDiskFields.{HoldsBytes}
 use Rattle.key_journal.specs.declared.mem_disk.DiskCall.{DiskCall}
@@ -22,24 +22,6 @@ pub one_more : (calls : List DiskCall) (call : DiskCall) →
     states (calls ++ call ∷ []) ≡ with_call (states calls) call
 one_more calls call = fold-append with_call (empty_state ∷ []) calls (call ∷ [])
 
-writes_to : (past : List DiskState) (at : ℕ) (piece : List ℕ) →
-    Writes at piece past (with_call past (Write at piece))
-writes_to [] at piece = refl
-writes_to (state ∷ past) at piece = refl
-
-syncs_to : (past : List DiskState) → Syncs past (with_call past Sync)
-syncs_to [] = refl
-syncs_to (state ∷ past) = refl
-
--- a write that was noted
-pub noted_write : (done : List DiskCall) (at : ℕ) (piece : List ℕ) →
-    Writes at piece (states done) (states (done ++ Write at piece ∷ []))
-noted_write done at piece = rw (one_more done (Write at piece)) (writes_to (states done) at piece)
-
--- a sync that was noted
-pub noted_sync : (done : List DiskCall) → Syncs (states done) (states (done ++ Sync ∷ []))
-noted_sync done = rw (one_more done Sync) (syncs_to (states done))
-
 -- a place within what the disk reads as is within its bytes
 pub place_within : (at : ℕ) (bytes : List ℕ) (done : List DiskCall) → HoldsBytes bytes done →
     Newest (λ state. at ≤ length state.bytes) (states done) → at ≤ length bytes
@@ -54,10 +36,6 @@ bytes_written : (past : List DiskState) (at : ℕ) (piece : List ℕ) (next : Di
 bytes_written [] at piece next older told = absurd (cc)
 bytes_written (state ∷ past) at piece next older told = refl
 
-bytes_synced : (past : List DiskState) → bytes_of (with_call past Sync) ≡ bytes_of past
-bytes_synced [] = refl
-bytes_synced (state ∷ past) = refl
-
 -- the bytes hold once a write is done
 pub holds_written : (bytes after : List ℕ) (at : ℕ) (piece : List ℕ) (done : List DiskCall) →
     HoldsBytes bytes done → at ≤ length bytes → at + length piece ≤ 2 ^ 62 →
@@ -65,17 +43,9 @@ pub holds_written : (bytes after : List ℕ) (at : ℕ) (piece : List ℕ) (done
 holds_written bytes after at piece done holds within inside is =
     let told : (next : DiskState) × (older : List DiskState) × (states done ≡ next ∷ older) = told_from done empty_state [] in
     let many : length (written bytes at piece) ≡ at + length piece + (length bytes - (at + length piece)) =
-        grind (arith, common_steps) in
+    grind (arith, common_steps) in
     record {
       same = is ∙ ap (λ (bytes : List ℕ). written bytes at piece) holds.same ∙
           sym (ap bytes_of (one_more done (Write at piece)) ∙ bytes_written (states done) at piece told.0 told.1 told.2);
       inside = rw is (omega (arith, many, within, inside, holds.inside));
     }
-
--- and once a sync is
-pub holds_synced : (bytes : List ℕ) (done : List DiskCall) → HoldsBytes bytes done →
-    HoldsBytes bytes (done ++ Sync ∷ [])
-holds_synced bytes done holds = record {
-  same = holds.same ∙ sym (ap bytes_of (one_more done Sync) ∙ bytes_synced (states done));
-  inside = holds.inside;
-}

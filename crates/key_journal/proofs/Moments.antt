@@ -1,5 +1,5 @@
 -- What holds at each moment of a call, and of calls one after the other.
-use Rattle.std.proofs.Common.{◌≡◌, ℕ, List, [], ◌∷◌, ◌++◌, refl, sym, ap, ◌∙◌, append_assoc, subst}
+use Rattle.std.proofs.Common.{◌≡◌, List, [], ◌∷◌, ◌++◌, sym, ap, ◌∙◌, append_assoc, subst}
 use Rattle.key_journal.specs.Disk.{DiskState, Newest}
 use Rattle.key_journal.specs.Crash.{EachState, Throughout}
 
@@ -34,12 +34,11 @@ throughout_both P [] [] now first second = second
 throughout_both P [] (state ∷ between) now first second = absurd (cc (first))
 throughout_both P (state ∷ past) [] now first second =
     absurd (not_empty first.0 state past (sym first.1))
-throughout_both P (state ∷ past) (newest ∷ between) now first second =
-    (
-      second.0 ++ first.0,
-      second.1 ∙ ap (λ states. second.0 ++ states) first.1 ∙ sym (append_assoc second.0 first.0 (state ∷ past)),
-      each_append P second.0 first.0 second.2 first.2,
-    )
+throughout_both P (state ∷ past) (newest ∷ between) now first second = (
+  second.0 ++ first.0,
+  second.1 ∙ ap (λ states. second.0 ++ states) first.1 ∙ sym (append_assoc second.0 first.0 (state ∷ past)),
+  each_append P second.0 first.0 second.2 first.2,
+)
 
 -- what holds of each state holds of each where it is weakened
 pub each_weaker : (P Q : DiskState → Type 0) (states : List DiskState) →
@@ -61,6 +60,6 @@ pub newest_after : (P : DiskState → Type 0) (past now : List DiskState) → Ne
 newest_after P [] now newest all = subst (Newest P) (sym all) tt
 newest_after P (state ∷ past) now newest all =
     subst (Newest P) (sym all.1) (front all.0 all.2) where
-  front : (added : List DiskState) → EachState P added → Newest P (added ++ state ∷ past)
-  front [] all = newest
-  front (first ∷ added) all = all.0
+      front : (added : List DiskState) → EachState P added → Newest P (added ++ state ∷ past)
+      front [] all = newest
+      front (first ∷ added) all = all.0

@@ -22,14 +22,13 @@ between_grown first taken more state between = record {
   grown : (found : List ℕ) →
       ((some : List ℕ) × (rest : List ℕ) × (found ≡ first ++ some) × (first ++ taken ≡ found ++ rest)) →
       (some : List ℕ) × (rest : List ℕ) × (found ≡ first ++ some) × (first ++ (taken ++ more) ≡ found ++ rest)
-  grown found parts =
-      (
-        parts.0,
-        parts.1 ++ more,
-        parts.2,
-        sym (append_assoc first taken more) ∙ ap (λ (keys : List ℕ). keys ++ more) parts.3 ∙
+  grown found parts = (
+    parts.0,
+    parts.1 ++ more,
+    parts.2,
+    sym (append_assoc first taken more) ∙ ap (λ (keys : List ℕ). keys ++ more) parts.3 ∙
         append_assoc found parts.1 more,
-      )
+  )
 
 -- all that were taken, or one more, are between the first and that one
 between_one : (first taken more : List ℕ) (state : DiskState) → LeavesOneOf (first ++ taken) more state →
@@ -42,13 +41,12 @@ between_one first taken more state one = record {
       (some : List ℕ) × (rest : List ℕ) × (found ≡ first ++ some) × (first ++ (taken ++ more) ≡ found ++ rest)
   either found (inl same) =
       (taken, more, same, sym (append_assoc first taken more) ∙ ap (λ (keys : List ℕ). keys ++ more) (sym same))
-  either found (inr whole) =
-      (
-        taken ++ more,
-        [],
-        whole ∙ append_assoc first taken more,
-        sym (append_assoc first taken more) ∙ sym whole ∙ sym (append-nil found),
-      )
+  either found (inr whole) = (
+    taken ++ more,
+    [],
+    whole ∙ append_assoc first taken more,
+    sym (append_assoc first taken more) ∙ sym whole ∙ sym (append-nil found),
+  )
 
 -- at each moment over both
 moments_grown : (first old now : List DiskState) (given : ℕ) (taken more : List ℕ) →
@@ -59,7 +57,7 @@ moments_grown first old now given taken more keeps same each =
     throughout_both _ first old now
     (throughout_weaker _ _ first old (between_grown (kept first) taken more) keeps.each)
     (throughout_weaker _ _ old now (between_one (kept first) taken more)
-      (subst (λ (keys : List ℕ). Throughout (LeavesOneOf keys more) old now) same each))
+    (subst (λ (keys : List ℕ). Throughout (LeavesOneOf keys more) old now) same each))
 
 -- a disk that tells nothing keeps what it keeps
 untold_keeps : (now : List DiskState) (given : ℕ) (taken : List ℕ) → now ≡ [] → KeepsAll [] now given taken
@@ -82,33 +80,33 @@ keeps_key (start ∷ first) (state ∷ old) (next ∷ now) given key taken more 
     let keys : List ℕ = recovered start.bytes ++ taken in
     let same : recovered state.bytes ≡ keys = keeps.safe.reads in
     let all : recovered state.bytes ++ more ≡ recovered start.bytes ++ (taken ++ more) =
-        ap (λ (keys : List ℕ). keys ++ more) same ∙ append_assoc (recovered start.bytes) taken more in
+    ap (λ (keys : List ℕ). keys ++ more) same ∙ append_assoc (recovered start.bytes) taken more in
     let below : given + 1 ≤ length (recovered state.bytes ++ more) =
-        let under : given < length (recovered state.bytes ++ more) = get_below _ given key gave.next in omega (arith, under) in
+    let under : given < length (recovered state.bytes ++ more) = get_below _ given key gave.next in omega (arith, under) in
     let total : length (recovered state.bytes ++ more) ≡ length keys + length more =
-        length-append (recovered state.bytes) more ∙ ap (λ (keys : List ℕ). length keys + length more) same in
+    length-append (recovered state.bytes) more ∙ ap (λ (keys : List ℕ). length keys + length more) same in
     let whole : length (recovered start.bytes ++ (taken ++ more)) ≡ length keys + length more =
-        ap length (sym all) ∙ total in
+    ap length (sym all) ∙ total in
     record {
       each = moments_grown (start ∷ first) (state ∷ old) (next ∷ now) given taken more keeps same each;
       safe = subst (λ (keys : List ℕ). LeavesOnly keys next) all gave.safe;
       within = omega (arith, below, total, whole);
       behind = placed behind keeps.behind below total whole;
     } where
-  placed : (more ≡ []) ⊎ (drop given (recovered state.bytes) ≡ []) →
-      (taken ≡ []) ⊎ (given ≡ length (recovered start.bytes ++ taken)) →
-      given + 1 ≤ length (recovered state.bytes ++ more) →
-      length (recovered state.bytes ++ more) ≡ length (recovered start.bytes ++ taken) + length more →
-      length (recovered start.bytes ++ (taken ++ more)) ≡ length (recovered start.bytes ++ taken) + length more →
-      (taken ++ more ≡ []) ⊎ (given + 1 ≡ length (recovered start.bytes ++ (taken ++ more)))
-  placed (inl none) (inl nothing) below total whole = inl (rw (none, nothing) refl)
-  placed (inl none) (inr at_end) below total whole =
-      let zero_more : length more ≡ 0 = ap length none in absurd (omega (arith, below, total, zero_more, at_end))
-  placed (inr ended) taken_all below total whole =
-      let ends : length (recovered state.bytes) ≤ given = ends_before _ given ended in
-      let sum : length (recovered state.bytes ++ more) ≡ length (recovered state.bytes) + length more =
+      placed : (more ≡ []) ⊎ (drop given (recovered state.bytes) ≡ []) →
+          (taken ≡ []) ⊎ (given ≡ length (recovered start.bytes ++ taken)) →
+          given + 1 ≤ length (recovered state.bytes ++ more) →
+          length (recovered state.bytes ++ more) ≡ length (recovered start.bytes ++ taken) + length more →
+          length (recovered start.bytes ++ (taken ++ more)) ≡ length (recovered start.bytes ++ taken) + length more →
+          (taken ++ more ≡ []) ⊎ (given + 1 ≡ length (recovered start.bytes ++ (taken ++ more)))
+      placed (inl none) (inl nothing) below total whole = inl (rw (none, nothing) refl)
+      placed (inl none) (inr at_end) below total whole =
+          let zero_more : length more ≡ 0 = ap length none in absurd (omega (arith, below, total, zero_more, at_end))
+      placed (inr ended) taken_all below total whole =
+          let ends : length (recovered state.bytes) ≤ given = ends_before _ given ended in
+          let sum : length (recovered state.bytes ++ more) ≡ length (recovered state.bytes) + length more =
           length-append (recovered state.bytes) more in
-      inr (omega (arith, ends, sum, below, total, whole, few))
+          inr (omega (arith, ends, sum, below, total, whole, few))
 
 -- it was the end
 pub keeps_end : (first old now : List DiskState) (given : ℕ) (taken more : List ℕ)
@@ -156,15 +154,15 @@ keeps_fault (start ∷ first) (state ∷ old) (next ∷ now) given taken more ke
       within = keeps.within;
       behind = placed behind keeps.behind;
     } where
-  placed : (more ≡ []) ⊎ (drop given (recovered state.bytes) ≡ []) →
-      (taken ≡ []) ⊎ (given ≡ length (recovered start.bytes ++ taken)) →
-      (taken ++ more ≡ []) ⊎ (given ≡ length (recovered start.bytes ++ taken))
-  placed (inl none) (inl nothing) = inl (rw (none, nothing) refl)
-  placed (inl none) (inr at_end) = inr at_end
-  placed (inr ended) taken_all =
-      let ends : length (recovered state.bytes) ≤ given = ends_before _ given ended in
-      let many : length (recovered state.bytes) ≡ length (recovered start.bytes ++ taken) = ap length keeps.safe.reads in
-      inr (omega (arith, ends, many, keeps.within))
+      placed : (more ≡ []) ⊎ (drop given (recovered state.bytes) ≡ []) →
+          (taken ≡ []) ⊎ (given ≡ length (recovered start.bytes ++ taken)) →
+          (taken ++ more ≡ []) ⊎ (given ≡ length (recovered start.bytes ++ taken))
+      placed (inl none) (inl nothing) = inl (rw (none, nothing) refl)
+      placed (inl none) (inr at_end) = inr at_end
+      placed (inr ended) taken_all =
+          let ends : length (recovered state.bytes) ≤ given = ends_before _ given ended in
+          let many : length (recovered state.bytes) ≡ length (recovered start.bytes ++ taken) = ap length keeps.safe.reads in
+          inr (omega (arith, ends, many, keeps.within))
 
 -- what two reads took
 consumes_both : (left between left_after : Option (List ℕ)) (taken more : List ℕ) →
@@ -217,8 +215,8 @@ counts_key : {S D E : Type 0} (left : S → Option (List ℕ)) (past : D → Lis
 counts_key left past first old now key taken counts consumes reads one read not_ended = record {
   ends = counts.ends;
   counted = λ few.
-    let before : old.reads + first.given ≡ first.reads + old.given + counts.ends = counts.counted (omega (arith, few, read)) in
-    omega (arith, few, read, one, before);
+      let before : old.reads + first.given ≡ first.reads + old.given + counts.ends = counts.counted (omega (arith, few, read)) in
+      omega (arith, few, read, one, before);
   noted = λ fresh none. not_ended;
   at_end = λ fresh ended. absurd (cc);
   stays = λ fresh told disk. still fresh told disk (counts.stays fresh told (old_told disk));
@@ -229,15 +227,16 @@ counts_key left past first old now key taken counts consumes reads one read not_
         Throughout (LeavesOneOf (kept (past old.disk)) reads.taken) before (past now.disk) → past now.disk ≡ []
     untold [] none each = each
     untold (state ∷ before) none each = absurd (cc)
+
   still : first.ended ≡ false → IsSome (left first.inner) → past now.disk ≢ [] →
       (counts.ends ≡ 0) ⊎ (old.ended ≡ true) → (counts.ends ≡ 0) ⊎ (now.ended ≡ true)
   still fresh told disk (inl none) = inl none
   still fresh told disk (inr ended) =
       let there : (bytes : List ℕ) × (left old.inner ≡ Some bytes) =
-          told_left (left first.inner) (left old.inner) taken consumes told in
+      told_left (left first.inner) (left old.inner) taken consumes told in
       let end : IsAtEnd (left old.inner) × (drop old.given (kept (past old.disk)) ≡ []) = counts.at_end fresh ended in
       let none : reads.taken ≡ [] =
-          ended_takes (left old.inner) (left now.inner) reads.taken there.0 there.1 end.0 reads.consumes in
+      ended_takes (left old.inner) (left now.inner) reads.taken there.0 there.1 end.0 reads.consumes in
       absurd (no_key_behind (past old.disk) (past now.disk) old.given key reads.taken none end.1 reads.each disk reads.answer)
 
 -- what is kept doesn't change at the end
@@ -259,13 +258,13 @@ counts_end : {S D E : Type 0} (left : S → Option (List ℕ)) (past : D → Lis
 counts_end left past first old now counts reads same read ended = record {
   ends = counts.ends + 1;
   counted = λ few.
-    let before : old.reads + first.given ≡ first.reads + old.given + counts.ends = counts.counted (omega (arith, few, read)) in
-    omega (arith, few, read, same, before);
+      let before : old.reads + first.given ≡ first.reads + old.given + counts.ends = counts.counted (omega (arith, few, read)) in
+      omega (arith, few, read, same, before);
   noted = λ fresh none. absurd (omega (arith, none));
   at_end = λ fresh noted. (
     reads.answer.source,
     subst (λ (given : ℕ). drop given (kept (past now.disk)) ≡ []) (sym same)
-    (kept_end (past old.disk) (past now.disk) old.given reads.taken (left now.inner) reads.each reads.answer),
+        (kept_end (past old.disk) (past now.disk) old.given reads.taken (left now.inner) reads.each reads.answer),
   );
   stays = λ fresh told disk. inr ended;
 }
@@ -289,8 +288,8 @@ leads_key left source_faults leads_to past disk_faults first old now key leads l
   given_later = omega (arith, leads.given_later, one);
   counts = counts_key left past first old now key leads.taken leads.counts leads.consumes reads one read not_ended;
   keeps = λ few safe.
-    subst (λ (given : ℕ). KeepsAll (past first.disk) (past now.disk) given (leads.taken ++ reads.taken)) (sym one)
-    (keeps_key (past first.disk) (past old.disk) (past now.disk) old.given key leads.taken reads.taken
+      subst (λ (given : ℕ). KeepsAll (past first.disk) (past now.disk) given (leads.taken ++ reads.taken)) (sym one)
+      (keeps_key (past first.disk) (past old.disk) (past now.disk) old.given key leads.taken reads.taken
       (leads.keeps few safe) reads.few reads.behind reads.each reads.answer);
 }
 
@@ -313,8 +312,8 @@ leads_end left source_faults leads_to past disk_faults first old now leads led s
   given_later = omega (arith, leads.given_later, same);
   counts = counts_end left past first old now leads.counts reads same read ended;
   keeps = λ few safe.
-    subst (λ (given : ℕ). KeepsAll (past first.disk) (past now.disk) given (leads.taken ++ reads.taken)) (sym same)
-    (keeps_end (past first.disk) (past old.disk) (past now.disk) old.given leads.taken reads.taken (left now.inner)
+      subst (λ (given : ℕ). KeepsAll (past first.disk) (past now.disk) given (leads.taken ++ reads.taken)) (sym same)
+      (keeps_end (past first.disk) (past old.disk) (past now.disk) old.given leads.taken reads.taken (left now.inner)
       (leads.keeps few safe) reads.each reads.answer);
 }
 
@@ -338,7 +337,7 @@ breaks left source_faults leads_to breaks_at past disk_faults first old now faul
   consumes = consumes_both (left first.inner) (left old.inner) (left now.inner) leads.taken reads.taken leads.consumes reads.consumes;
   given_later = omega (arith, leads.given_later, same);
   keeps = λ few safe.
-    subst (λ (given : ℕ). KeepsAllButLast (past first.disk) (past now.disk) given leads.taken reads.taken) (sym same)
-    (keeps_fault (past first.disk) (past old.disk) (past now.disk) old.given leads.taken reads.taken
+      subst (λ (given : ℕ). KeepsAllButLast (past first.disk) (past now.disk) given leads.taken reads.taken) (sym same)
+      (keeps_fault (past first.disk) (past old.disk) (past now.disk) old.given leads.taken reads.taken
       (leads.keeps few safe) reads.behind reads.each);
 }

@@ -1,16 +1,15 @@
 -- The next key: a kept one, or one that is taken from the source and kept.
-use Rattle.std.proofs.Common.{◌≡◌, ℕ, ◌+◌, ◌≤◌, ◌⊎◌, inl, inr, List, [], ◌∷◌, ◌++◌, length, take, drop, refl, sym, ap, ◌∙◌, subst, arith, length-append, append-nil, Ok, Err, Result, Some, None, Option}
+use Rattle.std.proofs.Common.{◌≡◌, ℕ, ◌⊎◌, inl, inr, List, [], ◌∷◌, ◌++◌, length, drop, refl, sym, ap, ◌∙◌, subst, arith, append-nil, Ok, Err, Result, Some, None, Option}
 use Rattle.std.specs.Prelude.{slice_get, IfOk}
 use Rattle.std.specs.Io.KnownBytes.{Consumes, IsAtEnd}
 use Rattle.synth_outside.specs.Source.{LosesAtMost}
 use Rattle.std.proofs.Math.ListN.{drop_of_length-le}
-use Rattle.std.proofs.lemmas.Result.{IfOk-weaker}
-use Rattle.key_journal.specs.Crash.{LeavesOnly, LeavesOneOf, LeavesAtLeast, Throughout}
-use Rattle.key_journal.specs.Disk.{DiskState, Newest, Syncs, MayLeave, with_sync}
-use Rattle.key_journal.specs.Reading.{Answers, Ends, Gave, ReadsKey}
+use Rattle.key_journal.specs.Crash.{LeavesOnly, LeavesOneOf, Throughout}
+use Rattle.key_journal.specs.Disk.{DiskState, Newest, Syncs, with_sync}
+use Rattle.key_journal.specs.Reading.{Answers, Gave, ReadsKey}
 use Rattle.key_journal.specs.Recovered.{recovered, kept}
 use Rattle.key_journal.specs.Private.Keeping.{FindsKey, KeepsKey, Replays, ReplaysAt}
-use Rattle.key_journal.specs.Private.Stages.{IsAppending, IsReplaying}
+use Rattle.key_journal.specs.Private.Stages.{IsAppending}
 use Rattle.key_journal.specs.declared.stage.Stage.{Stage}
 use Rattle.key_journal.proofs.Blocks.{shut_count}
 use Rattle.key_journal.proofs.FoundKeys.{get_seam, synced_leaves}
@@ -22,7 +21,7 @@ none_behind : (given : ℕ) (past : List DiskState) → Newest (IsAppending give
 none_behind given [] appending = drop_of_length-le [] (omega arith)
 none_behind given (state ∷ past) appending =
     let many : length (recovered state.bytes) ≡ given =
-        ap length (shut_count given state.bytes appending.shut) ∙ appending.shut.many in
+    ap length (shut_count given state.bytes appending.shut) ∙ appending.shut.many in
     drop_of_length-le (recovered state.bytes) (omega arith)
 
 -- the source failed, and may have lost a byte
@@ -86,7 +85,7 @@ key_gave given key [] now appending each safe =
 key_gave given key (state ∷ past) [] appending each safe = tt
 key_gave given key (state ∷ past) (next ∷ now) appending each safe =
     let many : length (recovered state.bytes) ≡ given =
-        ap length (shut_count given state.bytes appending.shut) ∙ appending.shut.many in
+    ap length (shut_count given state.bytes appending.shut) ∙ appending.shut.many in
     record {
       safe = safe;
       next = subst (λ (place : ℕ). slice_get (recovered state.bytes ++ key ∷ []) place ≡ Some key) many
@@ -134,35 +133,23 @@ found_kept left given key past now replays = record {
   answer = subst (λ (keys : List ℕ). Newest (Gave given key keys) now) (sym (append-nil (kept past))) replays.found.0;
 }
 
--- the disk failed while a key was looked for
-pub replay_fails : {E F : Type 0} (left : Option (List ℕ)) (given : ℕ) (past now : List DiskState)
-    (fault : E) (answered : F) → Replays {E = E} given past now (Err fault) →
-    ReadsKey {E = F} left left given past now (Err answered)
-replay_fails left given past now fault answered replays = record {
-  taken = [];
-  few = omega arith;
-  consumes = takes_none left;
-  behind = inl refl;
-  each = only_one_of (kept past) [] past now replays.each;
-  answer = tt;
-}
-
 -- a call after which the same keys are recovered
 pub same_kept : (past now : List DiskState) → Throughout (LeavesOnly (kept past)) past now →
     kept now ≡ kept past
 same_kept [] now each = ap kept each
 same_kept (state ∷ past) now each =
     let reads : Newest (λ next. recovered next.bytes ≡ recovered state.bytes) now =
-        newest_after _ (state ∷ past) now refl
-        (throughout_weaker _ _ (state ∷ past) now (λ (next : DiskState) (only : LeavesOnly (recovered state.bytes) next). only.reads) each) in
+    newest_after _ (state ∷ past) now refl
+    (throughout_weaker _ _ (state ∷ past) now (λ (next : DiskState) (only : LeavesOnly (recovered state.bytes) next). only.reads) each) in
     newest_kept now each reads where
-  not_none : (added : List DiskState) → [] ≡ added ++ state ∷ past → ⊥
-  not_none [] never = cc
-  not_none (first ∷ added) never = cc
-  newest_kept : (now : List DiskState) → Throughout (LeavesOnly (recovered state.bytes)) (state ∷ past) now →
-      Newest (λ next. recovered next.bytes ≡ recovered state.bytes) now → kept now ≡ recovered state.bytes
-  newest_kept [] each reads = absurd (not_none each.0 each.1)
-  newest_kept (next ∷ now) each reads = reads
+      not_none : (added : List DiskState) → [] ≡ added ++ state ∷ past → ⊥
+      not_none [] never = cc
+      not_none (first ∷ added) never = cc
+
+      newest_kept : (now : List DiskState) → Throughout (LeavesOnly (recovered state.bytes)) (state ∷ past) now →
+          Newest (λ next. recovered next.bytes ≡ recovered state.bytes) now → kept now ≡ recovered state.bytes
+      newest_kept [] each reads = absurd (not_none each.0 each.1)
+      newest_kept (next ∷ now) each reads = reads
 
 -- a read goes on behind a call after which the same keys are recovered
 pub read_behind : {E : Type 0} (left left_after : Option (List ℕ)) (given : ℕ)
@@ -189,14 +176,6 @@ sync_leaves [] between syncs = syncs
 sync_leaves (state ∷ past) between syncs =
     throughout_one _ state past (with_sync state) between syncs
     (synced_leaves (with_sync state) (record { none = refl; synced = refl; reads = refl }))
-
-pub sync_replaying : (given : ℕ) (past between : List DiskState) → Newest (LeavesAtLeast given) past →
-    Syncs past between → Newest (IsReplaying given) between
-sync_replaying given [] between least syncs =
-    subst (λ (states : List DiskState). Newest (IsReplaying given) states) (sym syncs) tt
-sync_replaying given (state ∷ past) between least syncs =
-    subst (λ (states : List DiskState). Newest (IsReplaying given) states) (sym syncs)
-    (record { synced = record { none = refl; synced = refl; reads = refl }; enough = least.reads })
 
 pub replay_behind : {E : Type 0} (stage : Stage) (given : ℕ) (past between now : List DiskState)
     (result : Result (Option ℕ) E) → Throughout (LeavesOnly (kept past)) past between →

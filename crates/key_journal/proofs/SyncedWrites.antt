@@ -1,10 +1,9 @@
 -- A write that is synced at once, over a disk that is synced.
-use Rattle.std.proofs.Common.{◌≡◌, ℕ, ◌+◌, ◌-◌, ◌≤◌, ◌⊎◌, inl, inr, List, [], ◌∷◌, ◌++◌, length, take, drop, refl, sym, ap, ◌∙◌, subst, arith, append_assoc, length-append, length-drop, length-take, Ok, Err, Result}
+use Rattle.std.proofs.Common.{◌≡◌, ℕ, ◌+◌, ◌-◌, ◌≤◌, inl, inr, List, [], ◌∷◌, ◌++◌, length, take, refl, sym, ◌∙◌, subst, arith, Ok, Err}
 use Rattle.std.proofs.lemmas.Grind.{common_steps}
-use Rattle.key_journal.specs.Disk.{DiskState, Torn, Leaves, MayLeave, Newest, Writes, Tears, Syncs, bytes_of, written, with_range, with_sync}
-use Rattle.key_journal.specs.Crash.{Throughout}
+use Rattle.key_journal.specs.Disk.{DiskState, Torn, Leaves, MayLeave, Newest, Writes, Tears, Syncs, written, with_range, with_sync}
 use Rattle.key_journal.specs.Private.Writes.{IsSyncedAs, IsSynced, IsTornFrom, WritesSynced}
-use Rattle.key_journal.proofs.Moments.{throughout_same, throughout_one, throughout_both, newest_after}
+use Rattle.key_journal.proofs.Moments.{throughout_same, throughout_one}
 
 -- whole bytes are torn ones of themselves
 pub torn_same : (at count : ℕ) (bytes : List ℕ) → Torn at count bytes bytes
@@ -37,8 +36,8 @@ pub torn_state : (state : DiskState) (at count : ℕ) (bytes : List ℕ) → IsS
     Torn at count state.bytes bytes → IsTornFrom at count state.bytes (with_range state at count bytes)
 torn_state state at count bytes synced torn = record {
   images = λ image left.
-    let family : List ℕ → Type 0 = λ earlier. Torn at count earlier image in
-    subst family (synced_images state.bytes state synced left.0 left.1) left.2;
+      let family : List ℕ → Type 0 = λ earlier. Torn at count earlier image in
+      subst family (synced_images state.bytes state synced left.0 left.1) left.2;
   reads = torn;
 }
 
@@ -49,7 +48,7 @@ pub write_fails : {E : Type 0} (at : ℕ) (piece : List ℕ) (before now : List 
 write_fails at piece [] now fault synced tears = record { each = tears; done = tt }
 write_fails at piece (state ∷ past) now fault synced tears = record {
   each = elim tears [
-    inl same ↦ throughout_same _ (state ∷ past) now same
+    | inl same ↦ throughout_same _ (state ∷ past) now same
     | inr torn ↦ throughout_one _ state past _ now torn.2 (torn_state state at (length piece) torn.0 synced torn.1)
   ];
   done = tt;

@@ -1,11 +1,8 @@
 -- What clearing a journal does.
 use Rattle.std.specs.Prelude.{◌≡◌, ℕ, ◌⊎◌, List, [], ◌∷◌, Result, OnOk}
-use Rattle.synth_outside.specs.Cause.{HasCause}
 use Rattle.key_journal.specs.Crash.{LeavesOnly, Throughout}
 use Rattle.key_journal.specs.Disk.{DiskState, MayLeave, Newest}
 use Rattle.key_journal.specs.Recovered.{recovered, kept}
-use Rattle.key_journal.specs.declared.disk.DiskFault.{DiskFault}
-use Rattle.key_journal.specs.declared.disk.DiskFault.TheVariants.{Failed, OutOfMemory}
 
 -- a crash at the newest moment could leave these keys
 abbrev pub CouldLeave : List DiskState → List ℕ → Type 0

@@ -70,3 +70,22 @@ Tears at count (state ∷ past) now = (now ≡ state ∷ past) ⊎ ((bytes : Lis
 abbrev pub Syncs : List DiskState → List DiskState → Type 0
 Syncs [] now = now ≡ []
 Syncs (state ∷ past) now = now ≡ with_sync state ∷ state ∷ past
+
+-- what a disk reads as is one of the images that a crash may leave of it
+abbrev pub ReadsAsImage : DiskState → Type 0
+ReadsAsImage state = MayLeave state state.bytes
+
+-- a write keeps that so
+abbrev pub WritesKeepImages : Type 0
+WritesKeepImages = (state : DiskState) (at : ℕ) (piece : List ℕ) → at ≤ length state.bytes →
+    ReadsAsImage state →
+    ReadsAsImage (with_range state at (length piece) (written state.bytes at piece))
+
+-- so does one that was done in part
+abbrev pub TearsKeepImages : Type 0
+TearsKeepImages = (state : DiskState) (at count : ℕ) (bytes : List ℕ) →
+    Torn at count state.bytes bytes → ReadsAsImage state → ReadsAsImage (with_range state at count bytes)
+
+-- and a sync makes it so
+abbrev pub SyncsMakeImages : Type 0
+SyncsMakeImages = (state : DiskState) → ReadsAsImage (with_sync state)

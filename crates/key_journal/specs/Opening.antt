@@ -1,12 +1,12 @@
 -- What opening a journal does.
-use Rattle.std.specs.Prelude.{◌≡◌, ℕ, List, Bool, false, Result, OnOk, OnErr}
+use Rattle.std.specs.Prelude.{◌≡◌, ℕ, List, false, Result, OnOk, OnErr}
 use Rattle.synth_outside.specs.Cause.{HasCause}
 use Rattle.key_journal.specs.Crash.{LeavesOnly, Throughout}
 use Rattle.key_journal.specs.Disk.{DiskState, Newest}
 use Rattle.key_journal.specs.Journal.{PlainJournal}
 use Rattle.key_journal.specs.Recovered.{kept}
 use Rattle.key_journal.specs.declared.disk.DiskFault.{DiskFault}
-use Rattle.key_journal.specs.declared.disk.DiskFault.TheVariants.{Failed, OutOfMemory}
+use Rattle.key_journal.specs.declared.disk.DiskFault.TheVariants.{Failed}
 
 -- a new journal stands on this source, and no key was given yet
 pub record IsNew {S D : Type 0} (inner : S) (journal : PlainJournal S D) : Type 0 where

@@ -1,9 +1,9 @@
 -- What a read of a journal does.
-use Rattle.std.specs.Prelude.{◌≡◌, ℕ, zero, suc, ◌+◌, ◌≤◌, ◌⊎◌, List, [], ◌∷◌, ◌++◌, Option, Some, None, Bool, true, false, Result, Ok, Err, length, drop, slice_get, slice_index, IfOk, OnOk}
+use Rattle.std.specs.Prelude.{◌≡◌, ℕ, zero, suc, ◌+◌, ◌≤◌, ◌⊎◌, List, [], ◌++◌, Option, Some, None, Bool, true, false, Result, Ok, Err, length, drop, slice_get, slice_index, IfOk, OnOk}
 use Rattle.std.specs.Io.KnownBytes.{Consumes, IsAtEnd}
 use Rattle.synth_outside.specs.Cause.{HasCause}
 use Rattle.synth_outside.specs.declared.faults.SourceFault.{SourceFault}
-use Rattle.synth_outside.specs.declared.faults.SourceFault.TheVariants.{Failed, OutOfMemory}
+use Rattle.synth_outside.specs.declared.faults.SourceFault.TheVariants.{Failed}
 use Rattle.key_journal.specs.Crash.{LeavesOnly, LeavesOneOf, Throughout}
 use Rattle.key_journal.specs.Disk.{DiskState, Newest}
 use Rattle.key_journal.specs.Journal.{PlainJournal, both_counts}

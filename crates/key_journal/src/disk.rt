@@ -1,7 +1,7 @@
 //! The trait of disks.
 
 ghost use Rattle.std.specs.Prelude.{◌≡◌, ℕ, ◌+◌, ◌<◌, ◌≤◌, List, length, take, IfOk, OnOk, OnErr, IsErrOf};
-ghost use Rattle.key_journal.specs.Disk.{DiskState, Newest, Gives, Writes, Tears, Syncs};
+ghost use Rattle.key_journal.specs.Disk.{DiskState, Newest, Gives, Writes, Tears, Syncs, WritesKeepImages, TearsKeepImages, SyncsMakeImages};
 ghost use Rattle.synth_outside.specs.Cause.{HasCause};
 
 use std::alloc::AllocError;
@@ -90,3 +90,12 @@ pub trait Disk {
         ensures same { OnErr result (past self.new ≡ past self.old) }
         ensures cause { HasCause DiskFault.Failed (faults self.old) (faults self.new) result };
 }
+
+/// Laws of the states of a disk: what it reads as is one of the images that a crash may leave of it, from
+/// its first sync on.
+#[tactic(auto, using(crate::proofs::Images::torn_image, crate::proofs::Images::written_image, crate::proofs::Images::synced_image))]
+pub fn a_disk_reads_as_an_image()
+    ensures written { WritesKeepImages }
+    ensures torn { TearsKeepImages }
+    ensures synced { SyncsMakeImages }
+{}

@@ -40,11 +40,11 @@ impl<S: Source, D: Disk> Model for JournalKeys<S, D> {
     ghost Value = { PlainJournal S D };
 
     ghost view = { λ journal. record {
-        inner = journal.inner;
-        disk = journal.disk;
-        given = journal.given;
-        ended = journal.ended;
-        reads = journal.reads;
+      inner = journal.inner;
+      disk = journal.disk;
+      given = journal.given;
+      ended = journal.ended;
+      reads = journal.reads;
     } };
 
     ghost invariant = { λ journal. Stays journal.stage journal.given (D.past journal.disk) };

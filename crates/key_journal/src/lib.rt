@@ -11,7 +11,7 @@ mod stage;
 mod std_disk;
 mod writes;
 
-pub use disk::{DISK_END, Disk, DiskFault};
+pub use disk::{DISK_END, Disk, DiskFault, a_disk_reads_as_an_image};
 pub use journal::JournalKeys;
 pub use mem_disk::{DiskCall, MemDisk, Piece};
 pub use std_disk::{JOURNAL, StdDisk};

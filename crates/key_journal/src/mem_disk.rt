@@ -191,12 +191,7 @@ fn copy_from(bytes: &[u8], at: u64, buf: &mut [u8]) -> usize
 }
 
 // The bytes with the piece written over those from `at` on.
-fn written_over(
-    alloc: Global,
-    bytes: &[u8],
-    at: u64,
-    piece: &[u8],
-) -> Result<Vec<u8>, AllocError>
+fn written_over(alloc: Global, bytes: &[u8], at: u64, piece: &[u8]) -> Result<Vec<u8>, AllocError>
     requires within { at ≤ length bytes.now }
     requires inside { at + length piece.now ≤ DISK_END }
     ensures { IfOk result (λ next. next.items ≡ written bytes.now at piece.now) }

@@ -89,12 +89,7 @@ fn a_cleared_journal_has_no_key(rt: HostRuntime) -> Result<(), Fail> {
 
 // The image with a range torn in each way: each byte of it as it was, as it is written, or another one,
 // and each length.
-fn tear(
-    alloc: Global,
-    image: &[u8],
-    at: u64,
-    piece: &[u8],
-) -> Result<Vec<Vec<u8>>, AllocError> {
+fn tear(alloc: Global, image: &[u8], at: u64, piece: &[u8]) -> Result<Vec<Vec<u8>>, AllocError> {
     let mut images = Vec::new(alloc);
     images.push(image.to_vec(alloc)?)?;
     let mut place = at as usize;
@@ -118,12 +113,7 @@ fn add(images: &mut Vec<Vec<u8>>, image: Vec<u8>) -> Result<(), AllocError> {
 }
 
 // The image with another byte at a place within it or at its end.
-fn with_byte(
-    alloc: Global,
-    image: &[u8],
-    place: usize,
-    value: u8,
-) -> Result<Vec<u8>, AllocError> {
+fn with_byte(alloc: Global, image: &[u8], place: usize, value: u8) -> Result<Vec<u8>, AllocError> {
     let mut bytes = image.to_vec(alloc)?;
     if place < bytes.len() {
         bytes[place] = value;

@@ -16,13 +16,13 @@ returns-in_err-write_synced-clause-kept g c =
 pub write_synced-requires-2-clause-synced : goal.write_synced-requires-2-clause-synced
 write_synced-requires-2-clause-synced g c =
     let puts : PutsKey c.args.given c.args.key (g.D.Disk.past c.args.disk.now) (g.D.Disk.past c.write_synced.new.disk) =
-        puts_key c.args.given c.args.key _ _ c.requires.appending c.in_ok-write_synced.ensures.written in
+    puts_key c.args.given c.args.key _ _ c.requires.appending c.in_ok-write_synced.ensures.written in
     stands_synced c.args.given c.args.key _ _ puts.stands
 
 pub write_synced-requires-2-clause-within : goal.write_synced-requires-2-clause-within
 write_synced-requires-2-clause-within g c =
     let puts : PutsKey c.args.given c.args.key (g.D.Disk.past c.args.disk.now) (g.D.Disk.past c.write_synced.new.disk) =
-        puts_key c.args.given c.args.key _ _ c.requires.appending c.in_ok-write_synced.ensures.written in
+    puts_key c.args.given c.args.key _ _ c.requires.appending c.in_ok-write_synced.ensures.written in
     gate_within c.args.given c.args.key _ _ puts.stands
 
 pub returns-clause-kept : goal.returns-clause-kept

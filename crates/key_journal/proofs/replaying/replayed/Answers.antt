@@ -1,9 +1,7 @@
 use Rattle.std.proofs.Common.{subst, sym, List}
-use Rattle.std.proofs.lemmas.Result.{err_from_is_err_and}
 use Rattle.key_journal.specs.Disk.{DiskState, Newest}
 use Rattle.key_journal.specs.Private.Stages.{IsCutOff}
-use Rattle.key_journal.proofs.Moments.{throughout_same}
-use Rattle.key_journal.proofs.FoundKeys.{finds_cut, replays_open, replays_shut, replays_cut, replays_fault}
+use Rattle.key_journal.proofs.FoundKeys.{finds_cut, replays_open, replays_shut}
 use Rattle.key_journal.proofs.replaying.replayed.Goals as goal
 
 pub shut_gate-requires-clause-cut : goal.shut_gate-requires-clause-cut

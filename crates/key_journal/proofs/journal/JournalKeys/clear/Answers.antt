@@ -1,4 +1,4 @@
-use Rattle.std.proofs.Common.{arith, ◌≤◌}
+use Rattle.std.proofs.Common.{arith}
 use Rattle.key_journal.proofs.Held.{holds_least, least_fewer}
 use Rattle.key_journal.proofs.journal.JournalKeys.clear.Goals as goal
 

@@ -12,5 +12,5 @@ invariant_of-self-2 c =
     let within = rw (← c.self.view_is) at c.requires in
     rw c.in_ok-note_write.ensures.ok
     (holds_written c.self.inside.bytes.items _ c.args.at c.args.piece.now _ c.self.invariant
-      (place_within c.args.at _ _ c.self.invariant within) (search rules)
-      (rw c.as_slice.ensures.value at c.in_ok-bytes.ensures))
+    (place_within c.args.at _ _ c.self.invariant within) (search rules)
+    (rw c.as_slice.ensures.value at c.in_ok-bytes.ensures))
