@@ -1,7 +1,8 @@
 -- What became of a journal after some reads: what was taken, and what a crash leaves.
 use Rattle.std.specs.Prelude.{◌≡◌, ◌≢◌, ℕ, ◌+◌, ◌-◌, ◌^◌, ◌<◌, ◌≤◌, ◌⊎◌, List, [], ◌∷◌, ◌++◌, Option, Some, None, IsSome, true, false, length, drop, refl}
-use Rattle.std.proofs.Common.{inl, subst, sym, append-nil, arith}
-use Rattle.std.proofs.Math.Nat.{le_refl}
+use Rattle.std.proofs.Common.{◌∙◌, inl, subst, sym, append-nil}
+use Rattle.std.proofs.lemmas.Bool.{true≢false}
+use Rattle.std.proofs.Math.Nat.{add-zero, le_refl}
 use Rattle.std.specs.Io.KnownBytes.{Consumes, IsAtEnd}
 use Rattle.key_journal.specs.Crash.{EachRecovers, LeavesOnly, LeavesOneOf, Throughout}
 use Rattle.key_journal.specs.Disk.{DiskState, Newest}
@@ -30,7 +31,8 @@ pub record KeepsAllButLast (past past_after : List DiskState) (given : ℕ) (tak
   pub within : Newest (λ _. given ≤ length (kept past ++ taken)) past_after
   pub behind : (taken ++ last ≡ []) ⊎ Newest (λ _. given ≡ length (kept past ++ taken)) past_after
 
--- how many answers were the end, over reads that were Ok, behind an answer that wasn't
+-- how many answers of reads that were Ok were the end; where the answer before them wasn't the end, also
+-- what the last one was
 pub record CountsEnds {S D : Type 0} (left : S → Option (List ℕ)) (past : D → List DiskState)
     (first now : PlainJournal S D) : Type 0 where
   pub ends : ℕ
@@ -107,9 +109,9 @@ leads_to_itself left source_faults leads_to itself past disk_faults journal = re
   given_later = le_refl journal.given;
   counts = record {
     ends = 0;
-    counted = λ few. omega arith;
+    counted = λ few. sym (add-zero (journal.reads + journal.given));
     noted = λ first none. first;
-    at_end = λ first ended. absurd (cc);
+    at_end = λ first ended. absurd (true≢false (sym ended ∙ first));
     stays = λ first told disk. inl refl;
   };
   keeps = λ few safe. keeps_itself (past journal.disk) journal.given few safe;

@@ -16,7 +16,7 @@ pub record IsNew {S D : Type 0} (inner : S) (journal : PlainJournal S D) : Type 
   pub none_read : journal.reads ≡ 0
 
 -- the disk was synced: once it is Ok a crash leaves the kept keys alone, whatever it could leave before,
--- as at each moment at which it leaves something else than before; where it isn't Ok nothing changes
+-- and so it does at each moment at which the disk isn't as before; where it isn't Ok nothing changes
 pub record OpensDisk {D T : Type 0} (past : D → List DiskState) (faults : D → ℕ) (disk disk_after : D)
     (result : Result T DiskFault) : Type 0 where
   pub each : Throughout (LeavesOnly (kept (past disk))) (past disk) (past disk_after)

@@ -21,8 +21,8 @@ use synth_outside::{Source, SourceFault};
 /// Keys that are kept on a disk before they are given.
 ///
 /// It is a source: it gives the keys that the disk has kept, and then those of a source of new keys,
-/// each of which it keeps first. It is seen as that source, the disk, how many keys it gave, and
-/// whether its last answer was the end.
+/// each of which it keeps first. It is seen as that source, the disk, how many keys it gave, whether its
+/// last answer was the end, and how many reads there were.
 #[derive(Debug, Drop)]
 pub struct JournalKeys<S: Source, D: Disk> {
     inner: S,
