@@ -1,7 +1,6 @@
 -- A node lent at the end of two paths, the second below the first, is lent at the end of both.
-use Rattle.std.specs.Prelude.{◌≡◌, refl, ℕ, List, [], ◌∷◌, ◌++◌, Option, Some, None, option_and_then, option_map, slice_get, slice_set, slice_index_or}
+use Rattle.std.specs.Prelude.{◌≡◌, refl, ℕ, List, [], ◌∷◌, ◌++◌, Option, Some, None, option_and_then, slice_get, slice_set, slice_index_or}
 use Rattle.std.proofs.Common.{ap, sym, ◌∙◌}
-use mathlib.Core.Path.{fun_ext}
 use Rattle.std.proofs.lemmas.List.{set-get_or}
 use Rattle.std.proofs.lemmas.Option.{none-some, get_or_from_slice_get}
 use Rattle.template_tree.specs.PlainTree.{Label, PlainNode, PlainNodes, nodes, forest, forest_nodes, nodes_forest}
@@ -45,7 +44,7 @@ put_joined item node new [] rest e = ap (put_below rest new) (sym (ap (taken nod
 put_joined item node new (k ∷ front) rest e =
     let g = got (slice_get (nodes item.inner) k) front node e in
     rw (get_or_from_slice_get (nodes item.inner) k g.0 (put_below rest new node) g.1, get_or_from_slice_get (nodes item.inner) k g.0 new g.1, put_joined g.0 node new front rest g.2)
-      refl
+    refl
 
 -- putting back what stands there changes nothing
 pub put_same : (item node : PlainNode) (path : List ℕ) → below item path ≡ Some node → put_below path node item ≡ item
@@ -54,11 +53,11 @@ put_same item node (k ∷ path) e =
     let g = got (slice_get (nodes item.inner) k) path node e in
     let kid : slice_index_or (nodes item.inner) k node ≡ g.0 = get_or_from_slice_get (nodes item.inner) k g.0 node g.1 in
     let inside : put_below path node (slice_index_or (nodes item.inner) k node) ≡ slice_index_or (nodes item.inner) k node =
-      rw kid (put_same g.0 node path g.2)
+    rw kid (put_same g.0 node path g.2)
     in
     let all : forest (slice_set (nodes item.inner) k (put_below path node (slice_index_or (nodes item.inner) k node))) ≡ item.inner =
-      ap (λ i. forest (slice_set (nodes item.inner) k i)) inside
-      ∙ (ap forest (set-get_or (nodes item.inner) k node) ∙ forest_nodes item.inner)
+    ap (λ i. forest (slice_set (nodes item.inner) k i)) inside
+    ∙ (ap forest (set-get_or (nodes item.inner) k node) ∙ forest_nodes item.inner)
     in
     ap (λ inner. record item { inner = inner }) all
 
@@ -76,10 +75,10 @@ lent_twice list k front middle back label items e new =
     let node : PlainNode = record { label = label; inner = forest items } in
     let g = got (slice_get list.items k) front node e in
     let same : put_below (middle ∷ back) new node ≡ with_below label items middle back new =
-      ap (λ xs. record { label = label; inner = forest (slice_set xs middle (put_below back new (slice_index_or xs middle new))) }) (nodes_forest items)
+    ap (λ xs. record { label = label; inner = forest (slice_set xs middle (put_below back new (slice_index_or xs middle new))) }) (nodes_forest items)
     in
     rw (get_or_from_slice_get list.items k g.0 (with_below label items middle back new) g.1, get_or_from_slice_get list.items k g.0 new g.1)
-      (ap (with_item list k) (ap (λ below_it. put_below front below_it g.0) (sym same) ∙ put_joined g.0 node new front (middle ∷ back) g.2))
+    (ap (with_item list k) (ap (λ below_it. put_below front below_it g.0) (sym same) ∙ put_joined g.0 node new front (middle ∷ back) g.2))
 
 -- the list is as it was where the lent node comes back as it was
 pub lent_back : (list : PlainNodes) (k : ℕ) (path : List ℕ) (node : PlainNode)
@@ -88,7 +87,7 @@ lent_back list k path node e =
     let g = got (slice_get list.items k) path node e in
     let kid : slice_index_or list.items k node ≡ g.0 = get_or_from_slice_get list.items k g.0 node g.1 in
     let inside : put_below path node (slice_index_or list.items k node) ≡ slice_index_or list.items k node =
-      rw kid (put_same g.0 node path g.2)
+    rw kid (put_same g.0 node path g.2)
     in
     ap (with_item list k) inside ∙ ap (λ items. record list { items = items }) (set-get_or list.items k node)
 
@@ -96,12 +95,12 @@ lent_back list k path node e =
 pub found_twice : (items : List PlainNode) (k : ℕ) (front : List ℕ) (middle : ℕ) (back : List ℕ) (label : Label) (inner : List PlainNode)
     → option_and_then (λ item. below item front) (slice_get items k) ≡ Some record { label = label; inner = forest inner }
     → option_and_then (λ item. below item back) (slice_get inner middle)
-      ≡ option_and_then (λ item. below item (front ++ (middle ∷ back))) (slice_get items k)
+    ≡ option_and_then (λ item. below item (front ++ (middle ∷ back))) (slice_get items k)
 found_twice items k front middle back label inner e =
     let node : PlainNode = record { label = label; inner = forest inner } in
     let g = got (slice_get items k) front node e in
     let whole : option_and_then (λ item. below item (front ++ (middle ∷ back))) (slice_get items k) ≡ below node (middle ∷ back) =
-      rw g.1 (joined_below g.0 node front (middle ∷ back) g.2)
+    rw g.1 (joined_below g.0 node front (middle ∷ back) g.2)
     in
     sym (whole ∙ ap (λ xs. option_and_then (λ item. below item back) (slice_get xs middle)) (nodes_forest inner))
 

@@ -1,3 +1,5 @@
+-- the definitions at work
+mod Examples
 -- the value of each limit, which the definitions take from the code
 mod Limits
 -- an edit by slot is the edit at its path

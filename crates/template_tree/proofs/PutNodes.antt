@@ -1,7 +1,7 @@
 -- Putting a node below an item is the edit at the path.
 use Rattle.std.specs.Prelude.{◌≡◌, refl, ℕ, zero, suc, List, [], ◌∷◌, option_and_then, slice_get, slice_set, slice_index_or}
 use Rattle.std.proofs.Common.{ap, sym, ◌∙◌}
-use Rattle.template_tree.specs.PlainTree.{Label, Forest, PlainNode, PlainNodes, PlainTree, nodes, forest, join, forest_nodes, nodes_forest}
+use Rattle.template_tree.specs.PlainTree.{Forest, PlainNode, PlainNodes, PlainTree, nodes, forest, forest_nodes, nodes_forest}
 use Rattle.template_tree.specs.Path.{below, node_at, give_way, changed, edit_at}
 use Rattle.template_tree.specs.Descent.{put_below, put_in}
 use Rattle.template_tree.specs.TreeLend.{with_node}
@@ -22,7 +22,7 @@ pub put_is_changed : (new : PlainNode) (path : List ℕ) (node : PlainNode) → 
 put_is_changed new [] node = refl
 put_is_changed new (k ∷ path) node =
     ap (λ inner. record node { inner = inner } ∷ [])
-      (sym (set_is_give_way (changed (λ _. new ∷ []) path) (put_below path new) (put_is_changed new path) node.inner k new))
+    (sym (set_is_give_way (changed (λ _. new ∷ []) path) (put_below path new) (put_is_changed new path) node.inner k new))
 
 -- a list of items, with a node put below one of them
 pub put_is_edit : (list : PlainNodes) (k : ℕ) (path : List ℕ) (new : PlainNode)
@@ -37,8 +37,8 @@ pub put_in_tree : (list : PlainNodes) (drawn live : ℕ) (tree : PlainTree) (pat
     → record { items = forest (put_in list k rest new).items; spare = list.spare; drawn = drawn; live = live } ≡ with_node tree path new
 put_in_tree list drawn live tree path k rest same way new =
     rw (← same, way)
-      (ap (λ (items : Forest). let t : PlainTree = record { items = items; spare = list.spare; drawn = drawn; live = live } in t)
-        (put_is_edit list k rest new))
+    (ap (λ (items : Forest). let t : PlainTree = record { items = items; spare = list.spare; drawn = drawn; live = live } in t)
+    (put_is_edit list k rest new))
 
 -- what stands there
 pub found_in_tree : (list : PlainNodes) (drawn live : ℕ) (tree : PlainTree) (path : List ℕ) (k : ℕ) (rest : List ℕ)

@@ -1,11 +1,10 @@
 -- The room of lists makes no difference to what is a tree.
-use Rattle.std.specs.Prelude.{◌≡◌, refl, ℕ, suc, ◌+◌, ◌≤◌, max, if◌then◌else◌, ◌==◌, List, [], ◌∷◌}
-use Rattle.std.proofs.Common.{ap, sym, ◌∙◌, subst}
+use Rattle.std.specs.Prelude.{◌≡◌, refl, ℕ, ◌+◌, max, if◌then◌else◌, ◌==◌, ◌∷◌}
+use Rattle.std.proofs.Common.{ap, subst}
 use Rattle.plcs_grammar.specs.Template.{row_of}
-use Rattle.template_tree.specs.PlainTree.{Label, Forest, PlainTree, roomless}
-use Rattle.template_tree.specs.Program.{sorts, sort_of, Fill, IsNode, AreNodes, IsProgram}
+use Rattle.template_tree.specs.PlainTree.{Forest, roomless}
+use Rattle.template_tree.specs.Program.{sorts, sort_of, Fill, AreNodes}
 use Rattle.template_tree.specs.Slots.{count, depth, times, AllBelow}
-use Rattle.template_tree.specs.Tree.{IsTree}
 
 pub sorts_roomless : (items : Forest) → sorts (roomless items) ≡ sorts items
 sorts_roomless Forest.nil = refl
@@ -30,7 +29,8 @@ below_roomless number (Forest.cons label inner rest) h = (h.0, below_roomless nu
 
 pub nodes_roomless : (items : Forest) → AreNodes (roomless items) → AreNodes items
 nodes_roomless Forest.nil h = h
-nodes_roomless (Forest.cons label inner rest) h =
-    ( record { parts = h.0.parts; inner = subst (λ ss. Fill (row_of label.kind).sections ss) (sorts_roomless inner) h.0.inner; elision = h.0.elision }
-    , nodes_roomless inner h.1
-    , nodes_roomless rest h.2)
+nodes_roomless (Forest.cons label inner rest) h = (
+  record { parts = h.0.parts; inner = subst (λ ss. Fill (row_of label.kind).sections ss) (sorts_roomless inner) h.0.inner; elision = h.0.elision },
+  nodes_roomless inner h.1,
+  nodes_roomless rest h.2,
+)

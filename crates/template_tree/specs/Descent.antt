@@ -1,8 +1,5 @@
 -- What a list of nodes becomes where a node below one of its items was lent and written to.
-use Rattle.std.specs.Prelude.{ℕ, List, [], ◌∷◌, Option, option_map, option_and_then, slice_get, slice_set, slice_index_or}
-use Rattle.std.specs.Borrow.{LendsIf}
-use Rattle.template_tree.specs.contracts.node.Nodes as list_row
-use Rattle.template_tree.specs.contracts.node.Node as node_row
+use Rattle.std.specs.Prelude.{ℕ, List, [], ◌∷◌, slice_set, slice_index_or}
 use Rattle.template_tree.specs.PlainTree.{PlainNode, PlainNodes, nodes, forest}
 use Rattle.template_tree.specs.Lend.{with_item}
 
@@ -11,7 +8,7 @@ abbrev pub put_below : List ℕ → PlainNode → PlainNode → PlainNode
 put_below [] new node = new
 put_below (k ∷ path) new node =
     record node
-      { inner = forest (slice_set (nodes node.inner) k (put_below path new (slice_index_or (nodes node.inner) k new))) }
+    { inner = forest (slice_set (nodes node.inner) k (put_below path new (slice_index_or (nodes node.inner) k new))) }
 
 -- a list with another node at the path below one of its items
 abbrev pub put_in : PlainNodes → ℕ → List ℕ → PlainNode → PlainNodes

@@ -1,5 +1,5 @@
 -- The laws of trees.
-use Rattle.std.specs.Prelude.{◌≡◌, ℕ, ◌≤◌, List, Option, Some}
+use Rattle.std.specs.Prelude.{◌≡◌, ℕ, ◌≤◌, List, Some}
 use Rattle.template_tree.specs.PlainTree.{Forest, PlainNode}
 use Rattle.template_tree.specs.Slots.{times}
 use Rattle.template_tree.specs.Path.{node_at, edit_at}

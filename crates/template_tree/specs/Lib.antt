@@ -15,6 +15,8 @@ pub mod Lend
 pub mod Descent
 pub mod TreeLend
 pub mod Elision
+-- ---- places of a run
+pub mod Place
 -- ---- the laws
 pub mod Law
 -- ---- the listing, and what the cursor may stand on

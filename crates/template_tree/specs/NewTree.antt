@@ -1,5 +1,5 @@
 -- The new program.
-use Rattle.std.specs.Prelude.{ℕ, Bool, false, []}
+use Rattle.std.specs.Prelude.{ℕ, false, []}
 use Rattle.plcs_grammar.specs.declared.node_kind.NodeKind.{NodeKind}
 use Rattle.template_tree.specs.PlainTree.{Label, Forest}
 
@@ -11,6 +11,6 @@ bare_label slot kind = record { slot = slot; kind = kind; parts = []; elided = f
 abbrev pub new_items : Forest
 new_items =
     Forest.cons (bare_label 0 NodeKind.Main)
-      (Forest.cons (bare_label 1 NodeKind.DeclarationHole) Forest.nil
-        (Forest.cons (bare_label 2 NodeKind.StatementHole) Forest.nil Forest.nil))
-      (Forest.cons (bare_label 3 NodeKind.ProcedureHole) Forest.nil Forest.nil)
+    (Forest.cons (bare_label 1 NodeKind.DeclarationHole) Forest.nil
+    (Forest.cons (bare_label 2 NodeKind.StatementHole) Forest.nil Forest.nil))
+    (Forest.cons (bare_label 3 NodeKind.ProcedureHole) Forest.nil Forest.nil)

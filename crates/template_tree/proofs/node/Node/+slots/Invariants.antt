@@ -8,7 +8,7 @@ abbrev pub decreases-slots : goal.decreases-slots
 decreases-slots l = weight l.self.now
 
 abbrev pub invariant-loop-node : goal.invariant-loop-node
-invariant-loop-node l = record
-  { nodes_are : forest l.node-items ≡ l.self.inner
-  ; so_far : l.slots + count (forest (drop l.node-index l.node-items)) ≡ count l.self.inner + 1
-  }
+invariant-loop-node l = record {
+  nodes_are : forest l.node-items ≡ l.self.inner;
+  so_far : l.slots + count (forest (drop l.node-index l.node-items)) ≡ count l.self.inner + 1;
+}

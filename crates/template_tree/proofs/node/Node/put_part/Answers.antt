@@ -1,11 +1,11 @@
-use Rattle.std.specs.Prelude.{◌≡◌, ◌≤◌, ◌<◌, List, length, Option, Some, None, map, slice_set}
+use Rattle.std.specs.Prelude.{◌≤◌, List, length, Option}
 use Rattle.std.proofs.Common.{arith, sym, ap, ◌∙◌, subst}
 use Rattle.std.proofs.lemmas.List.{length-map}
 use Rattle.plcs_grammar.specs.PlainPhrase.{PlainPhrase}
 use Rattle.plcs_grammar.specs.Template.{row_of}
 use Rattle.template_tree.specs.Program.{AreParts, parts_of}
 use Rattle.template_tree.specs.contracts.node.Node.{the_view}
-use Rattle.template_tree.specs.Part.{Takes, part_category, with_part}
+use Rattle.template_tree.specs.Part.{Takes, part_category}
 use Rattle.template_tree.specs.PlainPlace.{plain_place}
 use Rattle.template_tree.specs.PlainTree.{PlainNode}
 use Rattle.template_tree.proofs.PartLists.{takes_in_node, part_read, part_written}
@@ -21,8 +21,9 @@ returns-in_default-clause-fits c =
 
 pub returns-clause-set : goal.returns-clause-set
 returns-clause-set c =
-    rw (← c.self.view_is)
-      (part_read c.self.inside.parts.items c.args.part c.replace.result c.in-Some.ensures.item.3.0
-          (c.replace.ensures.value ∙ (c.in-Some.ensures.item.3.1 c.replace.result))
-      , ap (λ (parts : List (Option PlainPhrase)). let node = the_view c.self.inside in record node { label = record node.label { parts = parts } })
-          (part_written c.self.inside.parts.items c.args.part c.replace.new.dest c.args.place c.replace.ensures.after))
+    rw (← c.self.view_is) (
+      part_read c.self.inside.parts.items c.args.part c.replace.result c.in-Some.ensures.item.3.0
+          (c.replace.ensures.value ∙ (c.in-Some.ensures.item.3.1 c.replace.result)),
+      ap (λ (parts : List (Option PlainPhrase)). let node = the_view c.self.inside in record node { label = record node.label { parts = parts } })
+          (part_written c.self.inside.parts.items c.args.part c.replace.new.dest c.args.place c.replace.ensures.after),
+    )

@@ -1,35 +1,35 @@
-use Rattle.std.specs.Prelude.{◌≡◌, List, Option, [], map}
-use Rattle.std.proofs.Common.{ap, sym, ◌∙◌}
+use Rattle.std.specs.Prelude.{◌≡◌, List, Option, map}
+use Rattle.std.proofs.Common.{ap}
 use Rattle.plcs_grammar.specs.PlainPhrase.{PlainPhrase}
 use Rattle.plcs_grammar.specs.declared.node_kind.NodeKind.{NodeKind}
 use Rattle.template_tree.specs.PlainPlace.{plain_place}
 use Rattle.template_tree.specs.PlainTree.{PlainNode, forest, roomless}
 use Rattle.template_tree.specs.NewTree.{bare_label, new_items}
-use Rattle.template_tree.proofs.NewPrograms.{Made, new_is, new_is_tree}
+use Rattle.template_tree.proofs.NewPrograms.{new_is, new_is_tree}
 use Rattle.template_tree.proofs.tree.Tree.new.Goals as goal
 
 -- the items are those of the new program
 items_are : (c : goal.In_ok-items) → roomless (forest c.in_ok-items.items.items) ≡ new_items
 items_are c =
     new_is c.in_ok-items.items.items c.in_ok-two.field-0.items
-      record
-        { label =
-            record (bare_label 0 NodeKind.Main) { parts = map plain_place c.new.result.items; spare = c.in_ok-two.field-0.spare }
-        ; inner = forest c.in_ok-two.field-0.items
-        }
-      record
-        { declaration = c.bare-declaration.result
-        ; statement = c.bare-statement.result
-        ; procedure = c.bare-procedure.result
-        ; declaration_is = c.bare-declaration.ensures
-        ; statement_is = c.bare-statement.ensures
-        ; procedure_is = c.bare-procedure.ensures
-        ; inner_is = c.in_ok-two.ensures
-        ; main_is =
-            ap (λ (parts : List (Option PlainPhrase)). let node : PlainNode = record { label = record (bare_label 0 NodeKind.Main) { parts = parts }; inner = forest c.in_ok-two.field-0.items } in node)
-              (ap (map plain_place) c.new.ensures.items)
-        ; items_are = c.in_ok-items.ensures
-        }
+    record {
+      label =
+          record (bare_label 0 NodeKind.Main) { parts = map plain_place c.new.result.items; spare = c.in_ok-two.field-0.spare };
+      inner = forest c.in_ok-two.field-0.items;
+    }
+    record {
+      declaration = c.bare-declaration.result;
+      statement = c.bare-statement.result;
+      procedure = c.bare-procedure.result;
+      declaration_is = c.bare-declaration.ensures;
+      statement_is = c.bare-statement.ensures;
+      procedure_is = c.bare-procedure.ensures;
+      inner_is = c.in_ok-two.ensures;
+      main_is =
+          ap (λ (parts : List (Option PlainPhrase)). let node : PlainNode = record { label = record (bare_label 0 NodeKind.Main) { parts = parts }; inner = forest c.in_ok-two.field-0.items } in node)
+          (ap (map plain_place) c.new.ensures.items);
+      items_are = c.in_ok-items.ensures;
+    }
 
 pub returns-clause-program : goal.returns-clause-program
 returns-clause-program c = items_are c
