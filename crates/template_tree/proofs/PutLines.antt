@@ -12,7 +12,7 @@ use Rattle.template_tree.specs.PlainTree.{Forest, PlainNode, forest}
 use Rattle.template_tree.specs.Program.{sort_of}
 use Rattle.template_tree.specs.Slots.{depth}
 use Rattle.template_tree.specs.Section.{left_for, left_after, next_lead}
-use Rattle.template_tree.specs.Line.{Line, whole_line, fixed_line, head_line, lines, parts_after, piece_text, pieces_text}
+use Rattle.template_tree.specs.Line.{Line, line_bytes, fixed_line, head_line, lines, parts_after, piece_text, pieces_text}
 use Rattle.template_tree.specs.Listing.{bytes_of}
 use Rattle.template_tree.specs.Private.NodeLines.{node_lines, Lacks}
 use Rattle.template_tree.specs.Private.Weight.{forest_weight, weight}
@@ -35,7 +35,7 @@ item_shallow (x ∷ xs) (suc i) node inside is = omega (arith, item_shallow xs i
 pub bytes_append : (xs ys : List Line) → bytes_of (xs ++ ys) ≡ bytes_of xs ++ bytes_of ys
 bytes_append [] ys = refl
 bytes_append (x ∷ xs) ys =
-    ap (λ z. whole_line x ++ (10 ∷ z)) (bytes_append xs ys) ∙ sym (append_assoc (whole_line x) (10 ∷ bytes_of xs) (bytes_of ys))
+    ap (λ z. line_bytes x ++ (10 ∷ z)) (bytes_append xs ys) ∙ sym (append_assoc (line_bytes x) (10 ∷ bytes_of xs) (bytes_of ys))
 
 -- the line before the first node, the node, and the others
 pub first_lines : (level : ℕ) (left : List PlainSection) (node : PlainNode) (rest : Forest)
@@ -63,7 +63,7 @@ pub put_next : {Out : Type 0} {puts : Out → ℕ → Out → Type 0} {before no
     → Lacks puts before whole done (bytes_of (lines false level later (forest (drop (i + 1) items))))
 put_next {puts = puts} whole level left here later lead items i node inside is here_is lead_is later_is lacks one two after rest =
     let first : drop i items ≡ node ∷ drop (i + 1) items =
-        drop-cons items i node inside ∙ ap (λ n. n ∷ drop (suc i) items) (sym is) ∙ ap (λ k. node ∷ drop k items) (sym (add-one i)) in
+    drop-cons items i node inside ∙ ap (λ n. n ∷ drop (suc i) items) (sym is) ∙ ap (λ k. node ∷ drop k items) (sym (add-one i)) in
     lacks after
     (puts_same
     (sym (ap (λ n. bytes_of (lines false level left (forest n))) first ∙ first_lines level left node (forest (drop (i + 1) items))))
@@ -90,7 +90,7 @@ pub put_next_piece : {Out : Type 0} {puts : Out → ℕ → Out → Type 0} {bef
     → Lacks puts before whole done (pieces_text (map plain_piece (drop (i + 1) pieces)) later)
 put_next_piece whole pieces i other parts later inside later_is lacks one after rest =
     let first : drop i pieces ≡ get_or pieces i other ∷ drop (i + 1) pieces =
-        drop-cons pieces i other inside ∙ ap (λ k. get_or pieces i other ∷ drop k pieces) (sym (add-one i)) in
+    drop-cons pieces i other inside ∙ ap (λ k. get_or pieces i other ∷ drop k pieces) (sym (add-one i)) in
     lacks after
     (puts_same (sym (ap (λ n. pieces_text (map plain_piece n) parts) first))
     (puts_append one (puts_same (ap (pieces_text (map plain_piece (drop (i + 1) pieces))) later_is) rest)))

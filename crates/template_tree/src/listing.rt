@@ -58,7 +58,12 @@ fn put_node<O: ByteOut>(node: &Node, level: u32, out: &mut O)
     put_blanks(level, out);
     put_pieces(row.line, node.parts.as_slice(), out);
     out.put(b'\n');
-    put_nodes(node.inner.as_slice(), level + 1, SectionsLeft::of(row.sections), out);
+    put_nodes(
+        node.inner.as_slice(),
+        level + 1,
+        SectionsLeft::of(row.sections),
+        out,
+    );
     put_fixed_line(row.last, level, out);
 }
 
@@ -93,7 +98,11 @@ fn put_pieces<O: ByteOut>(pieces: &[Piece], parts: &[PhrasePlace], out: &mut O)
 }
 
 /// Puts a piece where these parts are left, and gives back those that are left after it.
-fn put_piece<'a, O: ByteOut>(piece: Piece, parts: &'a [PhrasePlace], out: &mut O) -> &'a [PhrasePlace]
+fn put_piece<'a, O: ByteOut>(
+    piece: Piece,
+    parts: &'a [PhrasePlace],
+    out: &mut O,
+) -> &'a [PhrasePlace]
     ensures text { PutsAll O.puts out.old (piece_text (plain_piece piece) (map plain_place parts.now)) out.new }
     ensures left { map plain_place result.now ≡ parts_after (plain_piece piece) (map plain_place parts.now) }
 {

@@ -24,7 +24,8 @@ impl ByteOut for Awaited<'_> {
 #[test]
 fn the_new_program_is_listed(rt: HostRuntime) -> Result<(), Fail> {
     let tree = Tree::new(rt.alloc()).map_err(|_| "a tree")?;
-    let text = b"main: PROCEDURE OPTIONS ( MAIN );\n  {declaration}\n  {statement}\nEND;\n{procedure}\n";
+    let text =
+        b"main: PROCEDURE OPTIONS ( MAIN );\n  {declaration}\n  {statement}\nEND;\n{procedure}\n";
     let mut out = Awaited {
         left: text,
         same: true,

@@ -23,16 +23,16 @@ put_node-returns g t c =
     let inner_lines = lines false (level + 1) (row_of node.label.kind).sections node.inner in
     let last_line = fixed_line level (row_of node.label.kind).last in
     let head =
-        puts_same
-        (ap (λ (r : PlainRow). pieces_text r.line (map plain_place c.as_slice.result.now)) row
-        ∙ ap (pieces_text (row_of node.label.kind).line) parts)
-        c.put_pieces.ensures in
+    puts_same
+    (ap (λ (r : PlainRow). pieces_text r.line (map plain_place c.as_slice.result.now)) row
+    ∙ ap (pieces_text (row_of node.label.kind).line) parts)
+    c.put_pieces.ensures in
     let inner =
-        puts_same
-        (ap (λ s. bytes_of (lines false (level + 1) s (forest c.as_slice-2.result.now)))
-        (c.of.ensures ∙ ap (λ (r : PlainRow). r.sections) row)
-        ∙ ap (λ f. bytes_of (lines false (level + 1) (row_of node.label.kind).sections f)) items)
-        c.put_nodes.ensures in
+    puts_same
+    (ap (λ s. bytes_of (lines false (level + 1) s (forest c.as_slice-2.result.now)))
+    (c.of.ensures ∙ ap (λ (r : PlainRow). r.sections) row)
+    ∙ ap (λ f. bytes_of (lines false (level + 1) (row_of node.label.kind).sections f)) items)
+    c.put_nodes.ensures in
     let last = puts_same (ap (λ (r : PlainRow). bytes_of (fixed_line level r.last)) row) c.put_fixed_line.ensures in
     puts_append (puts_append c.put_blanks.ensures head)
     (puts_next c.put.ensures (puts_same (sym (bytes_append inner_lines last_line)) (puts_append inner last)))
