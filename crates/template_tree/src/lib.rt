@@ -15,6 +15,8 @@ mod put_part;
 mod sections_left;
 mod side;
 mod slot_count;
+#[cfg(test)]
+mod tests;
 mod tree;
 
 pub use change::{Change, What};
