@@ -1,3 +1,5 @@
+-- the value of the limit of kept numbers
+mod Limits
 -- what `tokens` ensures: the text is cut into its longest tokens
 mod Tokens
 -- `says` and `only` of `parse`: the machine reads the forms of the grammar, and nothing else
