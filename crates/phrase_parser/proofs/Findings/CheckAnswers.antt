@@ -1,5 +1,5 @@
 -- What the check of the tokens of a text answers says what the text is.
-use Rattle.std.proofs.Common.{◌≡◌, ℕ, ◌≤◌, List, map, length, Option, Some, None, Result, Ok, Err, All, ap, sym, subst, ◌∙◌}
+use Rattle.std.proofs.Common.{◌≡◌, ℕ, ◌≤◌, List, map, length, Option, Some, None, All, ap, sym, subst, ◌∙◌}
 use Rattle.std.proofs.lemmas.Option.{same_Some, none-some}
 use Rattle.plcs_grammar.specs.declared.category.Category.{Category}
 use Rattle.plcs_grammar.specs.declared.phrase.Phrase.{Phrase}
@@ -9,7 +9,6 @@ use Rattle.plcs_grammar.specs.Cuts.{Piece, Cuts}
 use Rattle.plcs_grammar.specs.Reads.{Reads}
 use Rattle.phrase_parser.specs.declared.check.finding.Finding.{Finding}
 use Rattle.phrase_parser.specs.declared.check.finding.Finding.TheVariants.{Fine, SyntaxAt, Over}
-use Rattle.phrase_parser.specs.declared.fault.PhraseFault.{PhraseFault}
 use Rattle.phrase_parser.specs.declared.fault.PhraseFault.TheVariants as fault
 use Rattle.phrase_parser.specs.declared.token.Placed.{Placed}
 use Rattle.phrase_parser.specs.Private.Kept.{kept, AreTokens}
@@ -18,7 +17,7 @@ use Rattle.phrase_parser.specs.Private.Recognizer.{Shape, first_shape}
 use Rattle.phrase_parser.specs.Private.Findings.{seen_of, findings}
 use Rattle.phrase_parser.specs.Private.Shapes.{seen_in, as_found, over_of, over_place}
 use Rattle.phrase_parser.specs.Private.TokenIn.{token_in, IsPlacedIn, LiesIn}
-use Rattle.phrase_parser.specs.Answers.{FaultSays, Answers, over_fault}
+use Rattle.phrase_parser.specs.Answers.{FaultSays, over_fault}
 use Rattle.phrase_parser.proofs.Findings.PlacedTokens.{cut_seen, cut_lies, cut_few, cut_tokens, cut_placed}
 use Rattle.phrase_parser.proofs.Findings.FindingPlaces.{FindingWithin, places_within}
 use Rattle.phrase_parser.proofs.Findings.FindingsOfText.{SaysOfText, finding_says}
