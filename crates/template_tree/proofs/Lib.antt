@@ -22,3 +22,5 @@ pub mod PartLists
 -- the new program is a tree, whatever room its lists have
 pub mod Rooms
 pub mod NewPrograms
+-- the slots of a tree that is built are drawn in listing order, and each but once
+pub mod DrawnSlots

@@ -8,6 +8,7 @@ pub mod Part
 pub mod Slots
 pub mod Tree
 pub mod NewTree
+pub mod Build
 -- ---- edits
 pub mod Path
 pub mod Edit

@@ -1,6 +1,7 @@
 //! The tree of templates: programs, their listing, and how they are read.
 #![tactic(auto, using(crate::specs::PlainTree::nodes_forest))]
 
+mod build;
 mod change;
 mod descent;
 mod elide;
@@ -19,10 +20,11 @@ mod slot_count;
 mod tests;
 mod tree;
 
+pub use build::OverLimit;
 pub use change::{Change, What};
 pub use law::{listing_splits_in_lines, slot_edit_is_path_edit};
 pub use limit::{DEEPEST_PATH, LONGEST_PHRASE, MOST_DRAWN, MOST_SLOTS};
-pub use node::Node;
+pub use node::{Node, Nodes};
 pub use path::Path;
 pub use phrase_place::PhrasePlace;
 pub use side::Side;
