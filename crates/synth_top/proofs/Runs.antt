@@ -18,11 +18,12 @@ use Rattle.synth_top.specs.Words.{PlainOptions}
 use Rattle.synth_top.proofs.Courses.{Opened, InTurn, told_at, all_course, all_going, last_course, at_last, one_byte, last_ends, last_all}
 use Rattle.synth_top.proofs.KeysInOrder.{keys_pressed-append, both_shown, then_up_to, front_behind, ends_more, painted_more}
 
--- so many bytes were read, all keys that they complete were pressed, and all screens were written
-pub record SoFar (number : ℕ) (options : PlainOptions) (before : Told) (left : Option (List ℕ)) (held : List ℕ) (m : Moment) : Type 0 where
+-- so many bytes were read, one a read, all keys that they complete were pressed, and all screens were written
+pub record SoFar (number : ℕ) (options : PlainOptions) (before : Told) (left : Option (List ℕ)) (reads : ℕ) (held : List ℕ) (m : Moment) : Type 0 where
   pub bytes : List ℕ
   pub many : length bytes ≡ number
   pub read : Consumes before.left left bytes
+  pub made : reads ≡ raised_by number before.reads
   pub held_is : IsHeld held
   pub opened : Moment
   pub is_opened : Opened options before opened
@@ -65,17 +66,14 @@ completed_list : (bytes held : List ℕ) (before : List Key) → ((rest : List �
 completed_list bytes held before so held_is =
     ended_list completed bytes held before so ∙ ap (λ l. before ++ l) (held_completes held held_is) ∙ append-nil before
 
--- ---- one read more
-pub raised_more : (n before now next : ℕ) → now ≡ raised_by n before → next ≡ raised now → next ≡ raised_by (n + 1) before
-raised_more n before now next made one = omega (arith, made, one)
-
 -- ---- the opening screen was written, and nothing was read
-pub so_far_none : (options : PlainOptions) (before : Told) (left : Option (List ℕ)) (held : List ℕ) (m : Moment) → left ≡ before.left → held ≡ [] → Opened options before m
-    → SoFar 0 options before left held m
-so_far_none options before left held m same none is_opened = record {
+pub so_far_none : (options : PlainOptions) (before : Told) (left : Option (List ℕ)) (reads : ℕ) (held : List ℕ) (m : Moment) → left ≡ before.left → reads ≡ before.reads → held ≡ [] → Opened options before m
+    → SoFar 0 options before left reads held m
+so_far_none options before left reads held m same unread none is_opened = record {
   bytes = [];
   many = refl;
   read = subst (λ l. Consumes before.left l []) (sym same) (Consumes-nil before.left);
+  made = omega (arith, unread);
   held_is = inl none;
   opened = m;
   is_opened = is_opened;
@@ -93,11 +91,15 @@ so_far_none options before left held m same none is_opened = record {
   in_turn = λ seen newest e. absurd (one_byte seen newest e);
 }
 
-module _ (number : ℕ) (options : PlainOptions) (before : Told) (left : Option (List ℕ)) (held : List ℕ) (m : Moment) (so : SoFar number options before left held m)
+module _ (number : ℕ) (options : PlainOptions) (before : Told) (left : Option (List ℕ)) (so_reads : ℕ) (held : List ℕ) (m : Moment) (so : SoFar number options before left so_reads held m)
     (now_left : Option (List ℕ)) (now_reads : ℕ) (now : Moment) where
   -- the keys so far
   abbrev pressed_keys : List Key
   pressed_keys = keys_pressed so.pressed
+
+  -- one read more
+  made_more : now_reads ≡ raised so_reads → now_reads ≡ raised_by (number + 1) before.reads
+  made_more one = omega (arith, so.made, one)
 
   -- ---- some more keys, one of which ended the run
   module _ (bytes : List ℕ) (more : List Key) (read : Consumes before.left now_left bytes) (within : length bytes ≤ options.key_limit)
@@ -180,7 +182,7 @@ module _ (number : ℕ) (options : PlainOptions) (before : Told) (left : Option 
 
   -- ---- one more byte
   module _ (byte : ℕ) (given : Keys) (now_held : List ℕ) (feeds : Feeds held byte given now_held) (now_held_is : IsHeld now_held)
-      (read : Consumes left now_left (byte ∷ [])) where
+      (read : Consumes left now_left (byte ∷ [])) (one : now_reads ≡ raised so_reads) where
     abbrev now_bytes : List ℕ
     now_bytes = so.bytes ++ byte ∷ []
 
@@ -203,15 +205,16 @@ module _ (number : ℕ) (options : PlainOptions) (before : Told) (left : Option 
     now_read = Consumes-trans _ _ _ so.bytes (byte ∷ []) so.read read
 
     -- all its keys were shown
-    pub so_far_more : (kept : List ℕ) → kept ≡ now_held → KeysShown (listed given) m now → SoFar (number + 1) options before now_left kept now
+    pub so_far_more : (kept : List ℕ) → kept ≡ now_held → KeysShown (listed given) m now → SoFar (number + 1) options before now_left now_reads kept now
     so_far_more kept same next =
         let all : pressed_keys ++ listed given ≡ keys_pressed (so.pressed ++ next.pressed) =
         ap (λ l. pressed_keys ++ l) (sym next.all) ∙ sym (keys_pressed-append so.pressed next.pressed) in
-        subst (λ h. SoFar (number + 1) options before now_left h now) (sym same)
+        subst (λ h. SoFar (number + 1) options before now_left now_reads h now) (sym same)
         (record {
           bytes = now_bytes;
           many = now_many;
           read = now_read;
+          made = made_more one;
           held_is = now_held_is;
           opened = so.opened;
           is_opened = so.is_opened;
@@ -223,27 +226,27 @@ module _ (number : ℕ) (options : PlainOptions) (before : Told) (left : Option 
         })
 
     -- one of its keys ended the run
-    pub ended_by_byte : (status : Status) → number < options.key_limit → now_reads ≡ raised_by (number + 1) before.reads → Pressed (Over status) (listed given) m now → Ended status options before (told_at now_left now_reads now)
-    ended_by_byte status below made next =
+    pub ended_by_byte : (status : Status) → number < options.key_limit → Pressed (Over status) (listed given) m now → Ended status options before (told_at now_left now_reads now)
+    ended_by_byte status below next =
         let done : completed now_bytes ≡ pressed_keys ++ listed given = completed_list now_bytes now_held (pressed_keys ++ listed given) completed_now now_held_is in
-        stopped_at_key now_bytes (listed given) now_read (omega (arith, now_many, below)) (number + 1) made
+        stopped_at_key now_bytes (listed given) now_read (omega (arith, now_many, below)) (number + 1) (made_more one)
         (keys now_held, ended_list keys now_bytes now_held (pressed_keys ++ listed given) keys_now)
         (inl ([], done ∙ sym (append-nil (pressed_keys ++ listed given)))) in_turn_now (λ earlier. inl (sym now_many)) status next
 
   -- ---- a read gave no answer
-  pub read_cut : (lost : List ℕ) → number < options.key_limit → now_reads ≡ raised_by (number + 1) before.reads → length lost ≤ 1 → Consumes left now_left lost → now ≡ m
+  pub read_cut : (lost : List ℕ) → number < options.key_limit → length lost ≤ 1 → Consumes left now_left lost → now_reads ≡ raised so_reads → now ≡ m
       → (course : Course options before (told_at now_left now_reads now)) × (length (written (first_state options before.files course.loads) course.pressed) ≤ course.count) × ReadCut course × (course.rescue ≡ NoRescue)
-  read_cut lost below made one read same =
+  read_cut lost below few read one same =
       let all : AllShown so.opened now so.pressed = subst (λ z. AllShown so.opened z so.pressed) (sym same) so.all in
       let done : completed so.bytes ≡ pressed_keys = completed_list so.bytes held pressed_keys so.completed_are so.held_is in
       let whole : IsFront pressed_keys (completed so.bytes) = ([], done ∙ sym (append-nil pressed_keys)) in (
-        all_course options before so.opened now now_left now_reads so.is_opened so.bytes lost (Consumes-trans _ _ _ so.bytes lost so.read read) one (omega (arith, so.many, below)) (number + 1) made so.pressed all
+        all_course options before so.opened now now_left now_reads so.is_opened so.bytes lost (Consumes-trans _ _ _ so.bytes lost so.read read) few (omega (arith, so.many, below)) (number + 1) (made_more one) so.pressed all
             (keys held, ended_list keys so.bytes held pressed_keys so.keys_are) (inl whole),
         omega arith,
         record {
           all = record {
             pressed = sym done;
-            going = all_going options before so.opened now now_left now_reads so.is_opened so.bytes lost (Consumes-trans _ _ _ so.bytes lost so.read read) one (omega (arith, so.many, below)) (number + 1) made so.pressed all
+            going = all_going options before so.opened now now_left now_reads so.is_opened so.bytes lost (Consumes-trans _ _ _ so.bytes lost so.read read) few (omega (arith, so.many, below)) (number + 1) (made_more one) so.pressed all
                 (keys held, ended_list keys so.bytes held pressed_keys so.keys_are) (inl whole);
           };
           below = omega (arith, so.many, below);
@@ -303,27 +306,27 @@ module _ (number : ℕ) (options : PlainOptions) (before : Told) (left : Option 
         )
 
   -- the source ended
-  module _ (read : Consumes left now_left []) (ended : IsAtEnd now_left) (below : number < options.key_limit) (made : now_reads ≡ raised_by (number + 1) before.reads) where
+  module _ (read : Consumes left now_left []) (ended : IsAtEnd now_left) (below : number < options.key_limit) (one : now_reads ≡ raised so_reads) where
     end_read : EndRead options (told_at now_left now_reads now) so.bytes (number + 1)
     end_read = record { one_more = ap (λ n. n + 1) (sym so.many); below = omega (arith, so.many, below); ended = ended }
 
     pub ended_at_end : (going : Going) → Pressed going (keys held) m now → Ended (ended_as going Done) options before (told_at now_left now_reads now)
     ended_at_end On next =
-        let p = all_pressed read (omega (arith, below)) (number + 1) made (inl end_read) next in
+        let p = all_pressed read (omega (arith, below)) (number + 1) (made_more one) (inl end_read) next in
         let end : EndRead options (told_at now_left now_reads now) p.0.bytes p.0.reads =
         record { one_more = omega (arith, ap length p.3, p.4, so.many); below = omega (arith, ap length p.3, so.many, below); ended = ended } in
         record { course = p.0; stopped = (p.1, p.2, inl (record { all = p.5; end = end })); rescued = p.6 }
-    ended_at_end (Over status) next = ended_by_rest read (omega (arith, below)) (number + 1) made (inl end_read) status next
+    ended_at_end (Over status) next = ended_by_rest read (omega (arith, below)) (number + 1) (made_more one) (inl end_read) status next
 
   -- as many bytes were read as the limit allows
-  module _ (read : Consumes left now_left []) (all : number ≡ options.key_limit) (made : now_reads ≡ raised_by number before.reads) where
+  module _ (read : Consumes left now_left []) (all : number ≡ options.key_limit) (unread : now_reads ≡ so_reads) where
     limit_taken : LimitTaken options so.bytes number
     limit_taken = record { one_each = sym so.many; many = so.many ∙ all }
 
     pub ended_at_limit : (going : Going) → Pressed going (keys held) m now → Ended (ended_as going KeyLimit) options before (told_at now_left now_reads now)
     ended_at_limit On next =
-        let p = all_pressed read (omega (arith, all)) number made (inr limit_taken) next in
+        let p = all_pressed read (omega (arith, all)) number (unread ∙ so.made) (inr limit_taken) next in
         let limit : LimitTaken options p.0.bytes p.0.reads =
         record { one_each = omega (arith, ap length p.3, p.4, so.many); many = ap length p.3 ∙ so.many ∙ all } in
         record { course = p.0; stopped = (p.1, p.2, record { all = p.5; limit = limit }); rescued = p.6 }
-    ended_at_limit (Over status) next = ended_by_rest read (omega (arith, all)) number made (inr limit_taken) status next
+    ended_at_limit (Over status) next = ended_by_rest read (omega (arith, all)) number (unread ∙ so.made) (inr limit_taken) status next

@@ -76,7 +76,7 @@ RoseBy much before now = min (before + much) (2 ^ 64 - 1) ≤ now
 abbrev pub raised_by : ℕ → ℕ → ℕ
 raised_by much count = max count (min (count + much) (2 ^ 64 - 1))
 
--- below the limit one read more than a byte each was made, and it found the source's end
+-- below the limit one read was made behind these bytes, and it found the source's end
 pub record EndRead (options : PlainOptions) (now : Told) (bytes : List ℕ) (reads : ℕ) : Type 0 where
   pub one_more : reads ≡ length bytes + 1
   pub below : length bytes < options.key_limit
@@ -91,8 +91,8 @@ pub record LimitTaken (options : PlainOptions) (bytes : List ℕ) (reads : ℕ) 
 abbrev pub IsOver : PlainOptions → Told → List ℕ → ℕ → Type 0
 IsOver options now bytes reads = EndRead options now bytes reads ⊎ LimitTaken options bytes reads
 
--- one read a byte was made; or the source's end was read too, only behind the keys that the bytes
--- complete, which are the first of these
+-- one read a byte was made; or the source's end was read too, and these keys begin with all that the
+-- bytes complete
 abbrev pub ReadsInTurn : PlainOptions → Told → List ℕ → ℕ → List PressedKey → Type 0
 ReadsInTurn options now bytes reads pressed =
     (reads ≡ length bytes)
