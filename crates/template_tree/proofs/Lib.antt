@@ -20,3 +20,5 @@ pub mod PartLists
 -- the new program is a tree, whatever room its lists have
 pub mod Rooms
 pub mod NewPrograms
+-- a node of a tree is a subtree
+pub mod Subtrees
