@@ -22,3 +22,5 @@ pub mod Rooms
 pub mod NewPrograms
 -- a node of a tree is a subtree
 pub mod Subtrees
+-- a tree stays one where a part is set, or a comment turned
+pub mod KeptTrees

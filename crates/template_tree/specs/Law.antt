@@ -1,7 +1,11 @@
 -- The laws of trees.
 use Rattle.std.specs.Prelude.{◌≡◌, ℕ, ◌≤◌, List, Option, Some}
-use Rattle.template_tree.specs.PlainTree.{Forest, PlainNode}
+use Rattle.plcs_grammar.specs.PlainPhrase.{PlainPhrase}
+use Rattle.template_tree.specs.PlainTree.{Forest, PlainNode, PlainTree}
+use Rattle.template_tree.specs.Part.{IsPlace, Takes, part_category, with_part}
 use Rattle.template_tree.specs.Slots.{times}
+use Rattle.template_tree.specs.Tree.{IsTree}
+use Rattle.template_tree.specs.TreeLend.{with_node}
 use Rattle.template_tree.specs.Path.{node_at, edit_at}
 use Rattle.template_tree.specs.Edit.{edit_slot}
 
@@ -11,3 +15,11 @@ SlotEditIsPathEdit =
     (change : PlainNode → List PlainNode) (items : Forest) (path : List ℕ) (node : PlainNode)
     → times node.label.slot items ≤ 1 → node_at items path ≡ Some node
     → edit_slot node.label.slot change items ≡ edit_at change path items
+
+-- a tree is one again where the node at a path comes back with this in a part that takes it
+abbrev pub SetPartKeepsTree : Type 0
+SetPartKeepsTree =
+    (tree : PlainTree) (path : List ℕ) (node : PlainNode) (part : ℕ) (place : Option PlainPhrase)
+    → IsTree tree → node_at tree.items path ≡ Some node
+    → Takes (part_category node.label.kind part) place → IsPlace place
+    → IsTree (with_node tree path (with_part part place node))

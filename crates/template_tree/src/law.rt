@@ -1,5 +1,5 @@
 //! The laws of trees, each a function that does nothing and whose contract states it.
-ghost use Rattle.template_tree.specs.Law.{SlotEditIsPathEdit};
+ghost use Rattle.template_tree.specs.Law.{SetPartKeepsTree, SlotEditIsPathEdit};
 ghost use Rattle.template_tree.specs.Listing.{ListingSplitsInLines};
 
 use plcs_grammar::canonical_texts_show;
@@ -7,6 +7,11 @@ use plcs_grammar::canonical_texts_show;
 /// An edit by slot is the edit at the path of the node that stands there.
 pub fn slot_edit_is_path_edit()
     ensures { SlotEditIsPathEdit }
+{}
+
+/// A tree of which a node was lent is one again where `Node::put_part` alone changed the node.
+pub fn set_part_keeps_tree()
+    ensures { SetPartKeepsTree }
 {}
 
 /// The lines of a program's listing are its bytes, split at each byte 10.
