@@ -24,3 +24,5 @@ pub mod NewPrograms
 pub mod Subtrees
 -- a tree stays one where a part is set, or a comment turned
 pub mod KeptTrees
+-- the path of a slot's node
+pub mod SlotPaths

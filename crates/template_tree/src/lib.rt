@@ -10,6 +10,7 @@ mod listing;
 mod node;
 mod node_at;
 mod path;
+mod path_of;
 mod phrase_place;
 mod put_part;
 mod sections_left;
