@@ -15,9 +15,12 @@ use Rattle.template_tree.specs.Part.{Takes, IsPlace, part_category, with_part}
 use Rattle.template_tree.specs.Slots.{count, depth, times, AllBelow}
 use Rattle.template_tree.specs.Path.{node_at, edit_at}
 use Rattle.template_tree.specs.Tree.{IsTree}
+use Rattle.template_tree.specs.Edit.{Part, edit_slot, with_items}
 use Rattle.template_tree.specs.TreeLend.{with_node}
 use Rattle.template_tree.specs.Elision.{is_comment, is_comment_template, turn}
-use Rattle.template_tree.proofs.SameEdits.{taken}
+use Rattle.template_tree.proofs.SameEdits.{taken, edits_alike}
+use Rattle.template_tree.proofs.SlotEdits.{slot_edit_is_path_edit}
+use Rattle.template_tree.proofs.Subtrees.{subtree_at}
 
 -- the new node has the slot, the kind and the inner nodes of the one before, and is what its row asks for
 pub record Relabels (node new : PlainNode) : Type 0 where
@@ -103,6 +106,23 @@ kept_tree tree path node new t e r =
       live = t.live ∙ sym a.count_is;
     }
 
+-- so is the tree of those items, with as many live slots
+pub kept_items : (tree : PlainTree) (items : Forest) → IsTree tree → Alike tree.items items
+    → IsTree (with_items tree items tree.drawn) × ((with_items tree items tree.drawn).live ≡ tree.live)
+kept_items tree items t a = (
+  record {
+    program =
+        record { listed = subst (Fill program_sections) (sym a.sorts_are) t.program.listed; sound = a.sound t.program.sound };
+    shallow = omega (arith, a.depth_is, t.shallow);
+    few = omega (arith, a.count_is, t.few);
+    drawn_few = t.drawn_few;
+    drawn = a.below tree.drawn t.drawn;
+    once = λ slot. omega (arith, a.times_are slot, t.once slot);
+    live = refl;
+  },
+  a.count_is ∙ sym t.live,
+)
+
 -- parts of which one is set to what it takes
 parts_set : (categories : List Category) (parts : List (Option PlainPhrase)) (k : ℕ) (place : Option PlainPhrase) → AreParts categories parts
     → Takes (slice_get categories k) place → IsPlace place → AreParts categories (slice_set parts k place)
@@ -152,3 +172,17 @@ turned_if false node e sound = record { slot = refl; kind = refl; inner = refl; 
 
 pub turned_relabels : (node new : PlainNode) → IsSubtree node → turn node ≡ new ∷ [] → Relabels node new
 turned_relabels node new sound e = subst (Relabels node) (ap (first node) e) (turned_if (is_comment node.label.kind) node refl sound)
+
+-- a tree of which a part of the node in a slot is set
+pub part_keeps_tree : (tree : PlainTree) (path : List ℕ) (node : PlainNode) (part : ℕ) (place : Option PlainPhrase) → IsTree tree
+    → node_at tree.items path ≡ Some node → Takes (part_category node.label.kind part) place → IsPlace place
+    → IsTree (Part tree node.label.slot part place) × ((Part tree node.label.slot part place).live ≡ tree.live)
+part_keeps_tree tree path node part place t there takes place_is =
+    let change : PlainNode → List PlainNode = λ n. with_part part place n ∷ [] in
+    let new = with_part part place node in
+    let same : edit_at (λ _. new ∷ []) path tree.items ≡ edit_slot node.label.slot change tree.items =
+    edits_alike (λ _. new ∷ []) change tree.items path node there refl
+    ∙ sym (slot_edit_is_path_edit change tree.items path node (t.once node.label.slot) there) in
+    let relabels = part_relabels node part place (subtree_at tree.items path node t.program.sound there) takes place_is in
+    kept_items tree (edit_slot node.label.slot change tree.items) t
+    (subst (Alike tree.items) same (edit_alike tree.items path node new there relabels))

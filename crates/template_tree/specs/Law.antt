@@ -7,7 +7,7 @@ use Rattle.template_tree.specs.Slots.{times}
 use Rattle.template_tree.specs.Tree.{IsTree}
 use Rattle.template_tree.specs.TreeLend.{with_node}
 use Rattle.template_tree.specs.Path.{node_at, edit_at}
-use Rattle.template_tree.specs.Edit.{edit_slot}
+use Rattle.template_tree.specs.Edit.{Part, edit_slot}
 
 -- an edit by slot is the edit at the path of the node that stands there, where the slot stands but once
 abbrev pub SlotEditIsPathEdit : Type 0
@@ -23,3 +23,11 @@ SetPartKeepsTree =
     → IsTree tree → node_at tree.items path ≡ Some node
     → Takes (part_category node.label.kind part) place → IsPlace place
     → IsTree (with_node tree path (with_part part place node))
+
+-- a tree is one with as many live slots where a part of the node in a slot is set to what it takes
+abbrev pub PartKeepsTree : Type 0
+PartKeepsTree =
+    (tree : PlainTree) (path : List ℕ) (node : PlainNode) (part : ℕ) (place : Option PlainPhrase)
+    → IsTree tree → node_at tree.items path ≡ Some node
+    → Takes (part_category node.label.kind part) place → IsPlace place
+    → IsTree (Part tree node.label.slot part place) × ((Part tree node.label.slot part place).live ≡ tree.live)
