@@ -26,3 +26,5 @@ pub mod Subtrees
 pub mod KeptTrees
 -- the path of a slot's node
 pub mod SlotPaths
+-- a tree stays one where a node comes into a slot
+pub mod PutTrees

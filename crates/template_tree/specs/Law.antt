@@ -1,13 +1,15 @@
 -- The laws of trees.
 use Rattle.std.specs.Prelude.{◌≡◌, ℕ, ◌≤◌, List, Option, Some}
 use Rattle.plcs_grammar.specs.PlainPhrase.{PlainPhrase}
+use Rattle.template_tree.specs.Limit.{deepest_path, most_slots, most_drawn}
+use Rattle.template_tree.specs.Program.{IsSubtree, sort_of}
 use Rattle.template_tree.specs.PlainTree.{Forest, PlainNode, PlainTree}
 use Rattle.template_tree.specs.Part.{IsPlace, Takes, part_category, with_part}
-use Rattle.template_tree.specs.Slots.{times}
+use Rattle.template_tree.specs.Slots.{depth, times}
 use Rattle.template_tree.specs.Tree.{IsTree}
 use Rattle.template_tree.specs.TreeLend.{with_node}
 use Rattle.template_tree.specs.Path.{node_at, edit_at}
-use Rattle.template_tree.specs.Edit.{Part, edit_slot}
+use Rattle.template_tree.specs.Edit.{Part, Put, edit_slot}
 
 -- an edit by slot is the edit at the path of the node that stands there, where the slot stands but once
 abbrev pub SlotEditIsPathEdit : Type 0
@@ -31,3 +33,14 @@ PartKeepsTree =
     → IsTree tree → node_at tree.items path ≡ Some node
     → Takes (part_category node.label.kind part) place → IsPlace place
     → IsTree (Part tree node.label.slot part place) × ((Part tree node.label.slot part place).live ≡ tree.live)
+
+-- a tree is one where a node of the same sort comes into a slot, as far as the limits allow it
+abbrev pub PutKeepsTree : Type 0
+PutKeepsTree =
+    (tree : PlainTree) (path : List ℕ) (node new : PlainNode)
+    → IsTree tree → node_at tree.items path ≡ Some node
+    → IsSubtree new → sort_of new.label.kind ≡ sort_of node.label.kind
+    → depth (Put tree node.label.slot new).items ≤ deepest_path
+    → (Put tree node.label.slot new).live ≤ most_slots
+    → (Put tree node.label.slot new).drawn ≤ most_drawn
+    → IsTree (Put tree node.label.slot new)

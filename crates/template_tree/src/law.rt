@@ -1,5 +1,5 @@
 //! The laws of trees, each a function that does nothing and whose contract states it.
-ghost use Rattle.template_tree.specs.Law.{PartKeepsTree, SetPartKeepsTree, SlotEditIsPathEdit};
+ghost use Rattle.template_tree.specs.Law.{PartKeepsTree, PutKeepsTree, SetPartKeepsTree, SlotEditIsPathEdit};
 ghost use Rattle.template_tree.specs.Listing.{ListingSplitsInLines};
 
 use plcs_grammar::canonical_texts_show;
@@ -17,6 +17,11 @@ pub fn set_part_keeps_tree()
 /// Setting a part of the node in a slot keeps a tree a tree, with as many slots.
 pub fn part_keeps_tree()
     ensures { PartKeepsTree }
+{}
+
+/// A node of the same sort in place of what stood in a slot keeps a tree a tree within the limits.
+pub fn put_keeps_tree()
+    ensures { PutKeepsTree }
 {}
 
 /// The lines of a program's listing are its bytes, split at each byte 10.
