@@ -24,6 +24,7 @@ pub record Replaces (node new : PlainNode) : Type 0 where
 -- the nodes after, where these inner nodes went and those came
 pub record Replaced (before after gone come : Forest) : Type 0 where
   pub sorts_are : sorts after ≡ sorts before
+  pub count_is : count after + count gone ≡ count before + count come
   pub times_are : (slot : ℕ) → times slot after + times slot gone ≡ times slot before + times slot come
   pub below : (number : ℕ) → AllBelow number before → AllBelow number come → AllBelow number after
   pub sound : AreNodes before → AreNodes after
@@ -38,6 +39,7 @@ first_replaced : (label : Label) (inner rest : Forest) (new : PlainNode) → Rep
 first_replaced label inner rest new r =
     record {
       sorts_are = ap (λ sort. sort ∷ sorts rest) r.sort;
+      count_is = omega arith;
       times_are =
           λ slot.
           swapped (if new.label.slot == slot then 1 else 0) (if label.slot == slot then 1 else 0) (times slot inner)
@@ -52,6 +54,7 @@ inner_replaced : (label : Label) (before after rest gone come : Forest) → Repl
 inner_replaced label before after rest gone come a =
     record {
       sorts_are = refl;
+      count_is = omega (arith, a.count_is);
       times_are = λ slot. omega (arith, a.times_are slot);
       below = λ number h new. (h.0, a.below number h.1 new, h.2);
       sound = λ h. (subst (IsNode label) (sym a.sorts_are) h.0, a.sound h.1, h.2);
@@ -63,6 +66,7 @@ rest_replaced : (label : Label) (inner before after gone come : Forest) → Repl
 rest_replaced label inner before after gone come a =
     record {
       sorts_are = ap (λ ss. sort_of label.kind ∷ ss) a.sorts_are;
+      count_is = omega (arith, a.count_is);
       times_are = λ slot. omega (arith, a.times_are slot);
       below = λ number h new. (h.0, h.1, a.below number h.2 new);
       sound = λ h. (h.0, h.1, a.sound h.2);
@@ -153,6 +157,11 @@ sorts_numbered first Forest.nil = refl
 sorts_numbered first (Forest.cons label inner rest) =
     ap (λ ss. sort_of label.kind ∷ ss) (sorts_numbered (first + 1 + count inner) rest)
 
+count_numbered : (first : ℕ) (items : Forest) → count (numbered first items) ≡ count items
+count_numbered first Forest.nil = refl
+count_numbered first (Forest.cons label inner rest) =
+    λ i. count_numbered (first + 1) inner i + count_numbered (first + 1 + count inner) rest i + 1
+
 nodes_numbered : (first : ℕ) (items : Forest) → AreNodes items → AreNodes (numbered first items)
 nodes_numbered first Forest.nil h = tt
 nodes_numbered first (Forest.cons label inner rest) h = (
@@ -216,7 +225,8 @@ once_again slot drawn before after gone come below once e =
 pub put_keeps_tree : (tree : PlainTree) (path : List ℕ) (node new : PlainNode) → IsTree tree → node_at tree.items path ≡ Some node
     → IsSubtree new → sort_of new.label.kind ≡ sort_of node.label.kind
     → depth (Put tree node.label.slot new).items ≤ deepest_path → (Put tree node.label.slot new).live ≤ most_slots
-    → (Put tree node.label.slot new).drawn ≤ most_drawn → IsTree (Put tree node.label.slot new)
+    → (Put tree node.label.slot new).drawn ≤ most_drawn
+    → IsTree (Put tree node.label.slot new) × ((Put tree node.label.slot new).live + count node.inner ≡ tree.live + count new.inner)
 put_keeps_tree tree path node new t there sound same shallow few drawn_few =
     let come = placed node.label.slot tree.drawn new in
     let after : Forest = edit_slot node.label.slot (λ _. come ∷ []) tree.items in
@@ -226,16 +236,19 @@ put_keeps_tree tree path node new t there sound same shallow few drawn_few =
     subst (λ (f : Forest). Replaced tree.items f node.inner come.inner) by_path
     (edit_replaced tree.items path node come there (placed_replaces node new tree.drawn sound same)) in
     let drawn : AllBelow (tree.drawn + count new.inner) come.inner =
-    subst (λ n. AllBelow (tree.drawn + n) come.inner) (count_whole new.inner) (numbered_below tree.drawn (whole new.inner)) in
-    record {
-      program =
-          record { listed = subst (Fill program_sections) (sym r.sorts_are) t.program.listed; sound = r.sound t.program.sound };
-      shallow = shallow;
-      few = few;
-      drawn_few = drawn_few;
-      drawn =
-          r.below (tree.drawn + count new.inner)
-          (below_more tree.drawn (tree.drawn + count new.inner) tree.items (omega arith) t.drawn) drawn;
-      once = λ slot. once_again slot tree.drawn tree.items after node.inner (whole new.inner) t.drawn (t.once slot) (r.times_are slot);
-      live = refl;
-    }
+    subst (λ n. AllBelow (tree.drawn + n) come.inner) (count_whole new.inner) (numbered_below tree.drawn (whole new.inner))
+    in (
+  record {
+    program =
+        record { listed = subst (Fill program_sections) (sym r.sorts_are) t.program.listed; sound = r.sound t.program.sound };
+    shallow = shallow;
+    few = few;
+    drawn_few = drawn_few;
+    drawn =
+        r.below (tree.drawn + count new.inner)
+        (below_more tree.drawn (tree.drawn + count new.inner) tree.items (omega arith) t.drawn) drawn;
+    once = λ slot. once_again slot tree.drawn tree.items after node.inner (whole new.inner) t.drawn (t.once slot) (r.times_are slot);
+    live = refl;
+  },
+  omega (arith, r.count_is, count_numbered tree.drawn (whole new.inner), count_whole new.inner, t.live),
+)

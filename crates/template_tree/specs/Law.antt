@@ -1,11 +1,11 @@
 -- The laws of trees.
-use Rattle.std.specs.Prelude.{◌≡◌, ℕ, ◌≤◌, List, Option, Some}
+use Rattle.std.specs.Prelude.{◌≡◌, ℕ, ◌+◌, ◌≤◌, List, Option, Some}
 use Rattle.plcs_grammar.specs.PlainPhrase.{PlainPhrase}
 use Rattle.template_tree.specs.Limit.{deepest_path, most_slots, most_drawn}
 use Rattle.template_tree.specs.Program.{IsSubtree, sort_of}
 use Rattle.template_tree.specs.PlainTree.{Forest, PlainNode, PlainTree}
 use Rattle.template_tree.specs.Part.{IsPlace, Takes, part_category, with_part}
-use Rattle.template_tree.specs.Slots.{depth, times}
+use Rattle.template_tree.specs.Slots.{count, depth, times}
 use Rattle.template_tree.specs.Tree.{IsTree}
 use Rattle.template_tree.specs.TreeLend.{with_node}
 use Rattle.template_tree.specs.Path.{node_at, edit_at}
@@ -34,7 +34,8 @@ PartKeepsTree =
     → Takes (part_category node.label.kind part) place → IsPlace place
     → IsTree (Part tree node.label.slot part place) × ((Part tree node.label.slot part place).live ≡ tree.live)
 
--- a tree is one where a node of the same sort comes into a slot, as far as the limits allow it
+-- a tree is one where a node of the same sort comes into a slot, as far as the limits allow it; the inner nodes that come
+-- are counted in place of those that go
 abbrev pub PutKeepsTree : Type 0
 PutKeepsTree =
     (tree : PlainTree) (path : List ℕ) (node new : PlainNode)
@@ -44,3 +45,4 @@ PutKeepsTree =
     → (Put tree node.label.slot new).live ≤ most_slots
     → (Put tree node.label.slot new).drawn ≤ most_drawn
     → IsTree (Put tree node.label.slot new)
+    × ((Put tree node.label.slot new).live + count node.inner ≡ tree.live + count new.inner)

@@ -1,11 +1,12 @@
 //! Nodes found by their paths.
-ghost use Rattle.std.specs.Prelude.{◌≡◌, ◌+◌, ◌≤◌, IfSome, option_map};
+ghost use Rattle.std.specs.Prelude.{◌≡◌, ◌+◌, ◌<◌, ◌≤◌, IfSome, length, option_map};
 ghost use Rattle.std.specs.Borrow.{LendsIf, sem};
 ghost use Rattle.template_tree.specs.contracts.node.Node as node_row;
 ghost use Rattle.template_tree.specs.contracts.tree.Tree as tree_row;
 ghost use Rattle.template_tree.specs.TreeLend.{with_node};
 ghost use Rattle.template_tree.specs.Limit.{most_slots};
 ghost use Rattle.template_tree.specs.Path.{below, node_at};
+ghost use Rattle.template_tree.specs.PlainTree.{nodes};
 ghost use Rattle.template_tree.specs.Program.{IsSubtree};
 ghost use Rattle.template_tree.specs.Slots.{count};
 ghost use Rattle.template_tree.specs.Tree.{IsTree};
@@ -22,6 +23,7 @@ impl Tree {
         ensures found { option_map (λ node. node.now) result ≡ node_at self.now.items path.now.items }
         ensures subtree { IfSome result (λ node. IsSubtree node.now) }
         ensures few { IfSome result (λ node. count node.now.inner + 1 ≤ most_slots) }
+        ensures children_few { IfSome result (λ node. length (nodes node.now.inner) < most_slots) }
     {
         let Some((k, rest)) = path.split_first() else {
             return None;
@@ -42,6 +44,7 @@ impl Tree {
         ensures found { option_map (λ node. node.now) result ≡ node_at self.old.items path.now.items }
         ensures subtree { IfSome result (λ node. IsSubtree node.now) }
         ensures few { IfSome result (λ node. count node.now.inner + 1 ≤ most_slots) }
+        ensures children_few { IfSome result (λ node. length (nodes node.now.inner) < most_slots) }
     {
         let Some((k, rest)) = path.split_first() else {
             return None;

@@ -1,10 +1,11 @@
-use Rattle.std.specs.Prelude.{◌≡◌, ◌∷◌, ◌+◌, ◌≤◌, option_map, option_and_then}
+use Rattle.std.specs.Prelude.{◌≡◌, ◌∷◌, ◌+◌, ◌<◌, ◌≤◌, length, option_map, option_and_then}
 use Rattle.std.proofs.Common.{ap, sym, ◌∙◌, arith}
 use Rattle.template_tree.specs.Limit.{most_slots}
+use Rattle.template_tree.specs.PlainTree.{nodes}
 use Rattle.template_tree.specs.Path.{below, node_at}
 use Rattle.template_tree.specs.Program.{IsSubtree}
 use Rattle.template_tree.specs.Slots.{count}
-use Rattle.template_tree.proofs.Counts.{counted_below}
+use Rattle.template_tree.proofs.Counts.{counted_below, items_few}
 use Rattle.template_tree.proofs.PutNodes.{found_in_tree}
 use Rattle.template_tree.proofs.Subtrees.{subtree_at, lent}
 use Rattle.template_tree.proofs.tree.Tree.node.Goals as goal
@@ -28,4 +29,7 @@ returns c =
       few =
           lent (λ node. node.now) (λ node. count node.inner + 1 ≤ most_slots) (node_at items path)
           (λ node there. omega (arith, counted_below items path node there, c.requires.tree.few)) c.below.result found;
+      children_few =
+          lent (λ node. node.now) (λ node. length (nodes node.inner) < most_slots) (node_at items path)
+          (λ node there. omega (arith, counted_below items path node there, items_few node.inner, c.requires.tree.few)) c.below.result found;
     }

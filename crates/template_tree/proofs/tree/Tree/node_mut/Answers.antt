@@ -1,13 +1,14 @@
-use Rattle.std.specs.Prelude.{◌≡◌, ◌∷◌, ◌+◌, ◌≤◌, option_map}
+use Rattle.std.specs.Prelude.{◌≡◌, ◌∷◌, ◌+◌, ◌<◌, ◌≤◌, length, option_map}
 use Rattle.std.proofs.Common.{sym, ◌∙◌, arith}
 use mathlib.Core.Path.{fun_ext}
 use borrow.Follows.Closed.{read_of}
 use Rattle.std.specs.Option.{ghost_name_of}
 use Rattle.template_tree.specs.Limit.{most_slots}
+use Rattle.template_tree.specs.PlainTree.{nodes}
 use Rattle.template_tree.specs.Path.{node_at}
 use Rattle.template_tree.specs.Program.{IsSubtree}
 use Rattle.template_tree.specs.Slots.{count}
-use Rattle.template_tree.proofs.Counts.{counted_below}
+use Rattle.template_tree.proofs.Counts.{counted_below, items_few}
 use Rattle.template_tree.proofs.LentNodes.{both}
 use Rattle.template_tree.proofs.PutNodes.{put_in_tree, found_in_tree}
 use Rattle.template_tree.proofs.Subtrees.{subtree_at, lent}
@@ -36,5 +37,8 @@ returns c =
         few =
             lent (λ node. node.now) (λ node. count node.inner + 1 ≤ most_slots) (node_at items path)
             (λ node there. omega (arith, counted_below items path node there, c.requires.tree.few)) c.down.result found;
+        children_few =
+            lent (λ node. node.now) (λ node. length (nodes node.inner) < most_slots) (node_at items path)
+            (λ node there. omega (arith, counted_below items path node there, items_few node.inner, c.requires.tree.few)) c.down.result found;
       },
     )
