@@ -1,23 +1,23 @@
 -- A tree stays one where the label of a node gives way to one of the same slot and kind.
-use Rattle.std.specs.Prelude.{◌≡◌, refl, ℕ, zero, suc, ◌+◌, ◌<◌, ◌≤◌, max, Bool, true, false, not, if◌then◌else◌, ◌==◌, List, [], ◌∷◌, Option, Some, None, slice_get, slice_set}
+use Rattle.std.specs.Prelude.{◌≡◌, refl, ℕ, zero, suc, ◌+◌, ◌<◌, max, Bool, true, false, not, if◌then◌else◌, ◌==◌, List, [], ◌∷◌, Option, Some, None, slice_get, slice_set}
 use Rattle.std.proofs.Common.{ap, sym, ◌∙◌, subst, arith}
 use Rattle.std.proofs.Math.Bool.{false≢true}
 use Rattle.std.proofs.lemmas.Option.{none-some}
 use Rattle.plcs_grammar.specs.declared.category.Category.{Category}
 use Rattle.plcs_grammar.specs.declared.node_kind.NodeKind.{NodeKind}
 use Rattle.plcs_grammar.specs.declared.template.Template.{Template}
-use Rattle.plcs_grammar.specs.declared.template.Template.TheVariants.{Fixed, Bit, Char, If, IfElse, While, For, Group, Get, Put, PutSkip, Call, Return, Comment, Proc, ProcP}
+use Rattle.plcs_grammar.specs.declared.template.Template.TheVariants.{Comment}
 use Rattle.plcs_grammar.specs.PlainPhrase.{PlainPhrase}
 use Rattle.plcs_grammar.specs.Template.{row_of, program_sections}
 use Rattle.template_tree.specs.PlainTree.{Label, Forest, PlainNode, PlainTree}
-use Rattle.template_tree.specs.Program.{sorts, sort_of, parts_of, Fill, AreParts, IsNode, IsPhrase, AreNodes, IsSubtree, IsProgram}
+use Rattle.template_tree.specs.Program.{sorts, sort_of, parts_of, Fill, AreParts, IsNode, IsPhrase, AreNodes, IsSubtree}
 use Rattle.template_tree.specs.Part.{Takes, IsPlace, part_category, with_part}
 use Rattle.template_tree.specs.Slots.{count, depth, times, AllBelow}
 use Rattle.template_tree.specs.Path.{node_at, edit_at}
 use Rattle.template_tree.specs.Tree.{IsTree}
 use Rattle.template_tree.specs.Edit.{Part, edit_slot, with_items}
 use Rattle.template_tree.specs.TreeLend.{with_node}
-use Rattle.template_tree.specs.Elision.{is_comment, is_comment_template, turn}
+use Rattle.template_tree.specs.Elision.{is_comment, turn}
 use Rattle.template_tree.proofs.SameEdits.{taken, edits_alike}
 use Rattle.template_tree.proofs.SlotEdits.{slot_edit_is_path_edit}
 use Rattle.template_tree.proofs.Subtrees.{subtree_at}

@@ -1,12 +1,12 @@
 -- A tree stays one where a node of its sort comes into a slot.
-use Rattle.std.specs.Prelude.{◌≡◌, refl, ℕ, zero, suc, ◌+◌, ◌<◌, ◌≤◌, Bool, true, false, if◌then◌else◌, ◌==◌, List, [], ◌∷◌, Option, Some, None}
+use Rattle.std.specs.Prelude.{◌≡◌, refl, ℕ, zero, suc, ◌+◌, ◌<◌, ◌≤◌, Bool, true, false, if◌then◌else◌, ◌==◌, List, [], ◌∷◌, Some}
 use Rattle.std.proofs.Common.{ap, sym, ◌∙◌, subst, arith, inl, inr}
 use Rattle.std.proofs.Math.Bool.{false≢true}
 use Rattle.std.proofs.lemmas.Bool.{cases_lt, ne_eqb}
 use Rattle.std.proofs.lemmas.Option.{none-some}
 use Rattle.plcs_grammar.specs.Template.{row_of, program_sections}
 use Rattle.template_tree.specs.PlainTree.{Label, Forest, PlainNode, PlainTree}
-use Rattle.template_tree.specs.Program.{sorts, sort_of, Fill, IsNode, AreNodes, IsSubtree, IsProgram}
+use Rattle.template_tree.specs.Program.{sorts, sort_of, Fill, IsNode, AreNodes, IsSubtree}
 use Rattle.template_tree.specs.Slots.{count, depth, times, AllBelow, numbered}
 use Rattle.template_tree.specs.Path.{node_at, edit_at}
 use Rattle.template_tree.specs.Limit.{deepest_path, most_slots, most_drawn}
@@ -146,10 +146,12 @@ numbered_once slot first (Forest.cons label inner rest) =
     let one = numbered_once slot (first + 1) inner in
     let other = numbered_once slot (first + 1 + count inner) rest in
     elim (cases_lt first slot) [
-    inl above ↦ elim (cases_lt slot (first + 1 + count inner)) [
-    inl early ↦ omega (arith, apart first slot above, one, none_below slot (first + 1 + count inner) rest early)
-    | inr late ↦ omega (arith, apart first slot above, other, none_above slot (first + 1 + count inner) (numbered (first + 1) inner) late (numbered_below (first + 1) inner)) ]
-    | inr low ↦ omega (arith, own, none_below slot (first + 1) inner (omega (arith, low)), none_below slot (first + 1 + count inner) rest (omega (arith, low))) ]
+      | inl above ↦ elim (cases_lt slot (first + 1 + count inner)) [
+        | inl early ↦ omega (arith, apart first slot above, one, none_below slot (first + 1 + count inner) rest early)
+        | inr late ↦ omega (arith, apart first slot above, other, none_above slot (first + 1 + count inner) (numbered (first + 1) inner) late (numbered_below (first + 1) inner))
+      ]
+      | inr low ↦ omega (arith, own, none_below slot (first + 1) inner (omega (arith, low)), none_below slot (first + 1 + count inner) rest (omega (arith, low)))
+    ]
 
 -- the numbers make no difference to what nodes are
 sorts_numbered : (first : ℕ) (items : Forest) → sorts (numbered first items) ≡ sorts items
@@ -218,8 +220,9 @@ once_again : (slot drawn : ℕ) (before after gone come : Forest) → AllBelow d
     → times slot after + times slot gone ≡ times slot before + times slot (numbered drawn come) → times slot after ≤ 1
 once_again slot drawn before after gone come below once e =
     elim (cases_lt slot drawn) [
-    inl old ↦ omega (arith, once, e, none_below slot drawn come old)
-    | inr new ↦ omega (arith, e, none_above slot drawn before new below, numbered_once slot drawn come) ]
+      | inl old ↦ omega (arith, once, e, none_below slot drawn come old)
+      | inr new ↦ omega (arith, e, none_above slot drawn before new below, numbered_once slot drawn come)
+    ]
 
 -- a tree is one where a node of the sort comes into a slot, and the limits hold
 pub put_keeps_tree : (tree : PlainTree) (path : List ℕ) (node new : PlainNode) → IsTree tree → node_at tree.items path ≡ Some node
@@ -238,17 +241,17 @@ put_keeps_tree tree path node new t there sound same shallow few drawn_few =
     let drawn : AllBelow (tree.drawn + count new.inner) come.inner =
     subst (λ n. AllBelow (tree.drawn + n) come.inner) (count_whole new.inner) (numbered_below tree.drawn (whole new.inner))
     in (
-  record {
-    program =
-        record { listed = subst (Fill program_sections) (sym r.sorts_are) t.program.listed; sound = r.sound t.program.sound };
-    shallow = shallow;
-    few = few;
-    drawn_few = drawn_few;
-    drawn =
-        r.below (tree.drawn + count new.inner)
-        (below_more tree.drawn (tree.drawn + count new.inner) tree.items (omega arith) t.drawn) drawn;
-    once = λ slot. once_again slot tree.drawn tree.items after node.inner (whole new.inner) t.drawn (t.once slot) (r.times_are slot);
-    live = refl;
-  },
-  omega (arith, r.count_is, count_numbered tree.drawn (whole new.inner), count_whole new.inner, t.live),
-)
+      record {
+        program =
+            record { listed = subst (Fill program_sections) (sym r.sorts_are) t.program.listed; sound = r.sound t.program.sound };
+        shallow = shallow;
+        few = few;
+        drawn_few = drawn_few;
+        drawn =
+            r.below (tree.drawn + count new.inner)
+            (below_more tree.drawn (tree.drawn + count new.inner) tree.items (omega arith) t.drawn) drawn;
+        once = λ slot. once_again slot tree.drawn tree.items after node.inner (whole new.inner) t.drawn (t.once slot) (r.times_are slot);
+        live = refl;
+      },
+      omega (arith, r.count_is, count_numbered tree.drawn (whole new.inner), count_whole new.inner, t.live),
+    )

@@ -1,9 +1,9 @@
 -- The path of a slot's node, found item after item.
-use Rattle.std.specs.Prelude.{◌≡◌, refl, ℕ, zero, suc, ◌+◌, ◌<◌, ◌≤◌, ◌↔◌, ◌==◌, Bool, true, false, if◌then◌else◌, List, [], ◌∷◌, length, drop, get_or, Option, Some, None, option_map, option_and_then, slice_get, IsNone, IfNone, IfSome}
-use Rattle.std.proofs.Common.{ap, sym, ◌∙◌, subst, arith, add-one, drop-cons}
+use Rattle.std.specs.Prelude.{◌≡◌, refl, ℕ, zero, suc, ◌+◌, ◌<◌, ◌≤◌, ◌↔◌, List, [], ◌∷◌, length, drop, get_or, Option, Some, None, option_map, IsNone, IfNone, IfSome}
+use Rattle.std.proofs.Common.{ap, sym, subst, arith, add-one, drop-cons}
 use Rattle.std.proofs.Math.Bool.{false≢true}
 use Rattle.std.proofs.lemmas.Option.{none-some, slice_get_read}
-use Rattle.template_tree.specs.PlainTree.{Label, Forest, PlainNode, nodes, forest, nodes_forest}
+use Rattle.template_tree.specs.PlainTree.{Forest, PlainNode, forest, nodes_forest}
 use Rattle.template_tree.specs.Slots.{count, times}
 use Rattle.template_tree.specs.Path.{below, node_at, slot_at}
 use Rattle.template_tree.proofs.SlotEdits.{present}

@@ -1,6 +1,6 @@
 -- A node of a tree is a subtree of it, and has no more slots than the tree.
-use Rattle.std.specs.Prelude.{◌≡◌, ℕ, zero, suc, ◌+◌, ◌≤◌, List, [], ◌∷◌, Option, Some, None, option_map, IfSome}
-use Rattle.std.proofs.Common.{ap, sym, ◌∙◌, subst, arith}
+use Rattle.std.specs.Prelude.{◌≡◌, ℕ, zero, suc, List, [], ◌∷◌, Option, Some, None, option_map, IfSome}
+use Rattle.std.proofs.Common.{ap, sym, subst}
 use Rattle.std.proofs.lemmas.Option.{none-some}
 use Rattle.template_tree.specs.PlainTree.{Forest, PlainNode}
 use Rattle.template_tree.specs.Path.{node_at}

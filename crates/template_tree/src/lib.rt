@@ -20,7 +20,8 @@ mod tree;
 
 pub use change::{Change, What};
 pub use law::{
-    listing_splits_in_lines, part_keeps_tree, put_keeps_tree, set_part_keeps_tree, slot_edit_is_path_edit,
+    listing_splits_in_lines, part_keeps_tree, put_keeps_tree, set_part_keeps_tree,
+    slot_edit_is_path_edit,
 };
 pub use limit::{DEEPEST_PATH, LONGEST_PHRASE, MOST_DRAWN, MOST_SLOTS};
 pub use node::Node;

@@ -1,5 +1,4 @@
-use Rattle.std.proofs.Common.{rules, ◌≡◌, ◌+◌, ◌<◌, ◌≤◌, ◌∷◌, ◌∙◌, ap, sym, arith, subst, length}
-use Rattle.std.specs.Prelude.{Some}
+use Rattle.std.proofs.Common.{◌<◌, ◌∷◌, ◌∙◌, ap, arith, length}
 use Rattle.template_tree.specs.Path.{slot_at}
 use Rattle.template_tree.specs.PlainTree.{forest}
 use Rattle.template_tree.proofs.PutLines.{item_light, item_shallow}

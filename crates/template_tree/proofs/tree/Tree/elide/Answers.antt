@@ -1,6 +1,6 @@
-use Rattle.std.specs.Prelude.{◌≡◌, Some, None, ◌∷◌, []}
-use Rattle.std.proofs.Common.{ap, sym, ◌∙◌}
-use Rattle.template_tree.specs.PlainTree.{PlainTree, Forest}
+use Rattle.std.specs.Prelude.{◌∷◌, []}
+use Rattle.std.proofs.Common.{ap, sym}
+use Rattle.template_tree.specs.PlainTree.{Forest}
 use Rattle.template_tree.specs.Elision.{turn}
 use Rattle.template_tree.proofs.KeptTrees.{kept_tree, turned_relabels}
 use Rattle.template_tree.proofs.SameEdits.{edits_alike, edit_nowhere}

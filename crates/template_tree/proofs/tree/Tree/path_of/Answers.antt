@@ -1,6 +1,5 @@
-use Rattle.std.proofs.Common.{rules, ◌≡◌, ◌∙◌, ap, sym, subst}
-use Rattle.std.specs.Prelude.{IfNone, IfSome, IsNone, ◌↔◌, Some}
-use Rattle.template_tree.specs.Path.{slot_at}
+use Rattle.std.proofs.Common.{◌≡◌, ◌∙◌, ap, subst}
+use Rattle.std.specs.Prelude.{IsNone, ◌↔◌}
 use Rattle.template_tree.specs.PlainTree.{PlainTree, Forest, forest}
 use Rattle.template_tree.specs.Slots.{times}
 use Rattle.template_tree.proofs.SlotPaths.{settled}
