@@ -21,7 +21,7 @@ pub mod CheckAnswers
 pub mod OperatorTests
 -- `ensures` of `bracketed`, `next_close_in` and `next_comma_in`
 pub mod OpenBrackets
--- `within` of `check`: no level is too great to be counted
+-- what `level_of` and `next` require of the shape in `check`: no level is too great to be counted
 pub mod ShapeLevels
--- `found` of `check`: the loop keeps it
+-- `ensures` of `check`: its loop keeps what is found
 pub mod FindingsGoOn

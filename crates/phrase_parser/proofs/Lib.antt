@@ -1,3 +1,5 @@
+-- the value of the greatest number that is kept
+mod Limits
 -- what `tokens` ensures: the text is cut into its longest tokens
 mod Tokens
 -- `says` and `only` of `parse`: the machine reads the forms of the grammar, and nothing else
@@ -8,7 +10,7 @@ mod Findings
 mod Frames
 -- what `comment` ensures
 mod Comments
--- `only`, `well_formed` and the laws
+-- `only`, `well_formed` and `category` of `parse`, and the laws
 mod Readings
 -- the laws on parts of lines, and the clause of `cut_at`
 mod Lines

@@ -1,5 +1,5 @@
 -- The machine reads exactly the forms of the grammar.
--- `OneReading`: lists that are equal item by item
+-- `over` and `only` of `parse`: what holds of each item of two lists holds of each of both
 pub mod AllOfLists
 -- `says` of `parse`: a name is a built-in function's or a variable's
 pub mod BuiltinNames

@@ -9,5 +9,5 @@ pub mod CanonicalTokens
 pub mod CanonicalText
 -- `one_standing`: there is always something that the text is
 pub mod WholeCuts
--- `one_standing`, `over_is_past_limits`, `reading_has_category`
+-- `category` of `parse`, `one_standing`, `over_is_past_limits`, `reading_has_category`
 pub mod Standings

@@ -17,5 +17,5 @@ pub mod OneCut
 pub mod CutSoFar
 -- `ensures` of `constant_value`
 pub mod ConstantValues
--- `placed` and `within` of what `parse` hands to the check and the builder
+-- what `check` and `build` require of the tokens, and `CanonicalTextReads`: cut pieces stand in order and are sound
 pub mod CutPieces

@@ -8,7 +8,6 @@ pub mod TokenIn
 pub mod Machine
 pub mod Trace
 pub mod Gives
-pub mod Built
 pub mod Views
 pub mod Reduction
 -- ---- the machine without trees, and the check

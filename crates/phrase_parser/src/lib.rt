@@ -12,7 +12,6 @@ mod law;
 mod lexer;
 #[cfg(test)]
 mod lexer_tests;
-mod limit;
 mod line_parts;
 #[cfg(test)]
 mod line_parts_tests;

@@ -3,11 +3,10 @@ ghost use Rattle.std.specs.Prelude.{◌≡◌, ◌<◌, ◌^◌, ℕ, length, ma
 ghost use Rattle.plcs_grammar.specs.Canon.{IsWellFormed};
 ghost use Rattle.plcs_grammar.specs.Over.{OverLimit};
 ghost use Rattle.plcs_grammar.specs.PlainForm.{plain_phrase};
-ghost use Rattle.plcs_grammar.specs.PlainPhrase.{PlainPhrase};
+ghost use Rattle.plcs_grammar.specs.PlainPhrase.{PlainPhrase, category_of};
 ghost use Rattle.plcs_grammar.specs.Reads.{Outline, Reads, IsOver};
 ghost use Rattle.plcs_grammar.specs.Syntax.{SyntaxAt};
 ghost use Rattle.phrase_parser.specs.declared.fault.PhraseFault.TheVariants.{Syntax};
-ghost use Rattle.phrase_parser.specs.Private.Built.{IsBuilt};
 ghost use Rattle.phrase_parser.specs.Private.Machine.{start, run, phrase_of_if};
 ghost use Rattle.phrase_parser.specs.Private.Recognizer.{first_shape};
 ghost use Rattle.phrase_parser.specs.Private.TokenIn.{IsPlacedIn, token_in};
@@ -19,7 +18,6 @@ use crate::check::{Finding, Over, Shape, check, first_shape};
 use crate::comment::comment;
 use crate::fault::PhraseFault;
 use crate::lexer::tokens;
-use crate::token::Placed;
 use plcs_grammar::{Category, Phrase};
 use std::alloc::Global;
 
@@ -39,14 +37,8 @@ pub fn parse(alloc: Global, category: Category, text: &[u8]) -> Result<Phrase, P
     // And so is the place where a text without a reading goes wrong.
     ensures syntax { (place : ℕ) → ¬ (Outline category text.now) → SyntaxAt category text.now place
         → OnlyFault result (Syntax place) }
-{
-    answer(alloc, category, text)
-}
-
-/// The answer, which says what the text is.
-fn answer(alloc: Global, category: Category, text: &[u8]) -> Result<Phrase, PhraseFault>
-    requires { length text.now < 2 ^ 32 }
-    ensures { Answers category text.now result }
+    // The phrase is of the category that was asked for.
+    ensures category { IfOk result (λ phrase. category_of (plain_phrase phrase) ≡ category) }
 {
     match first_shape(alloc, category) {
         Some(first) => phrase(alloc, category, first, text),
@@ -66,8 +58,13 @@ fn phrase(
     ensures { Answers category text.now result }
 {
     let tokens = tokens(alloc, text)?;
-    match check(alloc, first, text, &tokens.items, tokens.stop)? {
-        Finding::Fine => built(alloc, category, text, &tokens.items),
+    let placed = tokens.items.as_slice();
+    match check(alloc, first, text, placed, tokens.stop)? {
+        Finding::Fine => match build(alloc, category, text, placed) {
+            Ok(phrase) => Ok(phrase),
+            Err(BuildError::OutOfMemory) => Err(PhraseFault::OutOfMemory),
+            Err(BuildError::Refused) => unreachable!(),
+        },
         Finding::SyntaxAt(place) => Err(PhraseFault::Syntax(place as u32)),
         Finding::Over(over) => Err(over_fault(over)),
     }
@@ -81,23 +78,5 @@ fn over_fault(over: Over) -> PhraseFault
     match over {
         Over::NumberTooLarge(place) => PhraseFault::NumberTooLarge(place as u32),
         Over::TooDeep(place) => PhraseFault::TooDeep(place as u32),
-    }
-}
-
-/// The phrase that the tokens are.
-fn built(
-    alloc: Global,
-    category: Category,
-    text: &[u8],
-    tokens: &[Placed],
-) -> Result<Phrase, PhraseFault>
-    requires placed { All (IsPlacedIn text.now) tokens.now }
-    requires whole { IsTrue (is_some (phrase_of_if (run (map (token_in text.now) tokens.now) (start category)))) }
-    ensures { IsBuilt result (phrase_of_if (run (map (token_in text.now) tokens.now) (start category))) }
-{
-    match build(alloc, category, text, tokens) {
-        Ok(phrase) => Ok(phrase),
-        Err(BuildError::OutOfMemory) => Err(PhraseFault::OutOfMemory),
-        Err(BuildError::Refused) => unreachable!(),
     }
 }

@@ -1,6 +1,9 @@
 //! Tokens where they stand in a text.
 use plcs_grammar::Sign;
 
+/// The greatest number that is kept of a token, where counting its digits ends.
+pub const GREATEST_KEPT: u32 = u32::MAX;
+
 /// What kind of token it is. The bytes of names, keywords and character constants are read from the
 /// text again where they are wanted.
 #[derive(Clone, Copy, Debug, PartialEq, Eq)]
@@ -9,7 +12,7 @@ pub enum TokenKind {
     Name,
     /// A keyword.
     Keyword,
-    /// The number, or 4294967295 where it is greater.
+    /// The number, or `GREATEST_KEPT` where it is greater.
     Number(u32),
     /// A character constant.
     Text,

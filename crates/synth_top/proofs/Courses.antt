@@ -10,7 +10,7 @@ use Rattle.synth_top.specs.declared.status.Status.TheVariants.{WriteFault, NoMem
 use Rattle.synth_top.specs.Keys.{completed, keys}
 use Rattle.synth_top.specs.Private.Pressing.{Moment, AllShown, UpToLast}
 use Rattle.synth_top.specs.Reply.{NotAsked}
-use Rattle.synth_top.specs.Run.{Told, Loads, HaveMap, NoRescue, IsFront, IsOver, Course, AtLastKey, Ended, keys_pressed, first_state, opening, painted_over, written}
+use Rattle.synth_top.specs.Run.{Told, Loads, HaveMap, NoRescue, IsFront, IsOver, Course, AtLastKey, Ended, ReadsInTurn, keys_pressed, raised_by, first_state, opening, painted_over, written}
 use Rattle.synth_top.specs.Screen.{grid}
 use Rattle.synth_top.specs.Session.{new_session}
 use Rattle.synth_top.specs.Turn.{State, PressedKey, Replied, after, ends, grids}
@@ -25,8 +25,8 @@ abbrev pub unloaded_state : PlainOptions → Option FileMap → State
 unloaded_state options files = first_state options files no_loads
 
 -- what is told at a moment
-abbrev pub told_at : Option (List ℕ) → Moment → Told
-told_at left m = record { left = left; taken = m.taken; files = m.state.files; file_faults = m.file_faults }
+abbrev pub told_at : Option (List ℕ) → ℕ → Moment → Told
+told_at left reads m = record { left = left; reads = reads; taken = m.taken; files = m.state.files; file_faults = m.file_faults }
 
 -- the opening screen was written
 pub record Opened (options : PlainOptions) (before : Told) (m : Moment) : Type 0 where
@@ -51,7 +51,7 @@ pub one_byte : (seen : List ℕ) (newest : ℕ) → [] ≡ seen ++ newest ∷ []
 one_byte [] newest e = absurd (cc)
 one_byte (first ∷ rest) newest e = absurd (cc)
 
-module _ (options : PlainOptions) (before now : Told) (read : now.left ≡ before.left) (front : AppendsFront before.taken now.taken (opening (new_session options.size)))
+module _ (options : PlainOptions) (before now : Told) (read : now.left ≡ before.left) (unread : now.reads ≡ before.reads) (front : AppendsFront before.taken now.taken (opening (new_session options.size)))
     (files : now.files ≡ before.files) (faults : before.file_faults ≤ now.file_faults) where
   opening_wrote : Appends before.taken now.taken (take front.0 (written (unloaded_state options before.files) []))
   unfolding written
@@ -66,6 +66,8 @@ module _ (options : PlainOptions) (before now : Told) (read : now.left ≡ befor
     read = subst (λ left. Consumes before.left left []) (sym read) (Consumes-nil before.left);
     one = omega arith;
     within = omega arith;
+    reads = 0;
+    made = omega (arith, unread);
     pressed = [];
     can_reply = tt;
     in_order = (keys [], refl);
@@ -78,12 +80,12 @@ module _ (options : PlainOptions) (before now : Told) (read : now.left ≡ befor
   }
 
   pub opening_failed : Ended WriteFault options before now
-  opening_failed = record { course = opening_course; stopped = (refl, inl (record { no_byte = refl; no_key = refl })); rescued = refl }
+  opening_failed = record { course = opening_course; stopped = (refl, inl (record { no_read = refl; no_byte = refl; no_key = refl })); rescued = refl }
 
   pub opening_wanted : Ended NoMemory options before now
-  opening_wanted = record { course = opening_course; stopped = inr (refl, inl (record { no_byte = refl; no_key = refl })); rescued = refl }
+  opening_wanted = record { course = opening_course; stopped = inr (refl, inl (record { no_read = refl; no_byte = refl; no_key = refl })); rescued = refl }
 
-module _ (options : PlainOptions) (before : Told) (opened m : Moment) (left : Option (List ℕ)) (is_opened : Opened options before opened) where
+module _ (options : PlainOptions) (before : Told) (opened m : Moment) (left : Option (List ℕ)) (now_reads : ℕ) (is_opened : Opened options before opened) where
   -- all that is written, from the opening screen on
   written_is : (ps : List PressedKey)
       → written (unloaded_state options before.files) ps ≡ opening (new_session options.size) ++ painted_over opened.shown (grids opened.state ps)
@@ -98,15 +100,15 @@ module _ (options : PlainOptions) (before : Told) (opened m : Moment) (left : Op
 
   -- ---- all keys were shown
   module _ (bytes lost : List ℕ) (read : Consumes before.left left (bytes ++ lost)) (one : length lost ≤ 1) (within : length bytes ≤ options.key_limit)
-      (ps : List PressedKey) (all : AllShown opened m ps) (order : IsFront (keys_pressed ps) (keys bytes))
-      (complete : IsFront (keys_pressed ps) (completed bytes) ⊎ IsOver options (told_at left m) bytes) where
+      (reads : ℕ) (made : now_reads ≡ raised_by reads before.reads) (ps : List PressedKey) (all : AllShown opened m ps) (order : IsFront (keys_pressed ps) (keys bytes))
+      (complete : IsFront (keys_pressed ps) (completed bytes) ⊎ IsOver options (told_at left now_reads m) bytes reads) where
     pub all_wrote : Appends before.taken m.taken (take (length (written (unloaded_state options before.files) ps)) (written (unloaded_state options before.files) ps))
     all_wrote =
         subst (Appends before.taken m.taken)
         (sym (take_all (length (written (unloaded_state options before.files) ps)) (written (unloaded_state options before.files) ps) (omega arith) ∙ written_is ps))
         (Appends-trans before.taken opened.taken m.taken _ _ is_opened.wrote all.wrote)
 
-    abbrev pub all_course : Course options before (told_at left m)
+    abbrev pub all_course : Course options before (told_at left now_reads m)
     all_course = record {
       loads = no_loads;
       can_load = record { program = refl; input = refl };
@@ -115,6 +117,8 @@ module _ (options : PlainOptions) (before : Told) (opened m : Moment) (left : Op
       read = read;
       one = one;
       within = within;
+      reads = reads;
+      made = made;
       pressed = ps;
       can_reply = subst (λ s. Replied s ps) is_opened.state all.can_reply;
       in_order = order;
@@ -132,9 +136,9 @@ module _ (options : PlainOptions) (before : Told) (opened m : Moment) (left : Op
 
   -- ---- keys were shown up to a last one
   module _ (bytes : List ℕ) (read : Consumes before.left left (bytes ++ [])) (within : length bytes ≤ options.key_limit)
-      (earlier : List PressedKey) (last : PressedKey) (count : ℕ) (up_to : UpToLast opened m earlier last count)
+      (reads : ℕ) (made : now_reads ≡ raised_by reads before.reads) (earlier : List PressedKey) (last : PressedKey) (count : ℕ) (up_to : UpToLast opened m earlier last count)
       (order : IsFront (keys_pressed (earlier ++ last ∷ [])) (keys bytes))
-      (complete : IsFront (keys_pressed (earlier ++ last ∷ [])) (completed bytes) ⊎ IsOver options (told_at left m) bytes) where
+      (complete : IsFront (keys_pressed (earlier ++ last ∷ [])) (completed bytes) ⊎ IsOver options (told_at left now_reads m) bytes reads) where
     pub last_wrote : Appends before.taken m.taken
         (take (length (opening (new_session options.size)) + count) (written (unloaded_state options before.files) (earlier ++ last ∷ [])))
     last_wrote =
@@ -144,7 +148,7 @@ module _ (options : PlainOptions) (before : Told) (opened m : Moment) (left : Op
         (sym (ap (take (length first + count)) (written_is (earlier ++ last ∷ [])) ∙ take-append-add first screens count))
         (Appends-trans before.taken opened.taken m.taken first (take count screens) is_opened.wrote up_to.wrote)
 
-    abbrev pub last_course : Course options before (told_at left m)
+    abbrev pub last_course : Course options before (told_at left now_reads m)
     last_course = record {
       loads = no_loads;
       can_load = record { program = refl; input = refl };
@@ -153,6 +157,8 @@ module _ (options : PlainOptions) (before : Told) (opened m : Moment) (left : Op
       read = read;
       one = omega arith;
       within = within;
+      reads = reads;
+      made = made;
       pressed = earlier ++ last ∷ [];
       can_reply = subst (λ s. Replied s (earlier ++ last ∷ [])) is_opened.state up_to.can_reply;
       in_order = order;
@@ -164,14 +170,15 @@ module _ (options : PlainOptions) (before : Told) (opened m : Moment) (left : Op
       faults = omega (arith, is_opened.faults, up_to.faults);
     }
 
-    pub at_last : InTurn bytes earlier → AtLastKey last_course
-    at_last in_turn = record {
+    pub at_last : InTurn bytes earlier → ReadsInTurn options (told_at left now_reads m) bytes reads earlier → AtLastKey last_course
+    at_last in_turn reads_in_turn = record {
       earlier = earlier;
       last = last;
       is_last = refl;
       going = subst (λ s. ends s earlier ≡ false) is_opened.state up_to.going;
       shown = omega (arith, length_is earlier, up_to.whole);
       in_turn = in_turn;
+      reads = reads_in_turn;
     }
 
     -- whether the last one ended the session

@@ -3,6 +3,7 @@ use Rattle.std.proofs.Common.{◌≡◌, ◌<◌, ◌≤◌, ◌⊎◌, ℕ, ◌
 use Rattle.std.proofs.lemmas.List.{same_from_push}
 use Rattle.std.proofs.KnownBytes.{Appends-nil, Consumes-nil, Consumes-trans}
 use Rattle.std.specs.Io.KnownBytes.{Consumes, IsAtEnd}
+use Rattle.plcs_base.specs.Count.{raised}
 use Rattle.synth_top.specs.declared.key.Key.{Key}
 use Rattle.synth_top.specs.declared.key.Keys.{Keys}
 use Rattle.synth_top.specs.declared.run.Going.{Going}
@@ -11,7 +12,7 @@ use Rattle.synth_top.specs.declared.status.Status.{Status}
 use Rattle.synth_top.specs.declared.status.Status.TheVariants.{Done, ReadFault, WriteFault, NoMemory, BadWords, KeyLimit}
 use Rattle.synth_top.specs.Keys.{Feeds, IsHeld, completed, keys, listed}
 use Rattle.synth_top.specs.Private.Pressing.{Moment, AllShown, UpToLast, KeysShown, Pressed, ended_as}
-use Rattle.synth_top.specs.Run.{Told, NoRescue, IsFront, IsOver, Course, AtLastKey, PressedAll, ReadCut, Ended, keys_pressed, first_state, painted_over, written}
+use Rattle.synth_top.specs.Run.{Told, NoRescue, EndRead, LimitTaken, IsFront, IsOver, Course, AtLastKey, PressedAll, ReadCut, ReadsInTurn, Ended, keys_pressed, raised_by, first_state, painted_over, written}
 use Rattle.synth_top.specs.Turn.{PressedKey, ends, grids}
 use Rattle.synth_top.specs.Words.{PlainOptions}
 use Rattle.synth_top.proofs.Courses.{Opened, InTurn, told_at, all_course, all_going, last_course, at_last, one_byte, last_ends, last_all}
@@ -64,6 +65,10 @@ completed_list : (bytes held : List ℕ) (before : List Key) → ((rest : List �
 completed_list bytes held before so held_is =
     ended_list completed bytes held before so ∙ ap (λ l. before ++ l) (held_completes held held_is) ∙ append-nil before
 
+-- ---- one read more
+pub raised_more : (n before now next : ℕ) → now ≡ raised_by n before → next ≡ raised now → next ≡ raised_by (n + 1) before
+raised_more n before now next made one = omega (arith, made, one)
+
 -- ---- the opening screen was written, and nothing was read
 pub so_far_none : (options : PlainOptions) (before : Told) (left : Option (List ℕ)) (held : List ℕ) (m : Moment) → left ≡ before.left → held ≡ [] → Opened options before m
     → SoFar 0 options before left held m
@@ -89,16 +94,17 @@ so_far_none options before left held m same none is_opened = record {
 }
 
 module _ (number : ℕ) (options : PlainOptions) (before : Told) (left : Option (List ℕ)) (held : List ℕ) (m : Moment) (so : SoFar number options before left held m)
-    (now_left : Option (List ℕ)) (now : Moment) where
+    (now_left : Option (List ℕ)) (now_reads : ℕ) (now : Moment) where
   -- the keys so far
   abbrev pressed_keys : List Key
   pressed_keys = keys_pressed so.pressed
 
   -- ---- some more keys, one of which ended the run
   module _ (bytes : List ℕ) (more : List Key) (read : Consumes before.left now_left bytes) (within : length bytes ≤ options.key_limit)
-      (order : IsFront (pressed_keys ++ more) (keys bytes))
-      (complete : IsFront (pressed_keys ++ more) (completed bytes) ⊎ IsOver options (told_at now_left now) bytes)
-      (in_turn : (earlier : List PressedKey) → InTurn bytes (so.pressed ++ earlier)) where
+      (reads : ℕ) (made : now_reads ≡ raised_by reads before.reads) (order : IsFront (pressed_keys ++ more) (keys bytes))
+      (complete : IsFront (pressed_keys ++ more) (completed bytes) ⊎ IsOver options (told_at now_left now_reads now) bytes reads)
+      (in_turn : (earlier : List PressedKey) → InTurn bytes (so.pressed ++ earlier))
+      (reads_in_turn : (earlier : List PressedKey) → ReadsInTurn options (told_at now_left now_reads now) bytes reads (so.pressed ++ earlier)) where
     nothing_behind : Consumes before.left now_left (bytes ++ [])
     nothing_behind = subst (Consumes before.left now_left) (sym (append-nil bytes)) read
 
@@ -111,24 +117,24 @@ module _ (number : ℕ) (options : PlainOptions) (before : Told) (left : Option 
       in_front =
           subst (λ l. IsFront (keys_pressed l) (pressed_keys ++ more)) joined (front_behind so.pressed pressed_keys more (earlier ++ last ∷ []) refl front)
 
-      complete_front : IsFront (keys_pressed ((so.pressed ++ earlier) ++ last ∷ [])) (completed bytes) ⊎ IsOver options (told_at now_left now) bytes
-      complete_front = elim complete as (λ _. IsFront (keys_pressed ((so.pressed ++ earlier) ++ last ∷ [])) (completed bytes) ⊎ IsOver options (told_at now_left now) bytes)
+      complete_front : IsFront (keys_pressed ((so.pressed ++ earlier) ++ last ∷ [])) (completed bytes) ⊎ IsOver options (told_at now_left now_reads now) bytes reads
+      complete_front = elim complete as (λ _. IsFront (keys_pressed ((so.pressed ++ earlier) ++ last ∷ [])) (completed bytes) ⊎ IsOver options (told_at now_left now_reads now) bytes reads)
           [ inl h ↦ inl (front_trans _ _ _ in_front h) | inr h ↦ inr h ]
 
       all_up_to : UpToLast so.opened now (so.pressed ++ earlier) last (length (painted_over so.opened.shown (grids so.opened.state so.pressed)) + count)
       all_up_to = then_up_to so.opened m so.pressed so.all now earlier last count up_to
 
-      abbrev course : Course options before (told_at now_left now)
-      course = last_course options before so.opened now now_left so.is_opened bytes nothing_behind within (so.pressed ++ earlier) last _ all_up_to
+      abbrev course : Course options before (told_at now_left now_reads now)
+      course = last_course options before so.opened now now_left now_reads so.is_opened bytes nothing_behind within reads made (so.pressed ++ earlier) last _ all_up_to
           (front_trans _ _ _ in_front order) complete_front
 
       at_key : AtLastKey course
-      at_key = at_last options before so.opened now now_left so.is_opened bytes nothing_behind within (so.pressed ++ earlier) last _ all_up_to
-          (front_trans _ _ _ in_front order) complete_front (in_turn earlier)
+      at_key = at_last options before so.opened now now_left now_reads so.is_opened bytes nothing_behind within reads made (so.pressed ++ earlier) last _ all_up_to
+          (front_trans _ _ _ in_front order) complete_front (in_turn earlier) (reads_in_turn earlier)
 
       ends_as : (b : _) → ends m.state (earlier ++ last ∷ []) ≡ b → ends (first_state options before.files course.loads) ((so.pressed ++ earlier) ++ last ∷ []) ≡ b
       ends_as b e =
-          last_ends options before so.opened now now_left so.is_opened bytes nothing_behind within (so.pressed ++ earlier) last _ all_up_to
+          last_ends options before so.opened now now_left now_reads so.is_opened bytes nothing_behind within reads made (so.pressed ++ earlier) last _ all_up_to
           (front_trans _ _ _ in_front order) complete_front
           ∙ ap (ends so.opened.state) (sym joined) ∙ ends_more so.opened m so.pressed so.all (earlier ++ last ∷ []) ∙ e
 
@@ -141,11 +147,11 @@ module _ (number : ℕ) (options : PlainOptions) (before : Told) (left : Option 
           ap (λ l. length (painted_over so.opened.shown (grids so.opened.state l))) (sym joined)
           ∙ ap length (painted_more so.opened m so.pressed so.all (earlier ++ last ∷ []))
           ∙ length-append first (painted_over m.shown (grids m.state (earlier ++ last ∷ []))) in
-          last_all options before so.opened now now_left so.is_opened bytes nothing_behind within (so.pressed ++ earlier) last _ all_up_to
+          last_all options before so.opened now now_left now_reads so.is_opened bytes nothing_behind within reads made (so.pressed ++ earlier) last _ all_up_to
           (front_trans _ _ _ in_front order) complete_front (omega (arith, bytes_are, all))
 
     -- by the status
-    pub stopped_at_key : (status : Status) → Pressed (Over status) more m now → Ended status options before (told_at now_left now)
+    pub stopped_at_key : (status : Status) → Pressed (Over status) more m now → Ended status options before (told_at now_left now_reads now)
     stopped_at_key Done next = record {
       course = course next.earlier next.last next.front next.count next.up_to;
       stopped = (
@@ -217,36 +223,38 @@ module _ (number : ℕ) (options : PlainOptions) (before : Told) (left : Option 
         })
 
     -- one of its keys ended the run
-    pub ended_by_byte : (status : Status) → number < options.key_limit → Pressed (Over status) (listed given) m now → Ended status options before (told_at now_left now)
-    ended_by_byte status below next =
+    pub ended_by_byte : (status : Status) → number < options.key_limit → now_reads ≡ raised_by (number + 1) before.reads → Pressed (Over status) (listed given) m now → Ended status options before (told_at now_left now_reads now)
+    ended_by_byte status below made next =
         let done : completed now_bytes ≡ pressed_keys ++ listed given = completed_list now_bytes now_held (pressed_keys ++ listed given) completed_now now_held_is in
-        stopped_at_key now_bytes (listed given) now_read (omega (arith, now_many, below))
+        stopped_at_key now_bytes (listed given) now_read (omega (arith, now_many, below)) (number + 1) made
         (keys now_held, ended_list keys now_bytes now_held (pressed_keys ++ listed given) keys_now)
-        (inl ([], done ∙ sym (append-nil (pressed_keys ++ listed given)))) in_turn_now status next
+        (inl ([], done ∙ sym (append-nil (pressed_keys ++ listed given)))) in_turn_now (λ earlier. inl (sym now_many)) status next
 
   -- ---- a read gave no answer
-  pub read_cut : (lost : List ℕ) → number < options.key_limit → length lost ≤ 1 → Consumes left now_left lost → now ≡ m
-      → (course : Course options before (told_at now_left now)) × (length (written (first_state options before.files course.loads) course.pressed) ≤ course.count) × ReadCut course × (course.rescue ≡ NoRescue)
-  read_cut lost below one read same =
+  pub read_cut : (lost : List ℕ) → number < options.key_limit → now_reads ≡ raised_by (number + 1) before.reads → length lost ≤ 1 → Consumes left now_left lost → now ≡ m
+      → (course : Course options before (told_at now_left now_reads now)) × (length (written (first_state options before.files course.loads) course.pressed) ≤ course.count) × ReadCut course × (course.rescue ≡ NoRescue)
+  read_cut lost below made one read same =
       let all : AllShown so.opened now so.pressed = subst (λ z. AllShown so.opened z so.pressed) (sym same) so.all in
       let done : completed so.bytes ≡ pressed_keys = completed_list so.bytes held pressed_keys so.completed_are so.held_is in
       let whole : IsFront pressed_keys (completed so.bytes) = ([], done ∙ sym (append-nil pressed_keys)) in (
-        all_course options before so.opened now now_left so.is_opened so.bytes lost (Consumes-trans _ _ _ so.bytes lost so.read read) one (omega (arith, so.many, below)) so.pressed all
+        all_course options before so.opened now now_left now_reads so.is_opened so.bytes lost (Consumes-trans _ _ _ so.bytes lost so.read read) one (omega (arith, so.many, below)) (number + 1) made so.pressed all
             (keys held, ended_list keys so.bytes held pressed_keys so.keys_are) (inl whole),
         omega arith,
         record {
           all = record {
             pressed = sym done;
-            going = all_going options before so.opened now now_left so.is_opened so.bytes lost (Consumes-trans _ _ _ so.bytes lost so.read read) one (omega (arith, so.many, below)) so.pressed all
+            going = all_going options before so.opened now now_left now_reads so.is_opened so.bytes lost (Consumes-trans _ _ _ so.bytes lost so.read read) one (omega (arith, so.many, below)) (number + 1) made so.pressed all
                 (keys held, ended_list keys so.bytes held pressed_keys so.keys_are) (inl whole);
           };
           below = omega (arith, so.many, below);
+          one_more = ap (λ n. n + 1) (sym so.many);
         },
         refl,
       )
 
   -- ---- no byte comes any more
-  module _ (read : Consumes left now_left []) (within : number ≤ options.key_limit) (over : IsOver options (told_at now_left now) so.bytes) where
+  module _ (read : Consumes left now_left []) (within : number ≤ options.key_limit) (reads : ℕ) (made : now_reads ≡ raised_by reads before.reads)
+      (over : IsOver options (told_at now_left now_reads now) so.bytes reads) where
     all_read : Consumes before.left now_left so.bytes
     all_read = subst (Consumes before.left now_left) (append-nil so.bytes) (Consumes-trans _ _ _ so.bytes [] so.read read)
 
@@ -257,44 +265,65 @@ module _ (number : ℕ) (options : PlainOptions) (before : Told) (left : Option 
     in_turn_still earlier seen newest e =
         front_trans _ _ _ (so.in_turn seen newest e) (keys_pressed earlier, keys_pressed-append so.pressed earlier)
 
+    -- the source's end was read behind the keys that the bytes complete
+    reads_still : (earlier : List PressedKey) → ReadsInTurn options (told_at now_left now_reads now) so.bytes reads (so.pressed ++ earlier)
+    reads_still earlier =
+        let done : completed so.bytes ≡ pressed_keys = completed_list so.bytes held pressed_keys so.completed_are so.held_is in
+        let front : IsFront (completed so.bytes) (keys_pressed (so.pressed ++ earlier)) =
+        (keys_pressed earlier, keys_pressed-append so.pressed earlier ∙ ap (λ l. l ++ keys_pressed earlier) (sym done)) in
+        elim over as (λ _. ReadsInTurn options (told_at now_left now_reads now) so.bytes reads (so.pressed ++ earlier))
+        [ inl end ↦ inr (end, front) | inr limit ↦ inl limit.one_each ]
+
     -- what isn't complete ended the run
-    pub ended_by_rest : (status : Status) → Pressed (Over status) (keys held) m now → Ended status options before (told_at now_left now)
+    pub ended_by_rest : (status : Status) → Pressed (Over status) (keys held) m now → Ended status options before (told_at now_left now_reads now)
     ended_by_rest status next =
-        stopped_at_key so.bytes (keys held) all_read (omega (arith, so.many, within)) ([], all_keys ∙ sym (append-nil (pressed_keys ++ keys held))) (inr over)
-        in_turn_still status next
+        stopped_at_key so.bytes (keys held) all_read (omega (arith, so.many, within)) reads made ([], all_keys ∙ sym (append-nil (pressed_keys ++ keys held))) (inr over)
+        in_turn_still reads_still status next
 
     -- all was shown
     pub all_pressed : KeysShown (keys held) m now
-        → (course : Course options before (told_at now_left now)) × (length (written (first_state options before.files course.loads) course.pressed) ≤ course.count)
-        × (course.lost ≡ []) × (course.bytes ≡ so.bytes) × PressedAll course (keys course.bytes) × (course.rescue ≡ NoRescue)
+        → (course : Course options before (told_at now_left now_reads now)) × (length (written (first_state options before.files course.loads) course.pressed) ≤ course.count)
+        × (course.lost ≡ []) × (course.bytes ≡ so.bytes) × (course.reads ≡ reads) × PressedAll course (keys course.bytes) × (course.rescue ≡ NoRescue)
     all_pressed next =
         let ps = so.pressed ++ next.pressed in
         let all : AllShown so.opened now ps = both_shown so.opened m so.pressed so.all now next.pressed next.shown in
         let keys_are : keys_pressed ps ≡ keys so.bytes = keys_pressed-append so.pressed next.pressed ∙ ap (λ l. pressed_keys ++ l) next.all ∙ sym all_keys in
         let order : IsFront (keys_pressed ps) (keys so.bytes) = ([], sym keys_are ∙ sym (append-nil (keys_pressed ps))) in
         let read_all = subst (Consumes before.left now_left) (sym (append-nil so.bytes)) all_read in (
-          all_course options before so.opened now now_left so.is_opened so.bytes [] read_all (omega arith) (omega (arith, so.many, within)) ps all order (inr over),
+          all_course options before so.opened now now_left now_reads so.is_opened so.bytes [] read_all (omega arith) (omega (arith, so.many, within)) reads made ps all order (inr over),
           omega arith,
+          refl,
           refl,
           refl,
           record {
             pressed = keys_are;
-            going = all_going options before so.opened now now_left so.is_opened so.bytes [] read_all (omega arith) (omega (arith, so.many, within)) ps all order (inr over);
+            going = all_going options before so.opened now now_left now_reads so.is_opened so.bytes [] read_all (omega arith) (omega (arith, so.many, within)) reads made ps all order (inr over);
           },
           refl,
         )
 
-    -- the source ended
-    pub ended_at_end : (going : Going) → number < options.key_limit → IsAtEnd now_left → Pressed going (keys held) m now
-        → Ended (ended_as going Done) options before (told_at now_left now)
-    ended_at_end On below ended next =
-        let p = all_pressed next in
-        record { course = p.0; stopped = (p.1, p.2, inl (record { all = p.4; below = omega (arith, ap length p.3, so.many, below); ended = ended })); rescued = p.5 }
-    ended_at_end (Over status) below ended next = ended_by_rest status next
+  -- the source ended
+  module _ (read : Consumes left now_left []) (ended : IsAtEnd now_left) (below : number < options.key_limit) (made : now_reads ≡ raised_by (number + 1) before.reads) where
+    end_read : EndRead options (told_at now_left now_reads now) so.bytes (number + 1)
+    end_read = record { one_more = ap (λ n. n + 1) (sym so.many); below = omega (arith, so.many, below); ended = ended }
 
-    -- as many bytes were read as the limit allows
-    pub ended_at_limit : (going : Going) → number ≡ options.key_limit → Pressed going (keys held) m now → Ended (ended_as going KeyLimit) options before (told_at now_left now)
-    ended_at_limit On all next =
-        let p = all_pressed next in
-        record { course = p.0; stopped = (p.1, p.2, record { all = p.4; many = ap length p.3 ∙ so.many ∙ all }); rescued = p.5 }
-    ended_at_limit (Over status) all next = ended_by_rest status next
+    pub ended_at_end : (going : Going) → Pressed going (keys held) m now → Ended (ended_as going Done) options before (told_at now_left now_reads now)
+    ended_at_end On next =
+        let p = all_pressed read (omega (arith, below)) (number + 1) made (inl end_read) next in
+        let end : EndRead options (told_at now_left now_reads now) p.0.bytes p.0.reads =
+        record { one_more = omega (arith, ap length p.3, p.4, so.many); below = omega (arith, ap length p.3, so.many, below); ended = ended } in
+        record { course = p.0; stopped = (p.1, p.2, inl (record { all = p.5; end = end })); rescued = p.6 }
+    ended_at_end (Over status) next = ended_by_rest read (omega (arith, below)) (number + 1) made (inl end_read) status next
+
+  -- as many bytes were read as the limit allows
+  module _ (read : Consumes left now_left []) (all : number ≡ options.key_limit) (made : now_reads ≡ raised_by number before.reads) where
+    limit_taken : LimitTaken options so.bytes number
+    limit_taken = record { one_each = sym so.many; many = so.many ∙ all }
+
+    pub ended_at_limit : (going : Going) → Pressed going (keys held) m now → Ended (ended_as going KeyLimit) options before (told_at now_left now_reads now)
+    ended_at_limit On next =
+        let p = all_pressed read (omega (arith, all)) number made (inr limit_taken) next in
+        let limit : LimitTaken options p.0.bytes p.0.reads =
+        record { one_each = omega (arith, ap length p.3, p.4, so.many); many = ap length p.3 ∙ so.many ∙ all } in
+        record { course = p.0; stopped = (p.1, p.2, record { all = p.5; limit = limit }); rescued = p.6 }
+    ended_at_limit (Over status) next = ended_by_rest read (omega (arith, all)) number made (inr limit_taken) status next

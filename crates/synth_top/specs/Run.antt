@@ -1,5 +1,5 @@
 -- A whole run: from the bytes of keys to the bytes of screens.
-use Rattle.std.specs.Prelude.{◌≡◌, ◌⊎◌, ℕ, ◌+◌, ◌-◌, ◌^◌, ◌<◌, ◌≤◌, min, true, false, List, [], ◌∷◌, ◌++◌, length, map, take, Option, Some, None, codes}
+use Rattle.std.specs.Prelude.{◌≡◌, ◌⊎◌, ℕ, ◌+◌, ◌-◌, ◌^◌, ◌<◌, ◌≤◌, min, max, true, false, List, [], ◌∷◌, ◌++◌, length, map, take, Option, Some, None, codes}
 use Rattle.std.specs.Io.KnownBytes.{Appends, Consumes, IsAtEnd}
 use Rattle.synth_outside.specs.Files.{FileMap}
 use Rattle.synth_top.specs.declared.key.Key.{Key}
@@ -35,10 +35,11 @@ written state pressed =
 
 -- ---- what a run begins with
 
--- what is told of the outside: the bytes that the source has left, those that the sink took, the map
--- of the files, and how many faults these counted
+-- what is told of the outside: the bytes that the source has left and how many reads it counted, the
+-- bytes that the sink took, the map of the files, and how many faults these counted
 pub record Told : Type 0 where
   pub left : Option (List ℕ)
+  pub reads : ℕ
   pub taken : Option (List ℕ)
   pub files : Option FileMap
   pub file_faults : ℕ
@@ -71,9 +72,31 @@ IsFront front whole = (rest : List Key) × (whole ≡ front ++ rest)
 abbrev pub RoseBy : ℕ → ℕ → ℕ → Type 0
 RoseBy much before now = min (before + much) (2 ^ 64 - 1) ≤ now
 
--- no byte comes behind these: the source is at its end, or the limit is met
-abbrev pub IsOver : PlainOptions → Told → List ℕ → Type 0
-IsOver options now bytes = IsAtEnd now.left ⊎ (length bytes ≡ options.key_limit)
+-- a count raised so many times; at its last value it stays
+abbrev pub raised_by : ℕ → ℕ → ℕ
+raised_by much count = max count (min (count + much) (2 ^ 64 - 1))
+
+-- below the limit one read more than a byte each was made, and it found the source's end
+pub record EndRead (options : PlainOptions) (now : Told) (bytes : List ℕ) (reads : ℕ) : Type 0 where
+  pub one_more : reads ≡ length bytes + 1
+  pub below : length bytes < options.key_limit
+  pub ended : IsAtEnd now.left
+
+-- as many bytes were taken as the limit says, and no read was made behind them
+pub record LimitTaken (options : PlainOptions) (bytes : List ℕ) (reads : ℕ) : Type 0 where
+  pub one_each : reads ≡ length bytes
+  pub many : length bytes ≡ options.key_limit
+
+-- no byte comes behind these: the source's end was read, or the limit is met
+abbrev pub IsOver : PlainOptions → Told → List ℕ → ℕ → Type 0
+IsOver options now bytes reads = EndRead options now bytes reads ⊎ LimitTaken options bytes reads
+
+-- one read a byte was made; or the source's end was read too, only behind the keys that the bytes
+-- complete, which are the first of these
+abbrev pub ReadsInTurn : PlainOptions → Told → List ℕ → ℕ → List PressedKey → Type 0
+ReadsInTurn options now bytes reads pressed =
+    (reads ≡ length bytes)
+    ⊎ (EndRead options now bytes reads × IsFront (completed bytes) (keys_pressed pressed))
 
 -- files that told a map before have this one now
 abbrev pub HaveMap : Option FileMap → Option FileMap → Type 0
@@ -103,12 +126,15 @@ pub record Course (options : PlainOptions) (before now : Told) : Type 0 where
   pub read : Consumes before.left now.left (bytes ++ lost)
   pub one : length lost ≤ 1
   pub within : length bytes ≤ options.key_limit
+  -- how many reads were made
+  pub reads : ℕ
+  pub made : now.reads ≡ raised_by reads before.reads
   -- the keys pressed, each with what the files did in it; what isn't complete is pressed only where
   -- no byte comes any more
   pub pressed : List PressedKey
   pub can_reply : Replied (first_state options before.files loads) pressed
   pub in_order : IsFront (keys_pressed pressed) (keys bytes)
-  pub complete : IsFront (keys_pressed pressed) (completed bytes) ⊎ IsOver options now bytes
+  pub complete : IsFront (keys_pressed pressed) (completed bytes) ⊎ IsOver options now bytes reads
   -- how many bytes of all that is written the sink took
   pub count : ℕ
   pub wrote : Appends before.taken now.taken
@@ -141,25 +167,25 @@ module _ {options : PlainOptions} {before now : Told} (course : Course options b
     pub pressed : keys_pressed course.pressed ≡ all
     pub going : ends state_at_first course.pressed ≡ false
 
-  -- the source ended below the limit, and then what isn't complete was pressed too
+  -- the source's end was read below the limit, and then what isn't complete was pressed too
   pub record SourceEnded : Type 0 where
     pub all : PressedAll (keys course.bytes)
-    pub below : length course.bytes < options.key_limit
-    pub ended : IsAtEnd now.left
+    pub end : EndRead options now course.bytes course.reads
 
   -- as many bytes were taken as the limit says, and then what isn't complete was pressed too
   pub record LimitMet : Type 0 where
     pub all : PressedAll (keys course.bytes)
-    pub many : length course.bytes ≡ options.key_limit
+    pub limit : LimitTaken options course.bytes course.reads
 
-  -- a read gave no answer below the limit, and what isn't complete wasn't pressed
+  -- below the limit the read behind the bytes gave no answer, and what isn't complete wasn't pressed
   pub record ReadCut : Type 0 where
     pub all : PressedAll (completed course.bytes)
     pub below : length course.bytes < options.key_limit
+    pub one_more : course.reads ≡ length course.bytes + 1
 
   -- the run stopped at the last key pressed: none before it ended the session, the screens of those
-  -- were all written, and the newest byte was taken only behind the keys that the bytes before it
-  -- complete
+  -- were all written, and the newest byte was taken, and the source's end read, only behind the keys
+  -- that the bytes before it complete
   pub record AtLastKey : Type 0 where
     pub earlier : List PressedKey
     pub last : PressedKey
@@ -168,14 +194,16 @@ module _ {options : PlainOptions} {before now : Told} (course : Course options b
     pub shown : length (written state_at_first earlier) ≤ course.count
     pub in_turn : (seen : List ℕ) (newest : ℕ) → course.bytes ≡ seen ++ newest ∷ [] →
         IsFront (completed seen) (keys_pressed earlier)
+    pub reads : ReadsInTurn options now course.bytes course.reads earlier
 
   -- the last key pressed ended the session
   pub record QuitPressed : Type 0 where
     pub at_key : AtLastKey
     pub quit : ends state_at_first course.pressed ≡ true
 
-  -- a write of the opening screen gave no answer, before any byte was taken
+  -- a write of the opening screen gave no answer, before any read
   pub record OpeningCut : Type 0 where
+    pub no_read : course.reads ≡ 0
     pub no_byte : course.bytes ≡ []
     pub no_key : course.pressed ≡ []
 

@@ -50,12 +50,14 @@ pub fn synth<S: Source, K: Sink, F: Files, W: Work>(
         Ended result options
         (record {
           left = S.left keys.old;
+          reads = S.reads keys.old;
           taken = K.taken screen.old;
           files = F.stored files.old;
           file_faults = F.faults files.old;
         })
         (record {
           left = S.left keys.new;
+          reads = S.reads keys.new;
           taken = K.taken screen.new;
           files = F.stored files.new;
           file_faults = F.faults files.new;
@@ -90,12 +92,14 @@ fn edit<S: Source, K: Sink, F: Files>(
     ensures ended { Ended result (plain_options options)
         (record {
           left = S.left keys.old;
+          reads = S.reads keys.old;
           taken = K.taken screen.old;
           files = F.stored files.old;
           file_faults = F.faults files.old;
         })
         (record {
           left = S.left keys.new;
+          reads = S.reads keys.new;
           taken = K.taken screen.new;
           files = F.stored files.new;
           file_faults = F.faults files.new;

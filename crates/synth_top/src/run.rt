@@ -1,6 +1,7 @@
 //! The run: keys come in byte by byte, are pressed in their order, and their screens go out.
 
 ghost use Rattle.std.specs.Prelude.{◌≡◌, ◌∷◌, [], option_to_list, IfOk, OnOk, OnErr};
+ghost use Rattle.plcs_base.specs.Count.{raised};
 ghost use Rattle.synth_outside.specs.Cause.{HasCause};
 ghost use Rattle.synth_outside.specs.Source.{LosesAtMost};
 ghost use Rattle.synth_top.specs.Keys.{keys, listed};
@@ -78,12 +79,14 @@ impl Editor {
         ensures ended { Ended result (record { size = self.old.session.size; key_limit = limit })
             (record {
               left = S.left keys.old;
+              reads = S.reads keys.old;
               taken = K.taken screen.old;
               files = F.stored files.old;
               file_faults = F.faults files.old;
             })
             (record {
               left = S.left keys.new;
+              reads = S.reads keys.new;
               taken = K.taken screen.new;
               files = F.stored files.new;
               file_faults = F.faults files.new;
@@ -224,6 +227,7 @@ impl Editor {
 /// Reads one byte of keys; `None` is the end.
 fn read_byte<S: Source>(keys: &mut S) -> Result<Option<u8>, SourceFault>
     ensures byte { IfOk result (λ byte. ReadsByte byte (S.left keys.old) (S.left keys.new)) }
+    ensures one { S.reads keys.new ≡ raised (S.reads keys.old) }
     ensures lost { OnErr result (LosesAtMost (S.left keys.old) (S.left keys.new) 1) }
     ensures cause { HasCause SourceFault.Failed (S.faults keys.old) (S.faults keys.new) result }
     ensures led { IfOk result (λ _. (first : S) → S.leads_to first keys.old →

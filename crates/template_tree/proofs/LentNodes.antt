@@ -1,7 +1,6 @@
 -- A node lent at the end of two paths, the second below the first, is lent at the end of both.
-use Rattle.std.specs.Prelude.{◌≡◌, refl, ℕ, List, [], ◌∷◌, ◌++◌, Option, Some, None, option_and_then, option_map, slice_get, slice_set, slice_index_or}
+use Rattle.std.specs.Prelude.{◌≡◌, refl, ℕ, List, [], ◌∷◌, ◌++◌, Option, Some, None, option_and_then, slice_get, slice_set, slice_index_or}
 use Rattle.std.proofs.Common.{ap, sym, ◌∙◌}
-use mathlib.Core.Path.{fun_ext}
 use Rattle.std.proofs.lemmas.List.{set-get_or}
 use Rattle.std.proofs.lemmas.Option.{none-some, get_or_from_slice_get}
 use Rattle.template_tree.specs.PlainTree.{Label, PlainNode, PlainNodes, nodes, forest, forest_nodes, nodes_forest}

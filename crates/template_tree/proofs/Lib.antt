@@ -1,3 +1,5 @@
+-- the definitions at work
+mod Examples
 -- the value of each limit, which the definitions take from the code
 mod Limits
 -- an edit by slot is the edit at its path
@@ -28,3 +30,5 @@ pub mod KeptTrees
 pub mod SlotPaths
 -- a tree stays one where a node comes into a slot
 pub mod PutTrees
+-- the slots of a tree that is built are drawn in listing order, and each but once
+pub mod DrawnSlots

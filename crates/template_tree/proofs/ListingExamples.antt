@@ -4,7 +4,7 @@ use Rattle.plcs_grammar.specs.declared.node_kind.NodeKind.{NodeKind}
 use Rattle.plcs_grammar.specs.declared.template.Template.{Template}
 use Rattle.plcs_grammar.specs.PlainPhrase.{PlainExpr, PlainVarRef, PlainPhrase}
 use Rattle.template_tree.specs.PlainTree.{Forest}
-use Rattle.template_tree.specs.Line.{whole_line, listing_lines, shown_lines}
+use Rattle.template_tree.specs.Line.{line_bytes, listing_lines, Lines}
 use Rattle.template_tree.specs.Listing.{Listing}
 use Rattle.template_tree.specs.Stop.{VisibleStop, Stops}
 
@@ -69,7 +69,7 @@ every_template =
     (filled Template.Proc (None ∷ []) holes (filled Template.ProcP (None ∷ None ∷ []) holes procedure_hole))
 
 every_template_lines :
-    map whole_line (listing_lines every_template)
+    map line_bytes (listing_lines every_template)
     ≡ codes "main: PROCEDURE OPTIONS ( MAIN );"
     ∷ codes "  DECLARE ( {names} ) FIXED;"
     ∷ codes "  DECLARE ( {names} ) BIT;"
@@ -132,7 +132,7 @@ two_ways =
     procedure_hole
 
 two_ways_lines :
-    map whole_line (listing_lines two_ways)
+    map line_bytes (listing_lines two_ways)
     ≡ codes "main: PROCEDURE OPTIONS ( MAIN );"
     ∷ codes "  {declaration}"
     ∷ codes "  IF ( a ) THEN"
@@ -162,7 +162,7 @@ elided =
     procedure_hole
 
 elided_lines :
-    map whole_line (shown_lines elided)
+    map line_bytes (Lines elided)
     ≡ codes "main: PROCEDURE OPTIONS ( MAIN );"
     ∷ codes "  {declaration}"
     ∷ codes "  /* sum */"

@@ -1,14 +1,14 @@
 -- The new program is a tree.
-use Rattle.std.specs.Prelude.{◌≡◌, refl, ℕ, zero, suc, ◌+◌, ◌<◌, ◌≤◌, if◌then◌else◌, ◌==◌, List, [], ◌∷◌, All}
+use Rattle.std.specs.Prelude.{◌≡◌, refl, ℕ, zero, suc, ◌<◌, ◌≤◌, if◌then◌else◌, ◌==◌, List, [], ◌∷◌, All}
 use Rattle.std.proofs.Common.{ap, sym, ◌∙◌, subst, arith}
 use Rattle.std.proofs.Math.Bool.{false≢true}
 use Rattle.std.proofs.lemmas.Bool.{ne_eqb}
 use Rattle.plcs_grammar.specs.declared.node_kind.NodeKind.{NodeKind}
 use Rattle.plcs_grammar.specs.declared.node_kind.Sort.{Sort}
 use Rattle.plcs_grammar.specs.Template.{program_sections, block}
-use Rattle.template_tree.specs.PlainTree.{Label, Forest, PlainNode, PlainNodes, PlainTree, forest, roomless, with_spare}
-use Rattle.template_tree.specs.Program.{sorts, Fill, AreNodes, IsNode, IsProgram}
-use Rattle.template_tree.specs.Slots.{count, depth, times, AllBelow}
+use Rattle.template_tree.specs.PlainTree.{Forest, PlainNode, forest, roomless, with_spare}
+use Rattle.template_tree.specs.Program.{sorts, Fill, AreNodes, IsNode}
+use Rattle.template_tree.specs.Slots.{count, times, AllBelow}
 use Rattle.template_tree.specs.Tree.{IsTree}
 use Rattle.template_tree.specs.NewTree.{bare_label, new_items}
 use Rattle.template_tree.proofs.Rooms.{sorts_roomless, count_roomless, depth_roomless, times_roomless, below_roomless, nodes_roomless}

@@ -1,7 +1,7 @@
 -- The parts of a node stand where its row has parts.
-use Rattle.std.specs.Prelude.{◌≡◌, refl, ℕ, zero, suc, ◌<◌, ◌≤◌, List, [], ◌∷◌, length, map, get_or, Option, Some, None, option_map, slice_get, slice_set}
-use Rattle.std.proofs.Common.{ap, sym, ◌∙◌, arith}
-use Rattle.std.proofs.lemmas.List.{length-map, map-set}
+use Rattle.std.specs.Prelude.{◌≡◌, refl, ℕ, zero, suc, ◌<◌, List, [], ◌∷◌, length, map, get_or, Option, Some, option_map, slice_get, slice_set}
+use Rattle.std.proofs.Common.{ap, ◌∙◌, arith}
+use Rattle.std.proofs.lemmas.List.{map-set}
 use Rattle.std.proofs.lemmas.Option.{slice_get-map, slice_get_read}
 use Rattle.plcs_grammar.specs.declared.category.Category.{Category}
 use Rattle.plcs_grammar.specs.PlainPhrase.{PlainPhrase}
@@ -9,9 +9,9 @@ use Rattle.template_tree.specs.Program.{AreParts}
 use Rattle.plcs_grammar.specs.Template.{row_of}
 use Rattle.template_tree.specs.declared.phrase_place.PhrasePlace.{PhrasePlace}
 use Rattle.template_tree.specs.PlainPlace.{plain_place}
-use Rattle.template_tree.specs.PlainTree.{PlainNode, Label, Forest}
-use Rattle.template_tree.specs.Program.{IsNode, parts_of}
-use Rattle.template_tree.specs.Part.{Takes, part_category, with_part}
+use Rattle.template_tree.specs.PlainTree.{PlainNode}
+use Rattle.template_tree.specs.Program.{parts_of}
+use Rattle.template_tree.specs.Part.{Takes, part_category}
 
 -- as many parts as categories
 pub parts_length : (categories : List Category) (parts : List (Option PlainPhrase)) → AreParts categories parts → length categories ≡ length parts

@@ -16,11 +16,11 @@ use Rattle.plcs_grammar.specs.Canon.{Canon}
 use Rattle.plcs_grammar.specs.ShownText.{CanonicalTextsShow}
 use Rattle.plcs_grammar.specs.Placeholder.{placeholder}
 use Rattle.plcs_grammar.specs.Template.{PlainSegment, PlainSection, PlainRow, row_of, program_sections}
-use Rattle.template_tree.specs.PlainTree.{Label, Forest}
-use Rattle.template_tree.specs.Program.{parts_of, sort_of, sorts, AreParts, AreNodes, IsProgram}
+use Rattle.template_tree.specs.PlainTree.{Forest}
+use Rattle.template_tree.specs.Program.{parts_of, sort_of, AreParts, AreNodes}
 use Rattle.template_tree.specs.Section.{same_sort, left_for, left_in, left_after, next_lead}
-use Rattle.template_tree.specs.Line.{Line, whole_line, part_text, segment_text, parts_after, segments_text, fixed_line, head_line, lines, listing_lines}
-use Rattle.template_tree.specs.Listing.{bytes_of, Listing, split_at_ends, ListingSplitsInLines}
+use Rattle.template_tree.specs.Line.{Line, line_bytes, segments_text, fixed_line, head_line, lines, listing_lines}
+use Rattle.template_tree.specs.Listing.{bytes_of, split_at_ends, ListingSplitsInLines}
 
 -- each byte can be shown
 abbrev printable : List ℕ → Bool
@@ -146,13 +146,13 @@ split_line front (byte ∷ x) rest h =
     rw (no_end byte both.0)
     (split_line (front ++ (byte ∷ [])) x rest both.1 ∙ ap (λ z. z ∷ split_at_ends [] rest) (append_assoc front (byte ∷ []) x))
 
-split_lines : (all : List Line) → IsTrue (printable_lines all) → split_at_ends [] (bytes_of all) ≡ map whole_line all ++ ([] ∷ [])
+split_lines : (all : List Line) → IsTrue (printable_lines all) → split_at_ends [] (bytes_of all) ≡ map line_bytes all ++ ([] ∷ [])
 split_lines [] h = refl
 split_lines (line ∷ all) h =
     let both = and_parts (printable line.text) (printable_lines all) h in
-    split_line [] (whole_line line) (bytes_of all)
+    split_line [] (line_bytes line) (bytes_of all)
     (printable_append (replicate (2 * line.level) 32) line.text (blanks_printable (2 * line.level)) both.0)
-    ∙ ap (λ z. whole_line line ∷ z) (split_lines all both.1)
+    ∙ ap (λ z. line_bytes line ∷ z) (split_lines all both.1)
 
 pub listing_splits : CanonicalTextsShow → ListingSplitsInLines
 listing_splits shown items program = split_lines (listing_lines items) (lines_printable shown 0 program_sections items refl program.sound)

@@ -12,7 +12,7 @@ use Rattle.template_tree.specs.PlainTree.{Forest, PlainNode, forest}
 use Rattle.template_tree.specs.Program.{sort_of}
 use Rattle.template_tree.specs.Slots.{depth}
 use Rattle.template_tree.specs.Section.{left_for, left_after, next_lead}
-use Rattle.template_tree.specs.Line.{Line, whole_line, fixed_line, head_line, lines, parts_after, segment_text, segments_text}
+use Rattle.template_tree.specs.Line.{Line, line_bytes, fixed_line, head_line, lines, parts_after, segment_text, segments_text}
 use Rattle.template_tree.specs.Listing.{bytes_of}
 use Rattle.template_tree.specs.Private.NodeLines.{node_lines, Lacks}
 use Rattle.template_tree.specs.Private.Weight.{forest_weight, weight}
@@ -35,7 +35,7 @@ item_shallow (x ∷ xs) (suc i) node inside is = omega (arith, item_shallow xs i
 pub bytes_append : (xs ys : List Line) → bytes_of (xs ++ ys) ≡ bytes_of xs ++ bytes_of ys
 bytes_append [] ys = refl
 bytes_append (x ∷ xs) ys =
-    ap (λ z. whole_line x ++ (10 ∷ z)) (bytes_append xs ys) ∙ sym (append_assoc (whole_line x) (10 ∷ bytes_of xs) (bytes_of ys))
+    ap (λ z. line_bytes x ++ (10 ∷ z)) (bytes_append xs ys) ∙ sym (append_assoc (line_bytes x) (10 ∷ bytes_of xs) (bytes_of ys))
 
 -- the line before the first node, the node, and the others
 pub first_lines : (level : ℕ) (left : List PlainSection) (node : PlainNode) (rest : Forest)

@@ -1,7 +1,7 @@
 -- Putting a node below an item is the edit at the path.
 use Rattle.std.specs.Prelude.{◌≡◌, refl, ℕ, zero, suc, List, [], ◌∷◌, option_and_then, slice_get, slice_set, slice_index_or}
 use Rattle.std.proofs.Common.{ap, sym, ◌∙◌}
-use Rattle.template_tree.specs.PlainTree.{Label, Forest, PlainNode, PlainNodes, PlainTree, nodes, forest, join, forest_nodes, nodes_forest}
+use Rattle.template_tree.specs.PlainTree.{Forest, PlainNode, PlainNodes, PlainTree, nodes, forest, forest_nodes, nodes_forest}
 use Rattle.template_tree.specs.Path.{below, node_at, give_way, changed, edit_at}
 use Rattle.template_tree.specs.Descent.{put_below, put_in}
 use Rattle.template_tree.specs.TreeLend.{with_node}

@@ -1,11 +1,10 @@
 -- The room of lists makes no difference to what is a tree.
-use Rattle.std.specs.Prelude.{◌≡◌, refl, ℕ, suc, ◌+◌, ◌≤◌, max, if◌then◌else◌, ◌==◌, List, [], ◌∷◌}
-use Rattle.std.proofs.Common.{ap, sym, ◌∙◌, subst}
+use Rattle.std.specs.Prelude.{◌≡◌, refl, ℕ, ◌+◌, max, if◌then◌else◌, ◌==◌, ◌∷◌}
+use Rattle.std.proofs.Common.{ap, subst}
 use Rattle.plcs_grammar.specs.Template.{row_of}
-use Rattle.template_tree.specs.PlainTree.{Label, Forest, PlainTree, roomless}
-use Rattle.template_tree.specs.Program.{sorts, sort_of, Fill, IsNode, AreNodes, IsProgram}
+use Rattle.template_tree.specs.PlainTree.{Forest, roomless}
+use Rattle.template_tree.specs.Program.{sorts, sort_of, Fill, AreNodes}
 use Rattle.template_tree.specs.Slots.{count, depth, times, AllBelow}
-use Rattle.template_tree.specs.Tree.{IsTree}
 
 pub sorts_roomless : (items : Forest) → sorts (roomless items) ≡ sorts items
 sorts_roomless Forest.nil = refl

@@ -1,9 +1,9 @@
 -- An edit looks at the node at its path alone.
-use Rattle.std.specs.Prelude.{◌≡◌, refl, ℕ, zero, suc, List, [], ◌∷◌, Option, Some, None, option_and_then, slice_get}
+use Rattle.std.specs.Prelude.{◌≡◌, refl, ℕ, zero, suc, List, [], ◌∷◌, Option, Some, None}
 use Rattle.std.proofs.Common.{ap, sym, ◌∙◌}
 use Rattle.std.proofs.lemmas.Option.{none-some}
-use Rattle.template_tree.specs.PlainTree.{Label, Forest, PlainNode, PlainTree, nodes, forest, join}
-use Rattle.template_tree.specs.Path.{below, node_at, give_way, changed, edit_at}
+use Rattle.template_tree.specs.PlainTree.{Forest, PlainNode, forest, join}
+use Rattle.template_tree.specs.Path.{node_at, edit_at}
 
 -- what is there, or else the node
 abbrev pub taken : PlainNode → Option PlainNode → PlainNode

@@ -1,11 +1,11 @@
 -- An edit by slot is the edit at the path of the slot's node.
-use Rattle.std.specs.Prelude.{◌≡◌, refl, ℕ, zero, suc, ◌+◌, ◌≤◌, ◌==◌, Bool, true, false, if◌then◌else◌, List, [], ◌∷◌, Option, Some, None, option_and_then, slice_get}
+use Rattle.std.specs.Prelude.{◌≡◌, refl, ℕ, zero, suc, ◌+◌, ◌≤◌, ◌==◌, Bool, true, false, if◌then◌else◌, List, [], ◌∷◌, Option, Some, None}
 use Rattle.std.proofs.Common.{ap, sym, ◌∙◌, arith}
 use Rattle.std.proofs.lemmas.Bool.{eq-eqb}
 use Rattle.std.proofs.lemmas.Option.{none-some}
-use Rattle.template_tree.specs.PlainTree.{Label, Forest, PlainNode, nodes, forest, join}
+use Rattle.template_tree.specs.PlainTree.{Label, Forest, PlainNode, forest, join}
 use Rattle.template_tree.specs.Slots.{times}
-use Rattle.template_tree.specs.Path.{below, node_at, give_way, changed, edit_at}
+use Rattle.template_tree.specs.Path.{node_at, edit_at}
 use Rattle.template_tree.specs.Edit.{edit_slot}
 
 zero_if : (b : Bool) (n : ℕ) → (if b then 1 else 0) + n ≡ 0 → b ≡ false

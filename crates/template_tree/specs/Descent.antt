@@ -1,8 +1,5 @@
 -- What a list of nodes becomes where a node below one of its items was lent and written to.
-use Rattle.std.specs.Prelude.{ℕ, List, [], ◌∷◌, Option, option_map, option_and_then, slice_get, slice_set, slice_index_or}
-use Rattle.std.specs.Borrow.{LendsIf}
-use Rattle.template_tree.specs.contracts.node.Nodes as list_row
-use Rattle.template_tree.specs.contracts.node.Node as node_row
+use Rattle.std.specs.Prelude.{ℕ, List, [], ◌∷◌, slice_set, slice_index_or}
 use Rattle.template_tree.specs.PlainTree.{PlainNode, PlainNodes, nodes, forest}
 use Rattle.template_tree.specs.Lend.{with_item}
 

@@ -1,12 +1,12 @@
 -- Edits of a tree, each at a slot.
-use Rattle.std.specs.Prelude.{◌≡◌, ℕ, ◌+◌, Bool, false, if◌then◌else◌, ◌==◌, nat_lt, List, [], ◌∷◌, ◌++◌, map, find, Option, Some, None, option_map, slice_set}
+use Rattle.std.specs.Prelude.{◌≡◌, ℕ, ◌+◌, false, if◌then◌else◌, ◌==◌, nat_lt, List, [], ◌∷◌, ◌++◌, find, Option, Some, None, option_map}
 use Rattle.plcs_grammar.specs.declared.node_kind.NodeKind.{NodeKind}
 use Rattle.plcs_grammar.specs.declared.node_kind.Sort.{Sort}
 use Rattle.plcs_grammar.specs.PlainPhrase.{PlainPhrase}
 use Rattle.template_tree.specs.declared.side.Side.{Side}
 use Rattle.template_tree.specs.declared.change.Change.{Change}
 use Rattle.template_tree.specs.declared.change.What.{What}
-use Rattle.template_tree.specs.PlainTree.{Label, Forest, PlainNode, PlainTree, nodes, forest, join, roomless}
+use Rattle.template_tree.specs.PlainTree.{Forest, PlainNode, PlainTree, nodes, forest, join, roomless}
 use Rattle.template_tree.specs.Program.{sort_of}
 use Rattle.template_tree.specs.Part.{with_part}
 use Rattle.template_tree.specs.Slots.{count, times, numbered}

@@ -8,6 +8,7 @@ pub mod Part
 pub mod Slots
 pub mod Tree
 pub mod NewTree
+pub mod Build
 -- ---- edits
 pub mod Path
 pub mod Edit
@@ -15,6 +16,8 @@ pub mod Lend
 pub mod Descent
 pub mod TreeLend
 pub mod Elision
+-- ---- places of a run
+pub mod Place
 -- ---- the laws
 pub mod Law
 -- ---- the listing, and what the cursor may stand on

@@ -14,9 +14,9 @@ pub record Line : Type 0 where
   pub level : ℕ
   pub text : List ℕ
 
--- the line with its blanks, two for each level
-abbrev pub whole_line : Line → List ℕ
-whole_line line = replicate (2 * line.level) 32 ++ line.text
+-- its bytes: the blanks, two for each level, and the text
+abbrev pub line_bytes : Line → List ℕ
+line_bytes line = replicate (2 * line.level) 32 ++ line.text
 
 -- what is written for a part: its phrase, or the placeholder of its category where it is empty
 abbrev pub part_text : Category → Option PlainPhrase → List ℕ
@@ -72,6 +72,6 @@ lines elides level left (Forest.cons label inner rest) =
 abbrev pub listing_lines : Forest → List Line
 listing_lines = lines false 0 program_sections
 
--- the lines that are shown: one for each elided refinement
-abbrev pub shown_lines : Forest → List Line
-shown_lines = lines true 0 program_sections
+-- the lines that are shown, one for each elided refinement
+abbrev pub Lines : Forest → List Line
+Lines = lines true 0 program_sections

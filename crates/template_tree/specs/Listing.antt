@@ -1,13 +1,13 @@
 -- The listing of a program.
 use Rattle.std.specs.Prelude.{◌≡◌, ℕ, List, [], ◌∷◌, ◌++◌, if◌then◌else◌, ◌==◌, map}
-use Rattle.template_tree.specs.Line.{Line, whole_line, listing_lines}
+use Rattle.template_tree.specs.Line.{Line, line_bytes, listing_lines}
 use Rattle.template_tree.specs.PlainTree.{Forest}
 use Rattle.template_tree.specs.Program.{IsProgram}
 
 -- the bytes of lines, each with its line end behind it
 abbrev pub bytes_of : List Line → List ℕ
 bytes_of [] = []
-bytes_of (line ∷ lines) = whole_line line ++ (10 ∷ bytes_of lines)
+bytes_of (line ∷ lines) = line_bytes line ++ (10 ∷ bytes_of lines)
 
 -- the listing of a program; slots and elision play no part
 abbrev pub Listing : Forest → List ℕ
@@ -18,7 +18,8 @@ pub record Spells (items : Forest) (x : List ℕ) : Type 0 where
   pub program : IsProgram items
   pub listed : x ≡ Listing items
 
--- what stands before each byte 10 of a text, from the one before it on; what no byte 10 follows is `front`
+-- the stretches of a text between its bytes 10, where `front` is what the first begins with; the last one has no byte 10
+-- behind it
 abbrev pub split_at_ends : (front : List ℕ) → List ℕ → List (List ℕ)
 split_at_ends front [] = front ∷ []
 split_at_ends front (byte ∷ rest) = if byte == 10 then front ∷ split_at_ends [] rest else split_at_ends (front ++ (byte ∷ [])) rest
@@ -26,4 +27,4 @@ split_at_ends front (byte ∷ rest) = if byte == 10 then front ∷ split_at_ends
 -- a program's listing, split at each byte 10, is its lines, and nothing behind the last line end
 abbrev pub ListingSplitsInLines : Type 0
 ListingSplitsInLines =
-    (items : Forest) → IsProgram items → split_at_ends [] (Listing items) ≡ map whole_line (listing_lines items) ++ ([] ∷ [])
+    (items : Forest) → IsProgram items → split_at_ends [] (Listing items) ≡ map line_bytes (listing_lines items) ++ ([] ∷ [])

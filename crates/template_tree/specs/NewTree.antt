@@ -1,5 +1,5 @@
 -- The new program.
-use Rattle.std.specs.Prelude.{ℕ, Bool, false, []}
+use Rattle.std.specs.Prelude.{ℕ, false, []}
 use Rattle.plcs_grammar.specs.declared.node_kind.NodeKind.{NodeKind}
 use Rattle.template_tree.specs.PlainTree.{Label, Forest}
 

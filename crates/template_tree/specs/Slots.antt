@@ -1,6 +1,6 @@
 -- Slots, and how many nodes there are and how deep they stand.
-use Rattle.std.specs.Prelude.{ℕ, suc, ◌+◌, ◌<◌, max, if◌then◌else◌, ◌==◌, List, [], ◌∷◌, ◌++◌}
-use Rattle.template_tree.specs.PlainTree.{Forest, PlainNode}
+use Rattle.std.specs.Prelude.{ℕ, ◌+◌, ◌<◌, max, if◌then◌else◌, ◌==◌}
+use Rattle.template_tree.specs.PlainTree.{Forest}
 
 -- how many nodes there are, those inside others too
 abbrev pub count : Forest → ℕ

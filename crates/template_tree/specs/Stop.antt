@@ -3,13 +3,13 @@ use Rattle.std.specs.Prelude.{ℕ, ◌+◌, true, if◌then◌else◌, List, [],
 use Rattle.std.specs.List.{range_with_len}
 use Rattle.plcs_grammar.specs.declared.node_kind.NodeKind.{NodeKind}
 use Rattle.plcs_grammar.specs.Template.{PlainSection, row_of, program_sections}
-use Rattle.template_tree.specs.PlainTree.{Label, Forest}
+use Rattle.template_tree.specs.PlainTree.{Forest}
 use Rattle.template_tree.specs.Program.{parts_of, sort_of}
 use Rattle.template_tree.specs.Section.{left_for, left_after, next_lead}
 use Rattle.template_tree.specs.Line.{lines, fixed_line}
 
--- a node that is seen: the path to it, the number of its first line counted from 0, and how many of its parts are stops
-pub record SeenNode : Type 0 where
+-- a visible node: the path to it, the number of its first line counted from 0, and how many of its parts are stops
+pub record VisibleNode : Type 0 where
   pub path : List ℕ
   pub line : ℕ
   pub parts : ℕ
@@ -26,27 +26,27 @@ part_stops NodeKind.Assign = 0
 part_stops kind = length (parts_of (row_of kind).line)
 
 -- a node that stands inside the item of this number
-abbrev pub inside : ℕ → SeenNode → SeenNode
+abbrev pub inside : ℕ → VisibleNode → VisibleNode
 inside k node = record node { path = k ∷ node.path }
 
--- the nodes that are seen, in listing order, where the first item has this number and the lines begin at this one:
+-- the visible nodes in listing order, where the first item has this number and the lines begin at this one:
 -- those inside an elided refinement are not
-abbrev pub seen_nodes : (left : List PlainSection) (k line : ℕ) → Forest → List SeenNode
-seen_nodes left k line Forest.nil = []
-seen_nodes left k line (Forest.cons label inner rest) =
+abbrev pub visible_nodes : (left : List PlainSection) (k line : ℕ) → Forest → List VisibleNode
+visible_nodes left k line Forest.nil = []
+visible_nodes left k line (Forest.cons label inner rest) =
     let here = left_for (sort_of label.kind) left in
     let first = line + length (fixed_line 0 (next_lead here)) in
     map (inside k)
     (record { path = []; line = first; parts = part_stops label.kind }
-    ∷ (if label.elided then [] else seen_nodes (row_of label.kind).sections 0 (first + 1) inner))
-    ++ seen_nodes (left_after here) (k + 1) (line + length (lines true 0 left (Forest.cons label inner Forest.nil))) rest
+    ∷ (if label.elided then [] else visible_nodes (row_of label.kind).sections 0 (first + 1) inner))
+    ++ visible_nodes (left_after here) (k + 1) (line + length (lines true 0 left (Forest.cons label inner Forest.nil))) rest
 
 -- the stops of a node: its own, then its parts
-abbrev pub stops_of : SeenNode → List VisibleStop
+abbrev pub stops_of : VisibleNode → List VisibleStop
 stops_of node =
     record { path = node.path; part = None; line = node.line }
     ∷ map (λ part. record { path = node.path; part = Some part; line = node.line }) (range_with_len 0 node.parts)
 
 -- the visible stops in listing order
 abbrev pub Stops : Forest → List VisibleStop
-Stops items = flat_map stops_of (seen_nodes program_sections 0 0 items)
+Stops items = flat_map stops_of (visible_nodes program_sections 0 0 items)

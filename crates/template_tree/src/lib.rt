@@ -1,6 +1,7 @@
 //! The tree of templates: programs, their listing, and how they are read.
 #![tactic(auto, using(crate::specs::PlainTree::nodes_forest))]
 
+mod build;
 mod change;
 mod descent;
 mod elide;
@@ -16,15 +17,18 @@ mod put_part;
 mod sections_left;
 mod side;
 mod slot_count;
+#[cfg(test)]
+mod tests;
 mod tree;
 
+pub use build::OverLimit;
 pub use change::{Change, What};
 pub use law::{
     listing_splits_in_lines, part_keeps_tree, put_keeps_tree, set_part_keeps_tree,
     slot_edit_is_path_edit,
 };
 pub use limit::{DEEPEST_PATH, LONGEST_PHRASE, MOST_DRAWN, MOST_SLOTS};
-pub use node::Node;
+pub use node::{Node, Nodes};
 pub use path::Path;
 pub use phrase_place::PhrasePlace;
 pub use side::Side;

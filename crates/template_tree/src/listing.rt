@@ -58,12 +58,8 @@ fn put_node<O: ByteOut>(node: &Node, level: u32, out: &mut O)
     put_blanks(level, out);
     put_segments(row.line, node.parts.as_slice(), out);
     out.put(b'\n');
-    put_nodes(
-        node.inner.as_slice(),
-        level + 1,
-        SectionsLeft::of(row.sections),
-        out,
-    );
+    let sections = SectionsLeft::of(row.sections);
+    put_nodes(node.inner.as_slice(), level + 1, sections, out);
     put_fixed_line(row.last, level, out);
 }
 

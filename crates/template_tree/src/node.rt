@@ -1,5 +1,5 @@
 //! Nodes, and the lists in which they stand.
-ghost use Rattle.std.specs.Prelude.{◌≡◌, ℕ, ◌+◌, ◌-◌, ◌^◌, ◌<◌, ◌≤◌, ◌∷◌, ◌++◌, [], IfOk, OnErr, OnOk, length, option_map, slice_get, map, Some};
+ghost use Rattle.std.specs.Prelude.{◌≡◌, ℕ, ◌+◌, ◌-◌, ◌^◌, ◌<◌, ◌≤◌, ◌∷◌, ◌++◌, [], IfErr, IfOk, OnOk, length, option_map, slice_get, map, Some};
 ghost use Rattle.std.specs.Borrow.{LendsIf, sem};
 ghost use Rattle.template_tree.specs.contracts.node.Node as node_row;
 ghost use Rattle.template_tree.specs.contracts.node.Nodes as list_row;
@@ -29,7 +29,7 @@ pub struct Node {
 /// Nodes in order, which contracts see as a list with spare room.
 #[cycle(node)]
 #[derive(Drop)]
-pub(crate) struct Nodes {
+pub struct Nodes {
     list: Vec<Node>,
 }
 
@@ -133,7 +133,7 @@ impl Node {
 
 impl Nodes {
     /// None, taking no memory.
-    pub(crate) fn new(alloc: Global) -> Nodes
+    pub fn new(alloc: Global) -> Nodes
         ensures { result.items ≡ [] }
     {
         Nodes {
@@ -197,17 +197,23 @@ impl Nodes {
         ensures { IfOk result (λ list. list.items ≡ first ∷ (second ∷ [])) }
     {
         let mut list = Nodes::new(alloc);
-        list.push(first)?;
-        list.push(second)?;
+        if let Err(_) = list.push(first) {
+            return Err(OutOfMemory);
+        }
+        if let Err(_) = list.push(second) {
+            return Err(OutOfMemory);
+        }
         Ok(list)
     }
 
-    /// Puts one at the end.
-    pub(crate) fn push(&mut self, node: Node) -> Result<(), OutOfMemory>
+    /// Puts one at the end, or gives it back where there is no memory for it.
+    pub fn push(&mut self, node: Node) -> Result<(), Node>
         ensures put { OnOk result (self.new.items ≡ self.old.items ++ node ∷ []) }
-        ensures refused { OnErr result (self.new.items ≡ self.old.items) }
+        ensures refused { IfErr result (λ back. (back ≡ node) × (self.new ≡ self.old)) }
     {
-        self.list.reserve(1)?;
+        if let Err(_) = self.list.reserve(1) {
+            return Err(node);
+        }
         self.list.push_reserved(node);
         Ok(())
     }

@@ -1,6 +1,6 @@
 -- What the check of the tokens of a text answers says what the text is.
-use Rattle.std.proofs.Common.{◌≡◌, ℕ, ◌≤◌, List, map, length, Option, Some, None, Result, Ok, Err, All, ap, sym, subst, ◌∙◌}
-use Rattle.std.specs.Prelude.{is_some, IsTrue}
+use Rattle.std.proofs.Common.{◌≡◌, ℕ, ◌≤◌, List, map, length, Option, Some, None, All, ap, sym, subst, ◌∙◌}
+use Rattle.std.proofs.lemmas.Option.{same_Some, none-some}
 use Rattle.plcs_grammar.specs.declared.category.Category.{Category}
 use Rattle.plcs_grammar.specs.declared.phrase.Phrase.{Phrase}
 use Rattle.plcs_grammar.specs.PlainPhrase.{PlainPhrase}
@@ -9,7 +9,6 @@ use Rattle.plcs_grammar.specs.Cuts.{Piece, Cuts}
 use Rattle.plcs_grammar.specs.Reads.{Reads}
 use Rattle.phrase_parser.specs.declared.check.finding.Finding.{Finding}
 use Rattle.phrase_parser.specs.declared.check.finding.Finding.TheVariants.{Fine, SyntaxAt, Over}
-use Rattle.phrase_parser.specs.declared.fault.PhraseFault.{PhraseFault}
 use Rattle.phrase_parser.specs.declared.fault.PhraseFault.TheVariants as fault
 use Rattle.phrase_parser.specs.declared.token.Placed.{Placed}
 use Rattle.phrase_parser.specs.Private.Kept.{kept, AreTokens}
@@ -18,8 +17,7 @@ use Rattle.phrase_parser.specs.Private.Recognizer.{Shape, first_shape}
 use Rattle.phrase_parser.specs.Private.Findings.{seen_of, findings}
 use Rattle.phrase_parser.specs.Private.Shapes.{seen_in, as_found, over_of, over_place}
 use Rattle.phrase_parser.specs.Private.TokenIn.{token_in, IsPlacedIn, LiesIn}
-use Rattle.phrase_parser.specs.Answers.{FaultSays, Answers, over_fault}
-use Rattle.phrase_parser.specs.Private.Built.{IsBuilt}
+use Rattle.phrase_parser.specs.Answers.{FaultSays, over_fault}
 use Rattle.phrase_parser.proofs.Findings.PlacedTokens.{cut_seen, cut_lies, cut_few, cut_tokens, cut_placed}
 use Rattle.phrase_parser.proofs.Findings.FindingPlaces.{FindingWithin, places_within}
 use Rattle.phrase_parser.proofs.Findings.FindingsOfText.{SaysOfText, finding_says}
@@ -65,26 +63,22 @@ told c x items stop shape found e (pieces, cut, same) f =
     (told_if c x pieces stop found cut (subst (SaysOfText c x pieces) g (finding_says c x pieces stop shape e cut))
     (subst (FindingWithin (length x)) g (places_within x pieces stop shape cut)))
 
--- the phrase is built
-pub read_whole : (c : Category) (x : List ℕ) (items : List Placed) → IsRead c x items
-    → IsTrue (is_some (phrase_of_if (run (map (token_in x) items) (start c))))
-read_whole c x items h = ap is_some h.built
+-- the phrase that is built is what the text reads as
+pub built_reads : (c : Category) (x : List ℕ) (items : List Placed) (phrase : Phrase) → IsRead c x items
+    → phrase_of_if (run (map (token_in x) items) (start c)) ≡ Some (plain_phrase phrase) → Reads c x (plain_phrase phrase)
+built_reads c x items phrase read built =
+    let same : read.phrase ≡ plain_phrase phrase = same_Some read.phrase (plain_phrase phrase) (sym read.built ∙ built) in
+    subst (Reads c x) same read.reads
 
--- and answered
-built_if : (c : Category) (x : List ℕ) (answer : Result Phrase PhraseFault) (wanted : Option PlainPhrase) (phrase : PlainPhrase)
-    → IsBuilt answer wanted → wanted ≡ Some phrase → Reads c x phrase → Answers c x answer
-built_if c x (Ok p) wanted phrase b e h = let same : phrase ≡ plain_phrase p = cc in subst (Reads c x) same h
-built_if c x (Err f) wanted phrase b e h = subst (FaultSays c x) (sym b) tt
+-- and one is built
+pub not_refused : (c : Category) (x : List ℕ) (items : List Placed) → IsRead c x items
+    → phrase_of_if (run (map (token_in x) items) (start c)) ≡ None → ⊥
+not_refused c x items read refused = none-some read.phrase (sym refused ∙ read.built)
 
-pub built_answers : (c : Category) (x : List ℕ) (items : List Placed) (answer : Result Phrase PhraseFault) → IsRead c x items
-    → IsBuilt answer (phrase_of_if (run (map (token_in x) items) (start c))) → Answers c x answer
-built_answers c x items answer h b =
-    built_if c x answer (phrase_of_if (run (map (token_in x) items) (start c))) h.phrase b h.built h.reads
-
--- what an answer says, of the tokens as they were lent
-pub told_known : (c : Category) (x : List ℕ) (items lent : List Placed) (stop : Option ℕ) (shape : Shape) (found known : Finding)
+-- what an answer of the check says, of the tokens as they were lent to it
+pub told_known : (c : Category) (x : List ℕ) (stop : Option ℕ) {items lent : List Placed} {shape : Shape} {found known : Finding}
     → lent ≡ items → first_shape c ≡ Some shape → AreTokens items stop x
-    → as_found found ≡ findings (map (seen_in x) lent) stop (length x) shape None → found ≡ known → CheckSays c x items known
-told_known c x items lent stop shape found known same e are f is =
-    subst (CheckSays c x items) is
-    (told c x items stop shape found e are (f ∙ ap (λ z. findings (map (seen_in x) z) stop (length x) shape None) same))
+    → as_found found ≡ findings (map (seen_in x) lent) stop (length x) shape None → found ≡ known → CheckSays c x lent known
+told_known c x stop {lent = lent} {shape = shape} {found = found} same first are answered known_is =
+    subst (CheckSays c x lent) known_is
+    (told c x lent stop shape found first (subst (λ z. AreTokens z stop x) (sym same) are) answered)

@@ -18,7 +18,9 @@ use Rattle.phrase_parser.specs.Private.Recognizer.{class_of, Shape, next, follow
 use Rattle.phrase_parser.proofs.Machine.Completeness.{complete, traced_over, alive}
 use Rattle.phrase_parser.proofs.Machine.MachineRuns.{run_none}
 use Rattle.phrase_parser.proofs.Machine.ConsumedTokens.{Sound}
-use Rattle.phrase_parser.proofs.Machine.Soundness.{AfterIf, step_after, has_read, IsFreshIf, start_fresh, sound}
+use Rattle.phrase_parser.proofs.Machine.Soundness.TakenTokens.{AfterIf}
+use Rattle.phrase_parser.proofs.Machine.Soundness.ReadTokens.{step_after, has_read, IsFreshIf, start_fresh}
+use Rattle.phrase_parser.proofs.Machine.Soundness.ReadPhrases.{sound}
 use Rattle.phrase_parser.proofs.Machine.ViablePrefixes.{viable, stopped, no_form}
 use Rattle.phrase_parser.proofs.Findings.Simulation.{use_of, last_of, shape_of, shape_if, simulates, ends_as}
 

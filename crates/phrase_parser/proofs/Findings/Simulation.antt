@@ -25,7 +25,7 @@ use Rattle.phrase_parser.proofs.Findings.KeptNumbers.{kept_from, kept_to}
 use Rattle.phrase_parser.proofs.Machine.BuiltinNames.{builtin_missing, builtin_known}
 use Rattle.phrase_parser.proofs.Machine.ExprsRead.{above_none, below_tightest}
 use Rattle.phrase_parser.proofs.Machine.ConsumedTokens.{hole, SoundStack, Sound}
-use Rattle.phrase_parser.proofs.Machine.Soundness.{Joins, reduced_joins}
+use Rattle.phrase_parser.proofs.Machine.Soundness.JoinedOperands.{Joins, reduced_joins}
 
 -- where an expression stands that stands in no other
 abbrev pub ground_of_base : Base → Ground

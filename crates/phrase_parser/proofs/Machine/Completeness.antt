@@ -27,15 +27,15 @@ abbrev pub NoLevels : List ℕ → Type 0
 NoLevels levels = AllByRecursion (λ level. level ≡ 0) levels
 
 no_levels_append : (xs ys : List ℕ) → NoLevels xs → NoLevels ys → NoLevels (xs ++ ys)
-no_levels_append xs ys h k = all_append (λ level. level ≡ 0) xs ys h k
+no_levels_append xs ys xs_none ys_none = all_append (λ level. level ≡ 0) xs ys xs_none ys_none
 
 -- tokens that open no level are over no other limit than those of which no level is told
 pub over_none : (pieces : List Piece) (ls : List ℕ) → NoLevels ls → first_over pieces ls ≡ first_over pieces []
-over_none [] ls h = refl
-over_none (piece ∷ pieces) [] h = refl
-over_none (piece ∷ pieces) (l ∷ ls) h =
-    ap (λ n. option_or (over_at piece n) (first_over pieces ls)) h.0
-    ∙ ap (λ r. option_or (over_at piece 0) r) (over_none pieces ls h.1)
+over_none [] ls no_levels = refl
+over_none (piece ∷ pieces) [] no_levels = refl
+over_none (piece ∷ pieces) (l ∷ ls) no_levels =
+    ap (λ n. option_or (over_at piece n) (first_over pieces ls)) no_levels.0
+    ∙ ap (λ r. option_or (over_at piece 0) r) (over_none pieces ls no_levels.1)
 
 -- the tokens lead from the first state of the phrase's category to one that ends as the phrase
 pub record Reaches (p : PlainPhrase) : Type 0 where
@@ -52,12 +52,12 @@ at_base : (b : Base) (t : PlainExpr) → Fits t 1
     → (z : State) × Goes (State.wanted (Stack.base b)) (spell t) (levels t (depth (Stack.base b))) z
     × (phrase_of z ≡ phrase_of_stack (Stack.base b) t) × (step z (Token.sign Sign.CloseParenthesis) ≡ step_close_stack (Stack.base b) t)
     × (opens z (Token.sign Sign.CloseParenthesis) ≡ 0)
-at_base b t f =
-    let r = arrives t 1 (Stack.base b) (lit≤ tt) f tt in (
-      State.had r.stack r.top,
-      r.goes,
-      ap (λ (o : Operand). phrase_of_stack o.0 o.1) (r.same 1 (le_refl _)),
-      ap (λ (o : Operand). step_close_stack o.0 o.1) (r.same 1 (le_refl _)),
+at_base b t fits =
+    let reached = arrives t 1 (Stack.base b) (lit≤ tt) fits tt in (
+      State.had reached.stack reached.top,
+      reached.goes,
+      ap (λ (o : Operand). phrase_of_stack o.0 o.1) (reached.same 1 (le_refl _)),
+      ap (λ (o : Operand). step_close_stack o.0 o.1) (reached.same 1 (le_refl _)),
       refl,
     )
 
@@ -66,10 +66,10 @@ behind_target : (reference : PlainVarRef) (ks : List Token) (ls : List ℕ) (z :
     → Goes (State.wanted (Stack.base (Base.assigned reference))) ks ls z
     → Goes (State.name_wanted Role.target) (spell_reference reference ++ (Token.sign Sign.Equal ∷ ks))
     (reference_levels reference 0 ++ (0 ∷ ls)) z
-behind_target (PlainVarRef.simple name) ks ls z f q = by refl refl (by refl refl q)
-behind_target (PlainVarRef.subscripted name index) ks ls z f q =
-    let r = at_base (Base.target_subscript name) index f in
-    by refl refl (by refl refl (joins (joins r.1 (by r.3 r.4 there)) (by refl refl q)))
+behind_target (PlainVarRef.simple name) ks ls z fits value_goes = by refl refl (by refl refl value_goes)
+behind_target (PlainVarRef.subscripted name index) ks ls z fits value_goes =
+    let reached = at_base (Base.target_subscript name) index fits in
+    by refl refl (by refl refl (joins (joins reached.1 (by reached.3 reached.4 there)) (by refl refl value_goes)))
 
 -- how variables are listed
 abbrev variable_has : List PlainVarRef → PlainVarRef → State
@@ -83,10 +83,10 @@ variable_levels reference = reference_levels reference 0
 variable_reads : (done : List PlainVarRef) (reference : PlainVarRef) → FitsReference reference
     → Goes (State.name_wanted (Role.variables done)) (spell_reference reference) (variable_levels reference)
     (variable_has done reference)
-variable_reads done (PlainVarRef.simple name) f = by refl refl there
-variable_reads done (PlainVarRef.subscripted name index) f =
-    let r = at_base (Base.variable_subscript done name) index f in
-    by refl refl (by refl refl (joins r.1 (by r.3 r.4 there)))
+variable_reads done (PlainVarRef.simple name) fits = by refl refl there
+variable_reads done (PlainVarRef.subscripted name index) fits =
+    let reached = at_base (Base.variable_subscript done name) index fits in
+    by refl refl (by refl refl (joins reached.1 (by reached.3 reached.4 there)))
 
 variable_comma : (done : List PlainVarRef) (reference : PlainVarRef)
     → step (variable_has done reference) (Token.sign Sign.Comma)
@@ -138,9 +138,9 @@ item_levels item = sized_levels item.size
 
 sized_reads : (done : List Item) (name : List ℕ) (size : Option ℕ) → FitsSize size
     → Goes (State.name_wanted (Role.items done)) (spell_sized name size) (sized_levels size) (item_has_sized done name size)
-sized_reads done name None f = by refl refl there
-sized_reads done name (Some size) f =
-    by refl refl (by refl refl (by (cond-true (leb 1 size) _ _ (le-leb 1 size f)) refl (by refl refl there)))
+sized_reads done name None fits = by refl refl there
+sized_reads done name (Some size) fits =
+    by refl refl (by refl refl (by (cond-true (leb 1 size) _ _ (le-leb 1 size fits)) refl (by refl refl there)))
 
 sized_comma : (done : List Item) (name : List ℕ) (size : Option ℕ)
     → step (item_has_sized done name size) (Token.sign Sign.Comma)
@@ -181,51 +181,51 @@ abbrev names_listing : Listing (List ℕ) spell_name name_levels AnyName
 names_listing = record {
   wants = λ done. State.name_wanted (Role.names done);
   has = λ done name. State.name_had (Role.names done) name;
-  reads = λ done name f. by refl refl there;
+  reads = λ done name fits. by refl refl there;
   comma = λ done name. refl;
   none = λ done name. refl;
 }
 
-module _ {X : Type 0} (g : X → List ℕ) (h : (x : X) → NoLevels (g x)) where
+module _ {X : Type 0} (g : X → List ℕ) (opens_none : (x : X) → NoLevels (g x)) where
   more_none : (xs : List X) → NoLevels (levels_more g xs)
   more_none [] = tt
-  more_none (x ∷ xs) = (refl, no_levels_append (g x) (levels_more g xs) (h x) (more_none xs))
+  more_none (x ∷ xs) = (refl, no_levels_append (g x) (levels_more g xs) (opens_none x) (more_none xs))
 
   listed_none : (xs : List X) → NoLevels (levels_listed g xs)
   listed_none [] = tt
-  listed_none (x ∷ xs) = no_levels_append (g x) (levels_more g xs) (h x) (more_none xs)
+  listed_none (x ∷ xs) = no_levels_append (g x) (levels_more g xs) (opens_none x) (more_none xs)
 
 reaches_expression : (p : PlainPhrase) (b : Base) (t : PlainExpr) → Fits t 1 → start (category_of p) ≡ Some (State.wanted (Stack.base b))
     → spell_phrase p ≡ spell t → phrase_of_stack (Stack.base b) t ≡ Some p → depth (Stack.base b) ≡ 0 → phrase_opened_levels p ≡ levels t 0
     → Reaches p
-reaches_expression p b t f begins tokens ends zero opens =
-    let r = at_base b t f in
+reaches_expression p b t fits begins tokens ends zero opens =
+    let reached = at_base b t fits in
     record {
       first = State.wanted (Stack.base b);
-      end = r.0;
+      end = reached.0;
       traced = levels t (depth (Stack.base b));
       begins = begins;
-      goes = subst (λ ks. Goes (State.wanted (Stack.base b)) ks (levels t (depth (Stack.base b))) r.0) (sym tokens) r.1;
-      ends = r.2 ∙ ends;
+      goes = subst (λ ks. Goes (State.wanted (Stack.base b)) ks (levels t (depth (Stack.base b))) reached.0) (sym tokens) reached.1;
+      ends = reached.2 ∙ ends;
       agrees = λ pieces. ap (λ d. first_over pieces (levels t d)) zero ∙ ap (first_over pieces) (sym opens);
     }
 
 reaches_variables : (targets : List PlainVarRef) → FitsListed FitsReference targets → Reaches (PlainPhrase.variable_list targets)
-reaches_variables [] f = absurd f
-reaches_variables (reference ∷ rest) f =
-    let r = reads_listed spell_reference variable_levels FitsReference variables_listing (reference ∷ rest) f in
+reaches_variables [] fits = absurd fits
+reaches_variables (reference ∷ rest) fits =
+    let reached = reads_listed spell_reference variable_levels FitsReference variables_listing (reference ∷ rest) fits in
     record {
       first = State.name_wanted (Role.variables []);
-      end = variable_has r.front r.last;
+      end = variable_has reached.front reached.last;
       traced = levels_listed variable_levels (reference ∷ rest);
       begins = refl;
-      goes = r.goes;
-      ends = variable_ends r.front r.last ∙ ap (λ z. Some (PlainPhrase.variable_list z)) r.whole;
+      goes = reached.goes;
+      ends = variable_ends reached.front reached.last ∙ ap (λ z. Some (PlainPhrase.variable_list z)) reached.whole;
       agrees = λ pieces. ap (λ z. first_over pieces (variable_levels reference ++ z)) (variables_levels rest);
     }
 
 reaches_call : (name : List ℕ) (passed : PlainExprs) → FitsCall passed → Reaches (PlainPhrase.call name passed)
-reaches_call name PlainExprs.nil f = record {
+reaches_call name PlainExprs.nil fits = record {
   first = State.name_wanted Role.callee;
   end = State.name_had Role.callee name;
   traced = 0 ∷ [];
@@ -234,54 +234,54 @@ reaches_call name PlainExprs.nil f = record {
   ends = refl;
   agrees = λ pieces. refl;
 }
-reaches_call name (PlainExprs.cons a rest) f =
-    let h : PlainExprs → Stack = λ done. Stack.base (Base.call_arguments name done) in
-    let holds : Holds h 1 = record { ends = λ done t. refl; comma = λ done t. refl; blocks = λ done. tt; deep = λ done. refl } in
-    let r = arrives_all (PlainExprs.cons a rest) h 1 holds PlainExprs.nil f in
+reaches_call name (PlainExprs.cons a rest) fits =
+    let frame : PlainExprs → Stack = λ done. Stack.base (Base.call_arguments name done) in
+    let holds : Holds frame 1 = record { ends = λ done t. refl; comma = λ done t. refl; blocks = λ done. tt; deep = λ done. refl } in
+    let reached = arrives_all (PlainExprs.cons a rest) frame 1 holds PlainExprs.nil fits in
     record {
       first = State.name_wanted Role.callee;
       end = State.call_had name (PlainExprs.cons a rest);
       traced = 0 ∷ 1 ∷ (levels_of_all (PlainExprs.cons a rest) 1 ++ (0 ∷ []));
       begins = refl;
-      goes = by refl refl (by refl refl (joins r.goes
-          (by (ap (λ (o : Operand). step_close_stack o.0 o.1) r.same ∙ ap (λ z. Some (State.call_had name z)) r.whole) refl there)));
+      goes = by refl refl (by refl refl (joins reached.goes
+          (by (ap (λ (o : Operand). step_close_stack o.0 o.1) reached.same ∙ ap (λ z. Some (State.call_had name z)) reached.whole) refl there)));
       ends = refl;
       agrees = λ pieces. refl;
     }
 
 reaches_expressions : (es : PlainExprs) → FitsAll es → Reaches (PlainPhrase.expression_list es)
-reaches_expressions es f =
-    let h : PlainExprs → Stack = λ done. Stack.base (Base.expressions done) in
-    let holds : Holds h 0 = record { ends = λ done t. refl; comma = λ done t. refl; blocks = λ done. tt; deep = λ done. refl } in
-    let r = arrives_all es h 0 holds PlainExprs.nil f in
+reaches_expressions es fits =
+    let frame : PlainExprs → Stack = λ done. Stack.base (Base.expressions done) in
+    let holds : Holds frame 0 = record { ends = λ done t. refl; comma = λ done t. refl; blocks = λ done. tt; deep = λ done. refl } in
+    let reached = arrives_all es frame 0 holds PlainExprs.nil fits in
     record {
-      first = State.wanted (h PlainExprs.nil);
-      end = State.had r.stack r.top;
+      first = State.wanted (frame PlainExprs.nil);
+      end = State.had reached.stack reached.top;
       traced = levels_of_all es 0;
       begins = refl;
-      goes = r.goes;
-      ends = ap (λ (o : Operand). phrase_of_stack o.0 o.1) r.same ∙ ap (λ z. Some (PlainPhrase.expression_list z)) r.whole;
+      goes = reached.goes;
+      ends = ap (λ (o : Operand). phrase_of_stack o.0 o.1) reached.same ∙ ap (λ z. Some (PlainPhrase.expression_list z)) reached.whole;
       agrees = λ pieces. refl;
     }
 
 -- each phrase whose parts keep what they have to is read
 pub reaches : (p : PlainPhrase) → FitsPhrase p → Reaches p
-reaches (PlainPhrase.assignment target value) f =
-    let r = at_base (Base.assigned target) value f.1 in
+reaches (PlainPhrase.assignment target value) fits =
+    let reached = at_base (Base.assigned target) value fits.1 in
     record {
       first = State.name_wanted Role.target;
-      end = r.0;
+      end = reached.0;
       traced = reference_levels target 0 ++ (0 ∷ levels value 0);
       begins = refl;
-      goes = behind_target target (spell value) (levels value 0) r.0 f.0 r.1;
-      ends = r.2;
+      goes = behind_target target (spell value) (levels value 0) reached.0 fits.0 reached.1;
+      ends = reached.2;
       agrees = λ pieces. refl;
     }
-reaches (PlainPhrase.condition e) f = reaches_expression (PlainPhrase.condition e) Base.condition e f refl refl refl refl refl
-reaches (PlainPhrase.expression e) f = reaches_expression (PlainPhrase.expression e) Base.expression e f refl refl refl refl refl
-reaches (PlainPhrase.expression_list es) f = reaches_expressions es f
-reaches (PlainPhrase.variable_list targets) f = reaches_variables targets f
-reaches (PlainPhrase.variable_name name) f = record {
+reaches (PlainPhrase.condition e) fits = reaches_expression (PlainPhrase.condition e) Base.condition e fits refl refl refl refl refl
+reaches (PlainPhrase.expression e) fits = reaches_expression (PlainPhrase.expression e) Base.expression e fits refl refl refl refl refl
+reaches (PlainPhrase.expression_list es) fits = reaches_expressions es fits
+reaches (PlainPhrase.variable_list targets) fits = reaches_variables targets fits
+reaches (PlainPhrase.variable_name name) fits = record {
   first = State.name_wanted Role.variable;
   end = State.name_had Role.variable name;
   traced = 0 ∷ [];
@@ -290,19 +290,19 @@ reaches (PlainPhrase.variable_name name) f = record {
   ends = refl;
   agrees = λ pieces. over_none pieces (0 ∷ []) (refl, tt);
 }
-reaches (PlainPhrase.call name passed) f = reaches_call name passed f
-reaches (PlainPhrase.declared_list items) f =
-    let r = reads_listed spell_item item_levels FitsItem items_listing items f in
+reaches (PlainPhrase.call name passed) fits = reaches_call name passed fits
+reaches (PlainPhrase.declared_list items) fits =
+    let reached = reads_listed spell_item item_levels FitsItem items_listing items fits in
     record {
       first = State.name_wanted (Role.items []);
-      end = item_has r.front r.last;
+      end = item_has reached.front reached.last;
       traced = levels_listed item_levels items;
       begins = refl;
-      goes = r.goes;
-      ends = sized_ends r.front r.last.name r.last.size ∙ ap (λ z. Some (PlainPhrase.declared_list z)) r.whole;
+      goes = reached.goes;
+      ends = sized_ends reached.front reached.last.name reached.last.size ∙ ap (λ z. Some (PlainPhrase.declared_list z)) reached.whole;
       agrees = λ pieces. over_none pieces (levels_listed item_levels items) (listed_none item_levels (λ item. sized_none item.size) items);
     }
-reaches (PlainPhrase.procedure_name name) f = record {
+reaches (PlainPhrase.procedure_name name) fits = record {
   first = State.name_wanted Role.procedure;
   end = State.name_had Role.procedure name;
   traced = 0 ∷ [];
@@ -311,62 +311,62 @@ reaches (PlainPhrase.procedure_name name) f = record {
   ends = refl;
   agrees = λ pieces. over_none pieces (0 ∷ []) (refl, tt);
 }
-reaches (PlainPhrase.name_list names) f =
-    let r = reads_listed spell_name name_levels AnyName names_listing names f in
+reaches (PlainPhrase.name_list names) fits =
+    let reached = reads_listed spell_name name_levels AnyName names_listing names fits in
     record {
       first = State.name_wanted (Role.names []);
-      end = State.name_had (Role.names r.front) r.last;
+      end = State.name_had (Role.names reached.front) reached.last;
       traced = levels_listed name_levels names;
       begins = refl;
-      goes = r.goes;
-      ends = ap (λ z. Some (PlainPhrase.name_list z)) r.whole;
+      goes = reached.goes;
+      ends = ap (λ z. Some (PlainPhrase.name_list z)) reached.whole;
       agrees = λ pieces. over_none pieces (levels_listed name_levels names) (listed_none name_levels (λ name. (refl, tt)) names);
     }
-reaches (PlainPhrase.greatest_length n) f = record {
+reaches (PlainPhrase.greatest_length n) fits = record {
   first = State.length_wanted;
   end = State.length_had n;
   traced = 0 ∷ [];
   begins = refl;
-  goes = by (cond-true (leb 1 n && leb n longest_text) _ _ (and_from (leb 1 n) (leb n longest_text) (le-leb 1 n f.0) (le-leb n longest_text f.1))) refl there;
+  goes = by (cond-true (leb 1 n && leb n longest_text) _ _ (and_from (leb 1 n) (leb n longest_text) (le-leb 1 n fits.0) (le-leb n longest_text fits.1))) refl there;
   ends = refl;
   agrees = λ pieces. over_none pieces (0 ∷ []) (refl, tt);
 }
-reaches (PlainPhrase.comment bytes) f = absurd f
+reaches (PlainPhrase.comment bytes) fits = absurd fits
 
 -- where the machine comes to over the tokens of a phrase, and the levels that it opens
 runs_form : (c : Category) (ks : List Token) (p : PlainPhrase) → Form c ks p
     → (z : State) × (run ks (start c) ≡ Some z) × (phrase_of z ≡ Some p)
     × ((pieces : List Piece) → first_over pieces (trace ks (start c)) ≡ first_over pieces (phrase_opened_levels p))
-runs_form c ks p h =
-    let f = form_spelled c ks p h in
-    let r = reaches p f.1 in
-    let from : start c ≡ Some r.first = sym (ap start f.0) ∙ r.begins in (
-      r.end,
-      ap (λ s. run ks s) from ∙ ap (λ z. run z (Some r.first)) f.2 ∙ goes_runs r.goes,
-      r.ends,
-      λ pieces. ap (λ s. first_over pieces (trace ks s)) from ∙ ap (λ z. first_over pieces (trace z (Some r.first))) f.2
-          ∙ ap (first_over pieces) (goes_opens r.goes) ∙ r.agrees pieces,
+runs_form c ks p form =
+    let spelled = form_spelled c ks p form in
+    let reached = reaches p spelled.1 in
+    let from : start c ≡ Some reached.first = sym (ap start spelled.0) ∙ reached.begins in (
+      reached.end,
+      ap (λ s. run ks s) from ∙ ap (λ z. run z (Some reached.first)) spelled.2 ∙ goes_runs reached.goes,
+      reached.ends,
+      λ pieces. ap (λ s. first_over pieces (trace ks s)) from ∙ ap (λ z. first_over pieces (trace z (Some reached.first))) spelled.2
+          ∙ ap (first_over pieces) (goes_opens reached.goes) ∙ reached.agrees pieces,
     )
 
 -- the tokens of a phrase are read as the phrase
 pub complete : (c : Category) (ks : List Token) (p : PlainPhrase) → Form c ks p → phrase_of_if (run ks (start c)) ≡ Some p
-complete c ks p h = let r = runs_form c ks p h in ap phrase_of_if r.1 ∙ r.2
+complete c ks p form = let reached = runs_form c ks p form in ap phrase_of_if reached.1 ∙ reached.2
 
 -- by the levels that the machine opens, the first token over a limit is the phrase's
 pub traced_over : (c : Category) (pieces : List Piece) (p : PlainPhrase) → Form c (tokens_of pieces) p
     → first_over pieces (trace (tokens_of pieces) (start c)) ≡ first_over pieces (phrase_opened_levels p)
-traced_over c pieces p h = (runs_form c (tokens_of pieces) p h).3 pieces
+traced_over c pieces p form = (runs_form c (tokens_of pieces) p form).3 pieces
 
 -- tokens are one phrase of a category at most
 pub unique : (c : Category) (ks : List Token) (p q : PlainPhrase) → Form c ks p → Form c ks q → p ≡ q
-unique c ks p q h k = let a = complete c ks p h in let b = complete c ks q k in cc
+unique c ks p q p_form q_form = let reads_p = complete c ks p p_form in let reads_q = complete c ks q q_form in cc
 
 runs_before : (more : List Token) (s : Option State) (z : State) → run more s ≡ Some z → (y : State) × (s ≡ Some y)
-runs_before more None z e = let n = run_none more in absurd (cc)
-runs_before more (Some y) z e = (y, refl)
+runs_before more None z ends = let stopped = run_none more in absurd (cc)
+runs_before more (Some y) z ends = (y, refl)
 
 -- tokens that begin a phrase don't stop the machine
 pub alive : (c : Category) (ks : List Token) → Begins c ks → (s : State) × (run ks (start c) ≡ Some s)
-alive c ks h =
-    let r = runs_form c (ks ++ h.0) h.1 h.2 in
-    runs_before h.0 (run ks (start c)) r.0 (sym (run_append ks h.0 (start c)) ∙ r.1)
+alive c ks begun =
+    let reached = runs_form c (ks ++ begun.0) begun.1 begun.2 in
+    runs_before begun.0 (run ks (start c)) reached.0 (sym (run_append ks begun.0 (start c)) ∙ reached.1)

@@ -13,7 +13,9 @@ use Rattle.phrase_parser.proofs.Machine.ExprSpelling.{spell, spell_reference, Fi
 use Rattle.phrase_parser.proofs.Machine.PhraseSpelling.{spell_name, spell_item, spell_call, spell_listed, spell_phrase, FitsPhrase, FitsItem, AnyName, form_from}
 use Rattle.phrase_parser.proofs.Machine.Completeness.{complete, alive}
 use Rattle.phrase_parser.proofs.Machine.ConsumedTokens.{spell_before, all_push, call_push, all_fit, call_fits, spell_each, listed_last, listed_fits, flat_base, flat_stack, flat_role, flat, hole, SoundBase, SoundStack, SoundRole, Sound, base_category, stack_category, role_category, state_category}
-use Rattle.phrase_parser.proofs.Machine.Soundness.{close, open_, regroup, arguments_tokens, has_read}
+use Rattle.phrase_parser.proofs.Machine.Soundness.TakenTokens.{close, open_, regroup}
+use Rattle.phrase_parser.proofs.Machine.Soundness.ClosedParentheses.{arguments_tokens}
+use Rattle.phrase_parser.proofs.Machine.Soundness.ReadTokens.{has_read}
 
 -- the sign of an assignment
 abbrev equal : Token

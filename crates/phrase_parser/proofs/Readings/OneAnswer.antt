@@ -41,7 +41,7 @@ comment_not_wrong c pieces end stop _ e (GoesWrong.at_token front piece back who
 comment_not_wrong c pieces end _ _ e (GoesWrong.at_byte at b) = comment_no_begins c (tokens_of pieces) e b
 comment_not_wrong c pieces end _ _ e (GoesWrong.at_end b n) = comment_no_begins c (tokens_of pieces) e b
 
-no_shape : (c : Category) → first_shape c ≡ None → c ≡ CommentText
+pub no_shape : (c : Category) → first_shape c ≡ None → c ≡ CommentText
 no_shape Assignment e = absurd (cc)
 no_shape Condition e = absurd (cc)
 no_shape Expression e = absurd (cc)

@@ -1,9 +1,12 @@
 -- A text is exactly one thing in a category.
-use Rattle.std.proofs.Common.{◌≡◌, inl, inr, ◌⊎◌, refl, ℕ, List, [], Option, Some, None, sym, ap, subst, ◌∙◌, map, length, zero-le}
+use Rattle.std.proofs.Common.{◌≡◌, inl, inr, ◌⊎◌, refl, ℕ, List, [], Option, Some, None, Result, Ok, Err, sym, ap, subst, ◌∙◌, map, length, zero-le}
+use Rattle.std.specs.Prelude.{IfOk}
 use Rattle.std.proofs.lemmas.Option.{none-some}
 use Rattle.std.proofs.lemmas.List.Elements.{All-from_recursion}
 use Rattle.plcs_grammar.specs.declared.category.Category.{Category}
 use Rattle.plcs_grammar.specs.declared.category.Category.TheVariants.{CommentText}
+use Rattle.plcs_grammar.specs.declared.phrase.Phrase.{Phrase}
+use Rattle.plcs_grammar.specs.PlainForm.{plain_phrase}
 use Rattle.plcs_grammar.specs.PlainPhrase.{PlainPhrase, category_of}
 use Rattle.plcs_grammar.specs.Cuts.{Piece}
 use Rattle.plcs_grammar.specs.Comment.{comment_syntax, trimmed}
@@ -11,6 +14,8 @@ use Rattle.plcs_grammar.specs.Limit.{IsWithinLimits}
 use Rattle.plcs_grammar.specs.OpenedLevel.{phrase_opened_levels}
 use Rattle.plcs_grammar.specs.Over.{OverLimit, first_over}
 use Rattle.plcs_grammar.specs.Reads.{IsCutAs, HasReading, IsOver}
+use Rattle.phrase_parser.specs.declared.fault.PhraseFault.{PhraseFault}
+use Rattle.phrase_parser.specs.Answers.{Answers}
 use Rattle.phrase_parser.specs.Private.Recognizer.{Shape, first_shape}
 use Rattle.phrase_parser.specs.Private.Findings.{Finding, seen_of, findings}
 use Rattle.phrase_parser.specs.Standing.{Standing, HasStanding}
@@ -24,6 +29,12 @@ use Rattle.phrase_parser.proofs.Readings.OneAnswer.{one_reading, one_over, reads
 pub reading_category : (c : Category) (x : List ℕ) (p : PlainPhrase) → HasReading c x p → category_of p ≡ c
 reading_category c x p (inl (pieces, cut)) = cut.form.0
 reading_category c x p (inr comment) = ap category_of comment.phrase_is ∙ sym comment.category_is
+
+-- so is a phrase that is answered
+pub answer_category : (c : Category) (x : List ℕ) (answer : Result Phrase PhraseFault) → Answers c x answer
+    → IfOk answer (λ phrase. category_of (plain_phrase phrase) ≡ c)
+answer_category c x (Ok phrase) says = reading_category c x (plain_phrase phrase) says.0
+answer_category c x (Err fault) says = tt
 
 -- a category is that of comments, or its phrases are tokens
 comment_or_shape : (c : Category) → (c ≡ CommentText) ⊎ ((shape : Shape) × (first_shape c ≡ Some shape))

@@ -2,13 +2,14 @@
 use Rattle.std.specs.Prelude.{◌≡◌, ℕ, min, List, map, Option}
 use Rattle.plcs_grammar.specs.Token.{Token}
 use Rattle.plcs_grammar.specs.Cuts.{Piece, Cuts}
+use Rattle.phrase_parser.specs.declared.token.TheConstants.{GREATEST_KEPT}
 use Rattle.phrase_parser.specs.declared.token.TokenKind.{TokenKind}
 use Rattle.phrase_parser.specs.declared.token.TokenKind.TheVariants as kind
 use Rattle.phrase_parser.specs.declared.token.Placed.{Placed}
 
 -- a number is kept up to this one
 abbrev pub greatest_kept : ℕ
-greatest_kept = 4294967295
+greatest_kept = GREATEST_KEPT
 
 -- the kind of a token; of a number its value, or the greatest that is kept where it is greater
 abbrev pub kept_kind : Token → TokenKind

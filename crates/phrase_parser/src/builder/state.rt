@@ -20,10 +20,9 @@ use crate::builder::stack::{
     step_comma_stack, step_infix, step_open_behind, step_prefix, with_frame,
 };
 use crate::builder::token_value::{constant_value, name_of};
-use crate::limit::GREATEST_LENGTH;
 use crate::operator::{infix_of, prefix_of, priority};
 use crate::token::{Placed, TokenKind};
-use plcs_base::Name;
+use plcs_base::{LONGEST_TEXT, Name};
 use plcs_grammar::{Category, Expr, InfixOp, Item, Phrase, Sign, VarRef};
 use std::alloc::Global;
 
@@ -111,7 +110,9 @@ pub fn step_number(state: State, n: u32) -> Result<State, BuildError>
     match state {
         State::Wanted(stack) => Ok(State::Had(stack, number(n))),
         State::SizeWanted(done, name) if n >= 1 => Ok(State::SizeHad(done, name, n)),
-        State::LengthWanted if n >= 1 && n <= GREATEST_LENGTH => Ok(State::LengthHad(n as u16)),
+        State::LengthWanted if n >= 1 && n as usize <= LONGEST_TEXT => {
+            Ok(State::LengthHad(n as u16))
+        }
         _ => Err(BuildError::Refused),
     }
 }

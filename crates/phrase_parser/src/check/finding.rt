@@ -6,7 +6,7 @@ ghost use Rattle.phrase_parser.specs.Private.Shapes.{shape_of, over_if, as_found
 
 use crate::check::shape::{Shape, may_end};
 use crate::check::token_class::TokenClass;
-use crate::limit::{GREATEST_NESTING, GREATEST_NUMBER};
+use plcs_grammar::{GREATEST_NESTING, GREATEST_NUMBER};
 
 /// What goes past its limit, and the place of it.
 #[derive(Clone, Copy)]

@@ -13,8 +13,8 @@ use crate::check::purpose::{
     Purpose, level_by_purpose, next_comma_name, next_equal_name, next_open_name,
 };
 use crate::check::token_class::TokenClass;
-use crate::limit::GREATEST_LENGTH;
 use crate::operator::{infix_of, prefix_of};
+use plcs_base::LONGEST_TEXT;
 use plcs_grammar::{Category, Sign};
 use std::alloc::{AllocError, Global};
 
@@ -97,7 +97,7 @@ fn next_number(shape: Shape, n: u32) -> Option<Shape>
     match shape {
         Shape::Wanted(nesting, _) => Some(Shape::Had(Last::Operand, nesting)),
         Shape::SizeWanted if n >= 1 => Some(Shape::SizeHad),
-        Shape::LengthWanted if n >= 1 && n <= GREATEST_LENGTH => Some(Shape::LengthHad),
+        Shape::LengthWanted if n >= 1 && n as usize <= LONGEST_TEXT => Some(Shape::LengthHad),
         _ => None,
     }
 }

@@ -14,7 +14,7 @@ pub enum TokenClass {
     Name(bool),
     /// A keyword.
     Keyword,
-    /// The number, or 4294967295 where it is greater.
+    /// The number, or `GREATEST_KEPT` where it is greater.
     Number(u32),
     /// A character or bit constant.
     Constant,

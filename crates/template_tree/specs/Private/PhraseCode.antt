@@ -1,5 +1,5 @@
 -- How phrases are told apart: each is a bush of labels, which gives it back.
-use Rattle.std.specs.Prelude.{◌≡◌, ◌⊎◌, ℕ, zero, ℤ, pos, Bool, true, false, List, [], ◌∷◌, refl}
+use Rattle.std.specs.Prelude.{◌≡◌, ◌⊎◌, ℕ, ℤ, pos, Bool, true, false, List, [], ◌∷◌, refl}
 use Rattle.std.proofs.Common.{ap, sym, subst, inl, inr}
 use Rattle.std.specs.Coded.{Coded, code_by, coded×, coded⊎, coded_ℕ, coded_ℤ, coded_bool, coded_list}
 use base.Stored.{Gv, gnil, gnum, gcons}

@@ -30,7 +30,7 @@ put_node-returns g t c =
     let inner =
     puts_same
     (ap (λ s. bytes_of (lines false (level + 1) s (forest c.as_slice-2.result.now)))
-    (c.of.ensures ∙ ap (λ (r : PlainRow). r.sections) row)
+    (c.of-sections.ensures ∙ ap (λ (r : PlainRow). r.sections) row)
     ∙ ap (λ f. bytes_of (lines false (level + 1) (row_of node.label.kind).sections f)) items)
     c.put_nodes.ensures in
     let last = puts_same (ap (λ (r : PlainRow). bytes_of (fixed_line level r.last)) row) c.put_fixed_line.ensures in

@@ -1,4 +1,4 @@
-use Rattle.std.proofs.Common.{◌<◌, arith, ap, sym, length, map}
+use Rattle.std.proofs.Common.{arith, ap, sym, map}
 use Rattle.plcs_base.specs.Put.{puts_nothing}
 use Rattle.plcs_base.proofs.Putting.{puts_same}
 use Rattle.plcs_grammar.specs.Template.{plain_segment}

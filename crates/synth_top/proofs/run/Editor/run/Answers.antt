@@ -7,7 +7,7 @@ use Rattle.synth_top.specs.Run.{opening}
 use Rattle.synth_top.specs.Screen.{grid}
 use Rattle.synth_top.specs.Session.{PlainSession}
 use Rattle.synth_top.proofs.Courses.{opening_failed, opening_wanted}
-use Rattle.synth_top.proofs.Runs.{so_far_none, so_far_more, ended_by_byte, read_cut, ended_at_end, ended_at_limit}
+use Rattle.synth_top.proofs.Runs.{so_far_none, so_far_more, ended_by_byte, raised_more, read_cut, ended_at_end, ended_at_limit}
 use Rattle.synth_top.proofs.run.Editor.run.Goals as goal
 
 -- the opening screen was cut short
@@ -15,13 +15,13 @@ pub returns-in-Err-Failed-clause-ended : goal.returns-in-Err-Failed-clause-ended
 returns-in-Err-Failed-clause-ended g c =
     let front = subst (λ (s : PlainSession). AppendsFront (g.K.Sink.taken c.args.screen.now) (g.K.Sink.taken c.start.new.screen) (opening s))
     c.requires.session c.in-Err-Failed.ensures.wrote.front in
-    opening_failed _ _ _ refl front refl (omega arith)
+    opening_failed _ _ _ refl refl front refl (omega arith)
 
 pub returns-in-Err-OutOfMemory-clause-ended : goal.returns-in-Err-OutOfMemory-clause-ended
 returns-in-Err-OutOfMemory-clause-ended g c =
     let front = subst (λ (s : PlainSession). AppendsFront (g.K.Sink.taken c.args.screen.now) (g.K.Sink.taken c.start.new.screen) (opening s))
     c.requires.session c.in-Err-OutOfMemory.ensures.wrote.front in
-    opening_wanted _ _ _ refl front refl (omega arith)
+    opening_wanted _ _ _ refl refl front refl (omega arith)
 
 -- the opening screen was written
 pub loop-init : goal.loop-init
@@ -35,6 +35,7 @@ loop-init g c = record {
         faults = refl;
       });
   ready = c.start.ensures.ready;
+  made = omega arith;
   unfailed_reads = refl;
   unfailed_writes = c.in-Ok.ensures.wrote.cause.same (λ e. absurd (cc));
   led = g.S.Source.leads_to_itself c.args.keys.now;
@@ -44,15 +45,17 @@ loop-init g c = record {
 -- a key of the byte ended the run
 pub returns-in-Over-clause-ended : goal.returns-in-Over-clause-ended
 returns-in-Over-clause-ended g c =
-    ended_by_byte _ _ _ _ _ _ c.loop.invariant.so_far _ _ c.in-Ok-Some.byte _ _ c.feed-given.ensures.keys c.feed-given.ensures.held
-    (rw c.in-Ok-Some.field-0-is at c.in-Ok-Some.ensures.byte) c.in-Over.status (omega arith) c.in-Over.ensures.presses.pressed
+    ended_by_byte _ _ _ _ _ _ c.loop.invariant.so_far _ _ _ c.in-Ok-Some.byte _ _ c.feed-given.ensures.keys c.feed-given.ensures.held
+    (rw c.in-Ok-Some.field-0-is at c.in-Ok-Some.ensures.byte) c.in-Over.status (omega arith)
+    (raised_more _ _ _ _ c.loop.invariant.made c.in-Ok-Some.ensures.one) c.in-Over.ensures.presses.pressed
 
 -- all keys of the byte were shown
 pub loop-preserved : goal.loop-preserved
 loop-preserved g c = record {
-  so_far = so_far_more _ _ _ _ _ _ c.loop.invariant.so_far _ _ c.in-Ok-Some.byte _ _ c.feed-given.ensures.keys c.feed-given.ensures.held
+  so_far = so_far_more _ _ _ _ _ _ c.loop.invariant.so_far _ (g.S.Source.reads c.read_byte.new.keys) _ c.in-Ok-Some.byte _ _ c.feed-given.ensures.keys c.feed-given.ensures.held
       (rw c.in-Ok-Some.field-0-is at c.in-Ok-Some.ensures.byte) _ c.press_keys.ensures.reader c.in_default.ensures.presses.pressed;
   ready = c.press_keys.ensures.presses.ready;
+  made = raised_more _ _ _ _ c.loop.invariant.made c.in-Ok-Some.ensures.one;
   unfailed_reads = c.in-Ok-Some.ensures.cause.same (λ e. absurd (cc)) ∙ c.loop.invariant.unfailed_reads;
   unfailed_writes = c.in_default.ensures.presses.cause.same (λ e. absurd (cc)) ∙ c.loop.invariant.unfailed_writes;
   led = c.in-Ok-Some.ensures.led _ c.loop.invariant.led;
@@ -63,13 +66,15 @@ loop-preserved g c = record {
 pub returns-in-Err-Failed-read_byte-clause-ended : goal.returns-in-Err-Failed-read_byte-clause-ended
 returns-in-Err-Failed-read_byte-clause-ended g c =
     let lost = c.in-Err-Failed-read_byte.ensures.lost in
-    let cut = read_cut _ _ _ _ _ _ c.loop.invariant.so_far _ _ lost.0 (omega arith) lost.1 lost.2 refl in
+    let cut = read_cut _ _ _ _ _ _ c.loop.invariant.so_far _ _ _ lost.0 (omega arith)
+    (raised_more _ _ _ _ c.loop.invariant.made c.in-Err-Failed-read_byte.ensures.one) lost.1 lost.2 refl in
     record { course = cut.0; stopped = (cut.1, cut.2); rescued = cut.3 }
 
 pub returns-in-Err-OutOfMemory-read_byte-clause-ended : goal.returns-in-Err-OutOfMemory-read_byte-clause-ended
 returns-in-Err-OutOfMemory-read_byte-clause-ended g c =
     let lost = c.in-Err-OutOfMemory-read_byte.ensures.lost in
-    let cut = read_cut _ _ _ _ _ _ c.loop.invariant.so_far _ _ lost.0 (omega arith) lost.1 lost.2 refl in
+    let cut = read_cut _ _ _ _ _ _ c.loop.invariant.so_far _ _ _ lost.0 (omega arith)
+    (raised_more _ _ _ _ c.loop.invariant.made c.in-Err-OutOfMemory-read_byte.ensures.one) lost.1 lost.2 refl in
     record { course = cut.0; stopped = inl (cut.1, cut.2); rescued = cut.3 }
 
 -- the source ended
@@ -77,12 +82,13 @@ pub returns-in-Ok-None-clause-ended : goal.returns-in-Ok-None-clause-ended
 returns-in-Ok-None-clause-ended g c =
     let read = rw c.in-Ok-None.field-0-is at c.in-Ok-None.ensures.byte in
     rw c.or.ensures
-    (ended_at_end _ _ _ _ _ _ c.loop.invariant.so_far _ _ read.0 (omega arith) (inl read.1) c.finish.result (omega arith) read.1 c.finish.ensures.presses.pressed)
+    (ended_at_end _ _ _ _ _ _ c.loop.invariant.so_far _ _ _ read.0 read.1 (omega arith)
+    (raised_more _ _ _ _ c.loop.invariant.made c.in-Ok-None.ensures.one) c.finish.result c.finish.ensures.presses.pressed)
 
 -- the limit was met
 pub returns-clause-ended : goal.returns-clause-ended
 returns-clause-ended g c =
     let all : c.loop.counter ≡ c.args.limit = omega arith in
     rw c.or-2.ensures
-    (ended_at_limit _ _ _ _ _ _ c.loop.invariant.so_far _ _ (Consumes-nil _) (omega arith) (inr (c.loop.invariant.so_far.many ∙ all)) c.finish-2.result all
-    c.finish-2.ensures.presses.pressed)
+    (ended_at_limit _ _ _ _ _ _ c.loop.invariant.so_far _ _ _ (Consumes-nil _) all
+    (omega (arith, all, c.loop.invariant.made)) c.finish-2.result c.finish-2.ensures.presses.pressed)

@@ -1,4 +1,4 @@
-use Rattle.std.specs.Prelude.{◌≡◌, refl, ℕ, ◌++◌, ◌∷◌, Option, Some, None, option_and_then, slice_get}
+use Rattle.std.specs.Prelude.{◌≡◌, refl, ◌++◌, ◌∷◌, Some, None, option_and_then, slice_get}
 use Rattle.std.proofs.Common.{ap, sym, ◌∙◌}
 use mathlib.Core.Path.{fun_ext}
 use borrow.Follows.Closed.{read_of}

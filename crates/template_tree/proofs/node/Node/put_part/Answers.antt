@@ -1,11 +1,11 @@
-use Rattle.std.specs.Prelude.{◌≡◌, ◌≤◌, ◌<◌, List, length, Option, Some, None, map, slice_set}
+use Rattle.std.specs.Prelude.{◌≤◌, List, length, Option}
 use Rattle.std.proofs.Common.{arith, sym, ap, ◌∙◌, subst}
 use Rattle.std.proofs.lemmas.List.{length-map}
 use Rattle.plcs_grammar.specs.PlainPhrase.{PlainPhrase}
 use Rattle.plcs_grammar.specs.Template.{row_of}
 use Rattle.template_tree.specs.Program.{AreParts, parts_of}
 use Rattle.template_tree.specs.contracts.node.Node.{the_view}
-use Rattle.template_tree.specs.Part.{Takes, part_category, with_part}
+use Rattle.template_tree.specs.Part.{Takes, part_category}
 use Rattle.template_tree.specs.PlainPlace.{plain_place}
 use Rattle.template_tree.specs.PlainTree.{PlainNode}
 use Rattle.template_tree.proofs.PartLists.{takes_in_node, part_read, part_written}

@@ -1,0 +1,34 @@
+-- What is recovered after a crash: at one moment, and at each moment of a call.
+use Rattle.std.specs.Prelude.{◌≡◌, ℕ, ◌≤◌, ◌⊎◌, List, [], ◌∷◌, ◌++◌, length}
+use Rattle.key_journal.specs.Disk.{DiskState, MayLeave}
+use Rattle.key_journal.specs.Recovered.{recovered}
+
+-- this holds of the keys that are recovered from each image that a crash may leave, and from what the
+-- disk reads as
+pub record EachRecovers (P : List ℕ → Type 0) (state : DiskState) : Type 0 where
+  pub images : (image : List ℕ) → MayLeave state image → P (recovered image)
+  pub reads : P (recovered state.bytes)
+
+-- exactly these keys are recovered
+abbrev pub LeavesOnly : List ℕ → DiskState → Type 0
+LeavesOnly keys = EachRecovers (λ found. found ≡ keys)
+
+-- these keys are recovered, or these and then the ones that were taken
+abbrev pub LeavesOneOf : List ℕ → List ℕ → DiskState → Type 0
+LeavesOneOf keys taken = EachRecovers (λ found. (found ≡ keys) ⊎ (found ≡ keys ++ taken))
+
+-- at least so many keys are recovered
+abbrev pub LeavesAtLeast : ℕ → DiskState → Type 0
+LeavesAtLeast count = EachRecovers (λ found. count ≤ length found)
+
+-- this holds of each of the states
+abbrev pub EachState : (DiskState → Type 0) → List DiskState → Type 0
+EachState P [] = Unit {0}
+EachState P (state ∷ states) = P state × EachState P states
+
+-- at each moment of a call this holds of the state: of each one that the call put in front of those
+-- from before; a disk that doesn't tell goes on so
+abbrev pub Throughout : (DiskState → Type 0) → List DiskState → List DiskState → Type 0
+Throughout P [] now = now ≡ []
+Throughout P (state ∷ past) now =
+    (added : List DiskState) × (now ≡ added ++ state ∷ past) × EachState P added

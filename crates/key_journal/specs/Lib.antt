@@ -1,0 +1,14 @@
+-- ---- disks
+pub mod Disk
+pub mod Faults
+pub mod MemDisk
+-- ---- the journal
+pub mod Recovered
+pub mod Crash
+pub mod Journal
+pub mod Opening
+pub mod Reading
+pub mod Clearing
+pub mod AfterReads
+-- ---- what private contracts alone cite
+pub mod Private

@@ -1,0 +1,10 @@
+-- What holds of the fields of a disk in memory.
+use Rattle.std.specs.Prelude.{◌≡◌, ℕ, ◌≤◌, ◌^◌, List, length}
+use Rattle.key_journal.specs.Disk.{bytes_of}
+use Rattle.key_journal.specs.MemDisk.{states}
+use Rattle.key_journal.specs.declared.mem_disk.DiskCall.{DiskCall}
+
+-- the bytes are what the calls that were done left, and end where every disk does
+pub record HoldsBytes (bytes : List ℕ) (done : List DiskCall) : Type 0 where
+  pub same : bytes ≡ bytes_of (states done)
+  pub inside : length bytes ≤ 2 ^ 62

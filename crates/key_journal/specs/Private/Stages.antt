@@ -1,0 +1,65 @@
+-- How far a journal has come, and what then holds of its disk.
+use Rattle.std.specs.Prelude.{◌≡◌, ◌≢◌, ℕ, ◌^◌, ◌≤◌, List, [], ◌∷◌, ◌++◌, length}
+use Rattle.key_journal.specs.Crash.{LeavesAtLeast}
+use Rattle.key_journal.specs.Disk.{DiskState, Newest}
+use Rattle.key_journal.specs.Recovered.{recovered}
+use Rattle.key_journal.specs.Private.Writes.{IsSynced}
+use Rattle.key_journal.specs.declared.stage.Block.{Block}
+use Rattle.key_journal.specs.declared.stage.Block.TheVariants.{Open, Shut, Cut}
+use Rattle.key_journal.specs.declared.stage.Stage.{Stage}
+use Rattle.key_journal.specs.declared.stage.Stage.TheVariants.{Unsynced, Replaying, Appending}
+
+-- open gates, each with its key
+abbrev pub blocks : List ℕ → List ℕ
+blocks [] = []
+blocks (key ∷ keys) = 1 ∷ key ∷ blocks keys
+
+-- the bytes are so many keys behind open gates, and then a gate that isn't open
+pub record IsShut (count : ℕ) (bytes : List ℕ) : Type 0 where
+  pub keys : List ℕ
+  pub gate : ℕ
+  pub rest : List ℕ
+  pub whole : bytes ≡ blocks keys ++ gate ∷ rest
+  pub many : length keys ≡ count
+  pub shut : gate ≢ 1
+
+-- the bytes are so many keys behind open gates, and then at most one byte
+pub record IsCut (count : ℕ) (bytes : List ℕ) : Type 0 where
+  pub keys : List ℕ
+  pub rest : List ℕ
+  pub whole : bytes ≡ blocks keys ++ rest
+  pub many : length keys ≡ count
+  pub short : length rest ≤ 1
+
+-- a crash leaves what a read gives, with at least so many keys
+pub record IsReplaying (given : ℕ) (state : DiskState) : Type 0 where
+  pub synced : IsSynced state
+  pub enough : given ≤ length (recovered state.bytes)
+
+-- a crash leaves what a read gives, with so many keys and then no whole block
+pub record IsCutOff (given : ℕ) (state : DiskState) : Type 0 where
+  pub synced : IsSynced state
+  pub cut : IsCut given state.bytes
+
+-- a crash leaves what a read gives, with so many keys and then a gate that isn't open
+pub record IsAppending (given : ℕ) (state : DiskState) : Type 0 where
+  pub synced : IsSynced state
+  pub shut : IsShut given state.bytes
+
+-- what holds of the disk once so many keys were given
+abbrev pub HoldsAt : Stage → ℕ → List DiskState → Type 0
+HoldsAt Unsynced given past = Newest (LeavesAtLeast given) past
+HoldsAt Replaying given past = Newest (IsReplaying given) past
+HoldsAt Appending given past = Newest (IsAppending given) past
+
+-- the bytes begin with this block: an open gate with its key, a gate that isn't open, or at most one
+-- byte
+abbrev pub Begins : Block → List ℕ → Type 0
+Begins (Open key) bytes = (rest : List ℕ) × (bytes ≡ 1 ∷ key ∷ rest)
+Begins Shut bytes = (gate : ℕ) × (rest : List ℕ) × (bytes ≡ gate ∷ rest) × (gate ≢ 1)
+Begins Cut bytes = length bytes ≤ 1
+
+-- what holds of the fields of a journal
+pub record Stays (stage : Stage) (given : ℕ) (past : List DiskState) : Type 0 where
+  pub holds : HoldsAt stage given past
+  pub few : given ≤ 2 ^ 61

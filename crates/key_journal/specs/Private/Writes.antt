@@ -1,0 +1,26 @@
+-- A write that is synced at once, over a disk that is synced.
+use Rattle.std.specs.Prelude.{◌≡◌, ℕ, List, [], length, Result, OnOk}
+use Rattle.key_journal.specs.Crash.{Throughout}
+use Rattle.key_journal.specs.Disk.{DiskState, MayLeave, Newest, Torn, bytes_of, written}
+
+-- the state reads as these bytes, and a crash leaves them
+pub record IsSyncedAs (bytes : List ℕ) (state : DiskState) : Type 0 where
+  pub none : state.pending ≡ []
+  pub synced : state.synced ≡ bytes
+  pub reads : state.bytes ≡ bytes
+
+-- a crash leaves what a read gives
+abbrev pub IsSynced : DiskState → Type 0
+IsSynced state = IsSyncedAs state.bytes state
+
+-- a crash leaves these bytes with the range torn
+pub record IsTornFrom (at count : ℕ) (bytes : List ℕ) (state : DiskState) : Type 0 where
+  pub images : (image : List ℕ) → MayLeave state image → Torn at count bytes image
+  pub reads : Torn at count bytes state.bytes
+
+-- at each moment of the call a crash leaves the old bytes with the range torn, and the written ones
+-- once it is Ok
+pub record WritesSynced {E : Type 0} (at : ℕ) (piece : List ℕ) (before now : List DiskState)
+    (result : Result Unit E) : Type 0 where
+  pub each : Throughout (IsTornFrom at (length piece) (bytes_of before)) before now
+  pub done : OnOk result (Newest (IsSyncedAs (written (bytes_of before) at piece)) now)

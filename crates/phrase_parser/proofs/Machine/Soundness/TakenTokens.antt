@@ -1,0 +1,33 @@
+-- A state that has taken one more token.
+use Rattle.std.proofs.Common.{◌≡◌, List, [], ◌∷◌, ◌++◌, Option, Some, None, sym, ◌∙◌, append_assoc}
+use Rattle.plcs_grammar.specs.declared.sign.Sign.{Sign}
+use Rattle.plcs_grammar.specs.Token.{Token}
+use Rattle.phrase_parser.specs.Private.Machine.{State}
+use Rattle.phrase_parser.proofs.Machine.ConsumedTokens.{flat, Sound, state_category}
+
+-- the comma
+abbrev pub comma : Token
+comma = Token.sign Sign.Comma
+
+-- the closing parenthesis
+abbrev pub close : Token
+close = Token.sign Sign.CloseParenthesis
+
+-- the opening parenthesis
+abbrev pub open_ : Token
+open_ = Token.sign Sign.OpenParenthesis
+
+-- a state behind one more token
+pub record After (s : State) (k : Token) (z : State) : Type 0 where
+  pub sound : Sound z
+  pub tokens : flat z ≡ flat s ++ (k ∷ [])
+  pub category : state_category z ≡ state_category s
+
+-- the token stops the machine, or is one more that it has read
+abbrev pub AfterIf : State → Token → Option State → Type 0
+AfterIf s k None = Unit {0}
+AfterIf s k (Some z) = After s k z
+
+-- lists in four parts, grouped otherwise
+pub regroup : {X : Type 0} (a b c d : List X) → a ++ (b ++ (c ++ d)) ≡ ((a ++ b) ++ c) ++ d
+regroup a b c d = sym (append_assoc a b (c ++ d)) ∙ sym (append_assoc (a ++ b) c d)

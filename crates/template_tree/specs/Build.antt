@@ -1,0 +1,27 @@
+-- Nodes and trees that are built from their leaves.
+use Rattle.std.specs.Prelude.{ℕ, ◌<◌, ◌≤◌, false, List, Option}
+use Rattle.plcs_grammar.specs.declared.node_kind.NodeKind.{NodeKind}
+use Rattle.plcs_grammar.specs.PlainPhrase.{PlainPhrase}
+use Rattle.template_tree.specs.declared.build.OverLimit.{OverLimit}
+use Rattle.template_tree.specs.Limit.{deepest_path, most_slots}
+use Rattle.template_tree.specs.PlainTree.{Label, Forest, PlainNodes, PlainTree, forest}
+use Rattle.template_tree.specs.Slots.{count, depth, numbered}
+
+-- the label of a node of the kind with these parts, whose slot isn't drawn yet; nothing is elided
+abbrev pub built_label : NodeKind → List (Option PlainPhrase) → (spare : ℕ) → Label
+built_label kind parts spare = record { slot = 0; kind = kind; parts = parts; elided = false; spare = spare }
+
+-- the tree with these items, whose slots are drawn from 0 in listing order
+abbrev pub built : PlainNodes → PlainTree
+built list =
+    record {
+      items = numbered 0 (forest list.items);
+      spare = list.spare;
+      drawn = count (forest list.items);
+      live = count (forest list.items);
+    }
+
+-- the items are over the limit; the depth comes first
+abbrev pub Over : Forest → OverLimit → Type 0
+Over items OverLimit.TooDeep = deepest_path < depth items
+Over items OverLimit.TooLarge = (depth items ≤ deepest_path) × (most_slots < count items)

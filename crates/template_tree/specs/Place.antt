@@ -1,0 +1,140 @@
+-- Places of a run: which there are, and where a run goes on.
+use Rattle.std.specs.Prelude.{ℕ, Bool, true, false, not, ◌&&◌, ◌||◌, nat_lt, if◌then◌else◌, ◌==◌, List, [], ◌∷◌, length, Option, Some, None, option_map, IsTrue}
+use Rattle.std.specs.Option.{option_or}
+use Rattle.plcs_grammar.specs.declared.node_kind.NodeKind.{NodeKind}
+use Rattle.plcs_grammar.specs.declared.node_kind.Sort.{Sort}
+use Rattle.plcs_grammar.specs.declared.node_kind.Sort.TheVariants.{Statement}
+use Rattle.plcs_grammar.specs.declared.row.Amount.{Amount}
+use Rattle.plcs_grammar.specs.declared.row.Amount.TheVariants.{One, Many}
+use Rattle.plcs_grammar.specs.declared.template.Template.{Template}
+use Rattle.plcs_grammar.specs.declared.template.Template.TheVariants.{While, For, Group, Get, Call, Comment, Proc, ProcP}
+use Rattle.plcs_grammar.specs.PlainPhrase.{PlainPhrase}
+use Rattle.plcs_grammar.specs.Template.{PlainSection, row_of}
+use Rattle.template_tree.specs.PlainTree.{Label, Forest}
+use Rattle.template_tree.specs.Program.{sort_of}
+
+-- a slot, and a point in it
+pub record PlainAt : Type 0 where
+  pub slot : ℕ
+  pub point : ℕ
+
+-- the place at this point of a slot
+abbrev pub at : ℕ → ℕ → PlainAt
+at slot point = record { slot = slot; point = point }
+
+-- where a run goes on once what stands inside a template is done, if not where it goes on behind the template itself:
+-- a While tests again, a For takes its next turn, and a procedure is left
+abbrev pub template_end : Template → Option ℕ
+template_end While = Some 0
+template_end For = Some 1
+template_end Proc = Some 1
+template_end ProcP = Some 1
+template_end other = None
+
+-- the same for each kind of node
+abbrev pub inner_end : NodeKind → Option ℕ
+inner_end NodeKind.Main = Some 1
+inner_end (NodeKind.Filled template) = template_end template
+inner_end other = None
+
+-- the place where a run goes on once what stands inside is done
+abbrev pub end_at : ℕ → Option ℕ → PlainAt → PlainAt
+end_at slot None behind = behind
+end_at slot (Some point) behind = at slot point
+
+-- whether a run that comes to the template goes to its first item at once: a group, or a comment
+abbrev pub passes_in_template : Template → Bool
+passes_in_template Group = true
+passes_in_template Comment = true
+passes_in_template other = false
+
+-- the same for each kind of node
+abbrev pub passes_in : NodeKind → Bool
+passes_in (NodeKind.Filled template) = passes_in_template template
+passes_in other = false
+
+-- whether the sort is that of statements
+abbrev pub is_statement : Sort → Bool
+is_statement Statement = true
+is_statement other = false
+
+-- whether more than one item may stand there
+abbrev pub is_many : Amount → Bool
+is_many One = false
+is_many Many = true
+
+-- whether what stands inside is done one after the other, and not one of it alone
+abbrev pub in_turn : List PlainSection → Bool
+in_turn [] = true
+in_turn (section ∷ sections) = is_many section.amount && in_turn sections
+
+-- where a run begins among nodes in order: at the first statement, or inside it; behind them where there is none
+abbrev pub begin : Forest → PlainAt → PlainAt
+begin Forest.nil behind = behind
+begin (Forest.cons label inner rest) behind =
+    if is_statement (sort_of label.kind)
+    then (if passes_in label.kind then begin inner behind else at label.slot 0)
+    else begin rest behind
+
+-- what is known of the node in a slot: the node, and where a run goes on once it is done
+pub record Site : Type 0 where
+  pub label : Label
+  pub inner : Forest
+  pub after : PlainAt
+
+-- the site of a slot among nodes, done in turn or one of them alone, behind which a run goes on at a place
+abbrev pub site_among : ℕ → Bool → Forest → PlainAt → Option Site
+site_among slot turn Forest.nil behind = None
+site_among slot turn (Forest.cons label inner rest) behind =
+    let after : PlainAt = if turn then begin rest behind else behind in
+    if label.slot == slot
+    then Some record { label = label; inner = inner; after = after }
+    else
+    option_or (site_among slot (in_turn (row_of label.kind).sections) inner (end_at label.slot (inner_end label.kind) after))
+    (site_among slot turn rest behind)
+
+-- the site of a slot in a program; procedures are not done in turn, and nothing is done behind main
+abbrev pub site : Forest → ℕ → Option Site
+site items slot = site_among slot false items (at 0 1)
+
+-- where the node at a site begins
+abbrev pub site_start : Site → PlainAt
+site_start site = if passes_in site.label.kind then begin site.inner site.after else at site.label.slot 0
+
+-- where a run begins that comes to the slot
+abbrev pub Start : Forest → ℕ → Option PlainAt
+Start items slot = option_map site_start (site items slot)
+
+-- where a run goes on once the statement in the slot is done
+abbrev pub After : Forest → ℕ → Option PlainAt
+After items slot = option_map (λ site. site.after) (site items slot)
+
+-- how many items a variable list has
+abbrev pub item_count : List (Option PlainPhrase) → ℕ
+item_count (Some (PlainPhrase.variable_list targets) ∷ parts) = length targets
+item_count other = 0
+
+-- whether a template has the point, apart from the start of a statement; a GET whose phrase is marked has none
+abbrev pub has_template_point : Bool → Label → Template → ℕ → Bool
+has_template_point marked label For point = point == 1
+has_template_point marked label Call point = point == 1
+has_template_point marked label Get point = not marked && nat_lt point (item_count label.parts)
+has_template_point marked label Proc point = point == 1
+has_template_point marked label ProcP point = point == 1
+has_template_point marked label other point = false
+
+-- the same for each kind of node
+abbrev pub has_point : Bool → Label → NodeKind → ℕ → Bool
+has_point marked label NodeKind.Main point = point == 1
+has_point marked label (NodeKind.Filled template) point = has_template_point marked label template point
+has_point marked label other point = false
+
+-- whether the place exists at the site of its slot, if the slot is live
+abbrev pub exists_at : Bool → Option Site → ℕ → Bool
+exists_at marked None point = false
+exists_at marked (Some site) point =
+    (is_statement (sort_of site.label.kind) && (point == 0)) || has_point marked site.label site.label.kind point
+
+-- the place exists, where it is told of each slot whether the first phrase there is marked
+abbrev pub Exists : (ℕ → Bool) → Forest → PlainAt → Type 0
+Exists marked items place = IsTrue (exists_at (marked place.slot) (site items place.slot) place.point)

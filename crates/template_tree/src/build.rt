@@ -1,0 +1,118 @@
+//! Nodes and trees built from their leaves.
+ghost use Rattle.std.specs.Prelude.{◌≡◌, ◌↔◌, ◌+◌, ◌<◌, ◌≤◌, IfErr, IfNone, IfOk, IfSome, IsTrue, map};
+ghost use Rattle.template_tree.specs.Build.{Over, built, built_label};
+ghost use Rattle.template_tree.specs.Limit.{deepest_path, most_slots};
+ghost use Rattle.template_tree.specs.PlainPlace.{plain_place};
+ghost use Rattle.template_tree.specs.PlainTree.{nodes, forest};
+ghost use Rattle.template_tree.specs.Program.{AreNodes, IsNode, IsProgram, IsSubtree, sorts};
+ghost use Rattle.template_tree.specs.Slots.{count, depth, numbered};
+ghost use Rattle.template_tree.specs.Tree.{IsTree};
+
+use crate::limit::{DEEPEST_PATH, MOST_SLOTS};
+use crate::node::{Node, Nodes};
+use crate::phrase_place::PhrasePlace;
+use crate::tree::Tree;
+use plcs_base::Slot;
+use plcs_grammar::NodeKind;
+
+/// The limit of a tree that nodes are over.
+#[derive(Clone, Copy, Debug, PartialEq, Eq)]
+pub enum OverLimit {
+    /// A path would have more than 64 numbers.
+    TooDeep,
+    /// More than 20,000 slots would be live.
+    TooLarge,
+}
+
+impl Node {
+    /// A node of the kind with these parts and with these nodes inside. Nothing is elided, and its slot
+    /// is 0 until a tree is built with it. It takes no memory.
+    pub fn built(kind: NodeKind, parts: Vec<PhrasePlace>, inner: Nodes) -> Node
+        ensures built { result ≡ record { label = built_label kind (map plain_place parts.items) inner.spare; inner = forest inner.items } }
+        ensures subtree { IsNode (built_label kind (map plain_place parts.items) inner.spare) (sorts (forest inner.items)) → AreNodes (forest inner.items) → IsSubtree result }
+    {
+        Node {
+            slot: Slot(0),
+            kind,
+            elided: false,
+            parts,
+            inner,
+        }
+    }
+}
+
+impl Tree {
+    /// The tree with these items, main and the procedures, whose slots are drawn from 0 in listing
+    /// order. Where they are over both limits, it is the depth that is told. It takes no memory.
+    pub fn built(items: Nodes) -> Result<Tree, OverLimit>
+        requires program { IsProgram (forest items.items) }
+        ensures built { IfOk result (λ tree. tree ≡ built items) }
+        ensures within { IfOk result (λ _. (depth (forest items.items) ≤ deepest_path) × (count (forest items.items) ≤ most_slots)) }
+        ensures over { IfErr result (Over (forest items.items)) }
+        ensures tree { IfOk result IsTree }
+    {
+        if !is_within_depth(items.as_slice(), DEEPEST_PATH as u32) {
+            return Err(OverLimit::TooDeep);
+        }
+        let Some(left) = slots_left(items.as_slice(), MOST_SLOTS) else {
+            return Err(OverLimit::TooLarge);
+        };
+        let mut items = items;
+        draw_slots(&mut items, 0);
+        Ok(Tree {
+            items,
+            drawn: MOST_SLOTS - left,
+            live: MOST_SLOTS - left,
+        })
+    }
+}
+
+/// Whether no path in these nodes has more than so many numbers. Its stack grows with that number.
+fn is_within_depth(nodes: &[Node], most: u32) -> bool
+    ensures { IsTrue result ↔ (depth (forest nodes.now) ≤ most) }
+{
+    for node in nodes {
+        let Some(below) = most.checked_sub(1) else {
+            return false;
+        };
+        if !is_within_depth(node.inner.as_slice(), below) {
+            return false;
+        }
+    }
+    true
+}
+
+/// How many slots are left of so many when each node has one, or `None` where they are too few.
+fn slots_left(nodes: &[Node], slots: u32) -> Option<u32>
+    ensures left { IfSome result (λ left. left + count (forest nodes.now) ≡ slots) }
+    ensures few { IfNone result (slots < count (forest nodes.now)) }
+{
+    let mut left = slots;
+    for node in nodes {
+        let Some(others) = left.checked_sub(1) else {
+            return None;
+        };
+        let Some(rest) = slots_left(node.inner.as_slice(), others) else {
+            return None;
+        };
+        left = rest;
+    }
+    Some(left)
+}
+
+/// Gives the nodes the slots from this number on in listing order, and says which number is next.
+fn draw_slots(list: &mut Nodes, first: u32) -> u32
+    requires few { first + count (forest list.old.items) ≤ 4294967295 }
+    ensures drawn { list.new ≡ record list.old { items = nodes (numbered first (forest list.old.items)) } }
+    ensures next { result ≡ first + count (forest list.old.items) }
+{
+    let mut next = first;
+    for k in 0..list.len() {
+        let Some(node) = list.get_mut(k) else {
+            return next;
+        };
+        node.slot = Slot(next);
+        next = draw_slots(&mut node.inner, next + 1);
+    }
+    next
+}
