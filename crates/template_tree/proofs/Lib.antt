@@ -22,5 +22,13 @@ pub mod PartLists
 -- the new program is a tree, whatever room its lists have
 pub mod Rooms
 pub mod NewPrograms
+-- a node of a tree is a subtree
+pub mod Subtrees
+-- a tree stays one where a part is set, or a comment turned
+pub mod KeptTrees
+-- the path of a slot's node
+pub mod SlotPaths
+-- a tree stays one where a node comes into a slot
+pub mod PutTrees
 -- the slots of a tree that is built are drawn in listing order, and each but once
 pub mod DrawnSlots

@@ -1,9 +1,15 @@
 -- The laws of trees.
-use Rattle.std.specs.Prelude.{◌≡◌, ℕ, ◌≤◌, List, Some}
-use Rattle.template_tree.specs.PlainTree.{Forest, PlainNode}
-use Rattle.template_tree.specs.Slots.{times}
+use Rattle.std.specs.Prelude.{◌≡◌, ℕ, ◌+◌, ◌≤◌, List, Option, Some}
+use Rattle.plcs_grammar.specs.PlainPhrase.{PlainPhrase}
+use Rattle.template_tree.specs.Limit.{deepest_path, most_slots, most_drawn}
+use Rattle.template_tree.specs.Program.{IsSubtree, sort_of}
+use Rattle.template_tree.specs.PlainTree.{Forest, PlainNode, PlainTree}
+use Rattle.template_tree.specs.Part.{IsPlace, Takes, part_category, with_part}
+use Rattle.template_tree.specs.Slots.{count, depth, times}
+use Rattle.template_tree.specs.Tree.{IsTree}
+use Rattle.template_tree.specs.TreeLend.{with_node}
 use Rattle.template_tree.specs.Path.{node_at, edit_at}
-use Rattle.template_tree.specs.Edit.{edit_slot}
+use Rattle.template_tree.specs.Edit.{Part, Put, edit_slot}
 
 -- an edit by slot is the edit at the path of the node that stands there, where the slot stands but once
 abbrev pub SlotEditIsPathEdit : Type 0
@@ -11,3 +17,32 @@ SlotEditIsPathEdit =
     (change : PlainNode → List PlainNode) (items : Forest) (path : List ℕ) (node : PlainNode)
     → times node.label.slot items ≤ 1 → node_at items path ≡ Some node
     → edit_slot node.label.slot change items ≡ edit_at change path items
+
+-- a tree is one again where the node at a path comes back with this in a part that takes it
+abbrev pub SetPartKeepsTree : Type 0
+SetPartKeepsTree =
+    (tree : PlainTree) (path : List ℕ) (node : PlainNode) (part : ℕ) (place : Option PlainPhrase)
+    → IsTree tree → node_at tree.items path ≡ Some node
+    → Takes (part_category node.label.kind part) place → IsPlace place
+    → IsTree (with_node tree path (with_part part place node))
+
+-- a tree is one with as many live slots where a part of the node in a slot is set to what it takes
+abbrev pub PartKeepsTree : Type 0
+PartKeepsTree =
+    (tree : PlainTree) (path : List ℕ) (node : PlainNode) (part : ℕ) (place : Option PlainPhrase)
+    → IsTree tree → node_at tree.items path ≡ Some node
+    → Takes (part_category node.label.kind part) place → IsPlace place
+    → IsTree (Part tree node.label.slot part place) × ((Part tree node.label.slot part place).live ≡ tree.live)
+
+-- a tree is one where a node of the same sort comes into a slot, as far as the limits allow it; the inner nodes that come
+-- are counted in place of those that go
+abbrev pub PutKeepsTree : Type 0
+PutKeepsTree =
+    (tree : PlainTree) (path : List ℕ) (node new : PlainNode)
+    → IsTree tree → node_at tree.items path ≡ Some node
+    → IsSubtree new → sort_of new.label.kind ≡ sort_of node.label.kind
+    → depth (Put tree node.label.slot new).items ≤ deepest_path
+    → (Put tree node.label.slot new).live ≤ most_slots
+    → (Put tree node.label.slot new).drawn ≤ most_drawn
+    → IsTree (Put tree node.label.slot new)
+    × ((Put tree node.label.slot new).live + count node.inner ≡ tree.live + count new.inner)

@@ -1,5 +1,5 @@
 -- Nodes at their paths, and the edit there.
-use Rattle.std.specs.Prelude.{ℕ, zero, suc, List, [], ◌∷◌, Option, Some, None, option_and_then, slice_get}
+use Rattle.std.specs.Prelude.{ℕ, zero, suc, List, [], ◌∷◌, Option, Some, None, option_and_then, option_map, slice_get}
 use Rattle.template_tree.specs.PlainTree.{Forest, PlainNode, nodes, forest, join}
 
 -- the node at the path below a node
@@ -11,6 +11,10 @@ below node (k ∷ path) = option_and_then (λ item. below item path) (slice_get 
 abbrev pub node_at : Forest → List ℕ → Option PlainNode
 node_at items [] = None
 node_at items (k ∷ path) = option_and_then (λ item. below item path) (slice_get (nodes items) k)
+
+-- the slot of the node at the path
+abbrev pub slot_at : Forest → List ℕ → Option ℕ
+slot_at items path = option_map (λ node. node.label.slot) (node_at items path)
 
 -- the item of this number gives way to a list of items
 abbrev pub give_way : (PlainNode → List PlainNode) → ℕ → Forest → Forest

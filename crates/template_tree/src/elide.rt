@@ -16,6 +16,7 @@ impl Tree {
         requires tree { IsTree self.old }
         ensures told { result ≡ option_and_then turned (node_at self.old.items path.now.items) }
         ensures changed { self.new ≡ turned_at path.now.items self.old }
+        ensures tree { IsTree self.new }
     {
         let Some(node) = self.node_mut(path) else {
             return None;

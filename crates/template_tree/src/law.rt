@@ -1,5 +1,5 @@
 //! The laws of trees, each a function that does nothing and whose contract states it.
-ghost use Rattle.template_tree.specs.Law.{SlotEditIsPathEdit};
+ghost use Rattle.template_tree.specs.Law.{PartKeepsTree, PutKeepsTree, SetPartKeepsTree, SlotEditIsPathEdit};
 ghost use Rattle.template_tree.specs.Listing.{ListingSplitsInLines};
 
 use plcs_grammar::canonical_texts_show;
@@ -7,6 +7,21 @@ use plcs_grammar::canonical_texts_show;
 /// An edit by slot is the edit at the path of the node that stands there.
 pub fn slot_edit_is_path_edit()
     ensures { SlotEditIsPathEdit }
+{}
+
+/// A tree of which a node was lent is one again where `Node::put_part` alone changed the node.
+pub fn set_part_keeps_tree()
+    ensures { SetPartKeepsTree }
+{}
+
+/// Setting a part of the node in a slot keeps a tree a tree, with as many slots.
+pub fn part_keeps_tree()
+    ensures { PartKeepsTree }
+{}
+
+/// A node of the same sort in place of what stood in a slot keeps a tree a tree within the limits.
+pub fn put_keeps_tree()
+    ensures { PutKeepsTree }
 {}
 
 /// The lines of a program's listing are its bytes, split at each byte 10.

@@ -11,6 +11,7 @@ mod listing;
 mod node;
 mod node_at;
 mod path;
+mod path_of;
 mod phrase_place;
 mod put_part;
 mod sections_left;
@@ -22,7 +23,10 @@ mod tree;
 
 pub use build::OverLimit;
 pub use change::{Change, What};
-pub use law::{listing_splits_in_lines, slot_edit_is_path_edit};
+pub use law::{
+    listing_splits_in_lines, part_keeps_tree, put_keeps_tree, set_part_keeps_tree,
+    slot_edit_is_path_edit,
+};
 pub use limit::{DEEPEST_PATH, LONGEST_PHRASE, MOST_DRAWN, MOST_SLOTS};
 pub use node::{Node, Nodes};
 pub use path::Path;

@@ -1,10 +1,14 @@
 //! Nodes found by their paths.
-ghost use Rattle.std.specs.Prelude.{◌≡◌, option_map};
+ghost use Rattle.std.specs.Prelude.{◌≡◌, ◌+◌, ◌<◌, ◌≤◌, IfSome, length, option_map};
 ghost use Rattle.std.specs.Borrow.{LendsIf, sem};
 ghost use Rattle.template_tree.specs.contracts.node.Node as node_row;
 ghost use Rattle.template_tree.specs.contracts.tree.Tree as tree_row;
 ghost use Rattle.template_tree.specs.TreeLend.{with_node};
+ghost use Rattle.template_tree.specs.Limit.{most_slots};
 ghost use Rattle.template_tree.specs.Path.{below, node_at};
+ghost use Rattle.template_tree.specs.PlainTree.{nodes};
+ghost use Rattle.template_tree.specs.Program.{IsSubtree};
+ghost use Rattle.template_tree.specs.Slots.{count};
 ghost use Rattle.template_tree.specs.Tree.{IsTree};
 
 use crate::descent::{Deepest, Descent};
@@ -16,7 +20,10 @@ impl Tree {
     /// The node at the path, or `None` where the tree has none there.
     pub fn node(&self, path: &Path) -> Option<&Node>
         requires tree { IsTree self.now }
-        ensures { option_map (λ node. node.now) result ≡ node_at self.now.items path.now.items }
+        ensures found { option_map (λ node. node.now) result ≡ node_at self.now.items path.now.items }
+        ensures subtree { IfSome result (λ node. IsSubtree node.now) }
+        ensures few { IfSome result (λ node. count node.now.inner + 1 ≤ most_slots) }
+        ensures children_few { IfSome result (λ node. length (nodes node.now.inner) < most_slots) }
     {
         let Some((k, rest)) = path.split_first() else {
             return None;
@@ -35,6 +42,9 @@ impl Tree {
         requires tree { IsTree self.old }
         ensures* writes_back { sem 𝓛 (LendsIf tree_row.the_row node_row.the_row self.entry result (with_node self.old path.now.items) self.old) }
         ensures found { option_map (λ node. node.now) result ≡ node_at self.old.items path.now.items }
+        ensures subtree { IfSome result (λ node. IsSubtree node.now) }
+        ensures few { IfSome result (λ node. count node.now.inner + 1 ≤ most_slots) }
+        ensures children_few { IfSome result (λ node. length (nodes node.now.inner) < most_slots) }
     {
         let Some((k, rest)) = path.split_first() else {
             return None;

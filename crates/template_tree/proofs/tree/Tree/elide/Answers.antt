@@ -2,6 +2,7 @@ use Rattle.std.specs.Prelude.{◌∷◌, []}
 use Rattle.std.proofs.Common.{ap, sym}
 use Rattle.template_tree.specs.PlainTree.{Forest}
 use Rattle.template_tree.specs.Elision.{turn}
+use Rattle.template_tree.proofs.KeptTrees.{kept_tree, turned_relabels}
 use Rattle.template_tree.proofs.SameEdits.{edits_alike, edit_nowhere}
 use Rattle.template_tree.proofs.tree.Tree.elide.Goals as goal
 
@@ -15,3 +16,8 @@ returns-clause-changed c =
     ap (λ (items : Forest). record c.args.self.now { items = items })
     (edits_alike (λ _. c.turn.new.self ∷ []) turn c.args.self.now.items c.args.path.now.items c.in-Some.node.now
     (sym c.in-Some.ensures.found) (sym c.turn.ensures.turned))
+
+pub returns-clause-tree : goal.returns-clause-tree
+returns-clause-tree c =
+    kept_tree c.args.self.now c.args.path.now.items c.in-Some.node.now c.turn.new.self c.requires.tree (sym c.in-Some.ensures.found)
+    (turned_relabels c.in-Some.node.now c.turn.new.self c.in-Some.ensures.subtree c.turn.ensures.turned)

@@ -9,6 +9,6 @@ slots-requires c =
           omega (
             arith,
             c.requires.tree.few,
-            counted_below c.args.self.now.items c.args.path.now.items c.in-Some.node.now (sym c.in-Some.ensures),
+            counted_below c.args.self.now.items c.args.path.now.items c.in-Some.node.now (sym c.in-Some.ensures.found),
           );
     }

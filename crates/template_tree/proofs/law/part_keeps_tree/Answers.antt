@@ -1,0 +1,5 @@
+use Rattle.template_tree.proofs.law.part_keeps_tree.Goals as goal
+use Rattle.template_tree.proofs.KeptTrees.{part_keeps_tree}
+
+pub returns : goal.returns
+returns c = part_keeps_tree

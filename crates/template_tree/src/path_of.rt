@@ -1,0 +1,68 @@
+//! Paths found by the slots of their nodes.
+ghost use Rattle.std.specs.Prelude.{◌≡◌, ◌+◌, ◌<◌, ◌≤◌, ◌↔◌, ◌∷◌, [], IfNone, IfSome, IsNone, Some, length, option_map};
+ghost use Rattle.template_tree.specs.Limit.{deepest_path, most_slots};
+ghost use Rattle.template_tree.specs.Path.{below, slot_at};
+ghost use Rattle.template_tree.specs.PlainTree.{forest};
+ghost use Rattle.template_tree.specs.Slots.{count, depth, times};
+ghost use Rattle.template_tree.specs.Tree.{IsTree};
+
+use crate::node::Node;
+use crate::path::Path;
+use crate::tree::Tree;
+use plcs_base::Slot;
+
+impl Tree {
+    /// The path of the node in the slot, or `None` where the slot isn't live. It takes no memory, and
+    /// time in proportion to the number of slots.
+    pub fn path_of(&self, slot: Slot) -> Option<Path>
+        requires tree { IsTree self.now }
+        ensures none { IsNone result ↔ (times slot.0 self.now.items ≡ 0) }
+        ensures path { IfSome result (λ path. slot_at self.now.items path.items ≡ Some slot.0) }
+    {
+        path_in(self.items.as_slice(), slot)
+    }
+}
+
+/// The path of the node in the slot, from the list on.
+#[cycle(find)]
+fn path_in(nodes: &[Node], slot: Slot) -> Option<Path>
+    requires shallow { depth (forest nodes.now) ≤ deepest_path }
+    requires few { count (forest nodes.now) ≤ most_slots }
+    ensures none { IfNone result (times slot.0 (forest nodes.now) ≡ 0) }
+    ensures path { IfSome result (λ path. slot_at (forest nodes.now) path.items ≡ Some slot.0) }
+    ensures short { IfSome result (λ path. length path.items ≤ depth (forest nodes.now)) }
+{
+    let mut k: u32 = 0;
+    for node in nodes {
+        if let Some(path) = path_below(node, slot) {
+            return Some(with_first(k, path));
+        }
+        k += 1;
+    }
+    None
+}
+
+/// The path of the node in the slot, from the node on, which may be the one.
+#[cycle(find)]
+fn path_below(node: &Node, slot: Slot) -> Option<Path>
+    requires shallow { depth node.now.inner < deepest_path }
+    requires few { count node.now.inner ≤ most_slots }
+    ensures none { IfNone result (times slot.0 (forest (node.now ∷ [])) ≡ 0) }
+    ensures path { IfSome result (λ path. option_map (λ there. there.label.slot) (below node.now path.items) ≡ Some slot.0) }
+    ensures short { IfSome result (λ path. length path.items ≤ depth node.now.inner) }
+{
+    if node.slot().0 == slot.0 {
+        return Some(Path::new());
+    }
+    path_in(node.inner.as_slice(), slot)
+}
+
+/// The path with one more number before it.
+fn with_first(k: u32, path: Path) -> Path
+    requires room { length path.items < deepest_path }
+    ensures { result.items ≡ k ∷ path.items }
+{
+    let mut longer = path;
+    longer.insert(0, k);
+    longer
+}
