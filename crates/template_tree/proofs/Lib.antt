@@ -28,7 +28,7 @@ pub mod Subtrees
 pub mod KeptTrees
 -- the path of a slot's node
 pub mod SlotPaths
--- a tree stays one where a node comes into a slot
-pub mod PutTrees
 -- the slots of a tree that is built are drawn in listing order, and each but once
 pub mod DrawnSlots
+-- a tree stays one where a node comes into a slot
+pub mod PutTrees

@@ -1,5 +1,5 @@
 -- A tree stays one where a node of its sort comes into a slot.
-use Rattle.std.specs.Prelude.{◌≡◌, refl, ℕ, zero, suc, ◌+◌, ◌<◌, ◌≤◌, Bool, true, false, if◌then◌else◌, ◌==◌, List, [], ◌∷◌, Some}
+use Rattle.std.specs.Prelude.{◌≡◌, refl, ℕ, zero, suc, ◌+◌, ◌<◌, ◌≤◌, if◌then◌else◌, ◌==◌, List, [], ◌∷◌, Some}
 use Rattle.std.proofs.Common.{ap, sym, ◌∙◌, subst, arith, inl, inr}
 use Rattle.std.proofs.Math.Bool.{false≢true}
 use Rattle.std.proofs.lemmas.Bool.{cases_lt, ne_eqb}
@@ -13,6 +13,7 @@ use Rattle.template_tree.specs.Limit.{deepest_path, most_slots, most_drawn}
 use Rattle.template_tree.specs.Tree.{IsTree}
 use Rattle.template_tree.specs.Edit.{Put, edit_slot, placed, whole}
 use Rattle.template_tree.proofs.SameEdits.{taken}
+use Rattle.template_tree.proofs.DrawnSlots.{count_numbered, sorts_numbered, nodes_numbered, below_numbered, none_before, once_numbered}
 use Rattle.template_tree.proofs.SlotEdits.{slot_edit_is_path_edit}
 
 -- a node comes in place of one of its slot and sort: what stands inside it may be other
@@ -103,80 +104,13 @@ one_if a b = if a == b then 1 else 0
 apart : (a b : ℕ) → a < b → one_if a b ≡ 0
 apart a b less = rw (ne_eqb a b (λ same. omega arith)) refl
 
-apart_above : (a b : ℕ) → b < a → one_if a b ≡ 0
-apart_above a b less = rw (ne_eqb a b (λ same. omega arith)) refl
-
 -- a slot that is not below them doesn't stand among them
 none_above : (slot number : ℕ) (items : Forest) → number ≤ slot → AllBelow number items → times slot items ≡ 0
 none_above slot number Forest.nil le h = refl
 none_above slot number (Forest.cons label inner rest) le h =
     omega (arith, apart label.slot slot (omega (arith, le, h.0)), none_above slot number inner le h.1, none_above slot number rest le h.2)
 
--- nor one below the first number among numbered nodes
-none_below : (slot first : ℕ) (items : Forest) → slot < first → times slot (numbered first items) ≡ 0
-none_below slot first Forest.nil less = refl
-none_below slot first (Forest.cons label inner rest) less =
-    omega (
-      arith,
-      apart_above first slot less,
-      none_below slot (first + 1) inner (omega (arith, less)),
-      none_below slot (first + 1 + count inner) rest (omega (arith, less)),
-    )
-
--- numbered nodes have the numbers from the first on, as many as they are
-numbered_below : (first : ℕ) (items : Forest) → AllBelow (first + count items) (numbered first items)
-numbered_below first Forest.nil = tt
-numbered_below first (Forest.cons label inner rest) = (
-  omega arith,
-  below_more (first + 1 + count inner) (first + (count inner + count rest + 1)) (numbered (first + 1) inner) (omega arith) (numbered_below (first + 1) inner),
-  below_more (first + 1 + count inner + count rest) (first + (count inner + count rest + 1)) (numbered (first + 1 + count inner) rest) (omega arith)
-      (numbered_below (first + 1 + count inner) rest),
-)
-
--- at most one
-at_most_one : (b : Bool) → (if b then 1 else 0) ≤ 1
-at_most_one true = omega arith
-at_most_one false = omega arith
-
--- each of them stands but once
-numbered_once : (slot first : ℕ) (items : Forest) → times slot (numbered first items) ≤ 1
-numbered_once slot first Forest.nil = omega arith
-numbered_once slot first (Forest.cons label inner rest) =
-    let own : one_if first slot ≤ 1 = at_most_one (first == slot) in
-    let one = numbered_once slot (first + 1) inner in
-    let other = numbered_once slot (first + 1 + count inner) rest in
-    elim (cases_lt first slot) [
-      | inl above ↦ elim (cases_lt slot (first + 1 + count inner)) [
-        | inl early ↦ omega (arith, apart first slot above, one, none_below slot (first + 1 + count inner) rest early)
-        | inr late ↦ omega (arith, apart first slot above, other, none_above slot (first + 1 + count inner) (numbered (first + 1) inner) late (numbered_below (first + 1) inner))
-      ]
-      | inr low ↦ omega (arith, own, none_below slot (first + 1) inner (omega (arith, low)), none_below slot (first + 1 + count inner) rest (omega (arith, low)))
-    ]
-
--- the numbers make no difference to what nodes are
-sorts_numbered : (first : ℕ) (items : Forest) → sorts (numbered first items) ≡ sorts items
-sorts_numbered first Forest.nil = refl
-sorts_numbered first (Forest.cons label inner rest) =
-    ap (λ ss. sort_of label.kind ∷ ss) (sorts_numbered (first + 1 + count inner) rest)
-
-count_numbered : (first : ℕ) (items : Forest) → count (numbered first items) ≡ count items
-count_numbered first Forest.nil = refl
-count_numbered first (Forest.cons label inner rest) =
-    λ i. count_numbered (first + 1) inner i + count_numbered (first + 1 + count inner) rest i + 1
-
-nodes_numbered : (first : ℕ) (items : Forest) → AreNodes items → AreNodes (numbered first items)
-nodes_numbered first Forest.nil h = tt
-nodes_numbered first (Forest.cons label inner rest) h = (
-  record {
-    parts = h.0.parts;
-    inner = subst (λ ss. Fill (row_of label.kind).sections ss) (sym (sorts_numbered (first + 1) inner)) h.0.inner;
-    elision = h.0.elision;
-  },
-  nodes_numbered (first + 1) inner h.1,
-  nodes_numbered (first + 1 + count inner) rest h.2,
-)
-
--- nor does it that nothing is elided
+-- it makes no difference to what nodes are that nothing is elided
 sorts_whole : (items : Forest) → sorts (whole items) ≡ sorts items
 sorts_whole Forest.nil = refl
 sorts_whole (Forest.cons label inner rest) = ap (λ ss. sort_of label.kind ∷ ss) (sorts_whole rest)
@@ -220,8 +154,8 @@ once_again : (slot drawn : ℕ) (before after gone come : Forest) → AllBelow d
     → times slot after + times slot gone ≡ times slot before + times slot (numbered drawn come) → times slot after ≤ 1
 once_again slot drawn before after gone come below once e =
     elim (cases_lt slot drawn) [
-      | inl old ↦ omega (arith, once, e, none_below slot drawn come old)
-      | inr new ↦ omega (arith, e, none_above slot drawn before new below, numbered_once slot drawn come)
+      | inl old ↦ omega (arith, once, e, none_before slot drawn come old)
+      | inr new ↦ omega (arith, e, none_above slot drawn before new below, once_numbered slot drawn come)
     ]
 
 -- a tree is one where a node of the sort comes into a slot, and the limits hold
@@ -239,7 +173,7 @@ put_keeps_tree tree path node new t there sound same shallow few drawn_few =
     subst (λ (f : Forest). Replaced tree.items f node.inner come.inner) by_path
     (edit_replaced tree.items path node come there (placed_replaces node new tree.drawn sound same)) in
     let drawn : AllBelow (tree.drawn + count new.inner) come.inner =
-    subst (λ n. AllBelow (tree.drawn + n) come.inner) (count_whole new.inner) (numbered_below tree.drawn (whole new.inner))
+    below_numbered tree.drawn (tree.drawn + count new.inner) (whole new.inner) (omega (arith, count_whole new.inner))
     in (
       record {
         program =
