@@ -214,7 +214,10 @@ fn a_sequence_is_refused_as_one_key(rt: HostRuntime) -> Result<(), Fail> {
         (b"\x1b[", [refused, b"", b""]),
         (b"\x1b\x1b", [refused, again, b""]),
         (b"\x1b[A\x1b[", [refused, again, b""]),
-        (b"\x1bx\x1b[", [refused, typed, b"\x1b[11;1HNOT BUILT\x1b[K\x1b[12;13H"]),
+        (
+            b"\x1bx\x1b[",
+            [refused, typed, b"\x1b[11;1HNOT BUILT\x1b[K\x1b[12;13H"],
+        ),
     ];
     for (keys, screens) in wanted {
         let bytes = screens.concat(rt.alloc())?;
