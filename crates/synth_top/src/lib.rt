@@ -28,7 +28,8 @@ use words::Options;
 
 /// Edits a program: reads the words that follow the program's name, and then writes the opening
 /// screen and one screen after each key to the screen's sink, until a key ends the session or the
-/// source of keys ends. Key bytes are taken one a read, and no byte is read behind a quit.
+/// source of keys ends. Key bytes are taken one a read, and no read is made behind the source's end,
+/// the limit or a quit.
 ///
 /// The words are none, for a screen of 24 rows and 80 columns, or `--rows N --cols M`. Files and
 /// work aren't used yet. Where source, sink or files tell nothing of their bytes, what is claimed of
