@@ -24,3 +24,5 @@ pub mod Rooms
 pub mod NewPrograms
 -- the slots of a tree that is built are drawn in listing order, and each but once
 pub mod DrawnSlots
+-- the program that a test builds is one
+pub mod BuiltProgram

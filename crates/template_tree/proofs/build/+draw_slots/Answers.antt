@@ -14,8 +14,7 @@ overflow_add-next t c =
 
 pub draw_slots-next-requires : goal.draw_slots-next-requires
 draw_slots-next-requires t c =
-    let left = fewer c.loop-k.k c.loop-k.list.items (the_view c.node.inside) (the_view c.node.inside) (sym c.in-Some.ensures.found ∙ ap Some (sym c.node.view_is)) in
-    (
+    let left = fewer c.loop-k.k c.loop-k.list.items (the_view c.node.inside) (the_view c.node.inside) (sym c.in-Some.ensures.found ∙ ap Some (sym c.node.view_is)) in (
       omega (arith, left, c.loop-k.invariant.so_far, c.loop-k.invariant.begun),
       omega (arith, left, c.loop-k.invariant.so_far, c.requires.few),
     )
@@ -30,7 +29,7 @@ loop-k-preserved t c =
     record {
       drawn =
           step c.loop-k.k c.loop-k.next c.draw_slots-next.result c.loop-k.list.items (the_view c.node.inside) new there c.draw_slots-next.ensures.next
-              (written (the_view c.node.inside).label c.loop-k.next c.node.inside.inner c.draw_slots-next.new.list c.draw_slots-next.ensures.drawn)
+          (written (the_view c.node.inside).label c.loop-k.next c.node.inside.inner c.draw_slots-next.new.list c.draw_slots-next.ensures.drawn)
           ∙ c.loop-k.invariant.drawn;
       so_far = omega (arith, left, c.loop-k.invariant.so_far, c.draw_slots-next.ensures.next);
       begun = omega (arith, c.loop-k.invariant.begun, c.draw_slots-next.ensures.next);
