@@ -32,3 +32,5 @@ pub mod SlotPaths
 pub mod DrawnSlots
 -- a tree stays one where a node comes into a slot
 pub mod PutTrees
+-- the program that a test builds is one
+pub mod BuiltProgram

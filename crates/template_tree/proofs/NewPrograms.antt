@@ -80,7 +80,7 @@ one_of : {sort : Sort} → All (λ item. item ≡ sort) (sort ∷ [])
 one_of zero d h = refl
 one_of (suc k) d h = absurd (omega arith)
 
-block_filled : Fill block (Sort.Declaration ∷ (Sort.Statement ∷ []))
+pub block_filled : Fill block (Sort.Declaration ∷ (Sort.Statement ∷ []))
 block_filled = (
   Sort.Declaration ∷ [],
   Sort.Statement ∷ [],
@@ -89,7 +89,7 @@ block_filled = (
   (Sort.Statement ∷ [], [], refl, (omega arith, one_of), refl),
 )
 
-program_filled : Fill program_sections (Sort.Main ∷ (Sort.Procedure ∷ []))
+pub program_filled : Fill program_sections (Sort.Main ∷ (Sort.Procedure ∷ []))
 program_filled = (
   Sort.Main ∷ [],
   Sort.Procedure ∷ [],

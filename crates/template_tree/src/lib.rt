@@ -2,6 +2,8 @@
 #![tactic(auto, using(crate::specs::PlainTree::nodes_forest))]
 
 mod build;
+#[cfg(test)]
+mod build_tests;
 mod change;
 mod descent;
 mod elide;
