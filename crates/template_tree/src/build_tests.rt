@@ -95,7 +95,8 @@ fn slot_at(tree: &Tree, numbers: &[u32]) -> Option<Slot>
 #[test]
 fn a_tree_is_built_from_its_leaves(rt: HostRuntime) -> Result<(), Fail> {
     let tree = Tree::built(items(rt.alloc())?).map_err(|_| "a tree")?;
-    let text = b"main: PROCEDURE OPTIONS ( MAIN );\n  {declaration}\n  IF ( {condition} ) THEN\n    DO;\n      {statement}\n      {statement}\n    END;\nEND;\n{procedure}\n";
+    let text =
+        b"main: PROCEDURE OPTIONS ( MAIN );\n  {declaration}\n  IF ( {condition} ) THEN\n    DO;\n      {statement}\n      {statement}\n    END;\nEND;\n{procedure}\n";
     let mut out = Listed {
         left: text,
         same: true,
