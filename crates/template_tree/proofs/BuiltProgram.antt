@@ -1,5 +1,5 @@
 -- The program that a test builds from its leaves.
-use Rattle.std.specs.Prelude.{◌≡◌, refl, ℕ, zero, suc, ◌+◌, ◌≤◌, List, [], ◌∷◌, All, None}
+use Rattle.std.specs.Prelude.{◌≡◌, refl, ℕ, zero, suc, List, [], ◌∷◌, All, None}
 use Rattle.std.proofs.Common.{arith}
 use Rattle.std.proofs.Math.Bool.{false≢true}
 use Rattle.plcs_grammar.specs.declared.node_kind.NodeKind.{NodeKind}
@@ -7,7 +7,7 @@ use Rattle.plcs_grammar.specs.declared.node_kind.Sort.{Sort}
 use Rattle.plcs_grammar.specs.declared.template.Template.{Template}
 use Rattle.template_tree.specs.Build.{built_label}
 use Rattle.template_tree.specs.PlainTree.{Forest, PlainNode, forest}
-use Rattle.template_tree.specs.Program.{IsNode, AreNodes, IsProgram}
+use Rattle.template_tree.specs.Program.{IsProgram}
 use Rattle.template_tree.proofs.NewPrograms.{block_filled, program_filled}
 
 -- two of a sort

@@ -8,7 +8,7 @@ use Rattle.template_tree.specs.Build.{built}
 use Rattle.template_tree.specs.Limit.{deepest_path, most_slots}
 use Rattle.template_tree.specs.Program.{sorts, sort_of, Fill, AreNodes, IsProgram}
 use Rattle.template_tree.specs.Tree.{IsTree}
-use Rattle.template_tree.specs.PlainTree.{Label, Forest, PlainNode, PlainNodes, PlainTree, nodes, forest, forest_nodes}
+use Rattle.template_tree.specs.PlainTree.{Label, Forest, PlainNode, PlainNodes, nodes, forest, forest_nodes}
 use Rattle.template_tree.specs.Slots.{count, depth, times, AllBelow, numbered}
 use Rattle.template_tree.proofs.SameEdits.{taken}
 
