@@ -15,7 +15,7 @@ use Rattle.plcs_grammar.specs.Token.{Token, IsToken, begins_with, is_quote, nume
 use Rattle.phrase_parser.specs.declared.front.Front.{Front}
 use Rattle.phrase_parser.specs.declared.token.TokenKind.TheVariants as kind
 use Rattle.phrase_parser.specs.Private.Kept.{kept_kind}
-use Rattle.phrase_parser.specs.Private.Front.{front_of, word_front, number_front, constant_of, constant_front, bit_constant, bit_value, constant_end, longer_sign, sign_kept, sign_front, single_sign, double_at, ends_word}
+use Rattle.phrase_parser.specs.Private.Front.{front_of, word_front, number_front, constant_of, constant_front, bit_constant, bit_value, constant_end, longer_sign, sign_kept, sign_front, double_at, ends_word}
 use Rattle.phrase_parser.proofs.Tokens.ByteRuns.{run_all, run_ends, run_begins, run_first}
 use Rattle.phrase_parser.proofs.Tokens.QuotedTexts.{constant_end_tells, quoted_append, length_quoted}
 use Rattle.phrase_parser.proofs.Tokens.Words.{letter_is_name_byte, word_no_name}
@@ -212,7 +212,7 @@ tells_sign bytes behind sign n front spelt size h = record {
 }
 
 sign_tells : (first : ℕ) (rest : List ℕ) (front : Front) (double single : Option Sign) → double_at first rest ≡ double
-    → single_sign first ≡ single → longer_sign double single ≡ Some front → Tells (first ∷ rest) front
+    → sign_of (first ∷ []) ≡ single → longer_sign double single ≡ Some front → Tells (first ∷ rest) front
 sign_tells first [] front (Some s) single is_double is_single h = absurd (none-some s is_double)
 sign_tells first (second ∷ rest) front (Some s) single is_double is_single h =
     tells_sign (first ∷ second ∷ []) rest s 2 front (found_spelt (first ∷ second ∷ []) s is_double) refl (same_Some (sign_kept s 2) front h)
@@ -238,5 +238,5 @@ found_tells (first ∷ rest) front h =
     (λ _. cond_both (is_digit first) (Some (number_front (first ∷ rest))) (sign_front first rest)
     (λ (o : Option Front). o ≡ Some front → Tells (first ∷ rest) front)
     (λ digit e. number_front_tells first rest front digit (same_Some (number_front (first ∷ rest)) front e))
-    (λ _ e. sign_tells first rest front (double_at first rest) (single_sign first) refl refl e)))
+    (λ _ e. sign_tells first rest front (double_at first rest) (sign_of (first ∷ [])) refl refl e)))
     h

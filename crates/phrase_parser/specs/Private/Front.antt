@@ -85,18 +85,10 @@ constant_of None None = None
 abbrev pub constant_front : List ℕ → Option Front
 constant_front x = constant_of (bit_constant x) (constant_end 1 0 (drop 1 x))
 
--- the sign of one byte
-abbrev pub single_sign : ℕ → Option Sign
-single_sign byte = sign_of (byte ∷ [])
-
--- the sign of two bytes
-abbrev pub double_sign : ℕ → ℕ → Option Sign
-double_sign first second = sign_of (first ∷ second ∷ [])
-
 -- the sign of two bytes, if there is a second
 abbrev pub double_at : ℕ → List ℕ → Option Sign
 double_at first [] = None
-double_at first (second ∷ rest) = double_sign first second
+double_at first (second ∷ rest) = sign_of (first ∷ second ∷ [])
 
 -- a sign of so many bytes
 abbrev pub sign_kept : Sign → ℕ → Front
@@ -110,7 +102,7 @@ longer_sign None None = None
 
 -- a sign of two bytes, or else of one
 abbrev pub sign_front : ℕ → List ℕ → Option Front
-sign_front first rest = longer_sign (double_at first rest) (single_sign first)
+sign_front first rest = longer_sign (double_at first rest) (sign_of (first ∷ []))
 
 -- what the text begins with
 abbrev pub front_of : List ℕ → Option Front
