@@ -6,7 +6,6 @@ ghost use Rattle.phrase_parser.specs.Private.Front.{front_of, word_front, number
 
 use crate::byte_class::{ByteClass, leading};
 use crate::constant::{bit_constant, constant_length};
-use crate::sign::{double_sign, single_sign};
 use crate::token::TokenKind;
 use plcs_base::{LONGEST_NAME, Name, is_digit, is_letter};
 use plcs_grammar::Sign;
@@ -93,11 +92,11 @@ fn sign_front(first: u8, rest: &[u8]) -> Option<Front>
     ensures { result ≡ sign_front first rest.now }
 {
     if let [second, ..] = rest {
-        if let Some(sign) = double_sign(first, *second) {
+        if let Some(sign) = Sign::read(&[first, *second]) {
             return Some(sign_kept(sign, 2));
         }
     }
-    match single_sign(first) {
+    match Sign::read(&[first]) {
         Some(sign) => Some(sign_kept(sign, 1)),
         None => None,
     }

@@ -19,7 +19,6 @@ mod operator;
 mod parser;
 #[cfg(test)]
 mod parser_tests;
-mod sign;
 mod token;
 
 pub use fault::PhraseFault;

@@ -1,20 +1,21 @@
 -- What the model of the code finds at the front of a text is a token there.
 use Rattle.std.proofs.Common.{◌≡◌, ℕ, ◌≤◌, Bool, true, false, not, ◌&&◌, cond, eqb, List, [], ◌∷◌, ◌++◌, length, take, drop, refl, sym, ap, ◌∙◌, subst, inl, inr, arith, Option, Some, None}
-use Rattle.std.specs.Prelude.{nat_le}
+use Rattle.std.specs.Prelude.{nat_le, bytes_eq, find}
 use Rattle.std.specs.List.{list_all, prefix_len}
 use Rattle.std.proofs.lemmas.Bool.{and_parts, and_from, cond-true, cond-false, cond_both, eqb-true, cases_Bool, not-true, not_from_false}
 use Rattle.std.proofs.lemmas.Option.{none-some, same_Some, cond_some}
 use Rattle.std.proofs.lemmas.List.{take-append-drop}
 use Rattle.std.proofs.lemmas.List.Folds.{length-prefix_len}
+use Rattle.std.proofs.lemmas.Slice.Eq.{bytes_eq-Decides}
 use Rattle.plcs_base.specs.Byte.{is_letter, is_digit, is_name_byte}
 use Rattle.plcs_base.specs.Name.{is_word, is_name, longest_name}
 use Rattle.plcs_grammar.specs.declared.sign.Sign.{Sign}
-use Rattle.plcs_grammar.specs.Sign.{sign_bytes}
+use Rattle.plcs_grammar.specs.Sign.{signs, sign_bytes, sign_of}
 use Rattle.plcs_grammar.specs.Token.{Token, IsToken, begins_with, is_quote, numeral_value, quoted, bit_bytes}
 use Rattle.phrase_parser.specs.declared.front.Front.{Front}
 use Rattle.phrase_parser.specs.declared.token.TokenKind.TheVariants as kind
 use Rattle.phrase_parser.specs.Private.Kept.{kept_kind}
-use Rattle.phrase_parser.specs.Private.Front.{front_of, word_front, number_front, constant_of, constant_front, bit_constant, bit_value, constant_end, sign_of, sign_kept, sign_front, single_sign, double_sign, double_at, ends_word}
+use Rattle.phrase_parser.specs.Private.Front.{front_of, word_front, number_front, constant_of, constant_front, bit_constant, bit_value, constant_end, longer_sign, sign_kept, sign_front, double_at, ends_word}
 use Rattle.phrase_parser.proofs.Tokens.ByteRuns.{run_all, run_ends, run_begins, run_first}
 use Rattle.phrase_parser.proofs.Tokens.QuotedTexts.{constant_end_tells, quoted_append, length_quoted}
 use Rattle.phrase_parser.proofs.Tokens.Words.{letter_is_name_byte, word_no_name}
@@ -184,49 +185,19 @@ constant_tells rest front None None is_bit read h = absurd (none-some front h)
 
 -- signs
 
-single_case : (byte code : ℕ) (which sign : Sign) (others : Option Sign) → sign_bytes which ≡ code ∷ []
-    → (others ≡ Some sign → byte ∷ [] ≡ sign_bytes sign) → cond (eqb byte code) (Some which) others ≡ Some sign
-    → byte ∷ [] ≡ sign_bytes sign
-single_case byte code which sign others spelt else_ =
-    cond_both (eqb byte code) (Some which) others (λ (o : Option Sign). o ≡ Some sign → byte ∷ [] ≡ sign_bytes sign)
-    (λ same e. ap (λ (b : ℕ). b ∷ []) (eqb-true byte code same) ∙ sym spelt ∙ ap sign_bytes (same_Some which sign e))
-    (λ _ e. else_ e)
+-- what is found passes the test
+found_passes : (test : Sign → Bool) (among : List Sign) (sign : Sign) → find test among ≡ Some sign → test sign ≡ true
+found_passes test [] sign h = absurd (none-some sign h)
+found_passes test (s ∷ others) sign h =
+    cond_both (test s) (Some s) (find test others) (λ (o : Option Sign). o ≡ Some sign → test sign ≡ true)
+    (λ passes e. subst (λ (x : Sign). test x ≡ true) (same_Some s sign e) passes)
+    (λ _ e. found_passes test others sign e)
+    h
 
--- the byte is the sign of one byte
-single_tells : (byte : ℕ) (sign : Sign) → single_sign byte ≡ Some sign → byte ∷ [] ≡ sign_bytes sign
-single_tells byte sign =
-    single_case byte 43 Sign.Plus sign _ refl
-    (single_case byte 45 Sign.Minus sign _ refl
-    (single_case byte 42 Sign.Times sign _ refl
-    (single_case byte 47 Sign.Divide sign _ refl
-    (single_case byte 61 Sign.Equal sign _ refl
-    (single_case byte 60 Sign.Less sign _ refl
-    (single_case byte 62 Sign.Greater sign _ refl
-    (single_case byte 38 Sign.Ampersand sign _ refl
-    (single_case byte 124 Sign.Bar sign _ refl
-    (single_case byte 94 Sign.Caret sign _ refl
-    (single_case byte 40 Sign.OpenParenthesis sign _ refl
-    (single_case byte 41 Sign.CloseParenthesis sign _ refl
-    (single_case byte 44 Sign.Comma sign None refl (λ e. absurd (none-some sign e))))))))))))))
-
-double_case : (first second one two : ℕ) (which sign : Sign) (others : Option Sign) → sign_bytes which ≡ one ∷ two ∷ []
-    → (others ≡ Some sign → first ∷ second ∷ [] ≡ sign_bytes sign)
-    → cond (eqb first one && eqb second two) (Some which) others ≡ Some sign → first ∷ second ∷ [] ≡ sign_bytes sign
-double_case first second one two which sign others spelt else_ =
-    cond_both (eqb first one && eqb second two) (Some which) others
-    (λ (o : Option Sign). o ≡ Some sign → first ∷ second ∷ [] ≡ sign_bytes sign)
-    (λ same e. let both = and_parts (eqb first one) (eqb second two) same in
-    ap (λ (b : ℕ). b ∷ second ∷ []) (eqb-true first one both.0) ∙ ap (λ (b : ℕ). one ∷ b ∷ []) (eqb-true second two both.1)
-    ∙ sym spelt ∙ ap sign_bytes (same_Some which sign e))
-    (λ _ e. else_ e)
-
--- the bytes are the sign of two bytes
-double_tells : (first second : ℕ) (sign : Sign) → double_sign first second ≡ Some sign → first ∷ second ∷ [] ≡ sign_bytes sign
-double_tells first second sign =
-    double_case first second 124 124 Sign.Join sign _ refl
-    (double_case first second 94 61 Sign.NotEqual sign _ refl
-    (double_case first second 60 61 Sign.LessEqual sign _ refl
-    (double_case first second 62 61 Sign.GreaterEqual sign None refl (λ e. absurd (none-some sign e)))))
+-- the bytes are those of the sign that they are found as
+found_spelt : (bytes : List ℕ) (sign : Sign) → sign_of bytes ≡ Some sign → bytes ≡ sign_bytes sign
+found_spelt bytes sign h =
+    (bytes_eq-Decides bytes (sign_bytes sign)).0 (found_passes (λ (s : Sign). bytes_eq bytes (sign_bytes s)) signs sign h)
 
 tells_sign : (bytes behind : List ℕ) (sign : Sign) (n : ℕ) (front : Front) → bytes ≡ sign_bytes sign → length bytes ≡ n
     → sign_kept sign n ≡ front → Tells (bytes ++ behind) front
@@ -241,12 +212,12 @@ tells_sign bytes behind sign n front spelt size h = record {
 }
 
 sign_tells : (first : ℕ) (rest : List ℕ) (front : Front) (double single : Option Sign) → double_at first rest ≡ double
-    → single_sign first ≡ single → sign_of double single ≡ Some front → Tells (first ∷ rest) front
+    → sign_of (first ∷ []) ≡ single → longer_sign double single ≡ Some front → Tells (first ∷ rest) front
 sign_tells first [] front (Some s) single is_double is_single h = absurd (none-some s is_double)
 sign_tells first (second ∷ rest) front (Some s) single is_double is_single h =
-    tells_sign (first ∷ second ∷ []) rest s 2 front (double_tells first second s is_double) refl (same_Some (sign_kept s 2) front h)
+    tells_sign (first ∷ second ∷ []) rest s 2 front (found_spelt (first ∷ second ∷ []) s is_double) refl (same_Some (sign_kept s 2) front h)
 sign_tells first rest front None (Some s) is_double is_single h =
-    tells_sign (first ∷ []) rest s 1 front (single_tells first s is_single) refl (same_Some (sign_kept s 1) front h)
+    tells_sign (first ∷ []) rest s 1 front (found_spelt (first ∷ []) s is_single) refl (same_Some (sign_kept s 1) front h)
 sign_tells first rest front None None is_double is_single h = absurd (none-some front h)
 
 -- what is found begins the text
@@ -267,5 +238,5 @@ found_tells (first ∷ rest) front h =
     (λ _. cond_both (is_digit first) (Some (number_front (first ∷ rest))) (sign_front first rest)
     (λ (o : Option Front). o ≡ Some front → Tells (first ∷ rest) front)
     (λ digit e. number_front_tells first rest front digit (same_Some (number_front (first ∷ rest)) front e))
-    (λ _ e. sign_tells first rest front (double_at first rest) (single_sign first) refl refl e)))
+    (λ _ e. sign_tells first rest front (double_at first rest) (sign_of (first ∷ [])) refl refl e)))
     h

@@ -1,6 +1,6 @@
 -- No token at the front of a text is longer than the one that the model of the code finds there.
 use Rattle.std.proofs.Common.{◌≡◌, ℕ, ◌<◌, ◌≤◌, ◌⊎◌, min, Bool, true, false, not, ◌&&◌, ◌||◌, cond, eqb, List, [], ◌∷◌, ◌++◌, length, take, drop, refl, sym, ap, ◌∙◌, subst, inl, inr, arith, lit≤, Option, Some, None}
-use Rattle.std.specs.Prelude.{nat_le, IsTrue}
+use Rattle.std.specs.Prelude.{nat_le, IsTrue, bytes_eq, find}
 use Rattle.std.specs.List.{list_all, prefix_len}
 use Rattle.std.proofs.lemmas.Bool.{or_parts, and_parts, and_right, cond-true, cond-false, le-leb, cases_Bool, not-true, not_from_false, not_from_true, false≢true}
 use Rattle.std.proofs.lemmas.Bool.Decides.{nat_tests}
@@ -9,13 +9,13 @@ use Rattle.std.proofs.lemmas.List.{take_at, drop_at}
 use Rattle.plcs_base.specs.Byte.{is_letter, is_digit, is_name_byte}
 use Rattle.plcs_base.specs.Name.{is_keyword, is_word, is_name, IsName, longest_name}
 use Rattle.plcs_grammar.specs.declared.sign.Sign.{Sign}
-use Rattle.plcs_grammar.specs.Sign.{sign_bytes}
+use Rattle.plcs_grammar.specs.Sign.{signs, sign_bytes}
 use Rattle.plcs_grammar.specs.Token.{Token, IsToken, IsNumeral, IsConstantText, begins_with, is_quote, numeral_value, quoted, bit_bytes}
 use Rattle.phrase_parser.specs.declared.front.Front.{Front}
 use Rattle.phrase_parser.specs.declared.token.TokenKind.{TokenKind}
 use Rattle.phrase_parser.specs.declared.token.TokenKind.TheVariants as kind
 use Rattle.phrase_parser.specs.Private.Kept.{kept_kind, greatest_kept}
-use Rattle.phrase_parser.specs.Private.Front.{front_of, word_of, word_front, number_kept, number_front, constant_of, constant_front, bit_constant, constant_end, sign_of, sign_front, double_at, ends_word}
+use Rattle.phrase_parser.specs.Private.Front.{front_of, word_of, word_front, number_kept, number_front, constant_of, constant_front, bit_constant, constant_end, longer_sign, sign_front, double_at, ends_word}
 use Rattle.phrase_parser.proofs.Tokens.ByteRuns.{run_append, run_none, run_begins}
 use Rattle.phrase_parser.proofs.Tokens.QuotedTexts.{quoted_read, quoted_append}
 use Rattle.phrase_parser.proofs.Tokens.FrontTokens.{BeginsBit, bit_tells, bit_read}
@@ -194,7 +194,7 @@ bit_found true behind ends =
 
 -- signs
 
-covered_single : (double : Option Sign) (sign : Sign) → Covers (kind.Sign sign) 1 (sign_of double (Some sign))
+covered_single : (double : Option Sign) (sign : Sign) → Covers (kind.Sign sign) 1 (longer_sign double (Some sign))
 covered_single (Some other) sign = inl (lit≤ tt)
 covered_single None sign = inr (refl, refl)
 
@@ -226,21 +226,42 @@ is_second byte = eqb byte 61 || eqb byte 124
 abbrev pub EndsSign : List ℕ → Type 0
 EndsSign behind = begins_with is_second behind ≡ false
 
+-- the two bytes are no sign, where the second ends no sign
+other_sign : (s : Sign) (first second : ℕ) → eqb second 61 ≡ false → eqb second 124 ≡ false
+    → bytes_eq (first ∷ second ∷ []) (sign_bytes s) ≡ false
+other_sign Sign.Plus first second equal bar = and_right (eqb first 43) false refl
+other_sign Sign.Minus first second equal bar = and_right (eqb first 45) false refl
+other_sign Sign.Times first second equal bar = and_right (eqb first 42) false refl
+other_sign Sign.Divide first second equal bar = and_right (eqb first 47) false refl
+other_sign Sign.Join first second equal bar = and_right (eqb first 124) (eqb second 124 && true) (ap (λ (b : Bool). b && true) bar)
+other_sign Sign.Equal first second equal bar = and_right (eqb first 61) false refl
+other_sign Sign.NotEqual first second equal bar = and_right (eqb first 94) (eqb second 61 && true) (ap (λ (b : Bool). b && true) equal)
+other_sign Sign.Less first second equal bar = and_right (eqb first 60) false refl
+other_sign Sign.LessEqual first second equal bar = and_right (eqb first 60) (eqb second 61 && true) (ap (λ (b : Bool). b && true) equal)
+other_sign Sign.Greater first second equal bar = and_right (eqb first 62) false refl
+other_sign Sign.GreaterEqual first second equal bar = and_right (eqb first 62) (eqb second 61 && true) (ap (λ (b : Bool). b && true) equal)
+other_sign Sign.Ampersand first second equal bar = and_right (eqb first 38) false refl
+other_sign Sign.Bar first second equal bar = and_right (eqb first 124) false refl
+other_sign Sign.Caret first second equal bar = and_right (eqb first 94) false refl
+other_sign Sign.OpenParenthesis first second equal bar = and_right (eqb first 40) false refl
+other_sign Sign.CloseParenthesis first second equal bar = and_right (eqb first 41) false refl
+other_sign Sign.Comma first second equal bar = and_right (eqb first 44) false refl
+
+-- nothing is found, where none passes the test
+none_found : (test : Sign → Bool) → ((s : Sign) → test s ≡ false) → (among : List Sign) → find test among ≡ None
+none_found test fails [] = refl
+none_found test fails (s ∷ others) = cond-false (test s) (Some s) (find test others) (fails s) ∙ none_found test fails others
+
 -- where a sign ends, no sign of two bytes stands
 pub double_none : (first : ℕ) (behind : List ℕ) → EndsSign behind → double_at first behind ≡ None
 double_none first [] ends = refl
 double_none first (second ∷ rest) ends =
     let parts = or_parts (eqb second 61) (eqb second 124) ends in
-    let equal = parts.0 in
-    let bar = parts.1 in
-    cond-false (eqb first 124 && eqb second 124) _ _ (and_right (eqb first 124) (eqb second 124) bar)
-    ∙ cond-false (eqb first 94 && eqb second 61) _ _ (and_right (eqb first 94) (eqb second 61) equal)
-    ∙ cond-false (eqb first 60 && eqb second 61) _ _ (and_right (eqb first 60) (eqb second 61) equal)
-    ∙ cond-false (eqb first 62 && eqb second 61) _ _ (and_right (eqb first 62) (eqb second 61) equal)
+    none_found (λ (s : Sign). bytes_eq (first ∷ second ∷ []) (sign_bytes s)) (λ s. other_sign s first second parts.0 parts.1) signs
 
 found_single : (first : ℕ) (behind : List ℕ) (sign : Sign) → EndsSign behind
-    → sign_of (double_at first behind) (Some sign) ≡ Some (front_with (kind.Sign sign) 1)
-found_single first behind sign ends = ap (λ (o : Option Sign). sign_of o (Some sign)) (double_none first behind ends)
+    → longer_sign (double_at first behind) (Some sign) ≡ Some (front_with (kind.Sign sign) 1)
+found_single first behind sign ends = ap (λ (o : Option Sign). longer_sign o (Some sign)) (double_none first behind ends)
 
 -- a sign is found, where nothing makes it longer
 pub sign_found : (s : Sign) (behind : List ℕ) → EndsSign behind

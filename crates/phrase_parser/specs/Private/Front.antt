@@ -8,6 +8,7 @@ use Rattle.plcs_base.specs.Name.{is_name, longest_name}
 use Rattle.plcs_grammar.specs.Token.{begins_with, is_quote, numeral_value}
 use Rattle.plcs_grammar.specs.Cuts.{is_blank}
 use Rattle.plcs_grammar.specs.declared.sign.Sign.{Sign}
+use Rattle.plcs_grammar.specs.Sign.{sign_of}
 use Rattle.phrase_parser.specs.declared.byte_class.ByteClass.{ByteClass}
 use Rattle.phrase_parser.specs.declared.byte_class.ByteClass.TheVariants as class
 use Rattle.phrase_parser.specs.declared.front.Front.{Front}
@@ -84,51 +85,24 @@ constant_of None None = None
 abbrev pub constant_front : List ℕ → Option Front
 constant_front x = constant_of (bit_constant x) (constant_end 1 0 (drop 1 x))
 
--- the sign of one byte
-abbrev pub single_sign : ℕ → Option Sign
-single_sign byte =
-    if byte == 43 then Some Sign.Plus
-    else if byte == 45 then Some Sign.Minus
-    else if byte == 42 then Some Sign.Times
-    else if byte == 47 then Some Sign.Divide
-    else if byte == 61 then Some Sign.Equal
-    else if byte == 60 then Some Sign.Less
-    else if byte == 62 then Some Sign.Greater
-    else if byte == 38 then Some Sign.Ampersand
-    else if byte == 124 then Some Sign.Bar
-    else if byte == 94 then Some Sign.Caret
-    else if byte == 40 then Some Sign.OpenParenthesis
-    else if byte == 41 then Some Sign.CloseParenthesis
-    else if byte == 44 then Some Sign.Comma
-    else None
-
--- the sign of two bytes
-abbrev pub double_sign : ℕ → ℕ → Option Sign
-double_sign first second =
-    if (first == 124) && (second == 124) then Some Sign.Join
-    else if (first == 94) && (second == 61) then Some Sign.NotEqual
-    else if (first == 60) && (second == 61) then Some Sign.LessEqual
-    else if (first == 62) && (second == 61) then Some Sign.GreaterEqual
-    else None
-
 -- the sign of two bytes, if there is a second
 abbrev pub double_at : ℕ → List ℕ → Option Sign
 double_at first [] = None
-double_at first (second ∷ rest) = double_sign first second
+double_at first (second ∷ rest) = sign_of (first ∷ second ∷ [])
 
 -- a sign of so many bytes
 abbrev pub sign_kept : Sign → ℕ → Front
 sign_kept s length = record { kind = kind.Sign s; length = length }
 
 -- the sign of two bytes, or else the one of one byte
-abbrev pub sign_of : Option Sign → Option Sign → Option Front
-sign_of (Some double) single = Some (sign_kept double 2)
-sign_of None (Some single) = Some (sign_kept single 1)
-sign_of None None = None
+abbrev pub longer_sign : Option Sign → Option Sign → Option Front
+longer_sign (Some double) single = Some (sign_kept double 2)
+longer_sign None (Some single) = Some (sign_kept single 1)
+longer_sign None None = None
 
 -- a sign of two bytes, or else of one
 abbrev pub sign_front : ℕ → List ℕ → Option Front
-sign_front first rest = sign_of (double_at first rest) (single_sign first)
+sign_front first rest = longer_sign (double_at first rest) (sign_of (first ∷ []))
 
 -- what the text begins with
 abbrev pub front_of : List ℕ → Option Front
