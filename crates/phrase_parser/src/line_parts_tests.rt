@@ -1,3 +1,5 @@
+//! Lines that are cut at their dividers.
+
 use crate::line_parts::cut_at;
 use std::test::Fail;
 
