@@ -4,23 +4,23 @@ use Rattle.std.proofs.Common.{ap, sym, ◌∙◌, arith, add-one, subst, ◌⊎�
 use Rattle.std.proofs.lemmas.Bool.{ne_eqb, cases_lt}
 use Rattle.std.proofs.lemmas.Option.{none-some}
 use Rattle.plcs_grammar.specs.Template.{row_of, program_sections}
-use Rattle.template_tree.specs.Build.{built}
+use Rattle.template_tree.specs.Build.{built_tree}
 use Rattle.template_tree.specs.Limit.{deepest_path, most_slots}
 use Rattle.template_tree.specs.Program.{sorts, sort_of, Fill, AreNodes, IsProgram}
 use Rattle.template_tree.specs.Tree.{IsTree}
 use Rattle.template_tree.specs.PlainTree.{Label, Forest, PlainNode, PlainNodes, nodes, forest, forest_nodes}
-use Rattle.template_tree.specs.Slots.{count, depth, times, AllBelow, numbered}
+use Rattle.template_tree.specs.Slots.{count, depth, times, AllBelow, with_slots_from}
 use Rattle.template_tree.proofs.SameEdits.{taken}
 
 -- a list whose nodes after so many have the slots from a number on
 abbrev pub numbered_after : ℕ → ℕ → List PlainNode → List PlainNode
-numbered_after zero next items = nodes (numbered next (forest items))
+numbered_after zero next items = nodes (with_slots_from next (forest items))
 numbered_after (suc k) next [] = []
 numbered_after (suc k) next (item ∷ items) = item ∷ numbered_after k next items
 
 -- a node with slots drawn from a number on
 abbrev pub drawn : ℕ → PlainNode → PlainNode
-drawn next node = record { label = record node.label { slot = next }; inner = numbered (next + 1) node.inner }
+drawn next node = record { label = record node.label { slot = next }; inner = with_slots_from (next + 1) node.inner }
 
 -- one more item has its slots
 pub one_more : (k next : ℕ) (items : List PlainNode) (node : PlainNode) → slice_get items k ≡ Some node
@@ -55,15 +55,15 @@ pub fewer : (k : ℕ) (items : List PlainNode) (node new : PlainNode) → slice_
     → count (forest (drop k items)) ≡ count node.inner + count (forest (drop (k + 1) (slice_set items k new))) + 1
 fewer k items node new e = rw (add-one k) (left_fewer k items node new e)
 
--- a node whose slot was set and whose list was numbered has its slots
+-- a node whose slot was set and whose list was with_slots_from has its slots
 pub written : (label : Label) (next : ℕ) (old new : PlainNodes)
-    → new ≡ record old { items = nodes (numbered (next + 1) (forest old.items)) }
+    → new ≡ record old { items = nodes (with_slots_from (next + 1) (forest old.items)) }
     → record { label = record label { slot = next; spare = new.spare }; inner = forest new.items }
     ≡ drawn next record { label = record label { spare = old.spare }; inner = forest old.items }
 written label next old new e =
     ap (λ (list : PlainNodes). let node : PlainNode = record { label = record label { slot = next; spare = list.spare }; inner = forest list.items } in node) e
     ∙ ap (λ inner. let node : PlainNode = record { label = record label { slot = next; spare = old.spare }; inner = inner } in node)
-    (forest_nodes (numbered (next + 1) (forest old.items)))
+    (forest_nodes (with_slots_from (next + 1) (forest old.items)))
 
 -- a list is told by its items and its room
 pub list_is : (list : PlainNodes) (items : List PlainNode) (spare : ℕ) → list.items ≡ items → list.spare ≡ spare
@@ -71,22 +71,22 @@ pub list_is : (list : PlainNodes) (items : List PlainNode) (spare : ℕ) → lis
 list_is list items spare p q = λ i. record { items = p i; spare = q i }
 
 -- numbering changes neither the number of nodes nor their depth
-pub count_numbered : (first : ℕ) (items : Forest) → count (numbered first items) ≡ count items
+pub count_numbered : (first : ℕ) (items : Forest) → count (with_slots_from first items) ≡ count items
 count_numbered first Forest.nil = refl
 count_numbered first (Forest.cons label inner rest) =
     rw (count_numbered (first + 1) inner, count_numbered (first + 1 + count inner) rest) refl
 
-pub depth_numbered : (first : ℕ) (items : Forest) → depth (numbered first items) ≡ depth items
+pub depth_numbered : (first : ℕ) (items : Forest) → depth (with_slots_from first items) ≡ depth items
 depth_numbered first Forest.nil = refl
 depth_numbered first (Forest.cons label inner rest) =
     rw (depth_numbered (first + 1) inner, depth_numbered (first + 1 + count inner) rest) refl
 
 -- nor their sorts, nor what they are
-pub sorts_numbered : (first : ℕ) (items : Forest) → sorts (numbered first items) ≡ sorts items
+pub sorts_numbered : (first : ℕ) (items : Forest) → sorts (with_slots_from first items) ≡ sorts items
 sorts_numbered first Forest.nil = refl
 sorts_numbered first (Forest.cons label inner rest) = ap (λ ss. sort_of label.kind ∷ ss) (sorts_numbered (first + 1 + count inner) rest)
 
-pub nodes_numbered : (first : ℕ) (items : Forest) → AreNodes items → AreNodes (numbered first items)
+pub nodes_numbered : (first : ℕ) (items : Forest) → AreNodes items → AreNodes (with_slots_from first items)
 nodes_numbered first Forest.nil h = h
 nodes_numbered first (Forest.cons label inner rest) h = (
   record {
@@ -99,7 +99,7 @@ nodes_numbered first (Forest.cons label inner rest) h = (
 )
 
 -- each slot is below the next number
-pub below_numbered : (first bound : ℕ) (items : Forest) → first + count items ≤ bound → AllBelow bound (numbered first items)
+pub below_numbered : (first bound : ℕ) (items : Forest) → first + count items ≤ bound → AllBelow bound (with_slots_from first items)
 below_numbered first bound Forest.nil h = tt
 below_numbered first bound (Forest.cons label inner rest) h = (
   omega (arith, h),
@@ -122,7 +122,7 @@ one_at_most : (a b : ℕ) → one_if a b ≤ 1
 one_at_most a b = at_most (a == b)
 
 -- no slot before the first number stands there
-pub none_before : (slot first : ℕ) (items : Forest) → slot < first → times slot (numbered first items) ≡ 0
+pub none_before : (slot first : ℕ) (items : Forest) → slot < first → times slot (with_slots_from first items) ≡ 0
 none_before slot first Forest.nil h = refl
 none_before slot first (Forest.cons label inner rest) h =
     omega (
@@ -133,7 +133,7 @@ none_before slot first (Forest.cons label inner rest) h =
     )
 
 -- nor one after the last
-pub none_after : (slot first : ℕ) (items : Forest) → first + count items ≤ slot → times slot (numbered first items) ≡ 0
+pub none_after : (slot first : ℕ) (items : Forest) → first + count items ≤ slot → times slot (with_slots_from first items) ≡ 0
 none_after slot first Forest.nil h = refl
 none_after slot first (Forest.cons label inner rest) h =
     omega (
@@ -158,19 +158,19 @@ once_by_order slot first own others i r one off i_one r_one i_before i_after r_b
     omega (arith, off (omega (arith, past)), i_after beside, r_one)
 
 -- each stands there but once
-pub once_numbered : (slot first : ℕ) (items : Forest) → times slot (numbered first items) ≤ 1
+pub once_numbered : (slot first : ℕ) (items : Forest) → times slot (with_slots_from first items) ≤ 1
 once_numbered slot first Forest.nil = omega arith
 once_numbered slot first (Forest.cons label inner rest) =
-    once_by_order slot first (one_if first slot) (count inner) (times slot (numbered (first + 1) inner))
-    (times slot (numbered (first + 1 + count inner) rest)) (one_at_most first slot)
+    once_by_order slot first (one_if first slot) (count inner) (times slot (with_slots_from (first + 1) inner))
+    (times slot (with_slots_from (first + 1 + count inner) rest)) (one_at_most first slot)
     (λ past. other_slot first slot (λ same. omega (arith, past))) (once_numbered slot (first + 1) inner)
     (once_numbered slot (first + 1 + count inner) rest) (none_before slot (first + 1) inner) (none_after slot (first + 1) inner)
     (none_before slot (first + 1 + count inner) rest) (cases_lt slot (first + 1)) (cases_lt slot (first + 1 + count inner))
 
 -- the tree that is built from a program within the limits is a tree
-pub built_tree : (list : PlainNodes) → IsProgram (forest list.items) → depth (forest list.items) ≤ deepest_path
-    → count (forest list.items) ≤ most_slots → IsTree (built list)
-built_tree list program shallow few =
+pub built_is_tree : (list : PlainNodes) → IsProgram (forest list.items) → depth (forest list.items) ≤ deepest_path
+    → count (forest list.items) ≤ most_slots → IsTree (built_tree list)
+built_is_tree list program shallow few =
     let items = forest list.items in
     record {
       program =
@@ -186,14 +186,14 @@ built_tree list program shallow few =
       live = sym (count_numbered 0 items);
     }
 
--- what is made of the numbered list is that tree
+-- what is made of the with_slots_from list is that tree
 pub built_is : (list new : PlainNodes) (read : List PlainNode) (left most : ℕ) → read ≡ list.items
-    → left + count (forest read) ≡ most → new ≡ record list { items = nodes (numbered 0 (forest list.items)) }
-    → record { items = forest new.items; spare = new.spare; drawn = most - left; live = most - left } ≡ built list
+    → left + count (forest read) ≡ most → new ≡ record list { items = nodes (with_slots_from 0 (forest list.items)) }
+    → record { items = forest new.items; spare = new.spare; drawn = most - left; live = most - left } ≡ built_tree list
 built_is list new read left most same sum e =
     let drawn_is : most - left ≡ count (forest list.items) = rw (← same) (omega (arith, sum)) in
-    let items_are : forest new.items ≡ numbered 0 (forest list.items) =
-    ap (λ (l : PlainNodes). forest l.items) e ∙ forest_nodes (numbered 0 (forest list.items))
+    let items_are : forest new.items ≡ with_slots_from 0 (forest list.items) =
+    ap (λ (l : PlainNodes). forest l.items) e ∙ forest_nodes (with_slots_from 0 (forest list.items))
     in
     let spare_is : new.spare ≡ list.spare = ap (λ (l : PlainNodes). l.spare) e in
     λ i. record { items = items_are i; spare = spare_is i; drawn = drawn_is i; live = drawn_is i }

@@ -13,9 +13,9 @@ use Rattle.template_tree.specs.PlainTree.{Label, Forest, PlainNode, PlainTree}
 use Rattle.template_tree.specs.Program.{sorts, sort_of, parts_of, Fill, AreParts, IsNode, IsPhrase, AreNodes, IsSubtree}
 use Rattle.template_tree.specs.Part.{Takes, IsPlace, part_category, with_part}
 use Rattle.template_tree.specs.Slots.{count, depth, times, AllBelow}
-use Rattle.template_tree.specs.Path.{node_at, edit_at}
+use Rattle.template_tree.specs.Path.{node_at}
 use Rattle.template_tree.specs.Tree.{IsTree}
-use Rattle.template_tree.specs.Edit.{Part, edit_slot, with_items}
+use Rattle.template_tree.specs.Edit.{edit_at, Part, edit_slot, with_items}
 use Rattle.template_tree.specs.TreeLend.{with_node}
 use Rattle.template_tree.specs.Elision.{is_comment, turn}
 use Rattle.template_tree.proofs.SameEdits.{taken, edits_alike}

@@ -180,10 +180,10 @@ elided_lines = refl
 
 -- a stop at a node, and one at a part
 abbrev at : List ℕ → ℕ → VisibleStop
-at path line = record { path = path; part = None; line = line }
+at path line = record { stop = record { path = path; part = None }; line = line }
 
 abbrev in_part : List ℕ → ℕ → ℕ → VisibleStop
-in_part path part line = record { path = path; part = Some part; line = line }
+in_part path part line = record { stop = record { path = path; part = Some part }; line = line }
 
 elided_stops :
     Stops elided

@@ -2,7 +2,8 @@
 use Rattle.std.specs.Prelude.{◌≡◌, refl, ℕ, zero, suc, List, [], ◌∷◌, option_and_then, slice_get, slice_set, slice_index_or}
 use Rattle.std.proofs.Common.{ap, sym, ◌∙◌}
 use Rattle.template_tree.specs.PlainTree.{Forest, PlainNode, PlainNodes, PlainTree, nodes, forest, forest_nodes, nodes_forest}
-use Rattle.template_tree.specs.Path.{below, node_at, give_way, changed, edit_at}
+use Rattle.template_tree.specs.Path.{below, node_at}
+use Rattle.template_tree.specs.Edit.{give_way, edit_below, edit_at}
 use Rattle.template_tree.specs.Descent.{put_below, put_in}
 use Rattle.template_tree.specs.TreeLend.{with_node}
 
@@ -18,18 +19,18 @@ set_is_give_way change put one (Forest.cons label inner rest) (suc k) else_node 
     ap (Forest.cons label inner) (set_is_give_way change put one rest k else_node)
 
 -- what a node becomes where the node at the path is put
-pub put_is_changed : (new : PlainNode) (path : List ℕ) (node : PlainNode) → changed (λ _. new ∷ []) path node ≡ put_below path new node ∷ []
-put_is_changed new [] node = refl
-put_is_changed new (k ∷ path) node =
+pub put_is_edit_below : (new : PlainNode) (path : List ℕ) (node : PlainNode) → edit_below (λ _. new ∷ []) path node ≡ put_below path new node ∷ []
+put_is_edit_below new [] node = refl
+put_is_edit_below new (k ∷ path) node =
     ap (λ inner. record node { inner = inner } ∷ [])
-    (sym (set_is_give_way (changed (λ _. new ∷ []) path) (put_below path new) (put_is_changed new path) node.inner k new))
+    (sym (set_is_give_way (edit_below (λ _. new ∷ []) path) (put_below path new) (put_is_edit_below new path) node.inner k new))
 
 -- a list of items, with a node put below one of them
 pub put_is_edit : (list : PlainNodes) (k : ℕ) (path : List ℕ) (new : PlainNode)
     → forest (put_in list k path new).items ≡ edit_at (λ _. new ∷ []) (k ∷ path) (forest list.items)
 put_is_edit list k path new =
     ap (λ items. forest (slice_set items k (put_below path new (slice_index_or items k new)))) (sym (nodes_forest list.items))
-    ∙ set_is_give_way (changed (λ _. new ∷ []) path) (put_below path new) (put_is_changed new path) (forest list.items) k new
+    ∙ set_is_give_way (edit_below (λ _. new ∷ []) path) (put_below path new) (put_is_edit_below new path) (forest list.items) k new
 
 -- a tree, whose items are the list, with a node put below one of them
 pub put_in_tree : (list : PlainNodes) (drawn live : ℕ) (tree : PlainTree) (path : List ℕ) (k : ℕ) (rest : List ℕ)

@@ -7,11 +7,11 @@ use Rattle.std.proofs.lemmas.Option.{none-some}
 use Rattle.plcs_grammar.specs.Template.{row_of, program_sections}
 use Rattle.template_tree.specs.PlainTree.{Label, Forest, PlainNode, PlainTree}
 use Rattle.template_tree.specs.Program.{sorts, sort_of, Fill, IsNode, AreNodes, IsSubtree}
-use Rattle.template_tree.specs.Slots.{count, depth, times, AllBelow, numbered}
-use Rattle.template_tree.specs.Path.{node_at, edit_at}
+use Rattle.template_tree.specs.Slots.{count, depth, times, AllBelow, with_slots_from}
+use Rattle.template_tree.specs.Path.{node_at}
 use Rattle.template_tree.specs.Limit.{deepest_path, most_slots, most_drawn}
 use Rattle.template_tree.specs.Tree.{IsTree}
-use Rattle.template_tree.specs.Edit.{Put, edit_slot, placed, whole}
+use Rattle.template_tree.specs.Edit.{edit_at, Put, edit_slot, node_in_slot, whole}
 use Rattle.template_tree.proofs.SameEdits.{taken}
 use Rattle.template_tree.proofs.DrawnSlots.{count_numbered, sorts_numbered, nodes_numbered, below_numbered, none_before, once_numbered}
 use Rattle.template_tree.proofs.SlotEdits.{slot_edit_is_path_edit}
@@ -133,9 +133,9 @@ nodes_whole (Forest.cons label inner rest) h = (
 
 -- a node as it comes into a slot
 placed_replaces : (node new : PlainNode) (next : ℕ) → IsSubtree new → sort_of new.label.kind ≡ sort_of node.label.kind
-    → Replaces node (placed node.label.slot next new)
+    → Replaces node (node_in_slot node.label.slot next new)
 placed_replaces node new next sound same =
-    let kinds : sorts (numbered next (whole new.inner)) ≡ sorts new.inner = sorts_numbered next (whole new.inner) ∙ sorts_whole new.inner in
+    let kinds : sorts (with_slots_from next (whole new.inner)) ≡ sorts new.inner = sorts_numbered next (whole new.inner) ∙ sorts_whole new.inner in
     record {
       slot = refl;
       sort = same;
@@ -151,7 +151,7 @@ placed_replaces node new next sound same =
 
 -- a slot stands but once where those before were drawn, and those that come were not
 once_again : (slot drawn : ℕ) (before after gone come : Forest) → AllBelow drawn before → times slot before ≤ 1
-    → times slot after + times slot gone ≡ times slot before + times slot (numbered drawn come) → times slot after ≤ 1
+    → times slot after + times slot gone ≡ times slot before + times slot (with_slots_from drawn come) → times slot after ≤ 1
 once_again slot drawn before after gone come below once e =
     elim (cases_lt slot drawn) [
       | inl old ↦ omega (arith, once, e, none_before slot drawn come old)
@@ -165,7 +165,7 @@ pub put_keeps_tree : (tree : PlainTree) (path : List ℕ) (node new : PlainNode)
     → (Put tree node.label.slot new).drawn ≤ most_drawn
     → IsTree (Put tree node.label.slot new) × ((Put tree node.label.slot new).live + count node.inner ≡ tree.live + count new.inner)
 put_keeps_tree tree path node new t there sound same shallow few drawn_few =
-    let come = placed node.label.slot tree.drawn new in
+    let come = node_in_slot node.label.slot tree.drawn new in
     let after : Forest = edit_slot node.label.slot (λ _. come ∷ []) tree.items in
     let by_path : edit_at (λ _. come ∷ []) path tree.items ≡ after =
     sym (slot_edit_is_path_edit (λ _. come ∷ []) tree.items path node (t.once node.label.slot) there) in

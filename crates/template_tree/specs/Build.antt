@@ -5,17 +5,17 @@ use Rattle.plcs_grammar.specs.PlainPhrase.{PlainPhrase}
 use Rattle.template_tree.specs.declared.build.OverLimit.{OverLimit}
 use Rattle.template_tree.specs.Limit.{deepest_path, most_slots}
 use Rattle.template_tree.specs.PlainTree.{Label, Forest, PlainNodes, PlainTree, forest}
-use Rattle.template_tree.specs.Slots.{count, depth, numbered}
+use Rattle.template_tree.specs.Slots.{count, depth, with_slots_from}
 
 -- the label of a node of the kind with these parts, whose slot isn't drawn yet; nothing is elided
 abbrev pub built_label : NodeKind → List (Option PlainPhrase) → (spare : ℕ) → Label
 built_label kind parts spare = record { slot = 0; kind = kind; parts = parts; elided = false; spare = spare }
 
 -- the tree with these items, whose slots are drawn from 0 in listing order
-abbrev pub built : PlainNodes → PlainTree
-built list =
+abbrev pub built_tree : PlainNodes → PlainTree
+built_tree list =
     record {
-      items = numbered 0 (forest list.items);
+      items = with_slots_from 0 (forest list.items);
       spare = list.spare;
       drawn = count (forest list.items);
       live = count (forest list.items);

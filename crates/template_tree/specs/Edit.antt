@@ -1,5 +1,5 @@
 -- Edits of a tree, each at a slot.
-use Rattle.std.specs.Prelude.{◌≡◌, ℕ, ◌+◌, false, if◌then◌else◌, ◌==◌, nat_lt, List, [], ◌∷◌, ◌++◌, find, Option, Some, None, option_map}
+use Rattle.std.specs.Prelude.{◌≡◌, ℕ, zero, suc, ◌+◌, false, if◌then◌else◌, ◌==◌, nat_lt, List, [], ◌∷◌, ◌++◌, find, Option, Some, None, option_map}
 use Rattle.plcs_grammar.specs.declared.node_kind.NodeKind.{NodeKind}
 use Rattle.plcs_grammar.specs.declared.node_kind.Sort.{Sort}
 use Rattle.plcs_grammar.specs.PlainPhrase.{PlainPhrase}
@@ -9,7 +9,23 @@ use Rattle.template_tree.specs.declared.change.What.{What}
 use Rattle.template_tree.specs.PlainTree.{Forest, PlainNode, PlainTree, nodes, forest, join, roomless}
 use Rattle.template_tree.specs.Program.{sort_of}
 use Rattle.template_tree.specs.Part.{with_part}
-use Rattle.template_tree.specs.Slots.{count, times, numbered}
+use Rattle.template_tree.specs.Slots.{count, times, with_slots_from}
+
+-- the item of this number gives way to a list of items
+abbrev pub give_way : (PlainNode → List PlainNode) → ℕ → Forest → Forest
+give_way change k Forest.nil = Forest.nil
+give_way change zero (Forest.cons label inner rest) = join (forest (change record { label = label; inner = inner })) rest
+give_way change (suc k) (Forest.cons label inner rest) = Forest.cons label inner (give_way change k rest)
+
+-- what a node becomes where the node at the path below it gives way to a list of items
+abbrev pub edit_below : (PlainNode → List PlainNode) → List ℕ → PlainNode → List PlainNode
+edit_below change [] node = change node
+edit_below change (k ∷ path) node = record node { inner = give_way (edit_below change path) k node.inner } ∷ []
+
+-- the nodes after the one at the path gave way to a list of items: every edit is this one
+abbrev pub edit_at : (PlainNode → List PlainNode) → List ℕ → Forest → Forest
+edit_at change [] items = items
+edit_at change (k ∷ path) items = give_way (edit_below change path) k items
 
 -- the nodes after the one in the slot gave way to a list of items
 abbrev pub edit_slot : ℕ → (PlainNode → List PlainNode) → Forest → Forest
@@ -29,9 +45,9 @@ whole Forest.nil = Forest.nil
 whole (Forest.cons label inner rest) = Forest.cons (record label { elided = false }) (whole inner) (whole rest)
 
 -- a node as it comes into a slot: its inner nodes take the next slots in listing order, and nothing in it is elided
-abbrev pub placed : ℕ → ℕ → PlainNode → PlainNode
-placed slot next node =
-    record { label = record node.label { slot = slot; elided = false }; inner = numbered next (whole node.inner) }
+abbrev pub node_in_slot : ℕ → ℕ → PlainNode → PlainNode
+node_in_slot slot next node =
+    record { label = record node.label { slot = slot; elided = false }; inner = with_slots_from next (whole node.inner) }
 
 -- the kind of the hole that stands where nodes of the sort stand; main has none
 abbrev pub hole_of : Sort → Option NodeKind
@@ -58,7 +74,7 @@ with_hole slot Side.After item = item ∷ hole_list slot (hole_of (sort_of item.
 -- the tree with the node in place of what stood in the slot
 abbrev pub Put : PlainTree → ℕ → PlainNode → PlainTree
 Put tree slot node =
-    with_items tree (edit_slot slot (λ _. placed slot tree.drawn node ∷ []) tree.items) (tree.drawn + count node.inner)
+    with_items tree (edit_slot slot (λ _. node_in_slot slot tree.drawn node ∷ []) tree.items) (tree.drawn + count node.inner)
 
 -- the tree with a hole beside the item in the slot
 abbrev pub Add : PlainTree → ℕ → Side → PlainTree

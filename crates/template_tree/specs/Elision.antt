@@ -4,7 +4,7 @@ use Rattle.plcs_grammar.specs.declared.node_kind.NodeKind.{NodeKind}
 use Rattle.plcs_grammar.specs.declared.template.Template.{Template}
 use Rattle.plcs_grammar.specs.declared.template.Template.TheVariants.{Comment}
 use Rattle.template_tree.specs.PlainTree.{PlainNode, PlainTree}
-use Rattle.template_tree.specs.Path.{edit_at}
+use Rattle.template_tree.specs.Edit.{edit_at}
 
 -- whether the template is a comment
 abbrev pub is_comment_template : Template → Bool
@@ -17,8 +17,8 @@ is_comment (NodeKind.Filled template) = is_comment_template template
 is_comment other = false
 
 -- whether a comment is hidden once it is turned; nothing else can be turned
-abbrev pub turned : PlainNode → Option Bool
-turned node = if is_comment node.label.kind then Some (not node.label.elided) else None
+abbrev pub hidden_after_turn : PlainNode → Option Bool
+hidden_after_turn node = if is_comment node.label.kind then Some (not node.label.elided) else None
 
 -- a comment turned, or another node as it is
 abbrev pub turn : PlainNode → List PlainNode
@@ -26,5 +26,5 @@ turn node =
     (if is_comment node.label.kind then record node { label = record node.label { elided = not node.label.elided } } else node) ∷ []
 
 -- the tree with the comment at the path turned
-abbrev pub turned_at : List ℕ → PlainTree → PlainTree
-turned_at path tree = record tree { items = edit_at turn path tree.items }
+abbrev pub with_turn_at : List ℕ → PlainTree → PlainTree
+with_turn_at path tree = record tree { items = edit_at turn path tree.items }

@@ -19,7 +19,7 @@ pub mod Elision
 -- ---- places of a run
 pub mod Place
 -- ---- the laws
-pub mod Law
+pub mod TreeLaws
 -- ---- the listing, and what the cursor may stand on
 pub mod Section
 pub mod Line

@@ -23,7 +23,7 @@ AllBelow number Forest.nil = Unit {0}
 AllBelow number (Forest.cons label inner rest) = (label.slot < number) × AllBelow number inner × AllBelow number rest
 
 -- the nodes with slots from a number on, drawn in listing order
-abbrev pub numbered : ℕ → Forest → Forest
-numbered first Forest.nil = Forest.nil
-numbered first (Forest.cons label inner rest) =
-    Forest.cons (record label { slot = first }) (numbered (first + 1) inner) (numbered (first + 1 + count inner) rest)
+abbrev pub with_slots_from : ℕ → Forest → Forest
+with_slots_from first Forest.nil = Forest.nil
+with_slots_from first (Forest.cons label inner rest) =
+    Forest.cons (record label { slot = first }) (with_slots_from (first + 1) inner) (with_slots_from (first + 1 + count inner) rest)

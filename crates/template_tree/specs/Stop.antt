@@ -1,9 +1,10 @@
 -- The stops of the cursor, and the lines on which they stand.
-use Rattle.std.specs.Prelude.{ℕ, ◌+◌, true, if◌then◌else◌, List, [], ◌∷◌, ◌++◌, length, map, flat_map, Option, Some, None}
+use Rattle.std.specs.Prelude.{ℕ, ◌+◌, ◌<◌, true, if◌then◌else◌, List, [], ◌∷◌, ◌++◌, length, map, flat_map, Option, Some, None, IsSomeAnd, option_and_then, slice_get}
 use Rattle.std.specs.List.{range_with_len}
 use Rattle.plcs_grammar.specs.declared.node_kind.NodeKind.{NodeKind}
 use Rattle.plcs_grammar.specs.Template.{PlainSection, row_of, program_sections}
-use Rattle.template_tree.specs.PlainTree.{Forest}
+use Rattle.template_tree.specs.declared.stop.Stop.{Stop}
+use Rattle.template_tree.specs.PlainTree.{Forest, PlainNode, nodes}
 use Rattle.template_tree.specs.Program.{parts_of, sort_of}
 use Rattle.template_tree.specs.Section.{left_for, left_after, next_lead}
 use Rattle.template_tree.specs.Line.{lines, fixed_line}
@@ -14,10 +15,18 @@ pub record VisibleNode : Type 0 where
   pub line : ℕ
   pub parts : ℕ
 
--- a visible stop: a node or one of its parts, and the number of its line
-pub record VisibleStop : Type 0 where
+-- a stop: the node at the path, or one of its parts
+pub record PlainStop : Type 0 where
   pub path : List ℕ
   pub part : Option ℕ
+
+-- the plain form of a stop
+abbrev pub plain_stop : Stop → PlainStop
+plain_stop stop = record { path = stop.path.items; part = stop.part }
+
+-- a visible stop, and the number of its line
+pub record VisibleStop : Type 0 where
+  pub stop : PlainStop
   pub line : ℕ
 
 -- how many parts of a node are stops: each, but in an assignment none, since there the node itself is where one types
@@ -44,9 +53,29 @@ visible_nodes left k line (Forest.cons label inner rest) =
 -- the stops of a node: its own, then its parts
 abbrev pub stops_of : VisibleNode → List VisibleStop
 stops_of node =
-    record { path = node.path; part = None; line = node.line }
-    ∷ map (λ part. record { path = node.path; part = Some part; line = node.line }) (range_with_len 0 node.parts)
+    record { stop = record { path = node.path; part = None }; line = node.line }
+    ∷ map (λ part. record { stop = record { path = node.path; part = Some part }; line = node.line }) (range_with_len 0 node.parts)
 
 -- the visible stops in listing order
 abbrev pub Stops : Forest → List VisibleStop
 Stops items = flat_map stops_of (visible_nodes program_sections 0 0 items)
+
+-- the node at the path below a node, where nothing on the way to it is elided
+abbrev pub visible_below : PlainNode → List ℕ → Option PlainNode
+visible_below node [] = Some node
+visible_below node (k ∷ path) =
+    if node.label.elided then None else option_and_then (λ item. visible_below item path) (slice_get (nodes node.inner) k)
+
+-- the node at the path, where nothing on the way to it is elided
+abbrev pub visible_at : Forest → List ℕ → Option PlainNode
+visible_at items [] = None
+visible_at items (k ∷ path) = option_and_then (λ item. visible_below item path) (slice_get (nodes items) k)
+
+-- the cursor may stand in a node of the kind as the part says: on the node itself, or in a part that is a stop
+abbrev pub MayStand : Option ℕ → NodeKind → Type 0
+MayStand None kind = Unit {0}
+MayStand (Some part) kind = part < part_stops kind
+
+-- the cursor may stand at the stop: it is visible
+abbrev pub IsStop : Forest → PlainStop → Type 0
+IsStop items stop = IsSomeAnd (visible_at items stop.path) (λ node. MayStand stop.part node.label.kind)

@@ -1,11 +1,11 @@
 //! Nodes and trees built from their leaves.
 ghost use Rattle.std.specs.Prelude.{◌≡◌, ◌↔◌, ◌+◌, ◌<◌, ◌≤◌, IfErr, IfNone, IfOk, IfSome, IsTrue, map};
-ghost use Rattle.template_tree.specs.Build.{Over, built, built_label};
+ghost use Rattle.template_tree.specs.Build.{Over, built_label, built_tree};
 ghost use Rattle.template_tree.specs.Limit.{deepest_path, most_slots};
 ghost use Rattle.template_tree.specs.PlainPlace.{plain_place};
 ghost use Rattle.template_tree.specs.PlainTree.{nodes, forest};
 ghost use Rattle.template_tree.specs.Program.{AreNodes, IsNode, IsProgram, IsSubtree, sorts};
-ghost use Rattle.template_tree.specs.Slots.{count, depth, numbered};
+ghost use Rattle.template_tree.specs.Slots.{count, depth, with_slots_from};
 ghost use Rattle.template_tree.specs.Tree.{IsTree};
 
 use crate::limit::{DEEPEST_PATH, MOST_SLOTS};
@@ -46,7 +46,7 @@ impl Tree {
     /// order. Where they are over both limits, it is the depth that is told. It takes no memory.
     pub fn built(items: Nodes) -> Result<Tree, OverLimit>
         requires program { IsProgram (forest items.items) }
-        ensures built { IfOk result (λ tree. tree ≡ built items) }
+        ensures built { IfOk result (λ tree. tree ≡ built_tree items) }
         ensures within { IfOk result (λ _. (depth (forest items.items) ≤ deepest_path) × (count (forest items.items) ≤ most_slots)) }
         ensures over { IfErr result (Over (forest items.items)) }
         ensures tree { IfOk result IsTree }
@@ -103,7 +103,7 @@ fn slots_left(nodes: &[Node], slots: u32) -> Option<u32>
 /// Gives the nodes the slots from this number on in listing order, and says which number is next.
 fn draw_slots(list: &mut Nodes, first: u32) -> u32
     requires few { first + count (forest list.old.items) ≤ 4294967295 }
-    ensures drawn { list.new ≡ record list.old { items = nodes (numbered first (forest list.old.items)) } }
+    ensures drawn { list.new ≡ record list.old { items = nodes (with_slots_from first (forest list.old.items)) } }
     ensures next { result ≡ first + count (forest list.old.items) }
 {
     let mut next = first;

@@ -1,6 +1,6 @@
 //! Refinements that are hidden.
 ghost use Rattle.std.specs.Prelude.{◌≡◌, ◌∷◌, [], option_and_then};
-ghost use Rattle.template_tree.specs.Elision.{turn, turned, turned_at};
+ghost use Rattle.template_tree.specs.Elision.{hidden_after_turn, turn, with_turn_at};
 ghost use Rattle.template_tree.specs.Path.{node_at};
 ghost use Rattle.template_tree.specs.Tree.{IsTree};
 
@@ -14,8 +14,8 @@ impl Tree {
     /// hidden now. `None` where no comment stands there. It takes no memory.
     pub fn elide(&mut self, path: &Path) -> Option<bool>
         requires tree { IsTree self.old }
-        ensures told { result ≡ option_and_then turned (node_at self.old.items path.now.items) }
-        ensures changed { self.new ≡ turned_at path.now.items self.old }
+        ensures told { result ≡ option_and_then hidden_after_turn (node_at self.old.items path.now.items) }
+        ensures changed { self.new ≡ with_turn_at path.now.items self.old }
         ensures tree { IsTree self.new }
     {
         let Some(node) = self.node_mut(path) else {
@@ -29,7 +29,7 @@ impl Node {
     /// Hides its refinement or shows it again, where it is a comment, and tells whether it is hidden
     /// now.
     fn turn(&mut self) -> Option<bool>
-        ensures told { result ≡ turned self.old }
+        ensures told { result ≡ hidden_after_turn self.old }
         ensures turned { turn self.old ≡ self.new ∷ [] }
     {
         if self.kind != NodeKind::Filled(Template::Comment) {

@@ -7,7 +7,6 @@ mod build_tests;
 mod change;
 mod descent;
 mod elide;
-mod law;
 mod limit;
 mod listing;
 mod node;
@@ -19,19 +18,22 @@ mod put_part;
 mod sections_left;
 mod side;
 mod slot_count;
+mod stop;
 #[cfg(test)]
 mod tests;
 mod tree;
+mod tree_laws;
 
 pub use build::OverLimit;
 pub use change::{Change, What};
-pub use law::{
-    listing_splits_in_lines, part_keeps_tree, put_keeps_tree, set_part_keeps_tree,
-    slot_edit_is_path_edit,
-};
+pub use listing::listing_splits_in_lines;
 pub use limit::{DEEPEST_PATH, LONGEST_PHRASE, MOST_DRAWN, MOST_SLOTS};
 pub use node::{Node, Nodes};
 pub use path::Path;
 pub use phrase_place::PhrasePlace;
 pub use side::Side;
+pub use stop::Stop;
 pub use tree::Tree;
+pub use tree_laws::{
+    part_keeps_tree, put_keeps_tree, set_part_keeps_tree, slot_edit_is_path_edit,
+};

@@ -1,3 +1,5 @@
+//! What stands in the parts of nodes.
+
 use plcs_grammar::Phrase;
 
 /// What stands in a part.

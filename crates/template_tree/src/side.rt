@@ -1,3 +1,5 @@
+//! Sides of an item.
+
 /// On which side of an item.
 #[derive(Clone, Copy, Debug, PartialEq, Eq)]
 pub enum Side {

@@ -4,7 +4,7 @@ use Rattle.template_tree.specs.Limit.{deepest_path, most_slots}
 use Rattle.template_tree.specs.PlainTree.{forest}
 use Rattle.template_tree.specs.Slots.{count, depth}
 use Rattle.template_tree.specs.Tree.{IsTree}
-use Rattle.template_tree.proofs.DrawnSlots.{built_is, built_tree}
+use Rattle.template_tree.proofs.DrawnSlots.{built_is, built_is_tree}
 use Rattle.template_tree.proofs.tree.Tree.built.Goals as goal
 
 pub returns-clause-built : goal.returns-clause-built
@@ -23,4 +23,4 @@ returns-clause-tree c =
     let few : count (forest c.args.items.items) ≤ most_slots =
     subst (λ items. count (forest items) ≤ most_slots) c.as_slice-2.ensures (omega (arith, c.in-Some.ensures.left))
     in
-    subst IsTree (sym is) (built_tree c.args.items c.requires.program shallow few)
+    subst IsTree (sym is) (built_is_tree c.args.items c.requires.program shallow few)

@@ -8,8 +8,8 @@ use Rattle.template_tree.specs.Part.{IsPlace, Takes, part_category, with_part}
 use Rattle.template_tree.specs.Slots.{count, depth, times}
 use Rattle.template_tree.specs.Tree.{IsTree}
 use Rattle.template_tree.specs.TreeLend.{with_node}
-use Rattle.template_tree.specs.Path.{node_at, edit_at}
-use Rattle.template_tree.specs.Edit.{Part, Put, edit_slot}
+use Rattle.template_tree.specs.Path.{node_at}
+use Rattle.template_tree.specs.Edit.{Part, Put, edit_at, edit_slot}
 
 -- an edit by slot is the edit at the path of the node that stands there, where the slot stands but once
 abbrev pub SlotEditIsPathEdit : Type 0

@@ -1,8 +1,5 @@
 //! The laws of trees, each a function that does nothing and whose contract states it.
-ghost use Rattle.template_tree.specs.Law.{PartKeepsTree, PutKeepsTree, SetPartKeepsTree, SlotEditIsPathEdit};
-ghost use Rattle.template_tree.specs.Listing.{ListingSplitsInLines};
-
-use plcs_grammar::canonical_texts_show;
+ghost use Rattle.template_tree.specs.TreeLaws.{PartKeepsTree, PutKeepsTree, SetPartKeepsTree, SlotEditIsPathEdit};
 
 /// An edit by slot is the edit at the path of the node that stands there.
 pub fn slot_edit_is_path_edit()
@@ -23,10 +20,3 @@ pub fn part_keeps_tree()
 pub fn put_keeps_tree()
     ensures { PutKeepsTree }
 {}
-
-/// The lines of a program's listing are its bytes, split at each byte 10.
-pub fn listing_splits_in_lines()
-    ensures { ListingSplitsInLines }
-{
-    canonical_texts_show();
-}

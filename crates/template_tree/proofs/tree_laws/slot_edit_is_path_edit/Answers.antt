@@ -1,4 +1,4 @@
-use Rattle.template_tree.proofs.law.slot_edit_is_path_edit.Goals as goal
+use Rattle.template_tree.proofs.tree_laws.slot_edit_is_path_edit.Goals as goal
 use Rattle.template_tree.proofs.SlotEdits.{slot_edit_is_path_edit}
 
 pub returns : goal.returns

@@ -1,4 +1,4 @@
-use Rattle.template_tree.proofs.law.part_keeps_tree.Goals as goal
+use Rattle.template_tree.proofs.tree_laws.part_keeps_tree.Goals as goal
 use Rattle.template_tree.proofs.KeptTrees.{part_keeps_tree}
 
 pub returns : goal.returns

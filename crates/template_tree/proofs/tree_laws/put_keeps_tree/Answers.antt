@@ -1,4 +1,4 @@
-use Rattle.template_tree.proofs.law.put_keeps_tree.Goals as goal
+use Rattle.template_tree.proofs.tree_laws.put_keeps_tree.Goals as goal
 use Rattle.template_tree.proofs.PutTrees.{put_keeps_tree}
 
 pub returns : goal.returns
