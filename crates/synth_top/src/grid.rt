@@ -3,10 +3,12 @@
 ghost use Rattle.std.specs.Prelude.{◌≡◌, ◌+◌, ◌-◌, ◌≤◌, ◌<◌, [], ◌++◌, length, replicate, slice_index_or, IfOk};
 ghost use Rattle.arrayvec.specs.ArrayVec.{array_vec_len};
 ghost use Rattle.synth_top.specs.Screen.{cursor_col, cursor_row, grid, blank, input_text, part_text, prompt, row_text, shown, statement_line, window_text};
+ghost use Rattle.synth_top.specs.Extent.{most_cols};
 ghost use Rattle.synth_top.specs.Private.PlainForms.{plain_session, plain_grid};
 ghost use Rattle.synth_top.specs.Session.{message_text};
 ghost use Rattle.synth_top.specs.Private.Sized.{IsSized};
 
+use crate::bound::MOST_COLS;
 use crate::session::{Refusal, Session, Statement};
 use crate::size::ScreenSize;
 use crate::text::put;
@@ -20,8 +22,11 @@ const BLANK: u16 = 32;
 /// The rows that don't show the program: dashes, three rows of output, the message and the input.
 const OTHER_ROWS: usize = 6;
 
+/// How many bytes the text of a row has at most.
+const LONGEST_ROW: usize = MOST_COLS as usize;
+
 /// The text of one row, which is at most as long as the widest screen.
-type RowText = ArrayVec<u8, 160>;
+type RowText = ArrayVec<u8, LONGEST_ROW>;
 
 /// What a screen shows: its rows of cells from the top, and the cursor's row and column, which
 /// count from 1. A cell is its byte, plus 256 where it is in negative image.
@@ -162,7 +167,7 @@ fn put_part(text: &mut RowText, part: Option<u32>)
 /// The row between the window and the output.
 fn put_dashes(text: &mut RowText, count: u16)
     requires empty { text.old.items ≡ [] }
-    requires room { count ≤ 160 }
+    requires room { count ≤ most_cols }
     ensures { text.new.items ≡ replicate count 45 }
 {
     for _ in 0..count {

@@ -7,6 +7,7 @@ ghost use Rattle.synth_top.specs.Run.{Ended};
 ghost use Rattle.synth_top.specs.Status.{CausedBy, LeftAs};
 ghost use Rattle.synth_top.specs.Words.{options_of};
 
+mod bound;
 mod grid;
 mod key;
 mod number;

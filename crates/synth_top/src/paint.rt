@@ -2,6 +2,7 @@
 
 ghost use Rattle.std.specs.Prelude.{◌≡◌, ◌+◌, ◌≤◌, [], ◌++◌, false, decimal, length, take};
 ghost use Rattle.arrayvec.specs.ArrayVec.{array_vec_len};
+ghost use Rattle.synth_top.specs.Extent.{most_cols};
 ghost use Rattle.synth_top.specs.Paint.{go_to, image_change, paint, row_piece, row_paint, rows_paint, spelled, visible};
 ghost use Rattle.synth_top.specs.Private.Sized.{IsSized};
 ghost use Rattle.synth_top.specs.Private.PlainForms.{plain_grid};
@@ -56,7 +57,7 @@ fn paint_rows<K: Sink>(
 
 /// Paints one row, whose number counts from 1, where it differs.
 fn paint_row<K: Sink>(number: u16, old: &[u16], new: &[u16], sink: &mut K) -> Result<(), SinkFault>
-    requires { length new.now ≤ 160 }
+    requires { length new.now ≤ most_cols }
     ensures { Writes (row_paint number old.now new.now) result
         (K.taken sink.old) (K.taken sink.new) (K.faults sink.old) (K.faults sink.new) }
 {
@@ -82,7 +83,7 @@ fn paint_cursor<K: Sink>(grid: &Grid, sink: &mut K) -> Result<(), SinkFault>
 #[tactic(auto, unfolding(crate::specs::Paint::row_piece), using(std::proofs::Common::append_assoc))]
 fn put_row_piece(piece: &mut Piece, number: u16, cells: &[u16])
     requires empty { piece.old.items ≡ [] }
-    requires short { length cells.now ≤ 160 }
+    requires short { length cells.now ≤ most_cols }
     ensures { piece.new.items ≡ row_piece number cells.now }
 {
     put_go_to(piece, number, 1);
@@ -93,7 +94,7 @@ fn put_row_piece(piece: &mut Piece, number: u16, cells: &[u16])
 /// Appends cells, each in its image.
 fn put_cells(piece: &mut Piece, cells: &[u16])
     requires room { array_vec_len piece.old ≤ 100 }
-    requires short { length cells.now ≤ 160 }
+    requires short { length cells.now ≤ most_cols }
     ensures cells { piece.new.items ≡ piece.old.items ++ spelled false cells.now }
     ensures fits { array_vec_len piece.new ≤ 1000 }
 {

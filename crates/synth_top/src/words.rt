@@ -5,6 +5,7 @@ ghost use Rattle.std.specs.String.{string_bytes};
 ghost use Rattle.synth_top.specs.Private.PlainForms.{plain_options};
 ghost use Rattle.synth_top.specs.Words.{count_between, options_of};
 
+use crate::bound::{LEAST_COLS, LEAST_ROWS, MOST_COLS, MOST_ROWS, USUAL_COLS, USUAL_ROWS};
 use crate::number::number_in_digits;
 use crate::size::ScreenSize;
 
@@ -28,15 +29,15 @@ pub fn options_of(words: &[String]) -> Option<Options>
 {
     match words {
         [] => Some(Options {
-            size: ScreenSize::new(24, 80),
+            size: ScreenSize::new(USUAL_ROWS, USUAL_COLS),
             key_limit: KEY_LIMIT,
         }),
         [first, rows, second, cols] => {
             if first.as_str() != "--rows" || second.as_str() != "--cols" {
                 return None;
             }
-            let rows = count_between(12, 100, rows.as_str())?;
-            let cols = count_between(40, 160, cols.as_str())?;
+            let rows = count_between(LEAST_ROWS, MOST_ROWS, rows.as_str())?;
+            let cols = count_between(LEAST_COLS, MOST_COLS, cols.as_str())?;
             Some(Options {
                 size: ScreenSize::new(rows, cols),
                 key_limit: KEY_LIMIT,
