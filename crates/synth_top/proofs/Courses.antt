@@ -15,7 +15,7 @@ use Rattle.synth_top.specs.Run.{Told, Loads, NoRescue, IsFront, IsOver, Course, 
 use Rattle.synth_top.specs.Screen.{grid}
 use Rattle.synth_top.specs.Session.{new_session}
 use Rattle.synth_top.specs.Turn.{State, IsMapOf, PressedKey, Replied, after, ends, grids}
-use Rattle.synth_top.specs.Words.{PlainOptions}
+use Rattle.synth_top.specs.Options.{PlainOptions}
 
 -- no file was loaded
 abbrev pub no_loads : Loads

@@ -2,7 +2,7 @@
 use Rattle.std.proofs.Common.{◌≡◌, refl}
 use Rattle.synth_top.specs.declared.bound.TheConstants.{LEAST_ROWS, MOST_ROWS, LEAST_COLS, MOST_COLS, USUAL_ROWS, USUAL_COLS}
 use Rattle.synth_top.specs.declared.session.TheConstants.{GREATEST_NUMBER, LINE_LIMIT}
-use Rattle.synth_top.specs.declared.words.TheConstants.{KEY_LIMIT}
+use Rattle.synth_top.specs.declared.options.TheConstants.{KEY_LIMIT}
 
 -- how many bytes of keys are taken at most
 pub key_limit_is : KEY_LIMIT ≡ 1000000000

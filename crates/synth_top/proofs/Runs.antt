@@ -14,7 +14,7 @@ use Rattle.synth_top.specs.Keys.{Feeds, IsHeld, completed, keys, listed}
 use Rattle.synth_top.specs.Private.Pressing.{Moment, AllShown, UpToLast, KeysShown, Pressed, ended_as}
 use Rattle.synth_top.specs.Run.{Told, NoRescue, EndRead, LimitTaken, IsFront, IsOver, Course, AtLastKey, PressedAll, ReadCut, ReadsInTurn, Ended, keys_pressed, raised_by, first_state, painted_over, written}
 use Rattle.synth_top.specs.Turn.{PressedKey, ends, grids}
-use Rattle.synth_top.specs.Words.{PlainOptions}
+use Rattle.synth_top.specs.Options.{PlainOptions}
 use Rattle.synth_top.proofs.Courses.{Opened, InTurn, told_at, all_course, all_going, last_course, at_last, one_byte, last_ends, last_all}
 use Rattle.synth_top.proofs.KeysInOrder.{keys_pressed-append, both_shown, then_up_to, front_behind, ends_more, painted_more}
 

@@ -11,7 +11,7 @@ use Rattle.synth_top.specs.Reply.{Reply, NotAsked, failure}
 use Rattle.synth_top.specs.Screen.{PlainGrid, grid, blank}
 use Rattle.synth_top.specs.Session.{PlainSession, new_session}
 use Rattle.synth_top.specs.Turn.{State, IsMapOf, PressedKey, Replied, after, ends, failures, grids}
-use Rattle.synth_top.specs.Words.{PlainOptions}
+use Rattle.synth_top.specs.Options.{PlainOptions}
 
 -- ---- what is written
 

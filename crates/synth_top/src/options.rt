@@ -3,7 +3,7 @@
 ghost use Rattle.std.specs.Prelude.{◌≡◌, ◌≤◌, map, option_map, IfSome};
 ghost use Rattle.std.specs.String.{string_bytes};
 ghost use Rattle.synth_top.specs.Private.PlainForms.{plain_options};
-ghost use Rattle.synth_top.specs.Words.{count_between, options_of};
+ghost use Rattle.synth_top.specs.Options.{count_between, options_of};
 
 use crate::bound::{LEAST_COLS, LEAST_ROWS, MOST_COLS, MOST_ROWS, USUAL_COLS, USUAL_ROWS};
 use crate::number::number_in_digits;
@@ -23,7 +23,7 @@ pub struct Options {
 
 /// What the words after the program's name ask for: a screen of 24 by 80 where there are none, or
 /// that of `--rows N --cols M`. `None` where the words are any others.
-#[tactic(auto, unfolding(crate::specs::Words::options_of))]
+#[tactic(auto, unfolding(crate::specs::Options::options_of))]
 pub fn options_of(words: &[String]) -> Option<Options>
     ensures { option_map plain_options result ≡ options_of (map string_bytes words.now) }
 {

@@ -1,4 +1,4 @@
-//! Texts of bytes with room for a row.
+//! The text of a row, in an array with room for it.
 
 ghost use Rattle.std.specs.Prelude.{◌≡◌, ◌+◌, ◌≤◌, ◌++◌, length};
 ghost use Rattle.arrayvec.specs.ArrayVec.{array_vec_len};
@@ -6,7 +6,7 @@ ghost use Rattle.arrayvec.specs.ArrayVec.{array_vec_len};
 use arrayvec::ArrayVec;
 
 /// Appends bytes to a text that has room for them.
-pub fn put<const N: usize>(text: &mut ArrayVec<u8, N>, bytes: &[u8])
+pub fn append<const N: usize>(text: &mut ArrayVec<u8, N>, bytes: &[u8])
     requires { array_vec_len text.old + length bytes.now ≤ N }
     ensures { text.new.items ≡ text.old.items ++ bytes.now }
 {

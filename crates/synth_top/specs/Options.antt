@@ -1,7 +1,7 @@
 -- The words that follow the program's name, and what they ask for.
 use Rattle.std.specs.Prelude.{ℕ, ◌&&◌, nat_le, List, [], ◌∷◌, Option, None, Some, codes, bytes_eq, if◌then◌else◌}
 use Rattle.std.specs.Option.{option_and_then}
-use Rattle.synth_top.specs.declared.words.TheConstants.{KEY_LIMIT}
+use Rattle.synth_top.specs.declared.options.TheConstants.{KEY_LIMIT}
 use Rattle.synth_top.specs.Extent.{Extent, least_cols, least_rows, most_cols, most_rows, usual_size}
 use Rattle.synth_top.specs.Number.{number_in_digits}
 
