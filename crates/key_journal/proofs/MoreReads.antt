@@ -3,7 +3,7 @@ use Rattle.std.proofs.Common.{◌≡◌, ℕ, ◌+◌, ◌≤◌, ◌<◌, ◌�
 use Rattle.std.specs.Prelude.{◌≢◌, IsSome}
 use Rattle.plcs_base.specs.Count.{raised}
 use Rattle.std.specs.Io.KnownBytes.{Consumes, IsAtEnd}
-use Rattle.key_journal.specs.AfterReads.{BreaksAt, CountsEnds, KeepsAll, KeepsAllButLast, LeadsTo, LeavesBetween}
+use Rattle.key_journal.specs.AfterReads.{BreaksAt, CountsEnds, CountsFault, KeepsAll, KeepsAllButLast, LeadsTo, LeavesBetween}
 use Rattle.key_journal.specs.Crash.{LeavesOnly, LeavesOneOf, Throughout}
 use Rattle.key_journal.specs.Disk.{DiskState, Newest}
 use Rattle.key_journal.specs.Journal.{PlainJournal}
@@ -205,6 +205,12 @@ no_key_behind old (next ∷ now) given key more none all each told gave =
     let ends : length (kept old) ≤ given = ends_before _ given all in
     omega (arith, below, total, zero_more, ends)
 
+-- a disk that told nothing before tells nothing
+untold_before : (before now : List DiskState) (P : DiskState → Type 0) → before ≡ [] →
+    Throughout P before now → now ≡ []
+untold_before [] now P none each = each
+untold_before (state ∷ before) now P none each = absurd (cc)
+
 -- the ends behind one more key
 counts_key : {S D E : Type 0} (left : S → Option (List ℕ)) (past : D → List DiskState)
     (first old now : PlainJournal S D) (key : ℕ) (taken : List ℕ) → CountsEnds left past first old →
@@ -222,11 +228,7 @@ counts_key left past first old now key taken counts consumes reads one read not_
   stays = λ fresh told disk. still fresh told disk (counts.stays fresh told (old_told disk));
 } where
   old_told : past now.disk ≢ [] → past old.disk ≢ []
-  old_told disk none = disk (untold (past old.disk) none reads.each) where
-    untold : (before : List DiskState) → before ≡ [] →
-        Throughout (LeavesOneOf (kept (past old.disk)) reads.taken) before (past now.disk) → past now.disk ≡ []
-    untold [] none each = each
-    untold (state ∷ before) none each = absurd (cc)
+  old_told disk none = disk (untold_before (past old.disk) (past now.disk) _ none reads.each)
 
   still : first.ended ≡ false → IsSome (left first.inner) → past now.disk ≢ [] →
       (counts.ends ≡ 0) ⊎ (old.ended ≡ true) → (counts.ends ≡ 0) ⊎ (now.ended ≡ true)
@@ -268,6 +270,30 @@ counts_end left past first old now counts reads same read ended = record {
   );
   stays = λ fresh told disk. inr ended;
 }
+
+-- the ends before a read that wasn't Ok
+counts_fault : {S D E : Type 0} (left : S → Option (List ℕ)) (past : D → List DiskState)
+    (first old now : PlainJournal S D) (fault : E) (taken : List ℕ) → CountsEnds left past first old →
+    Consumes (left first.inner) (left old.inner) taken →
+    (reads : ReadsKey {E = E} (left old.inner) (left now.inner) old.given (past old.disk) (past now.disk) (Err fault)) →
+    now.given ≡ old.given → now.reads ≡ raised old.reads → CountsFault left past first now reads.taken
+counts_fault left past first old now fault taken counts consumes reads same read = record {
+  ends = counts.ends;
+  counted = λ few.
+      let before : old.reads + first.given ≡ first.reads + old.given + counts.ends = counts.counted (omega (arith, few, read)) in
+      omega (arith, few, read, same, before);
+  none_behind = λ fresh told disk. still fresh told (counts.stays fresh told (old_told disk));
+} where
+  old_told : past now.disk ≢ [] → past old.disk ≢ []
+  old_told disk none = disk (untold_before (past old.disk) (past now.disk) _ none reads.each)
+
+  still : first.ended ≡ false → IsSome (left first.inner) →
+      (counts.ends ≡ 0) ⊎ (old.ended ≡ true) → (counts.ends ≡ 0) ⊎ (reads.taken ≡ [])
+  still fresh told (inl none) = inl none
+  still fresh told (inr ended) =
+      let there : (bytes : List ℕ) × (left old.inner ≡ Some bytes) =
+      told_left (left first.inner) (left old.inner) taken consumes told in
+      inr (ended_takes (left old.inner) (left now.inner) reads.taken there.0 there.1 (counts.at_end fresh ended).0 reads.consumes)
 
 -- a journal after one more key
 pub leads_key : {S D E : Type 0} (left : S → Option (List ℕ)) (source_faults : S → ℕ)
@@ -325,9 +351,9 @@ pub breaks : {S D E : Type 0} (left : S → Option (List ℕ)) (source_faults : 
     (leads_to first.inner old.inner → leads_to first.inner now.inner ⊎ breaks_at first.inner now.inner) →
     source_faults old.inner ≤ source_faults now.inner → disk_faults old.disk ≤ disk_faults now.disk →
     ReadsKey {E = E} (left old.inner) (left now.inner) old.given (past old.disk) (past now.disk) (Err fault) →
-    now.given ≡ old.given →
+    now.given ≡ old.given → now.reads ≡ raised old.reads →
     BreaksAt left source_faults leads_to breaks_at past disk_faults first now
-breaks left source_faults leads_to breaks_at past disk_faults first old now fault leads broke source_later disk_later reads same = record {
+breaks left source_faults leads_to breaks_at past disk_faults first old now fault leads broke source_later disk_later reads same read = record {
   source = broke leads.source;
   source_later = omega (arith, leads.source_same, source_later);
   disk_later = omega (arith, leads.disk_same, disk_later);
@@ -336,6 +362,7 @@ breaks left source_faults leads_to breaks_at past disk_faults first old now faul
   few = reads.few;
   consumes = consumes_both (left first.inner) (left old.inner) (left now.inner) leads.taken reads.taken leads.consumes reads.consumes;
   given_later = omega (arith, leads.given_later, same);
+  counts = counts_fault left past first old now fault leads.taken leads.counts leads.consumes reads same read;
   keeps = λ few safe.
       subst (λ (given : ℕ). KeepsAllButLast (past first.disk) (past now.disk) given leads.taken reads.taken) (sym same)
       (keeps_fault (past first.disk) (past old.disk) (past now.disk) old.given leads.taken reads.taken

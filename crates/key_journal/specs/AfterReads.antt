@@ -46,6 +46,16 @@ pub record CountsEnds {S D : Type 0} (left : S → Option (List ℕ)) (past : D 
   pub stays : first.ended ≡ false → IsSome (left first.inner) → past now.disk ≢ [] →
       (ends ≡ 0) ⊎ (now.ended ≡ true)
 
+-- the same counts behind a read that wasn't Ok; where both are told, it took no key behind the end
+pub record CountsFault {S D : Type 0} (left : S → Option (List ℕ)) (past : D → List DiskState)
+    (first now : PlainJournal S D) (last : List ℕ) : Type 0 where
+  pub ends : ℕ
+  -- each read but the last one gave one key or was the end
+  pub counted : now.reads < 2 ^ 64 - 1 →
+      now.reads + first.given ≡ first.reads + now.given + ends + 1
+  pub none_behind : first.ended ≡ false → IsSome (left first.inner) → past now.disk ≢ [] →
+      (ends ≡ 0) ⊎ (last ≡ [])
+
 -- a journal after some reads that were Ok
 pub record LeadsTo {S D : Type 0} (left : S → Option (List ℕ)) (source_faults : S → ℕ)
     (leads_to : S → S → Type 0) (past : D → List DiskState) (disk_faults : D → ℕ)
@@ -75,6 +85,7 @@ pub record BreaksAt {S D : Type 0} (left : S → Option (List ℕ)) (source_faul
   pub few : length last ≤ 1
   pub consumes : Consumes (left first.inner) (left now.inner) (taken ++ last)
   pub given_later : first.given ≤ now.given
+  pub counts : CountsFault left past first now last
   pub keeps : first.given ≤ length (kept (past first.disk)) →
       Newest (LeavesOnly (kept (past first.disk))) (past first.disk) →
       KeepsAllButLast (past first.disk) (past now.disk) now.given taken last

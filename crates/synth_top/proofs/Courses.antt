@@ -88,11 +88,11 @@ module _ (options : PlainOptions) (before now : Told) (read : now.left ≡ befor
     faults = omega (arith, faults);
   }
 
-  pub opening_failed : Ended WriteFault options before now
-  opening_failed = record { course = opening_course; stopped = (refl, inl (record { no_read = refl; no_byte = refl; no_key = refl })); rescued = refl }
+  pub opening_failed : {after_reads after_fault : Type 0} → after_reads → Ended WriteFault options before now after_reads after_fault
+  opening_failed led = record { course = opening_course; stopped = (refl, inl (record { no_read = refl; no_byte = refl; no_key = refl })); source = inl (led, refl); rescued = refl }
 
-  pub opening_wanted : Ended NoMemory options before now
-  opening_wanted = record { course = opening_course; stopped = inr (refl, inl (record { no_read = refl; no_byte = refl; no_key = refl })); rescued = refl }
+  pub opening_wanted : {after_reads after_fault : Type 0} → after_reads → Ended NoMemory options before now after_reads after_fault
+  opening_wanted led = record { course = opening_course; stopped = inr (refl, inl (record { no_read = refl; no_byte = refl; no_key = refl })); source = inl (led, refl); rescued = refl }
 
 module _ (options : PlainOptions) (before : Told) (opened m : Moment) (left : Option (List ℕ)) (now_reads : ℕ) (is_opened : Opened options before opened) where
   -- all that is written, from the opening screen on

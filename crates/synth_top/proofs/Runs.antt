@@ -1,19 +1,23 @@
 -- A run, byte by byte.
 use Rattle.std.proofs.Common.{◌≡◌, ◌<◌, ◌≤◌, ◌⊎◌, ℕ, ◌+◌, true, false, List, [], ◌∷◌, ◌++◌, Option, length, refl, sym, ap, ◌∙◌, subst, append_assoc, append-nil, arith, length-append, inl, inr}
+use Rattle.std.proofs.lemmas.Bool.{true≢false}
 use Rattle.std.proofs.lemmas.List.{same_from_push}
 use Rattle.std.proofs.KnownBytes.{Appends-nil, Consumes-nil, Consumes-trans}
 use Rattle.std.specs.Io.KnownBytes.{Consumes, IsAtEnd}
 use Rattle.plcs_base.specs.Count.{raised}
 use Rattle.synth_top.specs.declared.key.Key.{Key}
+use Rattle.synth_top.specs.declared.key.Key.TheVariants.{Other}
 use Rattle.synth_top.specs.declared.key.Keys.{Keys}
 use Rattle.synth_top.specs.declared.run.Going.{Going}
 use Rattle.synth_top.specs.declared.run.Going.TheVariants.{On, Over}
 use Rattle.synth_top.specs.declared.status.Status.{Status}
 use Rattle.synth_top.specs.declared.status.Status.TheVariants.{Done, ReadFault, WriteFault, NoMemory, BadWords, KeyLimit}
 use Rattle.synth_top.specs.Keys.{Feeds, IsHeld, completed, keys, listed}
-use Rattle.synth_top.specs.Private.Pressing.{Moment, AllShown, UpToLast, KeysShown, Pressed, ended_as}
+use Rattle.synth_top.specs.Private.Pressing.{Moment, AllShown, UpToLast, KeysShown, KeysQuit, Pressed, ended_as}
 use Rattle.synth_top.specs.Run.{Told, NoRescue, EndRead, LimitTaken, IsFront, IsOver, Course, AtLastKey, PressedAll, ReadCut, ReadsInTurn, Ended, keys_pressed, raised_by, first_state, painted_over, written}
-use Rattle.synth_top.specs.Turn.{PressedKey, ends, grids}
+use Rattle.synth_top.specs.Reply.{Reply}
+use Rattle.synth_top.specs.Session.{press}
+use Rattle.synth_top.specs.Turn.{State, PressedKey, ends, grids, turn}
 use Rattle.synth_top.specs.Options.{PlainOptions}
 use Rattle.synth_top.proofs.Courses.{Opened, InTurn, told_at, all_course, all_going, last_course, at_last, one_byte, last_ends, last_all}
 use Rattle.synth_top.proofs.KeysInOrder.{keys_pressed-append, both_shown, then_up_to, front_behind, ends_more, painted_more}
@@ -66,6 +70,33 @@ completed_list : (bytes held : List ℕ) (before : List Key) → ((rest : List �
 completed_list bytes held before so held_is =
     ended_list completed bytes held before so ∙ ap (λ l. before ++ l) (held_completes held held_is) ∙ append-nil before
 
+-- what isn't complete is no key, or one that ends no session
+other_goes_on : (s : State) (reply : Reply) → ends s (record { key = Other; reply = reply } ∷ []) ≡ false
+unfolding turn press
+other_goes_on s reply = refl
+
+rest_of_one : (m now : Moment) (rest : List Key) → rest ≡ Other ∷ [] → KeysQuit rest m now → ⊥
+rest_of_one m now rest one quit = quits_at quit.earlier quit.last quit.front quit.quit where
+  quits_at : (earlier : List PressedKey) (last : PressedKey) → IsFront (keys_pressed (earlier ++ last ∷ [])) rest
+      → ends m.state (earlier ++ last ∷ []) ≡ true → ⊥
+  quits_at [] last front ended =
+      let is_other : last.key ≡ Other = cc (front.1, one) in
+      absurd (true≢false (sym ended ∙ ap (λ key. ends m.state (record { key = key; reply = last.reply } ∷ [])) is_other ∙ other_goes_on m.state last.reply))
+  quits_at (first ∷ []) last front ended = absurd (cc (front.1, one))
+  quits_at (first ∷ next ∷ earlier) last front ended = absurd (cc (front.1, one))
+
+rest_of_none : (m now : Moment) (rest : List Key) → rest ≡ [] → KeysQuit rest m now → ⊥
+rest_of_none m now rest none quit = quits_at quit.earlier quit.last quit.front where
+  quits_at : (earlier : List PressedKey) (last : PressedKey) → IsFront (keys_pressed (earlier ++ last ∷ [])) rest → ⊥
+  quits_at [] last front = absurd (cc (front.1, none))
+  quits_at (first ∷ earlier) last front = absurd (cc (front.1, none))
+
+rest_goes_on : (held : List ℕ) (m now : Moment) → IsHeld held → KeysQuit (keys held) m now → ⊥
+unfolding keys
+rest_goes_on held m now (inl none) quit = rest_of_none m now (keys held) (ap keys none) quit
+rest_goes_on held m now (inr (inl escape)) quit = rest_of_one m now (keys held) (ap keys escape) quit
+rest_goes_on held m now (inr (inr bracket)) quit = rest_of_one m now (keys held) (ap keys bracket) quit
+
 -- ---- the opening screen was written, and nothing was read
 pub so_far_none : (options : PlainOptions) (before : Told) (left : Option (List ℕ)) (reads : ℕ) (held : List ℕ) (m : Moment) → left ≡ before.left → reads ≡ before.reads → held ≡ [] → Opened options before m
     → SoFar 0 options before left reads held m
@@ -106,7 +137,8 @@ module _ (number : ℕ) (options : PlainOptions) (before : Told) (left : Option 
       (reads : ℕ) (made : now_reads ≡ raised_by reads before.reads) (order : IsFront (pressed_keys ++ more) (keys bytes))
       (complete : IsFront (pressed_keys ++ more) (completed bytes) ⊎ IsOver options (told_at now_left now_reads now) bytes reads)
       (in_turn : (earlier : List PressedKey) → InTurn bytes (so.pressed ++ earlier))
-      (reads_in_turn : (earlier : List PressedKey) → ReadsInTurn options (told_at now_left now_reads now) bytes reads (so.pressed ++ earlier)) where
+      (reads_in_turn : (earlier : List PressedKey) → ReadsInTurn options (told_at now_left now_reads now) bytes reads (so.pressed ++ earlier))
+      (quit_last : KeysQuit more m now → reads ≡ length bytes) where
     nothing_behind : Consumes before.left now_left (bytes ++ [])
     nothing_behind = subst (Consumes before.left now_left) (sym (append-nil bytes)) read
 
@@ -153,8 +185,9 @@ module _ (number : ℕ) (options : PlainOptions) (before : Told) (left : Option 
           (front_trans _ _ _ in_front order) complete_front (omega (arith, bytes_are, all))
 
     -- by the status
-    pub stopped_at_key : (status : Status) → Pressed (Over status) more m now → Ended status options before (told_at now_left now_reads now)
-    stopped_at_key Done next = record {
+    pub stopped_at_key : (status : Status) → Pressed (Over status) more m now → {after_reads after_fault : Type 0} → after_reads
+        → Ended status options before (told_at now_left now_reads now) after_reads after_fault
+    stopped_at_key Done next led = record {
       course = course next.earlier next.last next.front next.count next.up_to;
       stopped = (
         all_written next.earlier next.last next.front next.count next.up_to next.all,
@@ -162,23 +195,27 @@ module _ (number : ℕ) (options : PlainOptions) (before : Told) (left : Option 
         inr (record {
           at_key = at_key next.earlier next.last next.front next.count next.up_to;
           quit = ends_as next.earlier next.last next.front next.count next.up_to true next.quit;
+          no_read = quit_last next;
         }),
       );
+      source = inl (led, refl);
       rescued = refl;
     }
-    stopped_at_key WriteFault next = record {
+    stopped_at_key WriteFault next led = record {
       course = course next.earlier next.last next.front next.count next.up_to;
       stopped = (refl, inr (record { at_key = at_key next.earlier next.last next.front next.count next.up_to; going = ends_as next.earlier next.last next.front next.count next.up_to false next.going }));
+      source = inl (led, refl);
       rescued = refl;
     }
-    stopped_at_key NoMemory next = record {
+    stopped_at_key NoMemory next led = record {
       course = course next.earlier next.last next.front next.count next.up_to;
       stopped = inr (refl, inr (record { at_key = at_key next.earlier next.last next.front next.count next.up_to; going = ends_as next.earlier next.last next.front next.count next.up_to false next.going }));
+      source = inl (led, refl);
       rescued = refl;
     }
-    stopped_at_key ReadFault next = absurd next
-    stopped_at_key BadWords next = absurd next
-    stopped_at_key KeyLimit next = absurd next
+    stopped_at_key ReadFault next led = absurd next
+    stopped_at_key BadWords next led = absurd next
+    stopped_at_key KeyLimit next led = absurd next
 
   -- ---- one more byte
   module _ (byte : ℕ) (given : Keys) (now_held : List ℕ) (feeds : Feeds held byte given now_held) (now_held_is : IsHeld now_held)
@@ -226,12 +263,13 @@ module _ (number : ℕ) (options : PlainOptions) (before : Told) (left : Option 
         })
 
     -- one of its keys ended the run
-    pub ended_by_byte : (status : Status) → number < options.key_limit → Pressed (Over status) (listed given) m now → Ended status options before (told_at now_left now_reads now)
-    ended_by_byte status below next =
+    pub ended_by_byte : (status : Status) → number < options.key_limit → Pressed (Over status) (listed given) m now → {after_reads after_fault : Type 0} → after_reads
+        → Ended status options before (told_at now_left now_reads now) after_reads after_fault
+    ended_by_byte status below next led =
         let done : completed now_bytes ≡ pressed_keys ++ listed given = completed_list now_bytes now_held (pressed_keys ++ listed given) completed_now now_held_is in
         stopped_at_key now_bytes (listed given) now_read (omega (arith, now_many, below)) (number + 1) (made_more one)
         (keys now_held, ended_list keys now_bytes now_held (pressed_keys ++ listed given) keys_now)
-        (inl ([], done ∙ sym (append-nil (pressed_keys ++ listed given)))) in_turn_now (λ earlier. inl (sym now_many)) status next
+        (inl ([], done ∙ sym (append-nil (pressed_keys ++ listed given)))) in_turn_now (λ earlier. inl (sym now_many)) (λ quit. sym now_many) status next led
 
   -- ---- a read gave no answer
   pub read_cut : (lost : List ℕ) → number < options.key_limit → length lost ≤ 1 → Consumes left now_left lost → now_reads ≡ raised so_reads → now ≡ m
@@ -278,10 +316,11 @@ module _ (number : ℕ) (options : PlainOptions) (before : Told) (left : Option 
         [ inl end ↦ inr (end, front) | inr limit ↦ inl limit.one_each ]
 
     -- what isn't complete ended the run
-    pub ended_by_rest : (status : Status) → Pressed (Over status) (keys held) m now → Ended status options before (told_at now_left now_reads now)
-    ended_by_rest status next =
+    pub ended_by_rest : (status : Status) → Pressed (Over status) (keys held) m now → {after_reads after_fault : Type 0} → after_reads
+        → Ended status options before (told_at now_left now_reads now) after_reads after_fault
+    ended_by_rest status next led =
         stopped_at_key so.bytes (keys held) all_read (omega (arith, so.many, within)) reads made ([], all_keys ∙ sym (append-nil (pressed_keys ++ keys held))) (inr over)
-        in_turn_still reads_still status next
+        in_turn_still reads_still (λ quit. absurd (rest_goes_on held m now so.held_is quit)) status next led
 
     -- all was shown
     pub all_pressed : KeysShown (keys held) m now
@@ -310,23 +349,25 @@ module _ (number : ℕ) (options : PlainOptions) (before : Told) (left : Option 
     end_read : EndRead options (told_at now_left now_reads now) so.bytes (number + 1)
     end_read = record { one_more = ap (λ n. n + 1) (sym so.many); below = omega (arith, so.many, below); ended = ended }
 
-    pub ended_at_end : (going : Going) → Pressed going (keys held) m now → Ended (ended_as going Done) options before (told_at now_left now_reads now)
-    ended_at_end On next =
+    pub ended_at_end : (going : Going) → Pressed going (keys held) m now → {after_reads after_fault : Type 0} → after_reads
+        → Ended (ended_as going Done) options before (told_at now_left now_reads now) after_reads after_fault
+    ended_at_end On next led =
         let p = all_pressed read (omega (arith, below)) (number + 1) (made_more one) (inl end_read) next in
         let end : EndRead options (told_at now_left now_reads now) p.0.bytes p.0.reads =
         record { one_more = omega (arith, ap length p.3, p.4, so.many); below = omega (arith, ap length p.3, so.many, below); ended = ended } in
-        record { course = p.0; stopped = (p.1, p.2, inl (record { all = p.5; end = end })); rescued = p.6 }
-    ended_at_end (Over status) next = ended_by_rest read (omega (arith, below)) (number + 1) (made_more one) (inl end_read) status next
+        record { course = p.0; stopped = (p.1, p.2, inl (record { all = p.5; end = end })); source = inl (led, p.2); rescued = p.6 }
+    ended_at_end (Over status) next led = ended_by_rest read (omega (arith, below)) (number + 1) (made_more one) (inl end_read) status next led
 
   -- as many bytes were read as the limit allows
   module _ (read : Consumes left now_left []) (all : number ≡ options.key_limit) (unread : now_reads ≡ so_reads) where
     limit_taken : LimitTaken options so.bytes number
     limit_taken = record { one_each = sym so.many; many = so.many ∙ all }
 
-    pub ended_at_limit : (going : Going) → Pressed going (keys held) m now → Ended (ended_as going KeyLimit) options before (told_at now_left now_reads now)
-    ended_at_limit On next =
+    pub ended_at_limit : (going : Going) → Pressed going (keys held) m now → {after_reads after_fault : Type 0} → after_reads
+        → Ended (ended_as going KeyLimit) options before (told_at now_left now_reads now) after_reads after_fault
+    ended_at_limit On next led =
         let p = all_pressed read (omega (arith, all)) number (unread ∙ so.made) (inr limit_taken) next in
         let limit : LimitTaken options p.0.bytes p.0.reads =
         record { one_each = omega (arith, ap length p.3, p.4, so.many); many = ap length p.3 ∙ so.many ∙ all } in
-        record { course = p.0; stopped = (p.1, p.2, record { all = p.5; limit = limit }); rescued = p.6 }
-    ended_at_limit (Over status) next = ended_by_rest read (omega (arith, all)) number (unread ∙ so.made) (inr limit_taken) status next
+        record { course = p.0; stopped = (p.1, p.2, record { all = p.5; limit = limit }); source = inl (led, p.2); rescued = p.6 }
+    ended_at_limit (Over status) next led = ended_by_rest read (omega (arith, all)) number (unread ∙ so.made) (inr limit_taken) status next led

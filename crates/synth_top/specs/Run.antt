@@ -194,10 +194,11 @@ module _ {options : PlainOptions} {before now : Told} (course : Course options b
         IsFront (completed seen) (keys_pressed earlier)
     pub reads : ReadsInTurn options now course.bytes course.reads earlier
 
-  -- the last key pressed ended the session
+  -- the last key pressed ended the session, and no read was made behind its byte
   pub record QuitPressed : Type 0 where
     pub at_key : AtLastKey
     pub quit : ends state_at_first course.pressed ≡ true
+    pub no_read : course.reads ≡ length course.bytes
 
   -- a write of the opening screen gave no answer, before any read
   pub record OpeningCut : Type 0 where
@@ -219,8 +220,15 @@ module _ {options : PlainOptions} {before now : Told} (course : Course options b
   Stopped NoMemory = (AllWritten × ReadCut) ⊎ (NoneLost × (OpeningCut ⊎ ScreenCut))
   Stopped BadWords = ⊥
 
--- the run did this, and stopped and saved as its status says
-pub record Ended (status : Status) (options : PlainOptions) (before now : Told) : Type 0 where
+  -- what the source keeps besides its bytes is as after reads that were Ok, and then no byte was lost;
+  -- or as behind one that wasn't, and then that read cut the run
+  abbrev pub LeavesSource : Type 0 → Type 0 → Type 0
+  LeavesSource after_reads after_fault = (after_reads × NoneLost) ⊎ (after_fault × ReadCut)
+
+-- the run did this, and stopped, left its source and saved as its status says
+pub record Ended (status : Status) (options : PlainOptions) (before now : Told)
+    (after_reads after_fault : Type 0) : Type 0 where
   pub course : Course options before now
   pub stopped : Stopped course status
+  pub source : LeavesSource course after_reads after_fault
   pub rescued : IsRescue status course.rescue

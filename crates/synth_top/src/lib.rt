@@ -63,7 +63,8 @@ pub fn synth<S: Source, K: Sink, F: Files, W: Work>(
           taken = K.taken screen.new;
           files = F.stored files.new;
           file_faults = F.faults files.new;
-        })) }
+        })
+        (S.leads_to keys.old keys.new) (S.breaks_at keys.old keys.new)) }
 
     // A fault is answered exactly where the count of its own cause rose.
     ensures read { CausedBy (result ≡ Status.ReadFault) (S.faults keys.old) (S.faults keys.new) }
@@ -105,7 +106,8 @@ fn edit<S: Source, K: Sink, F: Files>(
           taken = K.taken screen.new;
           files = F.stored files.new;
           file_faults = F.faults files.new;
-        }) }
+        })
+        (S.leads_to keys.old keys.new) (S.breaks_at keys.old keys.new) }
     ensures read { CausedBy (result ≡ Status.ReadFault) (S.faults keys.old) (S.faults keys.new) }
     ensures write { CausedBy (result ≡ Status.WriteFault)
         (K.faults screen.old) (K.faults screen.new) }

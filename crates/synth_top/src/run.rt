@@ -90,7 +90,8 @@ impl Editor {
               taken = K.taken screen.new;
               files = F.stored files.new;
               file_faults = F.faults files.new;
-            }) }
+            })
+            (S.leads_to keys.old keys.new) (S.breaks_at keys.old keys.new) }
         ensures read { CausedBy (result ≡ Status.ReadFault) (S.faults keys.old) (S.faults keys.new) }
         ensures write { CausedBy (result ≡ Status.WriteFault)
             (K.faults screen.old) (K.faults screen.new) }

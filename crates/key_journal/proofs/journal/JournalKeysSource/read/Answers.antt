@@ -55,4 +55,4 @@ returns-in-Ok-None-clause-led g c = λ first. rw (← c.self.view_is) (λ leads.
 pub returns-in-Err-clause-broke : goal.returns-in-Err-clause-broke
 returns-in-Err-clause-broke g c = λ first. rw (← c.self.view_is) (λ leads.
     breaks _ _ _ _ _ _ first _ _ c.in-Err.fault leads (c.in-Err.ensures.broke first.inner)
-    c.in-Err.ensures.cause.source_later c.in-Err.ensures.cause.disk_later c.in-Err.ensures.read refl)
+    c.in-Err.ensures.cause.source_later c.in-Err.ensures.cause.disk_later c.in-Err.ensures.read refl (omega arith))

@@ -1,4 +1,4 @@
-use Rattle.std.proofs.Common.{◌≡◌, ◌∙◌, refl, ap, arith, subst, inl}
+use Rattle.std.proofs.Common.{◌≡◌, ◌∙◌, refl, ap, arith, subst, inl, inr}
 use Rattle.std.proofs.KnownBytes.{Consumes-nil}
 use Rattle.std.specs.Io.KnownBytes.{Appends}
 use Rattle.synth_outside.specs.Sink.{AppendsFront}
@@ -15,13 +15,13 @@ pub returns-in-Err-Failed-clause-ended : goal.returns-in-Err-Failed-clause-ended
 returns-in-Err-Failed-clause-ended g c =
     let front = subst (λ (s : PlainSession). AppendsFront (g.K.Sink.taken c.args.screen.now) (g.K.Sink.taken c.start.new.screen) (opening s))
     c.requires.session c.in-Err-Failed.ensures.wrote.front in
-    opening_failed _ _ _ refl refl front refl (omega arith)
+    opening_failed _ _ _ refl refl front refl (omega arith) (g.S.Source.leads_to_itself c.args.keys.now)
 
 pub returns-in-Err-OutOfMemory-clause-ended : goal.returns-in-Err-OutOfMemory-clause-ended
 returns-in-Err-OutOfMemory-clause-ended g c =
     let front = subst (λ (s : PlainSession). AppendsFront (g.K.Sink.taken c.args.screen.now) (g.K.Sink.taken c.start.new.screen) (opening s))
     c.requires.session c.in-Err-OutOfMemory.ensures.wrote.front in
-    opening_wanted _ _ _ refl refl front refl (omega arith)
+    opening_wanted _ _ _ refl refl front refl (omega arith) (g.S.Source.leads_to_itself c.args.keys.now)
 
 -- the opening screen was written
 pub loop-init : goal.loop-init
@@ -50,6 +50,7 @@ pub returns-in-Over-clause-ended : goal.returns-in-Over-clause-ended
 returns-in-Over-clause-ended g c =
     ended_by_byte _ _ _ _ _ _ _ c.loop.invariant.so_far _ _ _ c.in-Ok-Some.byte _ _ c.feed-given.ensures.keys c.feed-given.ensures.held
     (rw c.in-Ok-Some.field-0-is at c.in-Ok-Some.ensures.byte) c.in-Ok-Some.ensures.one c.in-Over.status (omega arith) (c.in-Over.ensures.presses.pressed _ c.loop.invariant.told).2
+    (c.in-Ok-Some.ensures.led _ c.loop.invariant.led)
 
 -- all keys of the byte were shown
 pub loop-preserved : goal.loop-preserved
@@ -70,20 +71,21 @@ pub returns-in-Err-Failed-read_byte-clause-ended : goal.returns-in-Err-Failed-re
 returns-in-Err-Failed-read_byte-clause-ended g c =
     let lost = c.in-Err-Failed-read_byte.ensures.lost in
     let cut = read_cut _ _ _ _ _ _ _ c.loop.invariant.so_far _ _ _ lost.0 (omega arith) lost.1 lost.2 c.in-Err-Failed-read_byte.ensures.one refl in
-    record { course = cut.0; stopped = (cut.1, cut.2); rescued = cut.3 }
+    record { course = cut.0; stopped = (cut.1, cut.2); source = inr (c.in-Err-Failed-read_byte.ensures.broke _ c.loop.invariant.led, cut.2); rescued = cut.3 }
 
 pub returns-in-Err-OutOfMemory-read_byte-clause-ended : goal.returns-in-Err-OutOfMemory-read_byte-clause-ended
 returns-in-Err-OutOfMemory-read_byte-clause-ended g c =
     let lost = c.in-Err-OutOfMemory-read_byte.ensures.lost in
     let cut = read_cut _ _ _ _ _ _ _ c.loop.invariant.so_far _ _ _ lost.0 (omega arith) lost.1 lost.2 c.in-Err-OutOfMemory-read_byte.ensures.one refl in
-    record { course = cut.0; stopped = inl (cut.1, cut.2); rescued = cut.3 }
+    record { course = cut.0; stopped = inl (cut.1, cut.2); source = inr (c.in-Err-OutOfMemory-read_byte.ensures.broke _ c.loop.invariant.led, cut.2); rescued = cut.3 }
 
 -- the source ended
 pub returns-in-Ok-None-clause-ended : goal.returns-in-Ok-None-clause-ended
 returns-in-Ok-None-clause-ended g c =
     let read = rw c.in-Ok-None.field-0-is at c.in-Ok-None.ensures.byte in
     rw c.or.ensures
-    (ended_at_end _ _ _ _ _ _ _ c.loop.invariant.so_far _ _ _ read.0 read.1 (omega arith) c.in-Ok-None.ensures.one c.finish.result (c.finish.ensures.presses.pressed _ c.loop.invariant.told).2)
+    (ended_at_end _ _ _ _ _ _ _ c.loop.invariant.so_far _ _ _ read.0 read.1 (omega arith) c.in-Ok-None.ensures.one c.finish.result (c.finish.ensures.presses.pressed _ c.loop.invariant.told).2
+    (c.in-Ok-None.ensures.led _ c.loop.invariant.led))
 
 -- the limit was met
 pub returns-clause-ended : goal.returns-clause-ended
@@ -91,4 +93,4 @@ returns-clause-ended g c =
     let all : c.loop.counter ≡ c.args.limit = omega arith in
     rw c.or-2.ensures
     (ended_at_limit _ _ _ _ _ _ _ c.loop.invariant.so_far _ _ _ (Consumes-nil _) all refl c.finish-2.result
-    (c.finish-2.ensures.presses.pressed _ c.loop.invariant.told).2)
+    (c.finish-2.ensures.presses.pressed _ c.loop.invariant.told).2 c.loop.invariant.led)
