@@ -6,7 +6,7 @@ use Rattle.plcs_grammar.specs.Token.{EndsWord}
 use Rattle.plcs_grammar.specs.PlainPhrase.{PlainPhrase, category_of}
 use Rattle.plcs_grammar.specs.Canon.{Canon}
 use Rattle.plcs_grammar.specs.Limit.{IsWithinLimits}
-use Rattle.plcs_grammar.specs.Over.{OverLimit}
+use Rattle.plcs_grammar.specs.OverLimit.{OverLimit}
 use Rattle.plcs_grammar.specs.Reads.{HasReading, Reads, IsOver}
 use Rattle.phrase_parser.specs.Standing.{Standing, HasStanding}
 use Rattle.phrase_parser.specs.LineParts.{with_front, cut_at, Divides, IsPart, BeginsWithKeyword}

@@ -2,9 +2,9 @@
 use Rattle.std.specs.Prelude.{ℕ, List}
 use Rattle.plcs_grammar.specs.declared.category.Category.{Category}
 use Rattle.plcs_grammar.specs.PlainPhrase.{PlainPhrase}
-use Rattle.plcs_grammar.specs.Over.{OverLimit}
+use Rattle.plcs_grammar.specs.OverLimit.{OverLimit}
 use Rattle.plcs_grammar.specs.Reads.{Outline, Reads, IsOver}
-use Rattle.plcs_grammar.specs.Syntax.{SyntaxAt}
+use Rattle.plcs_grammar.specs.SyntaxPlace.{SyntaxAt}
 
 -- a phrase within the limits, what goes past a limit first, or the place where the text goes wrong
 pub data Standing : Type 0 where

@@ -1,11 +1,10 @@
 //! The phrase that a text reads as.
 ghost use Rattle.std.specs.Prelude.{◌≡◌, ◌<◌, ◌^◌, ℕ, length, map, All, Some, IfOk, IsTrue, is_some};
 ghost use Rattle.plcs_grammar.specs.Canon.{IsWellFormed};
-ghost use Rattle.plcs_grammar.specs.Over.{OverLimit};
-ghost use Rattle.plcs_grammar.specs.PlainForm.{plain_phrase};
-ghost use Rattle.plcs_grammar.specs.PlainPhrase.{PlainPhrase, category_of};
+ghost use Rattle.plcs_grammar.specs.OverLimit.{OverLimit};
+ghost use Rattle.plcs_grammar.specs.PlainPhrase.{PlainPhrase, category_of, plain_phrase};
 ghost use Rattle.plcs_grammar.specs.Reads.{Outline, Reads, IsOver};
-ghost use Rattle.plcs_grammar.specs.Syntax.{SyntaxAt};
+ghost use Rattle.plcs_grammar.specs.SyntaxPlace.{SyntaxAt};
 ghost use Rattle.phrase_parser.specs.declared.fault.PhraseFault.TheVariants.{Syntax};
 ghost use Rattle.phrase_parser.specs.Private.Machine.{start, run, phrase_of_if};
 ghost use Rattle.phrase_parser.specs.Private.Recognizer.{first_shape};

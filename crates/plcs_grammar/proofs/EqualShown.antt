@@ -3,8 +3,7 @@ use Rattle.std.proofs.Common.{ℕ, ◌≡◌, sym, ap}
 use Rattle.plcs_base.specs.Put.{PutsAll}
 use Rattle.plcs_grammar.specs.declared.expr.Expr.{Expr}
 use Rattle.plcs_grammar.specs.declared.phrase.Phrase.{Phrase}
-use Rattle.plcs_grammar.specs.PlainPhrase.{PlainExpr, PlainVarRef}
-use Rattle.plcs_grammar.specs.PlainForm.{plain_expr, plain_phrase}
+use Rattle.plcs_grammar.specs.PlainPhrase.{PlainExpr, PlainVarRef, plain_expr, plain_phrase}
 use Rattle.plcs_grammar.specs.Canon.{canon, canon_reference, Canon}
 use Rattle.plcs_base.proofs.Putting.{puts_same}
 

@@ -12,9 +12,9 @@ use Rattle.plcs_grammar.specs.Cuts.{Piece, Cuts}
 use Rattle.plcs_grammar.specs.Level.{Level, in_parentheses}
 use Rattle.plcs_grammar.specs.Comment.{comment_syntax, trimmed}
 use Rattle.plcs_grammar.specs.OpenedLevel.{phrase_opened_levels}
-use Rattle.plcs_grammar.specs.Over.{OverLimit, first_over}
-use Rattle.plcs_grammar.specs.Form.{Form}
-use Rattle.plcs_grammar.specs.Syntax.{GoesWrong, SyntaxAt}
+use Rattle.plcs_grammar.specs.OverLimit.{OverLimit, first_over}
+use Rattle.plcs_grammar.specs.PhraseForm.{Form}
+use Rattle.plcs_grammar.specs.SyntaxPlace.{GoesWrong, SyntaxAt}
 use Rattle.plcs_grammar.specs.Canon.{Canon}
 use Rattle.plcs_grammar.specs.declared.category.Category.TheVariants.{Assignment, Condition, Expression, ExpressionList, VariableList, Variable, CallRef, DeclaredList, ProcedureName, NameList, Length, CommentText}
 

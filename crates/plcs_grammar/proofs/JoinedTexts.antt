@@ -2,7 +2,7 @@
 use Rattle.std.proofs.Common.{ℕ, ◌+◌, ◌<◌, ◌≡◌, List, [], ◌∷◌, ◌++◌, length, take, get_or, map, refl, sym, ap, ◌∙◌, append_assoc, arith}
 use Rattle.std.proofs.lemmas.List.{append-nil, take_more, length-take-le}
 use Rattle.plcs_grammar.specs.declared.expr.Expr.{Expr}
-use Rattle.plcs_grammar.specs.PlainForm.{plain_expr, plain_exprs}
+use Rattle.plcs_grammar.specs.PlainPhrase.{plain_expr, plain_exprs}
 use Rattle.plcs_grammar.specs.Canon.{canon, canon_list, canon_behind, canon_call, parenthesized_bytes, comma, joined, more_joined}
 use Rattle.plcs_grammar.specs.Private.Separator.{separator}
 

@@ -5,9 +5,9 @@ mod Limits
 mod Examples
 -- ---- plain forms
 -- each variant of an expression: `show`, `copy_phrase`
-mod PlainFormCases
+mod PlainExprCases
 -- plain forms that are equal part by part: `same_phrase`
-mod EqualForms
+mod EqualPlainPhrases
 -- ---- bytes that are put in turn
 -- a text in parentheses behind a name: `show` of calls, subscripts and sizes
 mod ParenthesizedTexts

@@ -15,7 +15,8 @@ use Rattle.plcs_grammar.specs.Sign.{sign_bytes, prefix_sign, infix_sign}
 use Rattle.plcs_grammar.specs.Token.{Token}
 use Rattle.plcs_grammar.specs.PlainPhrase.{PlainExpr, PlainExprs, PlainVarRef, PlainPhrase}
 use Rattle.plcs_grammar.specs.Level.{Level, IsNameToken, IsReference, IsExprList, IsMoreExprs, priority, tightest}
-use Rattle.plcs_grammar.specs.Form.{IsSizedName, IsItem, IsMoreOf, IsListOf, IsCall, IsPhrase}
+use Rattle.plcs_grammar.specs.ListForm.{IsMoreOf, IsListOf}
+use Rattle.plcs_grammar.specs.PhraseForm.{IsSizedName, IsItem, IsCall, IsPhrase}
 use Rattle.plcs_grammar.specs.Canon.{Canon, canon, canon_reference, canon_list, canon_behind, canon_sized, canon_item, canon_call, behind_sign, parenthesized_bytes, comma, joined, more_joined}
 use Rattle.plcs_grammar.proofs.SolidTexts.{IsSolid, begins_append, ends_append, printable_append, solid_between, solid_append, solid_edges, name_solid, decimal_solid, quoted_solid}
 use Rattle.plcs_grammar.proofs.FineTokens.{AllFine, fine_parts, fine_inside}

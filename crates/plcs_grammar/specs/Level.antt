@@ -1,4 +1,4 @@
--- The levels of expressions: which tokens are which expression.
+-- Which tokens are which expression: the levels of priority that operators join.
 use Rattle.std.specs.Prelude.{◌≡◌, ℕ, ◌+◌, ◌≤◌, pos, negsuc, not, List, [], ◌∷◌, ◌++◌, IsTrue}
 use Rattle.plcs_grammar.specs.declared.operator.InfixOp.{InfixOp}
 use Rattle.plcs_grammar.specs.declared.operator.InfixOp.TheVariants.{Or, And, Equal, NotEqual, Less, LessEqual, Greater, GreaterEqual, Join, Plus, Minus, Times, Divide}

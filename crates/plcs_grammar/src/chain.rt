@@ -1,7 +1,7 @@
 //! Chains of operators along their left operands.
 ghost use Rattle.std.specs.Prelude.{◌≡◌, ◌≤◌};
 ghost use Rattle.plcs_grammar.specs.declared.expr.Expr.{size-Expr};
-ghost use Rattle.plcs_grammar.specs.PlainForm.{plain_expr};
+ghost use Rattle.plcs_grammar.specs.PlainPhrase.{plain_expr};
 ghost use Rattle.plcs_grammar.specs.Private.Chain.{leftmost};
 
 use crate::expr::Expr;

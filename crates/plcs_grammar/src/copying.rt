@@ -1,6 +1,6 @@
 //! Copies of phrases.
 ghost use Rattle.std.specs.Prelude.{◌≡◌, IfOk, map};
-ghost use Rattle.plcs_grammar.specs.PlainForm.{plain_phrase, plain_var_ref};
+ghost use Rattle.plcs_grammar.specs.PlainPhrase.{plain_phrase, plain_var_ref};
 
 use crate::expr::VarRef;
 use crate::expr_copy::{copy_expr, copy_exprs, copy_name, copy_variable};

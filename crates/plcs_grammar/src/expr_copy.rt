@@ -1,6 +1,6 @@
 //! Copies of expressions.
 ghost use Rattle.std.specs.Prelude.{◌≡◌, IfOk, map};
-ghost use Rattle.plcs_grammar.specs.PlainForm.{plain_expr, plain_var_ref};
+ghost use Rattle.plcs_grammar.specs.PlainPhrase.{plain_expr, plain_var_ref};
 ghost use Rattle.plcs_grammar.specs.Private.Link.{linked};
 
 use crate::expr::{Expr, VarRef};

@@ -1,6 +1,6 @@
 //! The length of what is shown.
 ghost use Rattle.std.specs.Prelude.{◌≡◌, ◌+◌, min, length};
-ghost use Rattle.plcs_grammar.specs.PlainForm.{plain_phrase};
+ghost use Rattle.plcs_grammar.specs.PlainPhrase.{plain_phrase};
 ghost use Rattle.plcs_grammar.specs.Canon.{Canon, longest_shown};
 
 use crate::phrase::Phrase;

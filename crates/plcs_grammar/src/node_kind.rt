@@ -1,3 +1,4 @@
+//! The kinds of nodes, and the sorts of places where they may stand.
 use crate::template::Template;
 
 /// What a node of a program is.

@@ -1,7 +1,6 @@
 //! Phrases: what is typed into the parts of templates.
 ghost use Rattle.std.specs.Prelude.{◌≡◌};
-ghost use Rattle.plcs_grammar.specs.PlainPhrase.{category_of};
-ghost use Rattle.plcs_grammar.specs.PlainForm.{plain_phrase};
+ghost use Rattle.plcs_grammar.specs.PlainPhrase.{category_of, plain_phrase};
 
 use crate::category::Category;
 use crate::expr::{Expr, VarRef};

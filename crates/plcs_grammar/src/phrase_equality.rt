@@ -1,6 +1,6 @@
 //! Equality of phrases.
 ghost use Rattle.std.specs.Prelude.{◌≡◌, ◌↔◌, IsTrue, map};
-ghost use Rattle.plcs_grammar.specs.PlainForm.{plain_phrase, plain_var_ref};
+ghost use Rattle.plcs_grammar.specs.PlainPhrase.{plain_phrase, plain_var_ref};
 
 use crate::expr::VarRef;
 use crate::expr_equality::{same_expr, same_exprs, same_variable};

@@ -1,7 +1,7 @@
 //! Expressions as they are shown.
 ghost use Rattle.std.specs.Prelude.{◌≡◌};
 ghost use Rattle.plcs_base.specs.Put.{PutsAll};
-ghost use Rattle.plcs_grammar.specs.PlainForm.{plain_expr, plain_exprs, plain_var_ref};
+ghost use Rattle.plcs_grammar.specs.PlainPhrase.{plain_expr, plain_exprs, plain_var_ref};
 ghost use Rattle.plcs_grammar.specs.Canon.{canon, canon_list, canon_reference};
 ghost use Rattle.plcs_grammar.specs.Private.Chain.{chain_text, operator_text};
 

@@ -1,7 +1,7 @@
 //! Lists as they are shown, joined by commas.
 ghost use Rattle.std.specs.Prelude.{List, ℕ};
 ghost use Rattle.plcs_base.specs.Put.{PutsAll};
-ghost use Rattle.plcs_grammar.specs.PlainForm.{plain_var_ref};
+ghost use Rattle.plcs_grammar.specs.PlainPhrase.{plain_var_ref};
 ghost use Rattle.plcs_grammar.specs.Canon.{joined, canon_reference, canon_item};
 
 use crate::constant::put_decimal;

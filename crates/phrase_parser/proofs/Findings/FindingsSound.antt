@@ -6,11 +6,11 @@ use Rattle.plcs_grammar.specs.declared.category.Category.{Category}
 use Rattle.plcs_grammar.specs.Token.{Token}
 use Rattle.plcs_grammar.specs.Cuts.{Piece, tokens_of}
 use Rattle.plcs_grammar.specs.PlainPhrase.{PlainPhrase}
-use Rattle.plcs_grammar.specs.Form.{Form, Begins}
-use Rattle.plcs_grammar.specs.Syntax.{GoesWrong}
+use Rattle.plcs_grammar.specs.PhraseForm.{Form, Begins}
+use Rattle.plcs_grammar.specs.SyntaxPlace.{GoesWrong}
 use Rattle.plcs_grammar.specs.Limit.{greatest_number, greatest_nesting, IsWithinLimits}
 use Rattle.plcs_grammar.specs.OpenedLevel.{phrase_opened_levels}
-use Rattle.plcs_grammar.specs.Over.{OverLimit, is_too_large, first_over, over_at}
+use Rattle.plcs_grammar.specs.OverLimit.{OverLimit, is_too_large, first_over, over_at}
 use Rattle.phrase_parser.specs.Private.Recognizer.{Shape, class_of, next, next_if, follow, first_shape, may_end, level_of, follow_levels}
 use Rattle.phrase_parser.specs.Private.Findings.{Finding, finding_of, found_at, found_at_end, seen_of, is_large, seen_over, findings}
 use Rattle.phrase_parser.proofs.Findings.KeptNumbers.{kept_above}

@@ -6,9 +6,9 @@ use Rattle.plcs_grammar.specs.declared.sign.Sign.{Sign}
 use Rattle.plcs_grammar.specs.Token.{Token}
 use Rattle.plcs_grammar.specs.Cuts.{Piece, tokens_of}
 use Rattle.plcs_grammar.specs.PlainPhrase.{PlainExpr, PlainVarRef, PlainPhrase}
-use Rattle.plcs_grammar.specs.Form.{Form, Begins}
+use Rattle.plcs_grammar.specs.PhraseForm.{Form, Begins}
 use Rattle.plcs_grammar.specs.OpenedLevel.{phrase_opened_levels}
-use Rattle.plcs_grammar.specs.Over.{first_over}
+use Rattle.plcs_grammar.specs.OverLimit.{first_over}
 use Rattle.phrase_parser.specs.Private.Machine
 use Rattle.phrase_parser.specs.Private.Machine.{Stack, Role, State, step, run, start, phrase_of_if}
 use Rattle.phrase_parser.specs.Private.Trace.{opens, opens_by_role, opens_before, opens_behind, trace, depth}

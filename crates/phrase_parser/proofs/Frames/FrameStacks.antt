@@ -3,8 +3,7 @@ use Rattle.std.proofs.Common.{◌≡◌, refl, ap, ◌∙◌, List, [], ◌∷�
 use Rattle.std.proofs.lemmas.List.{map-append}
 use Rattle.plcs_grammar.specs.declared.expr.Expr.{Expr}
 use Rattle.plcs_grammar.specs.declared.expr.VarRef.{VarRef}
-use Rattle.plcs_grammar.specs.PlainPhrase.{PlainExpr, PlainExprs}
-use Rattle.plcs_grammar.specs.PlainForm.{plain_expr, plain_exprs, exprs_from, plain_var_ref}
+use Rattle.plcs_grammar.specs.PlainPhrase.{PlainExpr, PlainExprs, plain_expr, plain_exprs, exprs_from, plain_var_ref}
 use Rattle.phrase_parser.specs.Private.Machine as machine
 use Rattle.phrase_parser.specs.Private.Machine.{expr_push, phrase_of_stack}
 use Rattle.phrase_parser.specs.declared.builder.stack.Frame.{Frame}

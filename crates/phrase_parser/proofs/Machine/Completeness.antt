@@ -10,9 +10,9 @@ use Rattle.plcs_grammar.specs.declared.sign.Sign.{Sign}
 use Rattle.plcs_grammar.specs.Token.{Token}
 use Rattle.plcs_grammar.specs.Cuts.{Piece, tokens_of}
 use Rattle.plcs_grammar.specs.PlainPhrase.{PlainExpr, PlainExprs, PlainVarRef, PlainPhrase, category_of}
-use Rattle.plcs_grammar.specs.Form.{Form, Begins}
+use Rattle.plcs_grammar.specs.PhraseForm.{Form, Begins}
 use Rattle.plcs_grammar.specs.OpenedLevel.{opened_levels as levels, reference_opened_levels as reference_levels, opened_levels_of_all as levels_of_all, opened_levels_of_more_references, phrase_opened_levels}
-use Rattle.plcs_grammar.specs.Over.{first_over, over_at}
+use Rattle.plcs_grammar.specs.OverLimit.{first_over, over_at}
 use Rattle.phrase_parser.specs.Private.Machine.{Base, Stack, State, Role, Operand, step, run, start, step_close_stack, phrase_of_stack, phrase_of, phrase_of_if}
 use Rattle.phrase_parser.specs.Private.Trace.{depth, opens, trace}
 use Rattle.phrase_parser.proofs.Machine.AllOfLists.{all_append}

@@ -9,10 +9,10 @@ use Rattle.plcs_grammar.specs.declared.sign.Sign.{Sign}
 use Rattle.plcs_grammar.specs.Token.{Token}
 use Rattle.plcs_grammar.specs.Cuts.{Piece, tokens_of}
 use Rattle.plcs_grammar.specs.PlainPhrase.{PlainExpr, PlainExprs, PlainVarRef, PlainPhrase}
-use Rattle.plcs_grammar.specs.Form.{Form}
+use Rattle.plcs_grammar.specs.PhraseForm.{Form}
 use Rattle.plcs_grammar.specs.Limit.{greatest_number, greatest_nesting, nesting, reference_nesting, deepest, deepest_reference, arguments_nesting, phrase_nesting, numbers, reference_numbers, numbers_of_all, size_numbers, phrase_numbers, IsWithinLimits}
 use Rattle.plcs_grammar.specs.OpenedLevel.{opened_levels, reference_opened_levels, opened_levels_of_all, opened_levels_behind, opened_levels_of_more_references, opened_levels_of_references, opened_levels_of_call, phrase_opened_levels}
-use Rattle.plcs_grammar.specs.Over.{OverLimit, is_too_large, over_at, first_over}
+use Rattle.plcs_grammar.specs.OverLimit.{OverLimit, is_too_large, over_at, first_over}
 use Rattle.phrase_parser.proofs.Machine.AllOfLists.{all_append, append_all}
 use Rattle.phrase_parser.proofs.Machine.ExprSpelling.{spell, spell_reference, spell_all, spell_behind}
 use Rattle.phrase_parser.proofs.Machine.PhraseSpelling.{spell_name, spell_item, spell_sized, spell_call, spell_more, spell_listed, spell_phrase, form_spelled}

@@ -7,7 +7,8 @@ use Rattle.plcs_grammar.specs.declared.sign.Sign.{Sign}
 use Rattle.plcs_grammar.specs.Token.{Token}
 use Rattle.plcs_grammar.specs.PlainPhrase.{PlainExprs, PlainPhrase, category_of}
 use Rattle.plcs_grammar.specs.Level.{in_parentheses, IsReference, IsNameToken}
-use Rattle.plcs_grammar.specs.Form.{Form, IsPhrase, IsCall, IsItem, IsSizedName, IsListOf, IsMoreOf}
+use Rattle.plcs_grammar.specs.ListForm.{IsListOf, IsMoreOf}
+use Rattle.plcs_grammar.specs.PhraseForm.{Form, IsPhrase, IsCall, IsItem, IsSizedName}
 use Rattle.phrase_parser.proofs.Machine.ExprSpelling.{spell, spell_reference, spell_all, Fits, FitsReference, FitsAll, spelled, spelled_reference, spelled_all, levelled, levelled_reference, levelled_all}
 
 module _ {X : Type 0} (f : X → List Token) where

@@ -7,7 +7,7 @@ use Rattle.plcs_grammar.specs.Sign.{prefix_sign, infix_sign}
 use Rattle.plcs_grammar.specs.Token.{Token}
 use Rattle.plcs_grammar.specs.PlainPhrase.{PlainExpr, PlainExprs, PlainVarRef, PlainPhrase, category_of}
 use Rattle.plcs_grammar.specs.Builtin.{builtin_name}
-use Rattle.plcs_grammar.specs.Form.{Form, Begins}
+use Rattle.plcs_grammar.specs.PhraseForm.{Form, Begins}
 use Rattle.phrase_parser.specs.Private.Machine.{Base, Stack, Role, State, expr_push, run, start, phrase_of_if}
 use Rattle.phrase_parser.proofs.Machine.ExprSpelling.{spell, spell_reference, Fits, FitsReference}
 use Rattle.phrase_parser.proofs.Machine.PhraseSpelling.{spell_name, spell_item, spell_call, spell_listed, spell_phrase, FitsPhrase, FitsItem, AnyName, form_from}

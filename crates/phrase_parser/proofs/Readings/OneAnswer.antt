@@ -4,15 +4,14 @@ use Rattle.plcs_grammar.specs.declared.category.Category.{Category}
 use Rattle.plcs_grammar.specs.declared.category.Category.TheVariants.{Assignment, Condition, Expression, ExpressionList, VariableList, Variable, CallRef, DeclaredList, ProcedureName, NameList, Length, CommentText}
 use Rattle.plcs_grammar.specs.declared.phrase.Phrase.{Phrase}
 use Rattle.plcs_grammar.specs.Token.{Token}
-use Rattle.plcs_grammar.specs.PlainPhrase.{PlainPhrase}
-use Rattle.plcs_grammar.specs.PlainForm.{plain_phrase}
+use Rattle.plcs_grammar.specs.PlainPhrase.{PlainPhrase, plain_phrase}
 use Rattle.plcs_grammar.specs.Cuts.{Piece, tokens_of}
-use Rattle.plcs_grammar.specs.Form.{Form, Begins}
+use Rattle.plcs_grammar.specs.PhraseForm.{Form, Begins}
 use Rattle.plcs_grammar.specs.Limit.{IsWithinLimits}
 use Rattle.plcs_grammar.specs.OpenedLevel.{phrase_opened_levels}
-use Rattle.plcs_grammar.specs.Over.{OverLimit, first_over}
+use Rattle.plcs_grammar.specs.OverLimit.{OverLimit, first_over}
 use Rattle.plcs_grammar.specs.Reads.{IsCutAs, HasReading, Outline, Reads, IsOver}
-use Rattle.plcs_grammar.specs.Syntax.{GoesWrong, SyntaxAt}
+use Rattle.plcs_grammar.specs.SyntaxPlace.{GoesWrong, SyntaxAt}
 use Rattle.phrase_parser.specs.declared.fault.PhraseFault.{PhraseFault}
 use Rattle.phrase_parser.specs.declared.fault.PhraseFault.TheVariants.{Syntax, NumberTooLarge, TooDeep, OutOfMemory}
 use Rattle.phrase_parser.specs.Private.Machine.{run, start, phrase_of_if}

@@ -6,13 +6,12 @@ use Rattle.std.proofs.lemmas.List.Elements.{All-from_recursion}
 use Rattle.plcs_grammar.specs.declared.category.Category.{Category}
 use Rattle.plcs_grammar.specs.declared.category.Category.TheVariants.{CommentText}
 use Rattle.plcs_grammar.specs.declared.phrase.Phrase.{Phrase}
-use Rattle.plcs_grammar.specs.PlainForm.{plain_phrase}
-use Rattle.plcs_grammar.specs.PlainPhrase.{PlainPhrase, category_of}
+use Rattle.plcs_grammar.specs.PlainPhrase.{PlainPhrase, category_of, plain_phrase}
 use Rattle.plcs_grammar.specs.Cuts.{Piece}
 use Rattle.plcs_grammar.specs.Comment.{comment_syntax, trimmed}
 use Rattle.plcs_grammar.specs.Limit.{IsWithinLimits}
 use Rattle.plcs_grammar.specs.OpenedLevel.{phrase_opened_levels}
-use Rattle.plcs_grammar.specs.Over.{OverLimit, first_over}
+use Rattle.plcs_grammar.specs.OverLimit.{OverLimit, first_over}
 use Rattle.plcs_grammar.specs.Reads.{IsCutAs, HasReading, IsOver}
 use Rattle.phrase_parser.specs.declared.fault.PhraseFault.{PhraseFault}
 use Rattle.phrase_parser.specs.Answers.{Answers}

@@ -1,6 +1,6 @@
 -- What is left to do with an operand and the frame around it.
 use Rattle.std.specs.Prelude.{ℕ}
-use Rattle.plcs_grammar.specs.PlainForm.{plain_expr}
+use Rattle.plcs_grammar.specs.PlainPhrase.{plain_expr}
 use Rattle.phrase_parser.specs.Private.Machine.{Stack, Operand, reduced}
 use Rattle.phrase_parser.specs.declared.builder.stack.Joined.{Joined}
 use Rattle.phrase_parser.specs.declared.builder.stack.Joined.TheVariants as joined

@@ -2,7 +2,7 @@
 use Rattle.std.specs.Prelude.{ℕ, ◌≤◌, List, reverse, Option, Some, None}
 use Rattle.std.specs.List.{AllByRecursion}
 use Rattle.plcs_grammar.specs.Builtin.{is_builtin_name}
-use Rattle.plcs_grammar.specs.Over.{OverLimit}
+use Rattle.plcs_grammar.specs.OverLimit.{OverLimit}
 use Rattle.phrase_parser.specs.declared.check.token_class.TokenClass.{TokenClass}
 use Rattle.phrase_parser.specs.declared.check.ground.Ground.{Ground}
 use Rattle.phrase_parser.specs.declared.check.nesting.Bracket.{Bracket}

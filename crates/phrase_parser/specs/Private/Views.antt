@@ -1,8 +1,7 @@
 -- What the builder's stacks and states stand for.
 use Rattle.std.specs.Prelude.{List, [], ◌∷◌, map}
 use Rattle.plcs_grammar.specs.declared.expr.Expr.{Expr}
-use Rattle.plcs_grammar.specs.PlainPhrase.{PlainExpr, PlainVarRef}
-use Rattle.plcs_grammar.specs.PlainForm.{plain_expr, plain_exprs, plain_var_ref}
+use Rattle.plcs_grammar.specs.PlainPhrase.{PlainExpr, PlainVarRef, plain_expr, plain_exprs, plain_var_ref}
 use Rattle.phrase_parser.specs.Private.Machine as machine
 use Rattle.phrase_parser.specs.declared.builder.base.Base.{Base}
 use Rattle.phrase_parser.specs.declared.builder.base.Base.TheVariants as base

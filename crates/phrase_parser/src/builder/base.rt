@@ -4,7 +4,7 @@ ghost use Rattle.std.specs.Prelude.{◌≡◌};
 ghost use Rattle.phrase_parser.specs.Private.Machine.{Stack as OpenStack, State as MachineState, step_close_base, step_close, step_comma_base, phrase_of_base};
 ghost use Rattle.phrase_parser.specs.Private.Gives.{Gives};
 ghost use Rattle.phrase_parser.specs.Private.Views.{base_of, state_of};
-ghost use Rattle.plcs_grammar.specs.PlainForm.{plain_expr, plain_phrase};
+ghost use Rattle.plcs_grammar.specs.PlainPhrase.{plain_expr, plain_phrase};
 
 use crate::builder::expr::subscripted;
 use crate::builder::fault::BuildError;

@@ -1,8 +1,7 @@
 //! Variables and expressions, made of their parts.
 
 ghost use Rattle.std.specs.Prelude.{◌≡◌, IfOk};
-ghost use Rattle.plcs_grammar.specs.PlainPhrase.{PlainExpr, PlainVarRef};
-ghost use Rattle.plcs_grammar.specs.PlainForm.{plain_expr, plain_var_ref};
+ghost use Rattle.plcs_grammar.specs.PlainPhrase.{PlainExpr, PlainVarRef, plain_expr, plain_var_ref};
 
 use plcs_base::Name;
 use plcs_grammar::{Expr, InfixOp, PrefixOp, VarRef};

@@ -3,7 +3,7 @@
 ghost use Rattle.phrase_parser.specs.Private.Machine.{step_open_role, step_open, step_comma_role, step_equal_role, phrase_of_role};
 ghost use Rattle.phrase_parser.specs.Private.Gives.{Gives};
 ghost use Rattle.phrase_parser.specs.Private.Views.{role_of, state_of};
-ghost use Rattle.plcs_grammar.specs.PlainForm.{plain_phrase};
+ghost use Rattle.plcs_grammar.specs.PlainPhrase.{plain_phrase};
 
 use crate::builder::base::{Base, wanted_on};
 use crate::builder::expr::simple;

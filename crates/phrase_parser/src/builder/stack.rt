@@ -4,7 +4,7 @@ ghost use Rattle.std.specs.Prelude.{◌≡◌, IfOk};
 ghost use Rattle.phrase_parser.specs.Private.Machine.{open_frame, step_open_behind, step_open, Stack as OpenStack, step_close_base, step_close_stack, step_close, step_comma_base, step_comma_stack, behind_infix, step_prefix, step_infix, phrase_of_base, phrase_of_stack, reduced};
 ghost use Rattle.phrase_parser.specs.Private.Gives.{Gives};
 ghost use Rattle.phrase_parser.specs.Private.Views.{stack_of, primary_of, state_of, pushed, pair_of};
-ghost use Rattle.plcs_grammar.specs.PlainForm.{plain_expr, plain_phrase};
+ghost use Rattle.plcs_grammar.specs.PlainPhrase.{plain_expr, plain_phrase};
 ghost use Rattle.plcs_grammar.specs.Level.{priority};
 ghost use Rattle.phrase_parser.specs.Private.Reduction.{rest_of};
 

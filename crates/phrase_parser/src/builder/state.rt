@@ -6,7 +6,7 @@ ghost use Rattle.phrase_parser.specs.Private.Gives.{Gives};
 ghost use Rattle.phrase_parser.specs.Private.Views.{state_of, primary_of};
 ghost use Rattle.std.specs.Prelude.{◌≤◌};
 ghost use Rattle.plcs_grammar.specs.Limit.{greatest_number};
-ghost use Rattle.plcs_grammar.specs.PlainForm.{plain_phrase};
+ghost use Rattle.plcs_grammar.specs.PlainPhrase.{plain_phrase};
 
 use crate::builder::base::{Base, wanted_on};
 use crate::builder::fault::BuildError;

@@ -1,8 +1,7 @@
 -- A chain of operators, taken apart from its last operator on.
 use Rattle.std.specs.Prelude.{List, [], ◌∷◌}
 use Rattle.plcs_grammar.specs.declared.expr_copy.Link.{Link}
-use Rattle.plcs_grammar.specs.PlainPhrase.{PlainExpr}
-use Rattle.plcs_grammar.specs.PlainForm.{plain_expr}
+use Rattle.plcs_grammar.specs.PlainPhrase.{PlainExpr, plain_expr}
 
 -- the chain of these operators, the last one first, to the right of the operand
 abbrev pub linked : PlainExpr → List Link → PlainExpr

@@ -1,4 +1,4 @@
--- The first token that goes past a limit.
+-- The first token of a text that goes past a limit.
 use Rattle.std.specs.Prelude.{ℕ, Bool, false, nat_lt, if◌then◌else◌, List, [], ◌∷◌, Option, Some, None}
 use Rattle.std.specs.Option.{option_or}
 use Rattle.plcs_grammar.specs.Token.{Token}

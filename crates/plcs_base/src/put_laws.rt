@@ -1,4 +1,4 @@
-//! The law about what is put. It is the contract of a function that does nothing.
+//! The law of bytes that are put, a function that does nothing and whose contract states it.
 ghost use Rattle.plcs_base.specs.Put.{PutsInTurn};
 
 use crate::byte_out::ByteOut;

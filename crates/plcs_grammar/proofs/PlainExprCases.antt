@@ -11,9 +11,8 @@ use Rattle.plcs_grammar.specs.declared.expr.Expr.TheViews.{out-Expr, roll-Expr, 
 use Rattle.plcs_grammar.specs.declared.expr.Expr.TheVariants.{Prefix, Infix, Builtin, Paren, rolls-Prefix, rolls-Infix, rolls-Builtin, rolls-Paren}
 use Rattle.plcs_grammar.specs.declared.expr.Expr.TheFolds.{fold-roll-Expr}
 use Rattle.plcs_grammar.specs.declared.expr.VarRef.{VarRef, fold_out-VarRef, map-VarRef}
-use Rattle.plcs_grammar.specs.PlainPhrase.{PlainExpr, PlainVarRef}
+use Rattle.plcs_grammar.specs.PlainPhrase.{PlainExpr, PlainVarRef, plain_expr, expr_step, reference_step, plain_exprs, plain_var_ref}
 use Rattle.plcs_grammar.specs.Private.Chain.{chain_text}
-use Rattle.plcs_grammar.specs.PlainForm.{plain_expr, expr_step, reference_step, plain_exprs, plain_var_ref}
 
 pub expr_prefix : (e : Expr) (op : PrefixOp) (a : Box Expr Global) → e ≡ Prefix op a → plain_expr e ≡ PlainExpr.unary op (plain_expr a.value)
 expr_prefix e op a is = ap plain_expr is ∙ ap plain_expr (sym (rolls-Prefix op a)) ∙ fold-roll-Expr PlainExpr PlainVarRef expr_step reference_step _

@@ -1,4 +1,4 @@
-//! The law about canonical texts. It is the contract of a function that does nothing.
+//! The law of canonical texts that are shown, a function that does nothing and whose contract states it.
 ghost use Rattle.plcs_grammar.specs.ShownText.{CanonicalTextsShow};
 
 /// The canonical text of a well-formed phrase isn't empty, has only bytes from 32 to 126, neither begins

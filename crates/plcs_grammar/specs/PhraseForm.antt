@@ -1,10 +1,12 @@
--- The forms of the categories of phrases, as tokens.
+-- Which tokens are which phrase, category by category, and which tokens begin one. (Which bytes are a token: `Token`. Which
+-- text is a phrase: `Reads`.)
 use Rattle.std.specs.Prelude.{◌≡◌, ℕ, ◌≤◌, List, [], ◌∷◌, ◌++◌, Option, Some, None}
 use Rattle.plcs_base.specs.Text.{longest_text}
 use Rattle.plcs_grammar.specs.declared.category.Category.{Category}
 use Rattle.plcs_grammar.specs.declared.item.Item.{Item}
 use Rattle.plcs_grammar.specs.declared.sign.Sign.{Sign}
 use Rattle.plcs_grammar.specs.Token.{Token}
+use Rattle.plcs_grammar.specs.ListForm.{IsListOf}
 use Rattle.plcs_grammar.specs.PlainPhrase.{PlainExprs, PlainPhrase, category_of}
 use Rattle.plcs_grammar.specs.Level.{Level, IsNameToken, IsReference, IsExprList, in_parentheses}
 
@@ -16,18 +18,6 @@ IsSizedName name (Some size) tokens = (1 ≤ size) × (tokens ≡ Token.name nam
 -- the tokens are the declared item
 abbrev pub IsItem : Item → List Token → Type 0
 IsItem item tokens = IsSizedName item.name item.size tokens
-
-module _ {X : Type 0} (Is : X → List Token → Type 0) where
-  -- the tokens are more of them, each behind a comma
-  abbrev pub IsMoreOf : List X → List Token → Type 0
-  IsMoreOf [] tokens = tokens ≡ []
-  IsMoreOf (x ∷ xs) tokens =
-      (left right : List Token) × (tokens ≡ Token.sign Sign.Comma ∷ (left ++ right)) × Is x left × IsMoreOf xs right
-
-  -- the tokens are one or more of them, joined by commas
-  abbrev pub IsListOf : List X → List Token → Type 0
-  IsListOf [] tokens = ⊥
-  IsListOf (x ∷ xs) tokens = (left right : List Token) × (tokens ≡ left ++ right) × Is x left × IsMoreOf xs right
 
 -- the tokens are a call: a name, or a name and arguments in parentheses
 abbrev pub IsCall : List ℕ → PlainExprs → List Token → Type 0

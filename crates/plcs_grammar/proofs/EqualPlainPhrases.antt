@@ -13,8 +13,7 @@ use Rattle.plcs_grammar.specs.declared.expr.Expr.{Expr}
 use Rattle.plcs_grammar.specs.declared.item.Item.{Item}
 use Rattle.plcs_grammar.specs.declared.phrase.Phrase.{Phrase}
 use Rattle.plcs_grammar.specs.declared.phrase.Phrase.TheVariants.{DeclaredList, NameList}
-use Rattle.plcs_grammar.specs.PlainPhrase.{PlainExpr, PlainPhrase}
-use Rattle.plcs_grammar.specs.PlainForm.{plain_expr, plain_exprs, exprs_from, plain_phrase}
+use Rattle.plcs_grammar.specs.PlainPhrase.{PlainExpr, PlainPhrase, plain_expr, plain_exprs, exprs_from, plain_phrase}
 
 -- the answer no, of what isn't so
 pub told_no : {P : Type 0} → ¬ P → IsTrue false ↔ P
