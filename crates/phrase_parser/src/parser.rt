@@ -57,7 +57,7 @@ fn phrase(
     ensures { Answers category text.now result }
 {
     let tokens = tokens(alloc, text)?;
-    let placed = tokens.items.as_slice();
+    let placed = tokens.placed.as_slice();
     match check(alloc, first, text, placed, tokens.stop)? {
         Finding::Fine => match build(alloc, category, text, placed) {
             Ok(phrase) => Ok(phrase),

@@ -15,7 +15,7 @@ abbrev pub IsSizedName : List ℕ → Option ℕ → List Token → Type 0
 IsSizedName name None tokens = IsNameToken name tokens
 IsSizedName name (Some size) tokens = (1 ≤ size) × (tokens ≡ Token.name name ∷ in_parentheses (Token.number size ∷ []))
 
--- the tokens are the declared item
+-- the tokens are a declared item
 abbrev pub IsItem : Item → List Token → Type 0
 IsItem item tokens = IsSizedName item.name item.size tokens
 
@@ -25,7 +25,7 @@ IsCall name PlainExprs.nil tokens = IsNameToken name tokens
 IsCall name (PlainExprs.cons a rest) tokens =
     (inner : List Token) × (tokens ≡ Token.name name ∷ in_parentheses inner) × IsExprList (PlainExprs.cons a rest) inner
 
--- the tokens are the phrase
+-- the tokens are the phrase, of whatever category it is
 abbrev pub IsPhrase : PlainPhrase → List Token → Type 0
 IsPhrase (PlainPhrase.assignment target value) tokens =
     (left right : List Token) × (tokens ≡ left ++ (Token.sign Sign.Equal ∷ right)) × IsReference target left × Level value 1 right

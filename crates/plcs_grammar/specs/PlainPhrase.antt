@@ -13,7 +13,7 @@ use Rattle.plcs_grammar.specs.declared.expr.VarRef.{VarRef, fold-VarRef}
 use Rattle.plcs_grammar.specs.declared.phrase.Phrase.{Phrase}
 
 mutual
-  -- an expression; a number in it that a text can have is not negative
+  -- an expression as plain data; a number in it that a text can have is not negative
   pub data PlainExpr : Type 0 where
     number : ℤ → PlainExpr
     text : List ℕ → PlainExpr
@@ -29,12 +29,12 @@ mutual
     simple : List ℕ → PlainVarRef
     subscripted : List ℕ → PlainExpr → PlainVarRef
 
-  -- expressions in order
+  -- a list of expressions
   pub data PlainExprs : Type 0 where
     nil : PlainExprs
     cons : PlainExpr → PlainExprs → PlainExprs
 
--- a phrase; names are their bytes, and a call without arguments has none in its list
+-- a phrase as plain data; names are their bytes, and a call without arguments has none in its list
 pub data PlainPhrase : Type 0 where
   assignment : PlainVarRef → PlainExpr → PlainPhrase
   condition : PlainExpr → PlainPhrase
@@ -64,17 +64,17 @@ category_of (name_list names) = Category.NameList
 category_of (greatest_length n) = Category.Length
 category_of (comment bytes) = Category.CommentText
 
--- a list of expressions as expressions in order
+-- the list of expressions that a list of the definitions is
 abbrev pub exprs_from : List PlainExpr → PlainExprs
 exprs_from [] = PlainExprs.nil
 exprs_from (t ∷ ts) = PlainExprs.cons t (exprs_from ts)
 
--- a name with the subscript that is there, if one is
+-- the variable of a name with the subscript that is there, if one is
 abbrev pub reference_with : List ℕ → Option (Box PlainExpr Global) → PlainVarRef
 reference_with name None = PlainVarRef.simple name
 reference_with name (Some index) = PlainVarRef.subscripted name index.value
 
--- one level of an expression and of a variable, with what is inside already in plain form
+-- the plain form of one level of an expression, with what is inside already in plain form
 abbrev pub expr_step : Expr-F PlainExpr PlainVarRef → PlainExpr
 expr_step (Expr-F.Number z) = PlainExpr.number z
 expr_step (Expr-F.Text v) = PlainExpr.text v.value
@@ -85,7 +85,7 @@ expr_step (Expr-F.Infix op a b) = PlainExpr.binary op a.value b.value
 expr_step (Expr-F.Builtin function arguments) = PlainExpr.builtin function (exprs_from arguments.items)
 expr_step (Expr-F.Paren a) = PlainExpr.parenthesized a.value
 
--- one level of a variable
+-- the plain form of one level of a variable, with its subscript already in plain form
 abbrev pub reference_step : VarRef-F PlainExpr PlainVarRef → PlainVarRef
 reference_step r = reference_with r.name r.index
 
@@ -97,7 +97,7 @@ plain_expr = fold-Expr PlainExpr PlainVarRef expr_step reference_step
 abbrev pub plain_var_ref : VarRef → PlainVarRef
 plain_var_ref = fold-VarRef PlainExpr PlainVarRef expr_step reference_step
 
--- the plain form of expressions in order
+-- the plain form of a list of expressions
 abbrev pub plain_exprs : List Expr → PlainExprs
 plain_exprs es = exprs_from (map plain_expr es)
 

@@ -16,7 +16,7 @@ pub record IsCutAs (category : Category) (x : List ℕ) (pieces : List Piece) (p
   pub cuts : Cuts pieces 0 x None
   pub form : Form category (tokens_of pieces) phrase
 
--- the text is that of the comment
+-- the text is that of the comment, in the category of comments
 pub record IsCommentAs (category : Category) (x : List ℕ) (phrase : PlainPhrase) : Type 0 where
   pub category_is : category ≡ CommentText
   pub text : IsCommentText x
@@ -27,7 +27,7 @@ abbrev pub HasReading : Category → List ℕ → PlainPhrase → Type 0
 HasReading category x phrase =
     ((pieces : List Piece) × IsCutAs category x pieces phrase) ⊎ IsCommentAs category x phrase
 
--- the text has a reading
+-- the text has a reading in the category, with numbers of any size and any nesting
 abbrev pub Outline : Category → List ℕ → Type 0
 Outline category x = (phrase : PlainPhrase) × HasReading category x phrase
 

@@ -16,7 +16,7 @@ pub fn shown_len(phrase: &Phrase) -> u32
     out.count
 }
 
-/// How many bytes were put; at its last value it stays.
+/// A sink that only counts the bytes that are put; at its last value the count stays.
 #[derive(Drop)]
 struct LengthOut {
     count: u32,

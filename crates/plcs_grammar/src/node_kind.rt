@@ -18,7 +18,7 @@ pub enum NodeKind {
     Filled(Template),
 }
 
-/// Where a node may stand: where one of the same sort stands.
+/// The sort of a node: a node may stand where one of the same sort stands.
 #[derive(Clone, Copy, Debug, PartialEq, Eq)]
 pub enum Sort {
     /// The main procedure.

@@ -37,7 +37,7 @@ pub enum Phrase {
 }
 
 impl Phrase {
-    /// Its category.
+    /// The category of the phrase.
     pub fn category(&self) -> Category
         ensures { result ≡ category_of (plain_phrase self.now) }
     {

@@ -46,7 +46,7 @@ pub(crate) fn show_expr<O: ByteOut>(expr: &Expr, out: &mut O)
     }
 }
 
-/// Puts the text of the chain's last operators, so many, with their right operands.
+/// Puts the text of the last so many operators of a chain, each with its right operand.
 ///
 /// The chain is halved, so that a long one needs little stack and no memory.
 #[cycle(show_expr)]

@@ -1,6 +1,6 @@
 -- What the model of the code finds at the front of a text is a token there.
 use Rattle.std.proofs.Common.{◌≡◌, ℕ, ◌≤◌, Bool, true, false, not, ◌&&◌, cond, eqb, List, [], ◌∷◌, ◌++◌, length, take, drop, refl, sym, ap, ◌∙◌, subst, inl, inr, arith, Option, Some, None}
-use Rattle.std.specs.Prelude.{nat_le, bytes_eq, find}
+use Rattle.std.specs.Prelude.{nat_le, bytes_eq}
 use Rattle.std.specs.List.{list_all, prefix_len}
 use Rattle.std.proofs.lemmas.Bool.{and_parts, and_from, cond-true, cond-false, cond_both, eqb-true, cases_Bool, not-true, not_from_false}
 use Rattle.std.proofs.lemmas.Option.{none-some, same_Some, cond_some}
@@ -16,6 +16,7 @@ use Rattle.phrase_parser.specs.declared.front.Front.{Front}
 use Rattle.phrase_parser.specs.declared.token.TokenKind.TheVariants as kind
 use Rattle.phrase_parser.specs.Private.Kept.{kept_kind}
 use Rattle.phrase_parser.specs.Private.Front.{front_of, word_front, number_front, constant_of, constant_front, bit_constant, bit_value, constant_end, longer_sign, sign_kept, sign_front, double_at, ends_word}
+use Rattle.phrase_parser.proofs.FoundElements.{found_passes}
 use Rattle.phrase_parser.proofs.Tokens.ByteRuns.{run_all, run_ends, run_begins, run_first}
 use Rattle.phrase_parser.proofs.Tokens.QuotedTexts.{constant_end_tells, quoted_append, length_quoted}
 use Rattle.phrase_parser.proofs.Tokens.Words.{letter_is_name_byte, word_no_name}
@@ -184,15 +185,6 @@ constant_tells rest front None (Some end) is_bit read h =
 constant_tells rest front None None is_bit read h = absurd (none-some front h)
 
 -- signs
-
--- what is found passes the test
-found_passes : (test : Sign → Bool) (among : List Sign) (sign : Sign) → find test among ≡ Some sign → test sign ≡ true
-found_passes test [] sign h = absurd (none-some sign h)
-found_passes test (s ∷ others) sign h =
-    cond_both (test s) (Some s) (find test others) (λ (o : Option Sign). o ≡ Some sign → test sign ≡ true)
-    (λ passes e. subst (λ (x : Sign). test x ≡ true) (same_Some s sign e) passes)
-    (λ _ e. found_passes test others sign e)
-    h
 
 -- the bytes are those of the sign that they are found as
 found_spelt : (bytes : List ℕ) (sign : Sign) → sign_of bytes ≡ Some sign → bytes ≡ sign_bytes sign

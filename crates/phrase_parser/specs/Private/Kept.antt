@@ -26,4 +26,4 @@ kept piece = record { kind = kept_kind piece.token; start = piece.start; end = p
 
 -- these are what is kept of the pieces into which the whole text is cut, up to the place where it stops being tokens
 abbrev pub AreTokens : List Placed → Option ℕ → List ℕ → Type 0
-AreTokens items stop text = (pieces : List Piece) × Cuts pieces 0 text stop × (items ≡ map kept pieces)
+AreTokens placed stop text = (pieces : List Piece) × Cuts pieces 0 text stop × (placed ≡ map kept pieces)
