@@ -16,7 +16,7 @@ FaultSays category x (NumberTooLarge place) = IsOver category x (OverLimit.numbe
 FaultSays category x (TooDeep place) = IsOver category x (OverLimit.too_deep place)
 FaultSays category x OutOfMemory = Unit {0}
 
--- what the answer says of the text
+-- what an answer of the parser says of the text
 abbrev pub Answers : Category → List ℕ → Result Phrase PhraseFault → Type 0
 Answers category x (Ok phrase) = Reads category x (plain_phrase phrase)
 Answers category x (Err fault) = FaultSays category x fault

@@ -39,7 +39,7 @@ OverIsPastLimits =
     (category : Category) (x : List ℕ) (limit : OverLimit) → IsOver category x limit
     → (phrase : PlainPhrase) × HasReading category x phrase × ¬ (IsWithinLimits phrase)
 
--- a text with such a reading is over a limit
+-- a text that has a reading with a number or a nesting over its limit is over a limit
 abbrev pub PastLimitsIsOver : Type 0
 PastLimitsIsOver =
     (category : Category) (x : List ℕ) (phrase : PlainPhrase) → HasReading category x phrase → ¬ (IsWithinLimits phrase)

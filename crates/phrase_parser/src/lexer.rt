@@ -12,7 +12,7 @@ use std::alloc::{AllocError, Global};
 /// The tokens of a text, with the place where it stops being tokens.
 #[derive(Drop)]
 pub struct TokenList {
-    /// The tokens in their order.
+    /// The tokens of the text, in their order.
     pub placed: Vec<Placed>,
     /// The place of the first byte, blanks aside, at which no token can be made. `None` where the whole
     /// text consists of tokens.
@@ -37,7 +37,7 @@ pub fn tokens(alloc: Global, text: &[u8]) -> Result<TokenList, AllocError>
     Ok(TokenList { placed, stop: None })
 }
 
-/// The place behind the blanks that stand at this one.
+/// The place behind the blanks that stand at this place of the text.
 fn behind_blanks(text: &[u8], at: usize) -> usize
     requires { at ≤ length text.now }
     ensures { result ≡ at + blanks (drop at text.now) }

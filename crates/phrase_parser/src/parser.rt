@@ -69,7 +69,7 @@ fn phrase(
     }
 }
 
-/// The fault of what goes past its limit.
+/// The parser's fault where something goes past its limit.
 fn over_fault(over: Over) -> PhraseFault
     requires { over_place (over_of over) < 2 ^ 32 }
     ensures { result ≡ over_fault (over_of over) }

@@ -69,7 +69,7 @@ built_reads c x tokens phrase read built =
     let same : read.phrase ≡ plain_phrase phrase = same_Some read.phrase (plain_phrase phrase) (sym read.built ∙ built) in
     subst (Reads c x) same read.reads
 
--- and one is built
+-- a phrase is built of tokens that are one: the builder refuses none
 pub not_refused : (c : Category) (x : List ℕ) (tokens : List Placed) → IsRead c x tokens
     → phrase_of_if (run (map (token_in x) tokens) (start c)) ≡ None → ⊥
 not_refused c x tokens read refused = none-some read.phrase (sym refused ∙ read.built)

@@ -16,7 +16,7 @@ module _ (limit : ℕ) where
   abbrev pub OverWithin : OverLimit → Type 0
   OverWithin over = over_place over ≤ limit
 
-  -- the same, if something does
+  -- what goes past a limit, if something does, does so within the text
   abbrev pub OverIf : Option OverLimit → Type 0
   OverIf None = Unit {0}
   OverIf (Some over) = OverWithin over

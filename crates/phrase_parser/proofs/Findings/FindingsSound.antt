@@ -25,13 +25,13 @@ follow_pieces pieces shape = follow (classes_of (tokens_of pieces)) shape
 abbrev pub over_pieces : List Piece → Option Shape → Option OverLimit
 over_pieces pieces shape = first_over pieces (follow_levels (classes_of (tokens_of pieces)) shape)
 
--- one more piece
+-- the shape behind one more piece
 pub follow_last : (front : List Piece) (piece : Piece) (s : Option Shape)
     → follow_pieces (front ++ (piece ∷ [])) s ≡ next_if (follow_pieces front s) (class_of piece.token)
 follow_last [] piece s = refl
 follow_last (x ∷ xs) piece s = follow_last xs piece (next_if s (class_of x.token))
 
--- the first of three
+-- which of three limits is past first doesn't depend on which two are looked at together
 pub option_or_assoc : (a b c : Option OverLimit) → option_or (option_or a b) c ≡ option_or a (option_or b c)
 option_or_assoc None b c = refl
 option_or_assoc (Some o) b c = refl

@@ -28,7 +28,7 @@ use Rattle.phrase_parser.proofs.Findings.Simulation.{use_of, last_of, state_shap
 abbrev pub classes_of : List Token → List TokenClass
 classes_of ks = map class_of ks
 
--- what stopped stays so
+-- the machine without trees that stopped stays so
 pub follow_none : (classes : List TokenClass) → follow classes None ≡ None
 follow_none [] = refl
 follow_none (class ∷ classes) = follow_none classes
@@ -64,7 +64,7 @@ follows_first : (c : Category) (first : Option State) (ks : List Token) → IsFr
 follows_first c None ks f = follow_none (classes_of ks) ∙ sym (ap state_shape_if (run_none ks))
 follows_first c (Some s) ks f = follows ks s f.sound
 
--- from the start of a category too
+-- tokens do to the first shape of a category what they do to its first state
 pub follows_start : (c : Category) (ks : List Token) → follow (classes_of ks) (first_shape c) ≡ state_shape_if (run ks (start c))
 follows_start c ks = ap (follow (classes_of ks)) (first_as c) ∙ follows_first c (start c) ks (start_fresh c)
 
@@ -187,7 +187,7 @@ taken_begins c ks shape e =
     let r = state_behind (run ks (start c)) shape (sym (follows_start c ks) ∙ e) in
     viable c ks r.0 r.1
 
--- tokens that are not taken begin none
+-- tokens that are not taken begin no phrase
 pub refused_begins : (c : Category) (ks : List Token) → follow (classes_of ks) (first_shape c) ≡ None → Begins c ks → ⊥
 refused_begins c ks e h = stopped c ks (no_state (run ks (start c)) (sym (follows_start c ks) ∙ e)) h
 
@@ -205,7 +205,7 @@ whole_form c ks shape e m =
     let r = some_phrase (phrase_of_if (run ks (start c))) (sym (ended_as c ks shape e) ∙ m) in
     (r.0, sound c ks r.0 r.1)
 
--- where they may not end they are none
+-- where tokens may not end they are no phrase
 pub part_form : (c : Category) (ks : List Token) (shape : Shape) → follow (classes_of ks) (first_shape c) ≡ Some shape
     → may_end shape ≡ false → (p : PlainPhrase) → Form c ks p → ⊥
 part_form c ks shape e m p h =

@@ -85,7 +85,7 @@ state_shape (State.item_had done) = Shape.item_had
 state_shape State.length_wanted = Shape.length_wanted
 state_shape (State.length_had n) = Shape.length_had
 
--- the same, where the machine has not stopped
+-- the shape of a state, where the machine has not stopped
 abbrev pub state_shape_if : Option State → Option Shape
 state_shape_if None = None
 state_shape_if (Some s) = Some (state_shape s)
@@ -125,7 +125,7 @@ same_place level (Stack.arguments function done s) t = (refl, refl)
 joins_at : (level : ℕ) (s : Stack) (t : PlainExpr) → Sound (State.had s t) → 1 ≤ level → Joins level s t (reduced s level t)
 joins_at level s t h le = reduced_joins level s t h.0 (h.1 (hole s)) (h.1 level) le
 
--- behind an operator
+-- the shape behind an infix operator is that of the state behind it
 sim_infix : (op : InfixOp) (s : Stack) (t : PlainExpr) → Sound (State.had s t)
     → Shape.wanted (ground_of s) (brackets_of s) (inside (ground_of s) (brackets_of s)) ≡ state_shape (behind_infix op (reduced s (priority op) t))
 sim_infix op s t h =

@@ -1,5 +1,5 @@
 -- The built-in function of a name.
-use Rattle.std.proofs.Common.{◌≡◌, refl, Bool, true, false, true≢false, not, cond, ℕ, List, [], ◌∷◌, Option, Some, None, ap, sym, ◌∙◌, bytes_eq, find, is_some, IsTrue}
+use Rattle.std.proofs.Common.{◌≡◌, refl, true, true≢false, not, ℕ, List, Option, Some, None, ap, sym, bytes_eq, is_some, IsTrue}
 use Rattle.std.proofs.lemmas.Slice.Eq.{bytes_eq-Decides}
 use Rattle.plcs_grammar.specs.declared.builtin.Builtin.{Builtin}
 use Rattle.plcs_grammar.specs.declared.builtin.Builtin.TheVariants.{Abs, Mod, Min, Max, Length, Substr, Index}

@@ -113,7 +113,7 @@ one_wrong c x a b (inl (ps, s, cut, g)) (inr k) = absurd (comment_not_wrong c ps
 one_wrong c x a b (inr k) (inl (qs, t, other, h)) = absurd (comment_not_wrong c qs (length x) t b k.0 h)
 one_wrong c x a b (inr j) (inr k) = let e = sym j.1 ∙ k.1 in cc
 
--- so each fact forces its answer
+-- each fact about a text forces its answer
 pub only : (c : Category) (x : List ℕ) (answer : Result Phrase PhraseFault) (p : PlainPhrase) → Answers c x answer → Reads c x p → Only answer p
 only c x (Ok phrase) p says h = one_reading c x (plain_phrase phrase) p says h
 only c x (Err (Syntax at)) p says h = absurd (says.0 (reads_outline c x p h))

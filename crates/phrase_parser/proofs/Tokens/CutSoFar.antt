@@ -15,7 +15,7 @@ use Rattle.phrase_parser.proofs.Tokens.OneCut.{found_first, none_found, token_no
 -- the text is cut into the pieces that are kept, and goes on behind blanks at the place start
 pub record CutSoFar (x : List ℕ) (placed : List Placed) (start : ℕ) : Type 0 where
   pub pieces : List Piece
-  -- behind the last piece
+  -- the place behind the last piece
   pub place : ℕ
   pub within : place ≤ length x
   pub at_start : start ≡ place + blanks (drop place x)
@@ -37,7 +37,7 @@ nothing_cut x start h = record {
 pub start_within : (x : List ℕ) (place start : ℕ) → place ≤ length x → start ≡ place + blanks (drop place x) → start ≤ length x
 start_within x place start within h = omega (arith, h, prefix_len-le-length is_blank (drop place x), length-drop place x)
 
--- what is found is within the text, and not empty
+-- a token that is found is within the text, and not empty
 pub front_within : (x : List ℕ) (front : Front) → front_of x ≡ Some front → (1 ≤ front.length) × (front.length ≤ length x)
 front_within x front found =
     let told = found_tells x front found in (

@@ -31,7 +31,7 @@ pub record Tells (x : List ℕ) (front : Front) : Type 0 where
   pub same_kind : kept_kind token ≡ front.kind
   pub same_length : length bytes ≡ front.length
 
--- words
+-- ---- words
 
 word_tells : (w behind : List ℕ) (front : Front) → is_word w ≡ true → nat_le (length w) longest_name ≡ true
     → begins_with is_name_byte behind ≡ false
@@ -78,7 +78,7 @@ word_front_tells first rest front letter h =
     (word_tells w (drop n x) front word (ap (λ (k : ℕ). nat_le k longest_name) size ∙ found.0) (run_ends is_name_byte x)
     (sym (ap (λ (f : Front). f.kind) found.1)) (sym (ap (λ (f : Front). f.length) found.1) ∙ sym size))
 
--- numbers
+-- ---- numbers
 
 number_front_tells : (first : ℕ) (rest : List ℕ) (front : Front) → is_digit first ≡ true → number_front (first ∷ rest) ≡ front
     → Tells (first ∷ rest) front
@@ -97,9 +97,9 @@ number_front_tells first rest front digit h =
       same_length = size ∙ ap (λ (f : Front). f.length) h;
     }
 
--- constants
+-- ---- constants
 
--- the digit of a bit
+-- the byte of the digit of a bit
 abbrev bit_byte : Bool → ℕ
 bit_byte false = 48
 bit_byte true = 49
@@ -151,7 +151,7 @@ bit_tells (a ∷ digit ∷ c ∷ d ∷ behind) bit h =
       ends = not-true (begins_with is_name_byte behind) three.1;
     }
 
--- what stands between its quotes is a constant of three bytes
+-- a bit constant without its `B` is a character constant of three bytes
 pub bit_read : (bit : Bool) (behind : List ℕ) → constant_end 1 0 (drop 1 (bit_bytes bit ++ behind)) ≡ Some 3
 bit_read false behind = refl
 bit_read true behind = refl
@@ -184,7 +184,7 @@ constant_tells rest front None (Some end) is_bit read h =
     }
 constant_tells rest front None None is_bit read h = absurd (none-some front h)
 
--- signs
+-- ---- signs
 
 -- the bytes are those of the sign that they are found as
 found_spelt : (bytes : List ℕ) (sign : Sign) → sign_of bytes ≡ Some sign → bytes ≡ sign_bytes sign
@@ -212,7 +212,7 @@ sign_tells first rest front None (Some s) is_double is_single h =
     tells_sign (first ∷ []) rest s 1 front (found_spelt (first ∷ []) s is_single) refl (same_Some (sign_kept s 1) front h)
 sign_tells first rest front None None is_double is_single h = absurd (none-some front h)
 
--- what is found begins the text
+-- the front that is found tells a token that begins the text
 pub found_tells : (x : List ℕ) (front : Front) → front_of x ≡ Some front → Tells x front
 found_tells [] front h = absurd (none-some front h)
 found_tells (first ∷ rest) front h =

@@ -34,7 +34,7 @@ pub enum Role {
     Procedure,
 }
 
-/// A parenthesis is opened behind a name that stands in no expression.
+/// The state behind a parenthesis that is opened behind a name that stands in no expression, if one can stand there.
 pub fn step_open_role(alloc: Global, role: Role, name: Name) -> Result<State, BuildError>
     ensures { Gives state_of result (step_open_role (role_of role) name) }
 {
@@ -47,7 +47,7 @@ pub fn step_open_role(alloc: Global, role: Role, name: Name) -> Result<State, Bu
     }
 }
 
-/// A comma stands behind a name.
+/// The state behind a comma that follows a name that stands in no expression, if one can stand there.
 pub fn step_comma_role(role: Role, name: Name) -> Result<State, BuildError>
     ensures { Gives state_of result (step_comma_role (role_of role) name) }
 {
@@ -68,7 +68,7 @@ pub fn step_comma_role(role: Role, name: Name) -> Result<State, BuildError>
     }
 }
 
-/// `=` behind a name that stands in no expression.
+/// The state behind `=` that follows a name that stands in no expression, if it can stand there.
 pub fn step_equal_role(alloc: Global, role: Role, name: Name) -> Result<State, BuildError>
     ensures { Gives state_of result (step_equal_role (role_of role) name) }
 {
@@ -83,7 +83,7 @@ pub fn step_equal_role(alloc: Global, role: Role, name: Name) -> Result<State, B
     }
 }
 
-/// The phrase whose last part is the name.
+/// The phrase that ends with the name, which stands in no expression, if it may end so.
 pub fn phrase_of_role(alloc: Global, role: Role, name: Name) -> Result<Phrase, BuildError>
     ensures { Gives plain_phrase result (phrase_of_role (role_of role) name) }
 {

@@ -1,4 +1,4 @@
--- What the code's table of commands stands for.
+-- The plain form of what the code says that each command takes.
 use Rattle.std.specs.Prelude.{ℕ, List}
 use Rattle.session_words.specs.declared.argument_rule.ArgumentRule.{ArgumentRule}
 use Rattle.session_words.specs.declared.argument_rule.ArgumentRule.TheVariants as rule
