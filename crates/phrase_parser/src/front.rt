@@ -13,9 +13,9 @@ use plcs_grammar::Sign;
 /// A token that a text begins with.
 #[derive(Clone, Copy)]
 pub struct Front {
-    /// What it is.
+    /// The kind of the token.
     pub kind: TokenKind,
-    /// How many bytes it has.
+    /// How many bytes the token has.
     pub length: usize,
 }
 
@@ -32,7 +32,8 @@ pub fn front_of(text: &[u8]) -> Option<Front>
     }
 }
 
-/// A name or a keyword, from its first letter on. A longer run of bytes of names is neither.
+/// The name or keyword that a text begins with, where its first byte is a letter. A run of more bytes than a
+/// name may have is neither.
 fn word_front(text: &[u8]) -> Option<Front>
     ensures { result ≡ word_front text.now }
 {
@@ -47,7 +48,7 @@ fn word_front(text: &[u8]) -> Option<Front>
     Some(Front { kind, length })
 }
 
-/// A number, from its first digit on.
+/// The number that a text begins with, where its first byte is a digit.
 fn number_front(text: &[u8]) -> Front
     ensures { result ≡ number_front text.now }
 {
@@ -68,7 +69,7 @@ fn capped_value(digits: &[u8]) -> u32
     value
 }
 
-/// A bit constant, or else a character constant, from its opening quote on.
+/// The bit constant, or else the character constant, that a text begins with, where its first byte is a quote.
 fn constant_front(text: &[u8]) -> Option<Front>
     ensures { result ≡ constant_front text.now }
 {
@@ -87,7 +88,7 @@ fn constant_front(text: &[u8]) -> Option<Front>
     }
 }
 
-/// A sign of two bytes, or else of one.
+/// The sign that a text begins with: of its first two bytes, or else of the first.
 fn sign_front(first: u8, rest: &[u8]) -> Option<Front>
     ensures { result ≡ sign_front first rest.now }
 {
@@ -102,7 +103,7 @@ fn sign_front(first: u8, rest: &[u8]) -> Option<Front>
     }
 }
 
-/// A sign with its count of bytes.
+/// The front that a sign of so many bytes is.
 fn sign_kept(sign: Sign, length: usize) -> Front
     ensures { result ≡ sign_kept sign length }
 {

@@ -2,7 +2,7 @@
 ghost use Rattle.std.specs.Prelude.{◌≡◌};
 ghost use Rattle.session_words.specs.Argument.{PlainArgumentRule, command_with};
 ghost use Rattle.session_words.specs.PlainCommand.{plain_command, plain_reading};
-ghost use Rattle.session_words.specs.Private.PlainForm.{plain_argument_rule, alone_command, named_command, numbered_command, texted_command, filed_command};
+ghost use Rattle.session_words.specs.Private.PlainArgumentRule.{plain_argument_rule, alone_command, named_command, numbered_command, texted_command, filed_command};
 
 use crate::argument::{is_file_name, name_in, number_in};
 use crate::command::{Command, CommandFault};

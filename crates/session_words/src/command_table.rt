@@ -2,7 +2,7 @@
 ghost use Rattle.std.specs.Prelude.{◌≡◌, map, find, bytes_eq};
 ghost use Rattle.std.specs.Option.{option_map};
 ghost use Rattle.session_words.specs.CommandTable.{other_commands, argument_rule_in, argument_rule_of};
-ghost use Rattle.session_words.specs.Private.PlainForm.{plain_argument_rule};
+ghost use Rattle.session_words.specs.Private.PlainArgumentRule.{plain_argument_rule};
 ghost use Rattle.session_words.specs.Private.PlainCommandRow.{plain_command_row};
 
 use crate::argument_rule::{Alone, ArgumentRule, Filed, Named, Numbered, Range, Texted};

@@ -61,7 +61,7 @@ trim_last front =
     ap (λ z. reverse (unblanked z)) (reverse-append front (32 ∷ []))
     ∙ ap reverse (drop_one_more 32 (reverse front) (prefix_len is_blank (reverse front)))
 
--- and nothing else
+-- a text that ends with no blank loses nothing at its end
 trim_done_if : (rest back : List ℕ) → reverse rest ≡ back → ((front : List ℕ) → rest ≡ front ++ (32 ∷ []) → ⊥) → unblanked back ≡ back
 trim_done_if rest [] e free = refl
 trim_done_if rest (b ∷ back) e free =
@@ -95,7 +95,7 @@ trimmed_again x =
     ∙ ap (λ (z : List ℕ). reverse (unblanked z)) (reverse-reverse back)
     ∙ ap (λ (z : List ℕ). reverse z) (unblanked_same back (run_ends is_blank (reverse (unblanked x))))
 
--- its bytes are bytes of the text
+-- the bytes of a trimmed text are bytes of the text
 trimmed_all : (test : ℕ → Bool) (x : List ℕ) → list_all test x ≡ true → list_all test (trimmed x) ≡ true
 trimmed_all test x h =
     let first = trimmed_first x in

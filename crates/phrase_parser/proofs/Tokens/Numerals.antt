@@ -15,7 +15,7 @@ use Rattle.plcs_grammar.specs.Token.{numeral_value, IsNumeral}
 abbrev value_of_digit : ℕ → ℕ
 value_of_digit digit = digit - 48
 
--- one digit more
+-- the number that one digit more in front writes
 pub numeral_more : (xs : List ℕ) (i : ℕ) → i < length xs
     → numeral_value (take (i + 1) xs) ≡ numeral_value (take i xs) * 10 + (get_or xs i 0 - 48)
 numeral_more xs i h =
@@ -25,7 +25,7 @@ numeral_more xs i h =
     ∙ ap (λ (ds : List ℕ). number_from_digits 10 ds * 10 + get_or digits i 0) (take-map value_of_digit i xs)
     ∙ ap (λ (d : ℕ). numeral_value (take i xs) * 10 + d) (get_or-map value_of_digit xs i 0 0 h)
 
--- one digit more at the end
+-- the number that one digit more at the end writes
 pub numeral_push : (digits : List ℕ) (digit : ℕ)
     → numeral_value (digits ++ (digit ∷ [])) ≡ numeral_value digits * 10 + (digit - 48)
 numeral_push digits digit =
@@ -36,7 +36,7 @@ digit_byte : (k : ℕ) → k < 10 → is_digit (48 + k) ≡ true
 digit_byte k h =
     and_from (nat_le 48 (48 + k)) (nat_le (48 + k) 57) (le-leb 48 (48 + k) (omega arith)) (le-leb (48 + k) 57 (omega arith))
 
--- the digits write the number
+-- the decimal digits of a number write the number
 abbrev Writes : ℕ → List ℕ → Type 0
 Writes n digits = IsNumeral digits × (numeral_value digits ≡ n)
 
