@@ -6,9 +6,9 @@ ghost use Rattle.phrase_parser.specs.Private.Front.{front_of, word_front, number
 
 use crate::byte_class::{ByteClass, leading};
 use crate::constant::{bit_constant, constant_length};
-use crate::token::TokenKind;
+use crate::token::{GREATEST_KEPT, TokenKind};
 use plcs_base::{LONGEST_NAME, Name, is_digit, is_letter};
-use plcs_grammar::Sign;
+use plcs_grammar::{Sign, numeral_value};
 
 /// A token that a text begins with.
 #[derive(Clone, Copy)]
@@ -53,20 +53,15 @@ fn number_front(text: &[u8]) -> Front
     ensures { result ≡ number_front text.now }
 {
     let length = leading(ByteClass::Digit, text);
-    let kind = TokenKind::Number(capped_value(&text[..length]));
+    let kind = TokenKind::Number(kept_value(&text[..length]));
     Front { kind, length }
 }
 
 /// The number that the digits write, or `GREATEST_KEPT` where it is greater.
-fn capped_value(digits: &[u8]) -> u32
+fn kept_value(digits: &[u8]) -> u32
     ensures { result ≡ min (numeral_value digits.now) greatest_kept }
 {
-    let mut value: u32 = 0;
-    for digit in digits {
-        let ones = u32::from(digit.saturating_sub(b'0'));
-        value = value.saturating_mul(10).saturating_add(ones);
-    }
-    value
+    numeral_value(digits).min(u64::from(GREATEST_KEPT)) as u32
 }
 
 /// The bit constant, or else the character constant, that a text begins with, where its first byte is a quote.

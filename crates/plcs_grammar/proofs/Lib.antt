@@ -40,3 +40,8 @@ mod ShownTexts
 -- ---- copies
 -- a chain that is taken apart and put together again: `copy_phrase`
 mod LinkedChains
+-- ---- texts of arguments and comments
+-- a blank at a text's end is left out: `trimmed`
+mod TrimmedTexts
+-- one digit more: `numeral_value`
+mod Numerals

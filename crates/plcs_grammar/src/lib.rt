@@ -14,6 +14,7 @@ mod item;
 mod length_out;
 mod limit;
 mod node_kind;
+mod numeral;
 mod operator;
 mod phrase;
 mod phrase_equality;
@@ -25,6 +26,7 @@ mod show_phrase;
 mod shown_text_laws;
 mod sign;
 mod template;
+mod trimmed_text;
 #[cfg(test)]
 mod tests;
 
@@ -37,6 +39,7 @@ pub use item::Item;
 pub use length_out::shown_len;
 pub use limit::{GREATEST_NESTING, GREATEST_NUMBER};
 pub use node_kind::{NodeKind, Sort};
+pub use numeral::numeral_value;
 pub use operator::{InfixOp, PrefixOp};
 pub use phrase::Phrase;
 pub use phrase_equality::same_phrase;
@@ -45,3 +48,4 @@ pub use show_phrase::show;
 pub use shown_text_laws::canonical_texts_show;
 pub use sign::Sign;
 pub use template::Template;
+pub use trimmed_text::trimmed;

@@ -124,14 +124,14 @@ impl Alone {
             command_with (PlainArgumentRule.nothing (alone_command self)) argument.now }
     {
         if argument.is_empty() {
-            Ok(self.made())
+            Ok(self.command_of())
         } else {
             Err(CommandFault::WrongArgument)
         }
     }
 
     /// The command.
-    fn made<'a>(self) -> Command<'a>
+    fn command_of<'a>(self) -> Command<'a>
         ensures { plain_command result ≡ alone_command self }
     {
         match self {
@@ -158,13 +158,13 @@ impl Named {
             command_with (PlainArgumentRule.name (named_command self)) argument.now }
     {
         match name_in(argument) {
-            Some(name) => Ok(self.made(name)),
+            Some(name) => Ok(self.command_of(name)),
             None => Err(CommandFault::WrongArgument),
         }
     }
 
     /// The command with the name.
-    fn made<'a>(self, name: Name) -> Command<'a>
+    fn command_of<'a>(self, name: Name) -> Command<'a>
         ensures { plain_command result ≡ named_command self name }
     {
         match self {
@@ -182,13 +182,13 @@ impl Numbered {
             command_with (plain_argument_rule (ArgumentRule.Number range self)) argument.now }
     {
         match number_in(range, argument) {
-            Some(number) => Ok(self.made(number)),
+            Some(number) => Ok(self.command_of(number)),
             None => Err(CommandFault::WrongArgument),
         }
     }
 
     /// The command with the number.
-    fn made<'a>(self, number: u32) -> Command<'a>
+    fn command_of<'a>(self, number: u32) -> Command<'a>
         ensures { plain_command result ≡ numbered_command self number }
     {
         match self {

@@ -2,8 +2,8 @@ use Rattle.std.proofs.Common.{◌∙◌, sym, ap, take, length, ◌-◌, [], ◌
 use Rattle.std.proofs.lemmas.Bool.Decides.{Decides-eqb}
 use Rattle.std.proofs.lemmas.Slice.Eq.{ends_is}
 use Rattle.plcs_grammar.specs.Cuts.{unblanked}
-use Rattle.phrase_parser.proofs.Comments.TrimmedTexts.{trim_last, trim_done}
-use Rattle.phrase_parser.proofs.comment.trimmed.Goals as goal
+use Rattle.plcs_grammar.proofs.TrimmedTexts.{trim_last, trim_done}
+use Rattle.plcs_grammar.proofs.trimmed_text.trimmed.Goals as goal
 
 pub loop-rest-preserved : goal.loop-rest-preserved
 loop-rest-preserved c =

@@ -1,7 +1,7 @@
 use Rattle.std.proofs.Common.{length, ◌≡◌, reverse}
 use Rattle.plcs_grammar.specs.Cuts.{unblanked}
 use Rattle.plcs_grammar.specs.Comment.{trimmed}
-use Rattle.session_words.proofs.trimmed.trimmed.Given as goal
+use Rattle.plcs_grammar.proofs.trimmed_text.trimmed.Given as goal
 
 abbrev pub invariant-loop-rest : goal.invariant-loop-rest
 invariant-loop-rest l = reverse (unblanked (reverse l.rest)) ≡ trimmed l.text

@@ -1,6 +1,6 @@
 use Rattle.std.proofs.Common.{length, drop, ◌+◌, ◌-◌, ◌≡◌, ◌≤◌}
 use Rattle.plcs_grammar.specs.Cuts.{blanks}
-use Rattle.session_words.proofs.trimmed.leading_blanks.Given as goal
+use Rattle.plcs_grammar.proofs.trimmed_text.leading_blanks.Given as goal
 
 abbrev pub invariant-loop-count : goal.invariant-loop-count
 invariant-loop-count l =
