@@ -42,7 +42,7 @@ number_between least most argument =
     if is_numeral argument && (nat_le least (numeral_value argument) && nat_le (numeral_value argument) most)
     then Some (numeral_value argument) else None
 
--- the same, where no argument is another number
+-- the number of a range that the argument is, if it is one; no argument is the one that is meant where none is given
 abbrev pub number_in : ℕ → ℕ → ℕ → List ℕ → Option ℕ
 number_in least most otherwise [] = Some otherwise
 number_in least most otherwise (byte ∷ rest) = number_between least most (byte ∷ rest)

@@ -118,7 +118,7 @@ impl ArgumentRule {
 }
 
 impl Alone {
-    /// The command, where there is no argument.
+    /// A command that takes no argument, where there is none.
     fn command<'a>(self, argument: &[u8]) -> Result<Command<'a>, CommandFault>
         ensures { plain_reading result ≡
             command_with (PlainArgumentRule.nothing (alone_command self)) argument.now }
@@ -130,7 +130,7 @@ impl Alone {
         }
     }
 
-    /// The command.
+    /// The command that takes no argument.
     fn command_of<'a>(self) -> Command<'a>
         ensures { plain_command result ≡ alone_command self }
     {
@@ -152,7 +152,7 @@ impl Alone {
 }
 
 impl Named {
-    /// The command with the name that the argument is.
+    /// A command that takes a clip's name, with the name that the argument is.
     fn command<'a>(self, argument: &[u8]) -> Result<Command<'a>, CommandFault>
         ensures { plain_reading result ≡
             command_with (PlainArgumentRule.name (named_command self)) argument.now }
@@ -163,7 +163,7 @@ impl Named {
         }
     }
 
-    /// The command with the name.
+    /// The command with the clip's name.
     fn command_of<'a>(self, name: Name) -> Command<'a>
         ensures { plain_command result ≡ named_command self name }
     {
@@ -176,7 +176,7 @@ impl Named {
 }
 
 impl Numbered {
-    /// The command with the number that the argument is, if it is one of the range.
+    /// A command that takes a number, with the one of its range that the argument is.
     fn command<'a>(self, range: Range, argument: &[u8]) -> Result<Command<'a>, CommandFault>
         ensures { plain_reading result ≡
             command_with (plain_argument_rule (ArgumentRule.Number range self)) argument.now }
@@ -187,7 +187,7 @@ impl Numbered {
         }
     }
 
-    /// The command with the number.
+    /// The command with a number of its range.
     fn command_of<'a>(self, number: u32) -> Command<'a>
         ensures { plain_command result ≡ numbered_command self number }
     {
@@ -200,7 +200,7 @@ impl Numbered {
 }
 
 impl Texted {
-    /// The command with the text that the argument is.
+    /// A command that takes a text, with the text that the argument is.
     fn command<'a>(self, argument: &'a [u8]) -> Result<Command<'a>, CommandFault>
         ensures { plain_reading result ≡
             command_with (PlainArgumentRule.text (texted_command self)) argument.entry.now }
@@ -215,7 +215,7 @@ impl Texted {
 }
 
 impl Filed {
-    /// The command with the file name that the argument is.
+    /// A command that takes a file name, with the one that the argument is.
     fn command<'a>(self, argument: &'a [u8]) -> Result<Command<'a>, CommandFault>
         ensures { plain_reading result ≡
             command_with (PlainArgumentRule.file (filed_command self)) argument.entry.now }

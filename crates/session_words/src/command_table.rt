@@ -132,14 +132,14 @@ pub fn argument_rule_of(word: &[u8]) -> Option<ArgumentRule>
     }
 }
 
-/// The same among the commands that fill in no template.
+/// What the command of the word takes behind it, among the commands that fill in no template.
 fn other_argument_rule_of(word: &[u8]) -> Option<ArgumentRule>
     ensures { option_map plain_argument_rule result ≡ argument_rule_in other_commands word.now }
 {
     argument_rule_among(other_rows(), word)
 }
 
-/// The rows of the table.
+/// The rows of the table of commands that fill in no template.
 fn other_rows() -> &'static [CommandRow]
     ensures { map plain_command_row result.now ≡ other_commands }
 {

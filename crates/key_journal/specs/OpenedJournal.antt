@@ -1,4 +1,4 @@
--- What opening a journal does.
+-- What is known of a journal that is opened, and what a crash leaves of it.
 use Rattle.std.specs.Prelude.{◌≡◌, ℕ, List, false, Result, OnOk, OnErr}
 use Rattle.synth_outside.specs.Cause.{HasCause}
 use Rattle.key_journal.specs.Crash.{LeavesOnly, Throughout}

@@ -1,4 +1,4 @@
--- What a read of a journal does.
+-- What a read of a journal gives, and what a crash leaves meanwhile.
 use Rattle.std.specs.Prelude.{◌≡◌, ℕ, zero, suc, ◌+◌, ◌≤◌, ◌⊎◌, List, [], ◌++◌, Option, Some, None, Bool, true, false, Result, Ok, Err, length, drop, slice_get, slice_index, IfOk, OnOk}
 use Rattle.std.specs.Io.KnownBytes.{Consumes, IsAtEnd}
 use Rattle.synth_outside.specs.Cause.{HasCause}
@@ -62,7 +62,7 @@ abbrev pub given_after : {E : Type 0} → ℕ → Result ℕ E → ℕ
 given_after given (Ok count) = given + count
 given_after given (Err fault) = given
 
--- whether the answer is the end
+-- whether the answer of a read is the end of keys
 abbrev pub is_end : {E : Type 0} → Result ℕ E → Bool
 is_end (Ok zero) = true
 is_end (Ok (suc count)) = false

@@ -1,4 +1,4 @@
--- What clearing a journal does.
+-- What a crash leaves of a journal that is cleared.
 use Rattle.std.specs.Prelude.{◌≡◌, ℕ, ◌⊎◌, List, [], ◌∷◌, Result, OnOk}
 use Rattle.key_journal.specs.Crash.{LeavesOnly, Throughout}
 use Rattle.key_journal.specs.Disk.{DiskState, MayLeave, Newest}
