@@ -7,17 +7,19 @@ pub record Extent : Type 0 where
   pub rows : ℕ
   pub cols : ℕ
 
--- the least and the greatest number of rows
+-- how many rows a screen has at least
 abbrev pub least_rows : ℕ
 least_rows = LEAST_ROWS
 
+-- how many rows a screen has at most
 abbrev pub most_rows : ℕ
 most_rows = MOST_ROWS
 
--- the least and the greatest number of columns
+-- how many columns a screen has at least
 abbrev pub least_cols : ℕ
 least_cols = LEAST_COLS
 
+-- how many columns a screen has at most
 abbrev pub most_cols : ℕ
 most_cols = MOST_COLS
 
