@@ -43,3 +43,5 @@ pub mod RevealedNodes
 pub mod PutTrees
 -- the program that a test builds is one
 pub mod BuiltProgram
+-- a node that came in place of another is an edit, which its receipt undoes
+pub mod PutEdits

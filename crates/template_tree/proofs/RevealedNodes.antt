@@ -2,7 +2,7 @@
 use Rattle.std.specs.Prelude.{◌≡◌, refl, ℕ, zero, suc, ◌+◌, ◌≤◌, false, List, [], ◌∷◌, length, slice_get, slice_set, Some}
 use Rattle.std.proofs.Common.{ap, sym, ◌∙◌, arith, add-one}
 use Rattle.std.proofs.lemmas.Option.{none-some}
-use Rattle.template_tree.specs.PlainTree.{Label, PlainNode, PlainNodes, nodes, forest, forest_nodes}
+use Rattle.template_tree.specs.PlainTree.{Label, Forest, PlainNode, PlainNodes, nodes, forest, forest_nodes}
 use Rattle.template_tree.specs.Edit.{whole}
 use Rattle.template_tree.proofs.SameEdits.{taken}
 
@@ -43,3 +43,9 @@ written label old new e =
     ap (λ (list : PlainNodes). let node : PlainNode = record { label = record label { elided = false; spare = list.spare }; inner = forest list.items } in node) e
     ∙ ap (λ inner. let node : PlainNode = record { label = record label { elided = false; spare = old.spare }; inner = inner } in node)
     (forest_nodes (whole (forest old.items)))
+
+-- a list with nothing elided
+pub revealed : (old new : PlainNodes) (inner : Forest) → new ≡ record old { items = nodes (whole (forest old.items)) } → forest old.items ≡ inner
+    → forest new.items ≡ whole inner
+revealed old new inner e is =
+    ap (λ (list : PlainNodes). forest list.items) e ∙ (forest_nodes (whole (forest old.items)) ∙ ap whole is)
