@@ -45,3 +45,5 @@ pub mod PutTrees
 pub mod BuiltProgram
 -- a node that came in place of another is an edit, which its receipt undoes
 pub mod PutEdits
+-- so is a part that was set
+pub mod PartEdits

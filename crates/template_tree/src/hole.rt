@@ -1,5 +1,6 @@
-//! The kinds of holes.
-ghost use Rattle.std.specs.Prelude.{◌≡◌};
+//! The kinds of holes and assignments.
+ghost use Rattle.std.specs.Prelude.{◌≡◌, ◌↔◌, IsTrue};
+ghost use Rattle.plcs_grammar.specs.declared.node_kind.NodeKind.{NodeKind};
 ghost use Rattle.template_tree.specs.Edit.{hole_left, hole_of, is_hole};
 ghost use Rattle.template_tree.specs.Program.{sort_of};
 
@@ -43,4 +44,11 @@ pub(crate) fn hole_of(sort: Sort) -> Option<NodeKind>
         Sort::Declaration => Some(NodeKind::DeclarationHole),
         Sort::Statement => Some(NodeKind::StatementHole),
     }
+}
+
+/// Whether nodes of the kind are assignments.
+pub(crate) fn is_assignment(kind: NodeKind) -> bool
+    ensures { IsTrue result ↔ (kind ≡ NodeKind.Assign) }
+{
+    kind == NodeKind::Assign
 }
