@@ -47,3 +47,6 @@ pub mod BuiltProgram
 pub mod PutEdits
 -- so is a part that was set
 pub mod PartEdits
+-- which limit a node that comes would break, and that a hole may come where a node is taken out
+pub mod PutLimits
+pub mod Holes
