@@ -50,3 +50,7 @@ pub mod PartEdits
 -- which limit a node that comes would break, and that a hole may come where a node is taken out
 pub mod PutLimits
 pub mod Holes
+-- why an edit is refused at a node
+pub mod Refusals
+-- a fresh node has empty parts, and a hole in each section
+pub mod FreshNodes
