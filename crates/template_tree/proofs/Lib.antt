@@ -54,3 +54,5 @@ pub mod Holes
 pub mod Refusals
 -- a fresh node has empty parts, and a hole in each section
 pub mod FreshNodes
+-- an assignment may come in place of a hole or an assignment
+pub mod Assignments

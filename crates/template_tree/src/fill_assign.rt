@@ -2,6 +2,7 @@
 ghost use Rattle.std.specs.Prelude.{◌≡◌, ◌↔◌, ◌⊎◌, IfErr, IfOk, IsTrue, Some};
 ghost use Rattle.plcs_grammar.specs.declared.category.Category.{Category};
 ghost use Rattle.plcs_grammar.specs.declared.node_kind.NodeKind.{NodeKind};
+ghost use Rattle.plcs_grammar.specs.PlainPhrase.{category_of};
 ghost use Rattle.plcs_grammar.specs.PlainForm.{plain_phrase};
 ghost use Rattle.template_tree.specs.EditAnswer.{Edits, Refuses, TakesAssignment};
 ghost use Rattle.template_tree.specs.FreshNode.{assignment_node};
@@ -34,7 +35,7 @@ impl Tree {
         let Some(there) = self.node(path) else {
             return Err((TreeFault::NotHere, phrase));
         };
-        if !takes_assignments(there.kind) || phrase.category() != Category::Assignment {
+        if !takes_assignments(there.kind) || !is_assignment_phrase(&phrase) {
             return Err((TreeFault::NotHere, phrase));
         }
         match Node::assignment(alloc, phrase) {
@@ -49,6 +50,13 @@ fn takes_assignments(kind: NodeKind) -> bool
     ensures { IsTrue result ↔ ((kind ≡ NodeKind.StatementHole) ⊎ (kind ≡ NodeKind.Assign)) }
 {
     kind == NodeKind::StatementHole || kind == NodeKind::Assign
+}
+
+/// Whether the phrase is an assignment.
+fn is_assignment_phrase(phrase: &Phrase) -> bool
+    ensures { IsTrue result ↔ (category_of (plain_phrase phrase.now) ≡ Category.Assignment) }
+{
+    phrase.category() == Category::Assignment
 }
 
 impl Node {
