@@ -33,6 +33,7 @@ impl Tree {
         requires tree { IsTree self.old }
         ensures edited { IfOk result (Edits (TreeEdit.put (fresh_node (NodeKind.Filled template))) (node_at self.old.items path.now.items) (IsHoleFor (NodeKind.Filled template)) self.old self.new) }
         ensures refused { IfErr result (Refuses (TreeEdit.put (fresh_node (NodeKind.Filled template))) (node_at self.old.items path.now.items) (IsHoleFor (NodeKind.Filled template)) self.old) }
+        ensures tree { IsTree self.new }
         ensures unchanged { IfErr result (λ _. self.new ≡ self.old) }
     {
         let kind = NodeKind::Filled(template);

@@ -30,6 +30,7 @@ impl Tree {
         requires phrase { IsPlace (Some (plain_phrase phrase)) }
         ensures edited { IfOk result (Edits (TreeEdit.put (assignment_node (plain_phrase phrase))) (node_at self.old.items path.now.items) (TakesAssignment (plain_phrase phrase)) self.old self.new) }
         ensures refused { IfErr result (λ back. Refuses (TreeEdit.put (assignment_node (plain_phrase phrase))) (node_at self.old.items path.now.items) (TakesAssignment (plain_phrase phrase)) self.old back.0) }
+        ensures tree { IsTree self.new }
         ensures unchanged { IfErr result (λ back. (back.1 ≡ phrase) × (self.new ≡ self.old)) }
     {
         let Some(there) = self.node(path) else {

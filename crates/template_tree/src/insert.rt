@@ -26,6 +26,7 @@ impl Tree {
         requires node { IsSubtree node }
         ensures edited { IfOk result (Edits (TreeEdit.put node) (node_at self.old.items path.now.items) (IsHoleFor node.label.kind) self.old self.new) }
         ensures refused { IfErr result (λ back. Refuses (TreeEdit.put node) (node_at self.old.items path.now.items) (IsHoleFor node.label.kind) self.old back.0) }
+        ensures tree { IsTree self.new }
         ensures unchanged { IfErr result (λ back. (back.1 ≡ node) × (self.new ≡ self.old)) }
         ensures no_memory { IfErr result (λ back. back.0 ≡ TreeFault.OutOfMemory → ⊥) }
     {

@@ -25,6 +25,7 @@ impl Tree {
         requires phrase { IsPlace (plain_place place) }
         ensures edited { IfOk result (λ receipt. IsSomeAnd stop.now.part (λ part. Edits (TreeEdit.set_part part (plain_place place)) (node_at self.old.items stop.now.path.items) (TakesAtStop part (plain_place place)) self.old self.new receipt)) }
         ensures refused { IfErr result (λ back. (back.0 ≡ TreeFault.NotHere) × (IsSomeAnd stop.now.part (λ part. IsSomeAnd (node_at self.old.items stop.now.path.items) (TakesAtStop part (plain_place place))) → ⊥)) }
+        ensures tree { IsTree self.new }
         ensures unchanged { IfErr result (λ back. (back.1 ≡ place) × (self.new ≡ self.old)) }
     {
         let (drawn, live) = (self.drawn, self.live);

@@ -8,9 +8,8 @@ use Rattle.template_tree.specs.Program.{IsSubtree, sort_of}
 use Rattle.template_tree.specs.Slots.{count}
 use Rattle.template_tree.specs.FreshNode.{fresh_node, section_holes}
 use Rattle.template_tree.specs.Edit.{hole_of, Put}
-use Rattle.template_tree.specs.TreeEdit.{TreeEdit}
-use Rattle.template_tree.specs.EditAnswer.{IsEdit, IsHoleFor, IsWithin}
-use Rattle.template_tree.proofs.PutEdits.{at_there, of_there, edit_like}
+use Rattle.template_tree.specs.EditAnswer.{IsHoleFor, IsWithin, slot_in}
+use Rattle.template_tree.proofs.PutEdits.{at_there, edit_like}
 use Rattle.template_tree.proofs.RoomlessEdits.{same_roomless}
 use Rattle.template_tree.proofs.Holes.{subtree_with_room}
 use Rattle.template_tree.proofs.FreshNodes.{fresh_asked, fresh_subtree}
@@ -69,15 +68,15 @@ put-requires-clause-fits c =
 pub returns-clause-edited : goal.returns-clause-edited
 returns-clause-edited c =
     let fresh = fresh_node (NodeKind.Filled c.args.template) in
-    let at = sym c.in-Some.ensures.found in
-    let slot = c.in-Some.there.now.label.slot in
-    let same : roomless_node c.in-Ok.node ≡ fresh = c.in-Ok.ensures in
-    at_there (node_at c.args.self.now.items c.args.path.now.items)
-    (λ node. IsHoleFor (NodeKind.Filled c.args.template) node × IsEdit (TreeEdit.put fresh) node.label.slot c.args.self.now c.put.new.self c.put.result None)
-    c.in-Some.there.now at
-    (
-      c.is_hole_for.ensures.0 c.if-not-is_hole_for.false ∙ ap (λ (n : PlainNode). Some n.label.kind) c.there.view_is,
-      edit_like c.in-Ok.node fresh slot c.args.self.now c.put.new.self c.put.result None (same_roomless c.in-Ok.node fresh same)
-      (of_there (node_at c.args.self.now.items c.args.path.now.items)
-      (λ node. IsEdit (TreeEdit.put c.in-Ok.node) node.label.slot c.args.self.now c.put.new.self c.put.result None) c.in-Some.there.now at c.put.ensures),
-    )
+    let there = node_at c.args.self.now.items c.args.path.now.items in
+    record {
+      here =
+          at_there there (IsHoleFor (NodeKind.Filled c.args.template)) c.in-Some.there.now (sym c.in-Some.ensures.found)
+          (c.is_hole_for.ensures.0 c.if-not-is_hole_for.false ∙ ap (λ (n : PlainNode). Some n.label.kind) c.there.view_is);
+      is_edit =
+          edit_like c.in-Ok.node fresh (slot_in there) c.args.self.now c.put.new.self c.put.result None (same_roomless c.in-Ok.node fresh c.in-Ok.ensures)
+          c.put.ensures;
+    }
+
+pub returns-clause-tree : goal.returns-clause-tree
+returns-clause-tree c = c.put.ensures.tree

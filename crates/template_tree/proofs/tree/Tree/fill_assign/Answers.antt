@@ -6,10 +6,9 @@ use Rattle.template_tree.specs.PlainTree.{PlainNode, roomless_node}
 use Rattle.template_tree.specs.Path.{node_at}
 use Rattle.template_tree.specs.FreshNode.{assignment_node}
 use Rattle.template_tree.specs.Edit.{Put}
-use Rattle.template_tree.specs.TreeEdit.{TreeEdit}
-use Rattle.template_tree.specs.EditAnswer.{IsEdit, IsWithin, TakesAssignment}
+use Rattle.template_tree.specs.EditAnswer.{IsWithin, TakesAssignment, slot_in}
 use Rattle.template_tree.specs.Private.Exchange.{MayReplace}
-use Rattle.template_tree.proofs.PutEdits.{at_there, of_there, edit_like}
+use Rattle.template_tree.proofs.PutEdits.{at_there, edit_like}
 use Rattle.template_tree.proofs.RoomlessEdits.{same_roomless}
 use Rattle.template_tree.proofs.Assignments.{assignment_may_replace, assignment_within}
 use Rattle.template_tree.proofs.tree.Tree.fill_assign.Goals as goal
@@ -35,16 +34,16 @@ returns-in-Ok-clause-edited c =
       (c.takes_assignments.ensures.0 c.if-not-takes_assignments.false),
       c.is_assignment_phrase.ensures.0 c.if-not-is_assignment_phrase.false,
     ) in
-    at_there (node_at c.args.self.now.items c.args.path.now.items)
-    (λ node. TakesAssignment (plain_phrase c.args.phrase) node × IsEdit (TreeEdit.put new) node.label.slot c.args.self.now c.put.new.self c.put.result None)
-    c.in-Some.there.now at
-    (
-      takes,
-      edit_like c.in-Ok.node new c.in-Some.there.now.label.slot c.args.self.now c.put.new.self c.put.result None
-      (same_roomless c.in-Ok.node new c.in-Ok.ensures.assignment)
-      (of_there (node_at c.args.self.now.items c.args.path.now.items)
-      (λ node. IsEdit (TreeEdit.put c.in-Ok.node) node.label.slot c.args.self.now c.put.new.self c.put.result None) c.in-Some.there.now at c.put.ensures),
-    )
+    let there = node_at c.args.self.now.items c.args.path.now.items in
+    record {
+      here = at_there there (TakesAssignment (plain_phrase c.args.phrase)) c.in-Some.there.now at takes;
+      is_edit =
+          edit_like c.in-Ok.node new (slot_in there) c.args.self.now c.put.new.self c.put.result None
+          (same_roomless c.in-Ok.node new c.in-Ok.ensures.assignment) c.put.ensures;
+    }
+
+pub returns-in-Ok-clause-tree : goal.returns-in-Ok-clause-tree
+returns-in-Ok-clause-tree c = c.put.ensures.tree
 
 pub returns-in-Err-clause-refused : goal.returns-in-Err-clause-refused
 returns-in-Err-clause-refused c =
