@@ -3,7 +3,7 @@ ghost use Rattle.std.specs.Prelude.{◌≡◌, ◌↔◌, ◌⊎◌, IfErr, IfOk
 ghost use Rattle.plcs_grammar.specs.declared.category.Category.{Category};
 ghost use Rattle.plcs_grammar.specs.declared.node_kind.NodeKind.{NodeKind};
 ghost use Rattle.plcs_grammar.specs.PlainPhrase.{category_of};
-ghost use Rattle.plcs_grammar.specs.PlainForm.{plain_phrase};
+ghost use Rattle.plcs_grammar.specs.PlainPhrase.{plain_phrase};
 ghost use Rattle.template_tree.specs.EditAnswer.{Edits, Refuses, TakesAssignment};
 ghost use Rattle.template_tree.specs.FreshNode.{assignment_node};
 ghost use Rattle.template_tree.specs.Part.{IsPlace};
