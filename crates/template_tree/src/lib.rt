@@ -6,6 +6,8 @@ mod build;
 mod build_tests;
 mod change;
 mod descent;
+#[cfg(test)]
+mod edit_tests;
 mod elide;
 mod exchange;
 mod fill;
@@ -53,4 +55,5 @@ pub use tree::Tree;
 pub use tree_fault::TreeFault;
 pub use tree_laws::{
     part_keeps_tree, put_keeps_tree, set_part_keeps_tree, slot_edit_is_path_edit,
+    undo_stays_possible,
 };
