@@ -40,6 +40,8 @@ mod undo;
 mod undo_item;
 mod undo_node;
 mod undo_part;
+#[cfg(test)]
+mod undo_tests;
 
 pub use build::OverLimit;
 pub use change::{Change, What};
