@@ -56,3 +56,5 @@ pub mod Refusals
 pub mod FreshNodes
 -- an assignment may come in place of a hole or an assignment
 pub mod Assignments
+-- the walk of edits that a test makes and undoes
+pub mod WalkedTrees
