@@ -22,18 +22,18 @@ mod stop;
 #[cfg(test)]
 mod tests;
 mod tree;
+mod tree_fault;
 mod tree_laws;
 
 pub use build::OverLimit;
 pub use change::{Change, What};
-pub use listing::listing_splits_in_lines;
 pub use limit::{DEEPEST_PATH, LONGEST_PHRASE, MOST_DRAWN, MOST_SLOTS};
+pub use listing::listing_splits_in_lines;
 pub use node::{Node, Nodes};
 pub use path::Path;
 pub use phrase_place::PhrasePlace;
 pub use side::Side;
 pub use stop::Stop;
 pub use tree::Tree;
-pub use tree_laws::{
-    part_keeps_tree, put_keeps_tree, set_part_keeps_tree, slot_edit_is_path_edit,
-};
+pub use tree_fault::TreeFault;
+pub use tree_laws::{part_keeps_tree, put_keeps_tree, set_part_keeps_tree, slot_edit_is_path_edit};
