@@ -34,3 +34,5 @@ pub mod DrawnSlots
 pub mod PutTrees
 -- the program that a test builds is one
 pub mod BuiltProgram
+-- a copy is a subtree, with as many slots
+pub mod CopiedNodes

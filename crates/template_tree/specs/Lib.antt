@@ -16,6 +16,8 @@ pub mod Lend
 pub mod Descent
 pub mod TreeLend
 pub mod Elision
+-- ---- copies
+pub mod Copy
 -- ---- places of a run
 pub mod Place
 -- ---- the laws

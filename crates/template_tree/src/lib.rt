@@ -5,6 +5,7 @@ mod build;
 #[cfg(test)]
 mod build_tests;
 mod change;
+mod copy;
 mod descent;
 mod elide;
 mod limit;
