@@ -1,19 +1,21 @@
 //! Copies of nodes.
 ghost use Rattle.std.specs.Prelude.{◌≡◌, IfErr, IfOk, IsSomeAnd, map};
-ghost use Rattle.template_tree.specs.Copy.{CopyRefused, HasFilled, IsCopy, is_filled};
+ghost use Rattle.template_tree.specs.Copy.{CopyRefused, IsCopy};
+ghost use Rattle.template_tree.specs.EditAnswer.{MayTake};
 ghost use Rattle.template_tree.specs.Path.{node_at};
 ghost use Rattle.template_tree.specs.PlainPlace.{plain_place};
 ghost use Rattle.template_tree.specs.Program.{IsSubtree};
 ghost use Rattle.template_tree.specs.Slots.{count, depth};
 ghost use Rattle.template_tree.specs.Tree.{IsTree};
 
+use crate::hole::hole_left;
 use crate::node::{Node, Nodes};
 use crate::path::Path;
 use crate::phrase_place::PhrasePlace;
 use crate::tree::Tree;
 use crate::tree_fault::TreeFault;
 use plcs_base::OutOfMemory;
-use plcs_grammar::{NodeKind, copy_phrase};
+use plcs_grammar::copy_phrase;
 use std::alloc::Global;
 
 impl Tree {
@@ -22,7 +24,7 @@ impl Tree {
     pub fn copy_node(&self, alloc: Global, path: &Path) -> Result<Node, TreeFault>
         requires tree { IsTree self.now }
         ensures copied { IfOk result (λ copy. IsSomeAnd (node_at self.now.items path.now.items) (λ node. IsCopy node copy)) }
-        ensures filled { IfOk result (λ copy. HasFilled (node_at self.now.items path.now.items)) }
+        ensures may_take { IfOk result (λ copy. IsSomeAnd (node_at self.now.items path.now.items) MayTake) }
         ensures refused { IfErr result (CopyRefused (node_at self.now.items path.now.items)) }
         ensures subtree { IfOk result IsSubtree }
         ensures slots { IfOk result (λ copy. IsSomeAnd (node_at self.now.items path.now.items) (λ node. count copy.inner ≡ count node.inner)) }
@@ -30,7 +32,7 @@ impl Tree {
         let Some(node) = self.node(path) else {
             return Err(TreeFault::NotHere);
         };
-        if !node.is_filled() {
+        if hole_left(node.kind).is_none() {
             return Err(TreeFault::NotHere);
         }
         let copy = node.copy(alloc)?;
@@ -39,13 +41,6 @@ impl Tree {
 }
 
 impl Node {
-    /// Whether it is neither main nor a hole.
-    fn is_filled(&self) -> bool
-        ensures { result ≡ is_filled self.now.label.kind }
-    {
-        matches!(self.kind, NodeKind::Assign | NodeKind::Filled(_))
-    }
-
     /// An equal node, with what stands inside it; nothing in it is elided.
     pub fn copy(&self, alloc: Global) -> Result<Node, OutOfMemory>
         ensures copied { IfOk result (λ copy. IsCopy self.now copy) }
