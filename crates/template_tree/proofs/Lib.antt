@@ -36,3 +36,12 @@ pub mod PutTrees
 pub mod BuiltProgram
 -- a copy is a subtree, with as many slots
 pub mod CopiedNodes
+-- an edit does the same without the room of lists; what an undone edit gives back
+pub mod RoomlessEdits
+-- a tree is one with and without room
+pub mod RoomlessTrees
+-- what stands at the path of an edit after it, how deep that is, and in which procedure
+pub mod EditedNodes
+pub mod Procedures
+-- a list changed by an item at the end of a path
+pub mod ListChanges

@@ -15,6 +15,7 @@ mod hole;
 mod insert;
 mod limit;
 mod limit_reached;
+mod list_change;
 mod list_edit;
 mod listing;
 mod node;
@@ -52,6 +53,4 @@ pub use side::Side;
 pub use stop::Stop;
 pub use tree::Tree;
 pub use tree_fault::TreeFault;
-pub use tree_laws::{
-    part_keeps_tree, put_keeps_tree, set_part_keeps_tree, slot_edit_is_path_edit,
-};
+pub use tree_laws::{part_keeps_tree, put_keeps_tree, set_part_keeps_tree, slot_edit_is_path_edit};
