@@ -4,7 +4,7 @@ use Rattle.std.proofs.Common.{ap, sym, ◌∙◌, arith}
 use Rattle.std.proofs.lemmas.Option.{none-some}
 use Rattle.template_tree.specs.PlainTree.{Label, Forest, PlainNode, nodes, forest, join, forest_nodes}
 use Rattle.template_tree.specs.Path.{node_at}
-use Rattle.template_tree.specs.Slots.{depth}
+use Rattle.template_tree.specs.Slots.{count, depth}
 use Rattle.template_tree.specs.Edit.{edit_at}
 use Rattle.template_tree.specs.Private.Exchange.{first_item}
 use Rattle.template_tree.proofs.SameEdits.{taken}
@@ -76,3 +76,15 @@ no_deeper (suc most) old new (Forest.cons label inner rest) (zero ∷ (j ∷ pat
     omega (arith, before, no_deeper most old new inner (j ∷ path) e (omega (arith, before)) (omega (arith, come)))
 no_deeper most old new (Forest.cons label inner rest) (suc k ∷ path) e before come =
     omega (arith, before, no_deeper most old new rest (k ∷ path) e (omega (arith, before)) (omega (arith, come)))
+
+-- how many nodes there are after, with those inside the node that went, and before, with those inside the one that came
+pub count_after : (old new : PlainNode) (items : Forest) (path : List ℕ) → node_at items path ≡ Some old
+    → count (edit_at (λ _. new ∷ []) path items) + count old.inner ≡ count items + count new.inner
+count_after old new items [] e = absurd (none-some old e)
+count_after old new Forest.nil (k ∷ path) e = absurd (none-some old e)
+count_after old new (Forest.cons label inner rest) (zero ∷ []) e =
+    let same : record { label = label; inner = inner } ≡ old = ap (taken old) e in
+    let inside : count inner ≡ count old.inner = ap (λ n. count n.inner) same in
+    omega (arith, inside)
+count_after old new (Forest.cons label inner rest) (zero ∷ (j ∷ path)) e = omega (arith, count_after old new inner (j ∷ path) e)
+count_after old new (Forest.cons label inner rest) (suc k ∷ path) e = omega (arith, count_after old new rest (k ∷ path) e)

@@ -30,6 +30,15 @@ pub mod KeptTrees
 pub mod SlotPaths
 -- the slots of a tree that is built are drawn in listing order, and each but once
 pub mod DrawnSlots
+-- an edit does the same without the room of lists; what an undone edit gives back
+pub mod RoomlessEdits
+-- a tree is one with and without room
+pub mod RoomlessTrees
+-- what stands at the path of an edit after it, how deep that is, and in which procedure
+pub mod EditedNodes
+pub mod Procedures
+-- nothing is elided in a node that comes into a slot
+pub mod RevealedNodes
 -- a tree stays one where a node comes into a slot
 pub mod PutTrees
 -- the program that a test builds is one
@@ -45,3 +54,14 @@ pub mod EditedNodes
 pub mod Procedures
 -- a list changed by an item at the end of a path
 pub mod ListChanges
+-- a node that came in place of another is an edit, which its receipt undoes
+pub mod PutEdits
+-- so is a part that was set
+pub mod PartEdits
+-- which limit a node that comes would break, and that a hole may come where a node is taken out
+pub mod PutLimits
+pub mod Holes
+-- why an edit is refused at a node
+pub mod Refusals
+-- a fresh node has empty parts, and a hole in each section
+pub mod FreshNodes

@@ -1,6 +1,7 @@
 -- The procedure in which a slot stands is the first item on the way to it.
 use Rattle.std.specs.Prelude.{◌≡◌, refl, ℕ, zero, suc, ◌+◌, ◌≤◌, nat_lt, if◌then◌else◌, ◌==◌, Bool, true, false, List, [], ◌∷◌, find, Option, Some, None, IfSome, option_map, slice_get}
 use Rattle.std.proofs.Common.{ap, sym, ◌∙◌, subst, arith}
+use Rattle.std.proofs.lemmas.Bool.{lt-ltb, le-ltb}
 use Rattle.std.proofs.lemmas.Option.{none-some}
 use Rattle.template_tree.specs.PlainTree.{Label, Forest, PlainNode, nodes, forest}
 use Rattle.template_tree.specs.Path.{node_at}
@@ -13,14 +14,6 @@ use Rattle.template_tree.proofs.EditedNodes.{node_there, first_slot}
 -- a slot that stands in an item or not
 abbrev has : ℕ → PlainNode → Bool
 has slot item = nat_lt 0 (times slot (forest (item ∷ [])))
-
-some_is : (n : ℕ) → 1 ≤ n → nat_lt 0 n ≡ true
-some_is zero some = absurd (omega arith)
-some_is (suc n) some = refl
-
-none_is : (n : ℕ) → n ≤ 0 → nat_lt 0 n ≡ false
-none_is zero none = refl
-none_is (suc n) none = absurd (omega arith)
 
 -- the slot of the item that is found among these
 abbrev slot_found : (PlainNode → Bool) → List PlainNode → Option ℕ
@@ -45,11 +38,11 @@ procedure_there Forest.nil (k ∷ path) node e once = absurd (none-some node e)
 procedure_there (Forest.cons label inner rest) (zero ∷ path) node e once =
     let item : PlainNode = record { label = label; inner = inner } in
     let stands : 1 ≤ times node.label.slot (forest (item ∷ [])) = present (forest (item ∷ [])) (zero ∷ path) node e in
-    found_first (has node.label.slot) item (nodes rest) (some_is _ stands)
+    found_first (has node.label.slot) item (nodes rest) (lt-ltb 0 _ stands)
 procedure_there (Forest.cons label inner rest) (suc k ∷ path) node e once =
     let item : PlainNode = record { label = label; inner = inner } in
     let stands : 1 ≤ times node.label.slot rest = present rest (k ∷ path) node e in
-    found_later (has node.label.slot) item (nodes rest) (none_is _ (omega (arith, once, stands)))
+    found_later (has node.label.slot) item (nodes rest) (le-ltb 0 _ (omega (arith, once, stands)))
     ∙ procedure_there rest (k ∷ path) node e (omega (arith, once))
 
 -- what holds of what is there

@@ -98,13 +98,13 @@ impl Node {
     {
         self.slot = slot;
         self.elided = false;
-        unfold(&mut self.inner);
+        reveal(&mut self.inner);
         draw_slots(&mut self.inner, first)
     }
 }
 
 /// Shows each refinement in the nodes again.
-fn unfold(list: &mut Nodes)
+fn reveal(list: &mut Nodes)
     ensures { list.new ≡ record list.old { items = nodes (whole (forest list.old.items)) } }
 {
     for k in 0..list.len() {
@@ -112,7 +112,7 @@ fn unfold(list: &mut Nodes)
             return;
         };
         node.elided = false;
-        unfold(&mut node.inner);
+        reveal(&mut node.inner);
     }
 }
 
