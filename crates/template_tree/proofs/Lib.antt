@@ -45,13 +45,6 @@ pub mod PutTrees
 pub mod BuiltProgram
 -- a copy is a subtree, with as many slots
 pub mod CopiedNodes
--- an edit does the same without the room of lists; what an undone edit gives back
-pub mod RoomlessEdits
--- a tree is one with and without room
-pub mod RoomlessTrees
--- what stands at the path of an edit after it, how deep that is, and in which procedure
-pub mod EditedNodes
-pub mod Procedures
 -- a list changed by an item at the end of a path
 pub mod ListChanges
 -- a node that came in place of another is an edit, which its receipt undoes
@@ -65,3 +58,7 @@ pub mod Holes
 pub mod Refusals
 -- a fresh node has empty parts, and a hole in each section
 pub mod FreshNodes
+-- a tree stays one where a hole comes into a list, or leaves it
+mod ApartSections
+mod FilledLists
+mod ListTrees

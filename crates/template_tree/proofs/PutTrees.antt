@@ -91,7 +91,7 @@ edit_replaced (Forest.cons label inner rest) (suc k ∷ path) node new e r =
     (edit_replaced rest (k ∷ path) node new e r)
 
 -- slots below a number are below a greater one
-below_more : (less more : ℕ) (items : Forest) → less ≤ more → AllBelow less items → AllBelow more items
+pub below_more : (less more : ℕ) (items : Forest) → less ≤ more → AllBelow less items → AllBelow more items
 below_more less more Forest.nil le h = tt
 below_more less more (Forest.cons label inner rest) le h =
     (omega (arith, le, h.0), below_more less more inner le h.1, below_more less more rest le h.2)
@@ -105,7 +105,7 @@ apart : (a b : ℕ) → a < b → one_if a b ≡ 0
 apart a b less = rw (ne_eqb a b (λ same. omega arith)) refl
 
 -- a slot that is not below them doesn't stand among them
-none_above : (slot number : ℕ) (items : Forest) → number ≤ slot → AllBelow number items → times slot items ≡ 0
+pub none_above : (slot number : ℕ) (items : Forest) → number ≤ slot → AllBelow number items → times slot items ≡ 0
 none_above slot number Forest.nil le h = refl
 none_above slot number (Forest.cons label inner rest) le h =
     omega (arith, apart label.slot slot (omega (arith, le, h.0)), none_above slot number inner le h.1, none_above slot number rest le h.2)
