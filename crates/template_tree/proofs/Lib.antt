@@ -43,6 +43,10 @@ pub mod RevealedNodes
 pub mod PutTrees
 -- the program that a test builds is one
 pub mod BuiltProgram
+-- a copy is a subtree, with as many slots
+pub mod CopiedNodes
+-- a list changed by an item at the end of a path
+pub mod ListChanges
 -- a node that came in place of another is an edit, which its receipt undoes
 pub mod PutEdits
 -- so is a part that was set
@@ -58,3 +62,7 @@ pub mod FreshNodes
 pub mod Assignments
 -- the walk of edits that a test makes and undoes
 pub mod WalkedTrees
+-- a tree stays one where a hole comes into a list, or leaves it
+mod ApartSections
+mod FilledLists
+mod ListTrees

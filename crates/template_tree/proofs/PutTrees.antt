@@ -111,15 +111,15 @@ none_above slot number (Forest.cons label inner rest) le h =
     omega (arith, apart label.slot slot (omega (arith, le, h.0)), none_above slot number inner le h.1, none_above slot number rest le h.2)
 
 -- it makes no difference to what nodes are that nothing is elided
-sorts_whole : (items : Forest) → sorts (whole items) ≡ sorts items
+pub sorts_whole : (items : Forest) → sorts (whole items) ≡ sorts items
 sorts_whole Forest.nil = refl
 sorts_whole (Forest.cons label inner rest) = ap (λ ss. sort_of label.kind ∷ ss) (sorts_whole rest)
 
-count_whole : (items : Forest) → count (whole items) ≡ count items
+pub count_whole : (items : Forest) → count (whole items) ≡ count items
 count_whole Forest.nil = refl
 count_whole (Forest.cons label inner rest) = λ i. count_whole inner i + count_whole rest i + 1
 
-nodes_whole : (items : Forest) → AreNodes items → AreNodes (whole items)
+pub nodes_whole : (items : Forest) → AreNodes items → AreNodes (whole items)
 nodes_whole Forest.nil h = tt
 nodes_whole (Forest.cons label inner rest) h = (
   record {

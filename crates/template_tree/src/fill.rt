@@ -30,7 +30,12 @@ use std::alloc::Global;
 impl Tree {
     /// The hole at the path becomes the template, with its parts empty and with a hole for each list or
     /// body, which take the next slots. `NotHere` where no hole of its sort is at the path.
-    pub fn fill(&mut self, alloc: Global, path: &Path, template: Template) -> Result<Receipt, TreeFault>
+    pub fn fill(
+        &mut self,
+        alloc: Global,
+        path: &Path,
+        template: Template,
+    ) -> Result<Receipt, TreeFault>
         requires tree { IsTree self.old }
         ensures edited { IfOk result (Edits (TreeEdit.put (fresh_node (NodeKind.Filled template))) (node_at self.old.items path.now.items) (IsHoleFor (NodeKind.Filled template)) self.old self.new) }
         ensures no_room { IfOk result NeedsNoRoom }

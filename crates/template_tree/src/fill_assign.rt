@@ -26,7 +26,12 @@ use std::alloc::Global;
 impl Tree {
     /// The statement hole or the assignment at the path becomes this assignment. `NotHere` where neither
     /// is there, and where the phrase is no assignment. The phrase is given back where it is refused.
-    pub fn fill_assign(&mut self, alloc: Global, path: &Path, phrase: Phrase) -> Result<Receipt, (TreeFault, Phrase)>
+    pub fn fill_assign(
+        &mut self,
+        alloc: Global,
+        path: &Path,
+        phrase: Phrase,
+    ) -> Result<Receipt, (TreeFault, Phrase)>
         requires tree { IsTree self.old }
         requires phrase { IsPlace (Some (plain_phrase phrase)) }
         ensures edited { IfOk result (Edits (TreeEdit.put (assignment_node (plain_phrase phrase))) (node_at self.old.items path.now.items) (TakesAssignment (plain_phrase phrase)) self.old self.new) }

@@ -21,7 +21,11 @@ use crate::tree_fault::TreeFault;
 impl Tree {
     /// Puts this into the part at the stop, which need not be visible. `NotHere` where there is no such
     /// stop, and where the part doesn't take it; it is given back then. It takes no memory.
-    pub fn set_phrase(&mut self, stop: &Stop, place: PhrasePlace) -> Result<Receipt, (TreeFault, PhrasePlace)>
+    pub fn set_phrase(
+        &mut self,
+        stop: &Stop,
+        place: PhrasePlace,
+    ) -> Result<Receipt, (TreeFault, PhrasePlace)>
         requires tree { IsTree self.old }
         requires phrase { IsPlace (plain_place place) }
         ensures edited { IfOk result (λ receipt. IsSomeAnd stop.now.part (λ part. Edits (TreeEdit.set_part part (plain_place place)) (node_at self.old.items stop.now.path.items) (TakesAtStop part (plain_place place)) self.old self.new receipt)) }
