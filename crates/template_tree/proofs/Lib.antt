@@ -60,8 +60,6 @@ pub mod Refusals
 pub mod FreshNodes
 -- an assignment may come in place of a hole or an assignment
 pub mod Assignments
--- the walk of edits that a test makes and undoes
-pub mod WalkedTrees
 -- a tree stays one where a hole comes into a list, or leaves it
 mod ApartSections
 mod FilledLists
