@@ -11,6 +11,7 @@ ghost use Rattle.template_tree.specs.PlainPlace.{plain_place};
 ghost use Rattle.template_tree.specs.PlainTree.{forest, join, roomless, roomless_node};
 ghost use Rattle.template_tree.specs.Program.{parts_of};
 ghost use Rattle.template_tree.specs.Slots.{count};
+ghost use Rattle.template_tree.specs.Receipt.{NeedsNoRoom};
 ghost use Rattle.template_tree.specs.Tree.{IsTree};
 ghost use Rattle.template_tree.specs.TreeEdit.{TreeEdit};
 
@@ -29,9 +30,15 @@ use std::alloc::Global;
 impl Tree {
     /// The hole at the path becomes the template, with its parts empty and with a hole for each list or
     /// body, which take the next slots. `NotHere` where no hole of its sort is at the path.
-    pub fn fill(&mut self, alloc: Global, path: &Path, template: Template) -> Result<Receipt, TreeFault>
+    pub fn fill(
+        &mut self,
+        alloc: Global,
+        path: &Path,
+        template: Template,
+    ) -> Result<Receipt, TreeFault>
         requires tree { IsTree self.old }
         ensures edited { IfOk result (Edits (TreeEdit.put (fresh_node (NodeKind.Filled template))) (node_at self.old.items path.now.items) (IsHoleFor (NodeKind.Filled template)) self.old self.new) }
+        ensures no_room { IfOk result NeedsNoRoom }
         ensures refused { IfErr result (Refuses (TreeEdit.put (fresh_node (NodeKind.Filled template))) (node_at self.old.items path.now.items) (IsHoleFor (NodeKind.Filled template)) self.old) }
         ensures tree { IsTree self.new }
         ensures unchanged { IfErr result (λ _. self.new ≡ self.old) }

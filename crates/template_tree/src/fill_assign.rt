@@ -9,6 +9,7 @@ ghost use Rattle.template_tree.specs.FreshNode.{assignment_node};
 ghost use Rattle.template_tree.specs.Part.{IsPlace};
 ghost use Rattle.template_tree.specs.Path.{node_at};
 ghost use Rattle.template_tree.specs.PlainTree.{roomless_node};
+ghost use Rattle.template_tree.specs.Receipt.{NeedsNoRoom};
 ghost use Rattle.template_tree.specs.Tree.{IsTree};
 ghost use Rattle.template_tree.specs.TreeEdit.{TreeEdit};
 
@@ -25,10 +26,16 @@ use std::alloc::Global;
 impl Tree {
     /// The statement hole or the assignment at the path becomes this assignment. `NotHere` where neither
     /// is there, and where the phrase is no assignment. The phrase is given back where it is refused.
-    pub fn fill_assign(&mut self, alloc: Global, path: &Path, phrase: Phrase) -> Result<Receipt, (TreeFault, Phrase)>
+    pub fn fill_assign(
+        &mut self,
+        alloc: Global,
+        path: &Path,
+        phrase: Phrase,
+    ) -> Result<Receipt, (TreeFault, Phrase)>
         requires tree { IsTree self.old }
         requires phrase { IsPlace (Some (plain_phrase phrase)) }
         ensures edited { IfOk result (Edits (TreeEdit.put (assignment_node (plain_phrase phrase))) (node_at self.old.items path.now.items) (TakesAssignment (plain_phrase phrase)) self.old self.new) }
+        ensures no_room { IfOk result NeedsNoRoom }
         ensures refused { IfErr result (λ back. Refuses (TreeEdit.put (assignment_node (plain_phrase phrase))) (node_at self.old.items path.now.items) (TakesAssignment (plain_phrase phrase)) self.old back.0) }
         ensures tree { IsTree self.new }
         ensures unchanged { IfErr result (λ back. (back.1 ≡ phrase) × (self.new ≡ self.old)) }

@@ -75,8 +75,8 @@ returns-clause-edited c =
           (c.is_hole_for.ensures.0 c.if-not-is_hole_for.false ∙ ap (λ (n : PlainNode). Some n.label.kind) c.there.view_is);
       is_edit =
           edit_like c.in-Ok.node fresh (slot_in there) c.args.self.now c.put.new.self c.put.result None (same_roomless c.in-Ok.node fresh c.in-Ok.ensures)
-          c.put.ensures;
+          c.put.ensures.edit;
     }
 
 pub returns-clause-tree : goal.returns-clause-tree
-returns-clause-tree c = c.put.ensures.tree
+returns-clause-tree c = c.put.ensures.edit.tree

@@ -39,11 +39,11 @@ returns-in-Ok-clause-edited c =
       here = at_there there (TakesAssignment (plain_phrase c.args.phrase)) c.in-Some.there.now at takes;
       is_edit =
           edit_like c.in-Ok.node new (slot_in there) c.args.self.now c.put.new.self c.put.result None
-          (same_roomless c.in-Ok.node new c.in-Ok.ensures.assignment) c.put.ensures;
+          (same_roomless c.in-Ok.node new c.in-Ok.ensures.assignment) c.put.ensures.edit;
     }
 
 pub returns-in-Ok-clause-tree : goal.returns-in-Ok-clause-tree
-returns-in-Ok-clause-tree c = c.put.ensures.tree
+returns-in-Ok-clause-tree c = c.put.ensures.edit.tree
 
 pub returns-in-Err-clause-refused : goal.returns-in-Err-clause-refused
 returns-in-Err-clause-refused c =

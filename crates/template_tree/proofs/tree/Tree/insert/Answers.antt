@@ -52,8 +52,8 @@ returns-clause-edited c =
           (sym c.in-Some.ensures.found)
           (ap (λ (n : PlainNode). hole_of (sort_of n.label.kind)) (sym c.node-2.view_is)
           ∙ (c.is_hole_for.ensures.0 c.if-not-is_hole_for.false ∙ ap (λ (n : PlainNode). Some n.label.kind) c.there.view_is));
-      is_edit = c.put.ensures;
+      is_edit = c.put.ensures.edit;
     }
 
 pub returns-clause-tree : goal.returns-clause-tree
-returns-clause-tree c = c.put.ensures.tree
+returns-clause-tree c = c.put.ensures.edit.tree

@@ -8,8 +8,8 @@ use Rattle.template_tree.specs.Private.Exchange.{MayReplace}
 use Rattle.template_tree.proofs.PutEdits.{edit_there, put_receipt, of_there}
 use Rattle.template_tree.proofs.tree.Tree.put.Goals as goal
 
-pub returns : goal.returns
-returns c =
+pub returns-clause-edit : goal.returns-clause-edit
+returns-clause-edit c =
     let drawn : c.self.inside.drawn ≡ c.args.self.now.drawn = ap (λ (t : PlainTree). t.drawn) c.self.view_is in
     let live : c.self.inside.live ≡ c.args.self.now.live = ap (λ (t : PlainTree). t.live) c.self.view_is in
     let there = c.exchange-old.ensures.old in

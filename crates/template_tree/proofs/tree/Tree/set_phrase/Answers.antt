@@ -23,7 +23,7 @@ pub returns-in-Err-clause-unchanged : goal.returns-in-Err-clause-unchanged
 returns-in-Err-clause-unchanged c = (
   c.in-Err.ensures.refused.0,
   ap (with_node c.args.self.now c.args.stop.now.path.items) c.in-Err.ensures.refused.1
-  ∙ with_node_same c.args.self.now c.args.stop.now.path.items c.in-Some-node_mut.node.now (sym c.in-Some-node_mut.ensures.found),
+      ∙ with_node_same c.args.self.now c.args.stop.now.path.items c.in-Some-node_mut.node.now (sym c.in-Some-node_mut.ensures.found),
 )
 
 pub returns-clause-edited : goal.returns-clause-edited
