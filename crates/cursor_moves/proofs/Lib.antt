@@ -1,1 +1,3 @@
--- nothing yet
+-- the first and the last of lists that are put together
+pub mod ListEnds
+pub mod Nodes

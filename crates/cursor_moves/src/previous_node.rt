@@ -1,5 +1,5 @@
 //! The visible node before another one.
-ghost use Rattle.std.specs.Prelude.{◌≡◌, ◌+◌, ◌≤◌, ◌++◌, ◌∷◌, [], IfNone, IfSome, IsSome, Some, length, slice_get, IsSomeAnd};
+ghost use Rattle.std.specs.Prelude.{◌≡◌, ◌+◌, ◌≤◌, ◌++◌, ◌∷◌, [], IfNone, IfSome, IsSome, IsSomeAnd, List, Some, length, ℕ};
 ghost use Rattle.template_tree.specs.Limit.{deepest_path, most_slots};
 ghost use Rattle.template_tree.specs.Slots.{count, depth};
 ghost use Rattle.template_tree.specs.Stop.{visible_at};

@@ -1,0 +1,2 @@
+-- the node behind a node, in the list of the visible nodes
+pub mod NextNodes
