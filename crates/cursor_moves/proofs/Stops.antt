@@ -2,3 +2,7 @@
 pub mod DividedStops
 -- `stops_are_listed`: the cursor may stand exactly at the visible stops
 pub mod ListedStops
+-- `moved` of each move: where it begins
+pub mod StopMoves
+-- `moved` of `right` and `down`
+pub mod NextStops

@@ -72,7 +72,7 @@ from_first k None behind counted e = e
 from_first k (Some path) behind counted e = ap (λ n. Some (n ∷ path)) (sym (add-zero k))
 
 -- counting from none
-from_none : (o : Option (List ℕ)) → option_map (from 0) o ≡ o
+pub from_none : (o : Option (List ℕ)) → option_map (from 0) o ≡ o
 from_none None = refl
 from_none (Some []) = refl
 from_none (Some (k ∷ path)) = let z : 0 + k ≡ k = omega arith in ap (λ n. Some (n ∷ path)) z

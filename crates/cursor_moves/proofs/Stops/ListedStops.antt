@@ -34,7 +34,7 @@ there_is P None h = absurd h
 there_is P (Some node) h = (node, refl, h)
 
 -- what holds of all stops of each node holds of all stops
-all_flat : (P : VisibleStop → Type 0) (Q : VisibleNode → Type 0) → ((node : VisibleNode) → Q node → All P (stops_of node))
+pub all_flat : (P : VisibleStop → Type 0) (Q : VisibleNode → Type 0) → ((node : VisibleNode) → Q node → All P (stops_of node))
     → (nodes : List VisibleNode) → All Q nodes → All P (flat_map stops_of nodes)
 all_flat P Q law [] h = All-nil P
 all_flat P Q law (node ∷ nodes) h =
