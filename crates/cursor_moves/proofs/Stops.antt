@@ -6,3 +6,5 @@ pub mod ListedStops
 pub mod StopMoves
 -- `moved` of `right` and `down`
 pub mod NextStops
+-- `moved` of `left` and `up`
+pub mod PreviousStops
