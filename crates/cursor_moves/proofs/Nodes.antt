@@ -4,3 +4,7 @@ pub mod NextNodes
 pub mod VisibleNodes
 -- the lines of visible nodes rise
 pub mod RisingLines
+-- paths that are one step longer
+pub mod PathSteps
+-- the node before a node, and the last of all
+pub mod PreviousNodes

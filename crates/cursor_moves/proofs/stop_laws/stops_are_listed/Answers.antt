@@ -1,6 +1,5 @@
 use Rattle.cursor_moves.proofs.Stops.ListedStops.{listed}
-use Rattle.cursor_moves.proofs.Stops.PreviousStops.{move_above}
 use Rattle.cursor_moves.proofs.stop_laws.stops_are_listed.Goals as goal
 
 pub returns : goal.returns
-returns c = let x = move_above in listed
+returns c = listed
