@@ -8,3 +8,5 @@ pub mod RisingLines
 pub mod PathSteps
 -- the node before a node, and the last of all
 pub mod PreviousNodes
+-- `ensures` of `next_node`
+pub mod NextPaths

@@ -1,11 +1,11 @@
 //! The visible node behind another one.
-ghost use Rattle.std.specs.Prelude.{◌≡◌, IsSome, None, option_map};
+ghost use Rattle.std.specs.Prelude.{◌≡◌, IsSome, None, is_some, option_map};
 ghost use Rattle.template_tree.specs.Stop.{visible_at};
 ghost use Rattle.template_tree.specs.Tree.{IsTree};
-ghost use Rattle.cursor_moves.specs.Private.NextPath.{LeadsOn, next_of, next_with};
+ghost use Rattle.cursor_moves.specs.Private.NextPath.{LeadsOn, first_inside, next_of, next_with};
 
 use crate::path_copy::copy_of;
-use template_tree::{Path, Tree};
+use template_tree::{Node, Path, Tree};
 
 /// The path of the visible node behind the one at the path, if there is one.
 pub(crate) fn next_node(tree: &Tree, path: &Path) -> Option<Path>
@@ -17,11 +17,18 @@ pub(crate) fn next_node(tree: &Tree, path: &Path) -> Option<Path>
         return None;
     };
     let mut next = copy_of(path);
-    if !node.is_elided() && node.child(0).is_some() {
+    if shows_inside(node) {
         next.push(0);
         return Some(next);
     }
     node_behind(tree, next)
+}
+
+/// Whether a visible node stands inside the node.
+fn shows_inside(node: &Node) -> bool
+    ensures { result ≡ is_some (first_inside node.now) }
+{
+    !node.is_elided() && node.child(0).is_some()
 }
 
 /// The path of the node behind all that stands in the one at the path, if there is one: the next item

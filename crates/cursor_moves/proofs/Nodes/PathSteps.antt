@@ -128,3 +128,27 @@ climbed items (j ∷ path) k =
 pub entered : (way : List ℕ) (items : Forest) (path : List ℕ) → next_with (Some way) items path ≡ Some (path ++ way)
 entered way items [] = refl
 entered way items (k ∷ path) = ap (λ o. option_or (option_map (λ way. k ∷ way) o) (item_behind items k)) (entered way (inner_of items k) path)
+
+-- a path that leads on is no longer than the nodes are deep
+pub leads_shallow : (items : Forest) (path : List ℕ) → LeadsOn items path → length path ≤ depth items
+leads_shallow items [] h = omega arith
+leads_shallow items (k ∷ path) h =
+    let item = there (λ item. LeadsOn item.inner path) (slice_get (nodes items) k) h in
+    let smaller = item_smaller items k item.0 item.1 in
+    omega (arith, smaller.1, leads_shallow item.0.inner path item.2)
+
+-- where the next item is there, it comes behind
+pub climbed_to : (items : Forest) (whole path : List ℕ) (k : ℕ) (node : PlainNode) → whole ≡ path ++ k ∷ []
+    → node_at items (path ++ (k + 1) ∷ []) ≡ Some node → next_with None items whole ≡ Some (path ++ (k + 1) ∷ [])
+climbed_to items whole path k node whole_is e =
+    ap (next_with None items) whole_is
+    ∙ climbed items path k
+    ∙ ap (λ o. option_or (option_map (λ _. path ++ (k + 1) ∷ []) o) (next_with None items path)) e
+
+-- where it isn't, what comes behind is that of the path one step shorter
+pub climbed_on : (items : Forest) (whole path : List ℕ) (k : ℕ) → whole ≡ path ++ k ∷ []
+    → node_at items (path ++ (k + 1) ∷ []) ≡ None → next_with None items whole ≡ next_with None items path
+climbed_on items whole path k whole_is e =
+    ap (next_with None items) whole_is
+    ∙ climbed items path k
+    ∙ ap (λ o. option_or (option_map (λ _. path ++ (k + 1) ∷ []) o) (next_with None items path)) e
