@@ -1,5 +1,5 @@
 -- What the code is told by an answer that is there or not.
-use Rattle.std.specs.Prelude.{◌≡◌, refl, Bool, true, false, Option, Some, None, option_map, IsSome}
+use Rattle.std.specs.Prelude.{◌≡◌, refl, Bool, true, false, Option, Some, None, option_map, IsSome, IsSomeAnd}
 use Rattle.std.specs.Option.{is_some}
 use Rattle.std.proofs.Common.{sym, ◌∙◌}
 use Rattle.std.proofs.Math.Bool.{false≢true}
@@ -20,3 +20,7 @@ untold now (Some a) found e h = absurd (false≢true (sym h))
 pub known : {X : Type 0} (found : Option X) → IsSome found → (x : X) × (found ≡ Some x)
 known None h = absurd (false≢true h)
 known (Some x) h = (x, refl)
+
+-- what holds of the node that is there
+pub holds : {X : Type 0} (P : X → Type 0) (found : Option X) (x : X) → found ≡ Some x → P x → IsSomeAnd found P
+holds P found x e h = rw e h

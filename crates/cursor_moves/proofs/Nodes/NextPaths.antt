@@ -3,6 +3,7 @@ use Rattle.std.specs.Prelude.{◌≡◌, refl, ℕ, ◌+◌, ◌<◌, ◌≤◌,
 use Rattle.std.specs.Option.{is_some}
 use Rattle.std.proofs.Common.{ap, sym, ◌∙◌, arith}
 use Rattle.std.proofs.Math.Bool.{false≢true}
+use Rattle.std.proofs.lemmas.Option.{none-some}
 use Rattle.template_tree.specs.PlainTree.{Forest, PlainNode, nodes}
 use Rattle.template_tree.specs.Path.{node_at}
 use Rattle.template_tree.specs.Slots.{depth}
@@ -56,3 +57,8 @@ pub visible_is : (items : Forest) (path : List ℕ) (found : PlainNode) → IsSo
     → visible_at items path ≡ Some found
 visible_is items path found h f =
     let visible = known (visible_at items path) h in visible.1 ∙ sym (f ∙ seen items path visible.0 visible.1)
+
+-- a visible node isn't missing
+pub not_missing : (items : Forest) (path : List ℕ) → IsSome (visible_at items path) → ◌≡◌ {A = Option PlainNode} None (node_at items path) → ⊥
+not_missing items path h f =
+    let visible = known (visible_at items path) h in none-some visible.0 (f ∙ seen items path visible.0 visible.1)

@@ -152,3 +152,8 @@ climbed_on items whole path k whole_is e =
     ap (next_with None items) whole_is
     ∙ climbed items path k
     ∙ ap (λ o. option_or (option_map (λ _. path ++ (k + 1) ∷ []) o) (next_with None items path)) e
+
+-- there are no more items than nodes
+pub items_few : (items : Forest) → length (nodes items) ≤ count items
+items_few Forest.nil = omega arith
+items_few (Forest.cons label inner rest) = omega (arith, items_few rest)

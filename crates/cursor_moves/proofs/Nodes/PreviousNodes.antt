@@ -1,5 +1,5 @@
 -- The visible node before another one, and the last one.
-use Rattle.std.specs.Prelude.{◌≡◌, refl, ℕ, zero, suc, ◌+◌, ◌-◌, ◌<◌, ◌≤◌, Bool, true, false, if◌then◌else◌, List, [], ◌∷◌, ◌++◌, length, Option, Some, None, option_and_then, option_map, slice_get, IsSome, IsSomeAnd}
+use Rattle.std.specs.Prelude.{◌≡◌, refl, ℕ, zero, suc, ◌+◌, ◌-◌, ◌<◌, ◌≤◌, Bool, true, false, if◌then◌else◌, List, [], ◌∷◌, ◌++◌, length, Option, Some, None, option_and_then, option_map, slice_get, IsSome, IsSomeAnd, ◌==◌}
 use Rattle.std.specs.Option.{option_or}
 use Rattle.std.proofs.Common.{ap, sym, ◌∙◌, subst, arith, append_assoc}
 use Rattle.std.proofs.lemmas.Option.{none-some, same_Some, slice_get_past, slice_get_within, slice_get-get_or}
@@ -8,6 +8,8 @@ use Rattle.template_tree.specs.PlainTree.{Forest, PlainNode, nodes}
 use Rattle.template_tree.specs.Path.{below, node_at}
 use Rattle.template_tree.specs.Stop.{visible_at, visible_below}
 use Rattle.cursor_moves.specs.Private.NextPath.{IsLastBelow, first_inside, next_of, next_with}
+use Rattle.std.proofs.Math.Bool.{false≢true}
+use Rattle.cursor_moves.proofs.FoundNodes.{known}
 use Rattle.cursor_moves.proofs.Nodes.PathSteps.{climbed, entered, opened, seen, stepped, there}
 
 -- a node itself is what is visible at the end of its path
@@ -168,3 +170,33 @@ visible_before items (j ∷ path) k item e =
     let parent = parent_of items j path (k + 1) item e in
     let other = item_before (nodes parent.node.inner) k item parent.item_is in
     (other.0, visible_step items (j ∷ path) parent.node k parent.visible parent.shown ∙ other.1)
+
+-- the node before the first item of a node
+pub before_first_is : (items : Forest) (whole path : List ℕ) (k : ℕ) → IsSome (visible_at items whole) → whole ≡ path ++ k ∷ [] → k ≡ 0
+    → (length path == 0) ≡ false → next_of items path ≡ Some whole
+before_first_is items whole [] k h whole_is k_is some = absurd (false≢true (sym some))
+before_first_is items whole (j ∷ path) k h whole_is k_is some =
+    let item = known (visible_at items whole) h in
+    let same : whole ≡ j ∷ (path ++ 0 ∷ []) = whole_is ∙ ap (λ n. j ∷ (path ++ n ∷ [])) k_is in
+    before_first items j path item.0 (sym (ap (visible_at items) same) ∙ item.1) ∙ ap Some (sym same)
+
+-- the item before another one is visible
+pub item_before_is : (items : Forest) (whole path : List ℕ) (k before : ℕ) → IsSome (visible_at items whole) → whole ≡ path ++ k ∷ [] → k ≡ before + 1
+    → IsSome (visible_at items (path ++ before ∷ []))
+item_before_is items whole path k before h whole_is k_is =
+    let item = known (visible_at items whole) h in
+    let same : whole ≡ path ++ (before + 1) ∷ [] = whole_is ∙ ap (λ n. path ++ n ∷ []) k_is in
+    let other = visible_before items path before item.0 (sym (ap (visible_at items) same) ∙ item.1) in rw (other.1) refl
+
+-- the last node in it is the one before
+pub before_other_is : (items : Forest) (whole path : List ℕ) (k before : ℕ) (way : List ℕ) → IsSome (visible_at items whole)
+    → whole ≡ path ++ k ∷ [] → k ≡ before + 1
+    → IsSomeAnd (visible_at items (path ++ before ∷ [])) (λ node. IsLastBelow node way)
+    → next_of items ((path ++ before ∷ []) ++ way) ≡ Some whole
+before_other_is items whole path k before way h whole_is k_is last =
+    let item = known (visible_at items whole) h in
+    let same : whole ≡ path ++ (before + 1) ∷ [] = whole_is ∙ ap (λ n. path ++ n ∷ []) k_is in
+    let other = there (λ node. IsLastBelow node way) (visible_at items (path ++ before ∷ [])) last in
+    before_other items path before way item.0 (last_from items (path ++ before ∷ []) way other.0 other.1 other.2)
+    (sym (ap (visible_at items) same) ∙ item.1)
+    ∙ ap Some (sym same)

@@ -5,15 +5,12 @@ use Rattle.template_tree.specs.PlainTree.{PlainNode}
 use Rattle.template_tree.specs.Path.{node_at}
 use Rattle.template_tree.specs.Stop.{visible_at}
 use Rattle.cursor_moves.specs.Private.NextPath.{LeadsOn, first_inside, next_of, next_with}
-use Rattle.cursor_moves.proofs.FoundNodes.{known}
-use Rattle.cursor_moves.proofs.Nodes.PathSteps.{leads_to, seen}
-use Rattle.cursor_moves.proofs.Nodes.NextPaths.{next_beyond, next_inside, room_inside, visible_is}
+use Rattle.cursor_moves.proofs.Nodes.PathSteps.{leads_to}
+use Rattle.cursor_moves.proofs.Nodes.NextPaths.{next_beyond, next_inside, not_missing, room_inside, visible_is}
 use Rattle.cursor_moves.proofs.next_node.next_node.Goals as goal
 
 pub returns-in_default : goal.returns-in_default
-returns-in_default c =
-    let node = known (visible_at c.args.tree.now.items c.args.path.now.items) c.requires.visible in
-    absurd (none-some node.0 (c.in_default.ensures.found ∙ seen c.args.tree.now.items c.args.path.now.items node.0 node.1))
+returns-in_default c = absurd (not_missing c.args.tree.now.items c.args.path.now.items c.requires.visible c.in_default.ensures.found)
 
 pub push-requires : goal.push-requires
 push-requires c =
