@@ -8,3 +8,5 @@ pub mod StopMoves
 pub mod NextStops
 -- `moved` of `left` and `up`
 pub mod PreviousStops
+-- `moved` and `stop` of all moves, as they are answered
+pub mod AnsweredStops

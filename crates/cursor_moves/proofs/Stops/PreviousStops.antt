@@ -48,7 +48,7 @@ next_visible items way path e =
     came_from path (λ node. next_with (first_inside node) items way) (visible_at items way) e
 
 -- a list of nodes begins with that of the path
-begins_with : (nodes : List VisibleNode) (path : List ℕ) → option_map (λ node. node.path) (first_of nodes) ≡ Some path
+pub begins_with : (nodes : List VisibleNode) (path : List ℕ) → option_map (λ node. node.path) (first_of nodes) ≡ Some path
     → (node : VisibleNode) × (others : List VisibleNode) × (nodes ≡ node ∷ others) × (node.path ≡ path)
 begins_with [] path e = absurd (none-some path e)
 begins_with (node ∷ others) path e = (node, others, refl, same_Some node.path path e)
