@@ -10,3 +10,5 @@ pub mod NextStops
 pub mod PreviousStops
 -- `moved` and `stop` of all moves, as they are answered
 pub mod AnsweredStops
+-- `top` and `bottom`
+pub mod EndStops

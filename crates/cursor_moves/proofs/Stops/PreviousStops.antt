@@ -113,7 +113,7 @@ first_node (Forest.cons label inner rest) node e =
     }
 
 -- the last stop of these nodes is the last one of the last node
-last_flat : (before : List VisibleNode) (previous : VisibleNode)
+pub last_flat : (before : List VisibleNode) (previous : VisibleNode)
     → last_of (flat_map stops_of (before ++ previous ∷ [])) ≡ Some (stop_of previous (last_part previous.parts))
 last_flat before previous =
     ap last_of (flat_map-append stops_of before (previous ∷ []) ∙ ap (λ stops. flat_map stops_of before ++ stops) (append-nil (stops_of previous)))
