@@ -6,3 +6,5 @@ pub mod Nodes
 pub mod Stops
 -- answers that are there or not
 pub mod FoundNodes
+-- lists whose elements are apart
+pub mod ApartLists

@@ -10,3 +10,5 @@ pub mod PathSteps
 pub mod PreviousNodes
 -- `ensures` of `next_node`
 pub mod NextPaths
+-- no node is listed twice
+pub mod DistinctNodes

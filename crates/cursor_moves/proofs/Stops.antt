@@ -12,3 +12,5 @@ pub mod PreviousStops
 pub mod AnsweredStops
 -- `top` and `bottom`
 pub mod EndStops
+-- `stops_are_distinct`: no stop is listed twice
+pub mod DistinctStops
