@@ -1,5 +1,5 @@
 -- Lists of which each element and each later one are related.
-use Rattle.std.specs.Prelude.{◌≡◌, refl, ℕ, zero, suc, ◌+◌, ◌<◌, List, [], ◌∷◌, ◌++◌, length, map, All, AllPairs}
+use Rattle.std.specs.Prelude.{zero, suc, List, [], ◌∷◌, ◌++◌, map, All, AllPairs}
 use Rattle.std.proofs.Common.{arith}
 use Rattle.std.proofs.lemmas.List.Elements.{All-append, All-head, All-map, All-tail, All-weaker}
 
@@ -19,11 +19,10 @@ pairs_apart R (x ∷ xs) h (suc i) (suc j) d before within = pairs_apart R xs h.
 -- the ones and then the others
 pub apart_append : {X : Type 0} (R : X → X → Type 0) (xs ys : List X) → Apart R xs → Apart R ys → All (λ x. All (R x) ys) xs → Apart R (xs ++ ys)
 apart_append R [] ys h g between = g
-apart_append R (x ∷ xs) ys h g between =
-    (
-      All-append (R x) xs ys h.0 (All-head (λ other. All (R other) ys) x xs between),
-      apart_append R xs ys h.1 g (All-tail (λ other. All (R other) ys) x xs between),
-    )
+apart_append R (x ∷ xs) ys h g between = (
+  All-append (R x) xs ys h.0 (All-head (λ other. All (R other) ys) x xs between),
+  apart_append R xs ys h.1 g (All-tail (λ other. All (R other) ys) x xs between),
+)
 
 -- what is made of each
 pub apart_map : {X Y : Type 0} (f : X → Y) (R : Y → Y → Type 0) (xs : List X) → Apart (λ x y. R (f x) (f y)) xs → Apart R (map f xs)

@@ -33,7 +33,11 @@ pub(crate) fn next_part(kind: NodeKind, part: Option<u8>) -> Option<u8>
         Some(part) => part + 1,
         None => 0,
     };
-    if next < part_stops(kind) { Some(next) } else { None }
+    if next < part_stops(kind) {
+        Some(next)
+    } else {
+        None
+    }
 }
 
 /// How many parts of a node of the kind are stops.

@@ -21,7 +21,11 @@ pub(crate) fn previous_node(tree: &Tree, path: &Path) -> Option<Path>
         return None;
     };
     let Some(before) = k.checked_sub(1) else {
-        return if previous.is_empty() { None } else { Some(previous) };
+        return if previous.is_empty() {
+            None
+        } else {
+            Some(previous)
+        };
     };
     previous.push(before);
     push_last(tree, &mut previous);

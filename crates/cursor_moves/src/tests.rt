@@ -129,7 +129,10 @@ fn every_template(alloc: Global) -> Result<Tree, Fail> {
     let main = node(alloc, NodeKind::Main, 0, body(alloc)?)?;
     let mut list = one(alloc, main)?;
     list = with(list, filled(alloc, Template::Proc, 1, empty_block(alloc)?)?)?;
-    list = with(list, filled(alloc, Template::ProcP, 2, empty_block(alloc)?)?)?;
+    list = with(
+        list,
+        filled(alloc, Template::ProcP, 2, empty_block(alloc)?)?,
+    )?;
     list = with(list, bare(alloc, NodeKind::ProcedureHole)?)?;
     let tree = Tree::built(list).map_err(|_| "a tree")?;
     Ok(tree)
@@ -160,7 +163,11 @@ fn below(rows: &[Row], line: u32) -> Option<&Row> {
 
 /// The first row on the nearest line before this one that has a row.
 fn above(rows: &[Row], line: u32) -> Option<&Row> {
-    let nearest = rows.iter().map(|row| row.0).filter(|other| *other < line).max()?;
+    let nearest = rows
+        .iter()
+        .map(|row| row.0)
+        .filter(|other| *other < line)
+        .max()?;
     rows.iter().find(|row| row.0 == nearest)
 }
 

@@ -1,15 +1,14 @@
 -- No node is listed twice.
-use Rattle.std.specs.Prelude.{◌≡◌, ◌≢◌, refl, ℕ, zero, suc, ◌+◌, ◌≤◌, Bool, true, false, if◌then◌else◌, List, [], ◌∷◌, ◌++◌, length, map, slice_index_or, All}
+use Rattle.std.specs.Prelude.{◌≡◌, ◌≢◌, refl, ℕ, ◌+◌, Bool, true, false, if◌then◌else◌, List, [], ◌∷◌, length, map, slice_index_or, All}
 use Rattle.std.proofs.Common.{ap, sym, ◌∙◌, arith}
-use Rattle.std.proofs.lemmas.List.Elements.{All-cons, All-map, All-nil, All-weaker}
+use Rattle.std.proofs.lemmas.List.Elements.{All-map, All-nil, All-weaker}
 use Rattle.plcs_grammar.specs.Template.{PlainSection, row_of}
-use Rattle.template_tree.specs.PlainTree.{Label, Forest}
+use Rattle.template_tree.specs.PlainTree.{Forest}
 use Rattle.template_tree.specs.Program.{sort_of}
 use Rattle.template_tree.specs.Section.{left_for, left_after, next_lead}
 use Rattle.template_tree.specs.Line.{lines, fixed_line}
 use Rattle.template_tree.specs.Stop.{VisibleNode, inside, part_stops, visible_nodes}
 use Rattle.cursor_moves.proofs.ApartLists.{Apart, apart_append, apart_map, apart_weaker}
-use Rattle.cursor_moves.proofs.Nodes.NextNodes.{from}
 use Rattle.cursor_moves.proofs.Nodes.VisibleNodes.{IsListedFrom, all_listed}
 
 -- another node stands elsewhere
@@ -38,12 +37,11 @@ first_apart : (k : ℕ) (inner : Forest) (own : VisibleNode) (nodes : List Visib
     → Apart IsElsewhere (map (inside k) (own ∷ (if elided then [] else nodes)))
 first_apart k inner own nodes true own_is listed h = (All-nil _, tt)
 first_apart k inner own nodes false own_is listed h =
-    apart_map (inside k) IsElsewhere (own ∷ nodes)
-    (
+    apart_map (inside k) IsElsewhere (own ∷ nodes) (
       All-weaker (IsListedFrom 0 inner) (λ other. IsElsewhere (inside k own) (inside k other))
-      (λ other g. inner_elsewhere k inner own other own_is g) nodes listed,
+          (λ other g. inner_elsewhere k inner own other own_is g) nodes listed,
       apart_weaker IsElsewhere (λ node other. IsElsewhere (inside k node) (inside k other))
-      (λ node other apart e. apart (ap behind_first e)) nodes h,
+          (λ node other apart e. apart (ap behind_first e)) nodes h,
     )
 
 -- a node in a later item stands elsewhere than one in the first

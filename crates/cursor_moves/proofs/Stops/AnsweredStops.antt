@@ -1,5 +1,5 @@
 -- The answers of moves, as the code finds them.
-use Rattle.std.specs.Prelude.{◌≡◌, refl, ℕ, zero, suc, ◌+◌, ◌-◌, ◌<◌, ◌≤◌, nat_lt, Bool, true, false, if◌then◌else◌, IsSomeAnd, SomeIff, List, [], ◌∷◌, ◌++◌, flat_map, All, Option, Some, None, option_map, IfNone, IfSome, IsSome, slice_get}
+use Rattle.std.specs.Prelude.{◌≡◌, refl, ℕ, zero, suc, ◌-◌, ◌<◌, ◌≤◌, nat_lt, Bool, true, false, if◌then◌else◌, IsSomeAnd, SomeIff, List, [], ◌∷◌, ◌++◌, All, Option, Some, None, option_map, IfNone, IfSome, IsSome}
 use Rattle.std.specs.Option.{option_or}
 use Rattle.std.proofs.Common.{ap, sym, ◌∙◌, subst, arith, append_assoc}
 use Rattle.std.proofs.lemmas.Bool.{lt-ltb, ltb-true}
@@ -8,9 +8,9 @@ use Rattle.std.proofs.lemmas.List.Elements.{All-contains}
 use Rattle.plcs_grammar.specs.Template.{program_sections}
 use Rattle.plcs_grammar.specs.declared.node_kind.NodeKind.{NodeKind}
 use Rattle.template_tree.specs.Path.{node_at}
-use Rattle.template_tree.specs.PlainTree.{Forest, PlainNode, nodes}
-use Rattle.template_tree.specs.Stop.{IsStop, MayStand, PlainStop, Stops, VisibleNode, VisibleStop, part_stops, stops_of, visible_at}
-use Rattle.cursor_moves.specs.Move.{IsMove, first_of, last_of, next_stop, previous_stop, stop_above, stop_below}
+use Rattle.template_tree.specs.PlainTree.{Forest, PlainNode}
+use Rattle.template_tree.specs.Stop.{IsStop, MayStand, PlainStop, Stops, part_stops, visible_at}
+use Rattle.cursor_moves.specs.Move.{IsMove, next_stop, previous_stop, stop_above, stop_below}
 use Rattle.cursor_moves.specs.Private.NextPart.{last_part, next_part, number_behind}
 use Rattle.cursor_moves.specs.Private.NextPath.{next_of}
 use Rattle.cursor_moves.proofs.ListEnds.{map_map}

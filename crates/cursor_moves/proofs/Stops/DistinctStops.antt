@@ -1,5 +1,5 @@
 -- No stop is listed twice.
-use Rattle.std.specs.Prelude.{◌≡◌, ◌≢◌, refl, ℕ, zero, suc, ◌+◌, ◌<◌, List, [], ◌∷◌, ◌++◌, map, flat_map, All, slice_index_or, Option, Some, None}
+use Rattle.std.specs.Prelude.{◌≡◌, ◌≢◌, refl, ℕ, zero, suc, ◌+◌, ◌<◌, List, [], ◌∷◌, map, flat_map, All, slice_index_or, Option, Some, None}
 use Rattle.std.specs.List.{range_with_len}
 use Rattle.std.proofs.Common.{ap, sym, ◌∙◌, arith}
 use Rattle.std.proofs.lemmas.Option.{none-some}
@@ -40,14 +40,13 @@ no_part n e = none-some n (sym e)
 -- the stops of one node
 own_apart : (node : VisibleNode) → Apart IsOther (stops_of node)
 own_apart node =
-    let part : ℕ → VisibleStop = λ n. stop_of node (Some n) in
-    (
+    let part : ℕ → VisibleStop = λ n. stop_of node (Some n) in (
       All-map (IsOther (stop_of node None)) part (range_with_len 0 node.parts)
-      (λ i d h e. no_part (slice_index_or (range_with_len 0 node.parts) i d) (ap (λ (stop : PlainStop). stop.part) e)),
+          (λ i d h e. no_part (slice_index_or (range_with_len 0 node.parts) i d) (ap (λ (stop : PlainStop). stop.part) e)),
       apart_map part IsOther (range_with_len 0 node.parts)
-      (apart_weaker (λ n m. n < m) (λ n m. IsOther (part n) (part m))
-      (λ n m h e. let same : m ≡ n = ap (λ (stop : PlainStop). number stop.part) e in absurd (omega (arith, h, same)))
-      (range_with_len 0 node.parts) (range_apart 0 node.parts)),
+          (apart_weaker (λ n m. n < m) (λ n m. IsOther (part n) (part m))
+          (λ n m h e. let same : m ≡ n = ap (λ (stop : PlainStop). number stop.part) e in absurd (omega (arith, h, same)))
+          (range_with_len 0 node.parts) (range_apart 0 node.parts)),
     )
 
 -- the stops of a node are at it

@@ -1,18 +1,18 @@
 -- The first and the last stop.
-use Rattle.std.specs.Prelude.{◌≡◌, refl, ℕ, ◌+◌, List, [], ◌∷◌, ◌++◌, length, flat_map, Option, Some, None, option_map, IsSome, IsSomeAnd, slice_get}
+use Rattle.std.specs.Prelude.{◌≡◌, refl, ℕ, ◌+◌, List, [], ◌∷◌, ◌++◌, length, flat_map, Some, None, option_map, IsSome, IsSomeAnd}
 use Rattle.std.proofs.Common.{ap, sym, ◌∙◌, subst, arith}
 use Rattle.std.proofs.lemmas.Option.{none-some, same_Some, slice_get_past}
 use Rattle.plcs_grammar.specs.declared.node_kind.Sort.{Sort}
 use Rattle.template_tree.specs.PlainTree.{Forest, PlainNode, nodes}
 use Rattle.template_tree.specs.Path.{node_at}
 use Rattle.template_tree.specs.Program.{IsProgram}
-use Rattle.template_tree.specs.Stop.{IsStop, PlainStop, Stops, VisibleNode, VisibleStop, part_stops, stops_of, visible_at}
+use Rattle.template_tree.specs.Stop.{IsStop, PlainStop, Stops, VisibleNode, part_stops, stops_of, visible_at}
 use Rattle.cursor_moves.specs.Move.{first_of, last_of}
 use Rattle.cursor_moves.specs.Private.NextPart.{last_part}
 use Rattle.cursor_moves.specs.Private.NextPath.{IsLastBelow, next_of}
 use Rattle.cursor_moves.proofs.FoundNodes.{holds}
 use Rattle.cursor_moves.proofs.Nodes.PathSteps.{seen}
-use Rattle.cursor_moves.proofs.Nodes.PreviousNodes.{IsLastFrom, last_from, last_of_all}
+use Rattle.cursor_moves.proofs.Nodes.PreviousNodes.{last_from, last_of_all}
 use Rattle.cursor_moves.proofs.Stops.ListedStops.{there_is}
 use Rattle.cursor_moves.proofs.Stops.NextStops.{node_stop}
 use Rattle.cursor_moves.proofs.Stops.PreviousStops.{first_node, last_flat}

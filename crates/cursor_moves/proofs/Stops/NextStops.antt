@@ -1,5 +1,5 @@
 -- Moves to the next stop, and to the next line.
-use Rattle.std.specs.Prelude.{◌≡◌, refl, ℕ, ◌+◌, nat_lt, Bool, true, false, length, List, [], ◌∷◌, ◌++◌, map, find, flat_map, All, Option, Some, None, option_map}
+use Rattle.std.specs.Prelude.{◌≡◌, refl, ℕ, ◌+◌, nat_lt, Bool, true, false, length, List, [], ◌∷◌, ◌++◌, find, flat_map, Option, Some, None, option_map}
 use Rattle.std.specs.Option.{option_or}
 use Rattle.std.proofs.Common.{ap, sym, ◌∙◌, subst, arith}
 use Rattle.std.proofs.lemmas.Bool.{le-ltb, lt-ltb}
@@ -15,7 +15,7 @@ use Rattle.cursor_moves.proofs.ListEnds.{first_append, map_map, map_or}
 use Rattle.cursor_moves.proofs.Nodes.RisingLines.{Rises, rises, rises_behind}
 use Rattle.cursor_moves.proofs.Stops.DividedStops.{rear, stop_of}
 use Rattle.cursor_moves.proofs.Stops.ListedStops.{within}
-use Rattle.cursor_moves.proofs.Stops.StopMoves.{all_nodes, find_none, first_rear, move_at, place_of, rear_line}
+use Rattle.cursor_moves.proofs.Stops.StopMoves.{find_none, first_rear, move_at, place_of, rear_line}
 
 -- the stop of a node itself
 abbrev pub node_stop : List ℕ → PlainStop

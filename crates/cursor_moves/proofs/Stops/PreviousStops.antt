@@ -1,5 +1,5 @@
 -- Moves to the previous stop, and to the line before.
-use Rattle.std.specs.Prelude.{◌≡◌, refl, ℕ, zero, suc, ◌+◌, ◌<◌, ◌==◌, nat_lt, Bool, true, false, length, List, [], ◌∷◌, ◌++◌, map, filter, find, flat_map, All, Option, Some, None, option_and_then, option_map}
+use Rattle.std.specs.Prelude.{◌≡◌, refl, ℕ, ◌+◌, ◌<◌, ◌==◌, nat_lt, Bool, true, false, length, List, [], ◌∷◌, ◌++◌, filter, find, flat_map, All, Option, Some, None, option_and_then, option_map}
 use Rattle.std.specs.Option.{option_or}
 use Rattle.std.proofs.Common.{ap, sym, ◌∙◌, subst, arith, append_assoc}
 use Rattle.std.proofs.lemmas.Bool.{eq-eqb, le-ltb, lt-ltb, ne_eqb}
@@ -8,7 +8,6 @@ use Rattle.std.proofs.lemmas.List.{append-nil}
 use Rattle.std.proofs.lemmas.List.Concat.{flat_map-append}
 use Rattle.std.proofs.lemmas.List.Elements.{All-cons, All-contains, All-nil, All-weaker, filter-append}
 use Rattle.std.proofs.lemmas.List.Folds.{find-append}
-use Rattle.plcs_grammar.specs.declared.node_kind.NodeKind.{NodeKind}
 use Rattle.plcs_grammar.specs.Template.{program_sections}
 use Rattle.template_tree.specs.Line.{lines}
 use Rattle.template_tree.specs.PlainTree.{Forest, PlainNode}
@@ -19,7 +18,7 @@ use Rattle.cursor_moves.specs.Private.NextPath.{first_inside, next_of, next_with
 use Rattle.cursor_moves.proofs.ListEnds.{last_append}
 use Rattle.cursor_moves.proofs.Nodes.RisingLines.{Rises, rises, rises_before, rises_on}
 use Rattle.cursor_moves.proofs.Nodes.VisibleNodes.{IsListedFrom, all_listed}
-use Rattle.cursor_moves.proofs.Stops.DividedStops.{ahead, rear, stop_of}
+use Rattle.cursor_moves.proofs.Stops.DividedStops.{ahead, stop_of}
 use Rattle.cursor_moves.proofs.Stops.ListedStops.{all_flat, contains_at, from_zero, within}
 use Rattle.cursor_moves.proofs.Stops.NextStops.{node_stop}
 use Rattle.cursor_moves.proofs.Stops.StopMoves.{ahead_line, all_nodes, filter_all, filter_none, find_none, last_own, move_at, own_line, place_of}

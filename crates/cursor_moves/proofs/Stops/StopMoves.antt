@@ -1,12 +1,12 @@
 -- Where a move begins among the visible stops.
-use Rattle.std.specs.Prelude.{◌≡◌, refl, ℕ, zero, suc, ◌+◌, ◌-◌, ◌<◌, ◌==◌, nat_lt, Bool, true, false, if◌then◌else◌, List, [], ◌∷◌, ◌++◌, map, filter, find, flat_map, All, Option, Some, None, option_and_then, option_map}
+use Rattle.std.specs.Prelude.{◌≡◌, refl, ℕ, zero, suc, ◌+◌, ◌-◌, nat_lt, Bool, true, false, if◌then◌else◌, List, [], ◌∷◌, ◌++◌, map, filter, find, flat_map, All, Option, Some, None, option_and_then, option_map}
 use Rattle.std.specs.List.{range_with_len}
 use Rattle.std.specs.Option.{option_or}
-use Rattle.std.proofs.Common.{ap, sym, ◌∙◌, subst, arith, add-one}
-use Rattle.std.proofs.lemmas.Bool.{le-ltb, lt-ltb}
+use Rattle.std.proofs.Common.{ap, sym, ◌∙◌, arith, add-one}
+use Rattle.std.proofs.lemmas.Bool.{lt-ltb}
 use Rattle.std.proofs.lemmas.Bool.Decides.{nat_tests}
-use Rattle.std.proofs.lemmas.Option.{none-some, same_Some}
-use Rattle.std.proofs.lemmas.List.Elements.{All-contains, All-cons, All-head, All-map, All-nil, All-tail}
+use Rattle.std.proofs.lemmas.Option.{none-some}
+use Rattle.std.proofs.lemmas.List.Elements.{All-cons, All-head, All-map, All-nil, All-tail}
 use Rattle.std.proofs.lemmas.List.FromFn.{map-range_with_len_more}
 use Rattle.plcs_grammar.specs.Template.{program_sections}
 use Rattle.template_tree.specs.PlainTree.{Forest, PlainNode}
@@ -15,10 +15,9 @@ use Rattle.cursor_moves.specs.Move.{Choice, IsMove, first_of, last_of}
 use Rattle.cursor_moves.specs.Private.NextPart.{last_part, next_part}
 use Rattle.cursor_moves.specs.Private.NextPath.{first_inside, next_of, next_with}
 use Rattle.cursor_moves.proofs.ListEnds.{last_append}
-use Rattle.cursor_moves.proofs.Nodes.NextNodes.{IsPlaced, from, from_none, placed}
-use Rattle.cursor_moves.proofs.Nodes.VisibleNodes.{IsListedFrom, all_listed}
+use Rattle.cursor_moves.proofs.Nodes.NextNodes.{IsPlaced, from_none, placed}
 use Rattle.cursor_moves.proofs.Stops.DividedStops.{IsWithin, ahead, rear, stop_of, stops_divided}
-use Rattle.cursor_moves.proofs.Stops.ListedStops.{contains_at, from_zero}
+use Rattle.cursor_moves.proofs.Stops.ListedStops.{from_zero}
 
 -- the visible nodes
 abbrev pub all_nodes : Forest → List VisibleNode

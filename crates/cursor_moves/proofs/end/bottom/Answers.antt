@@ -1,4 +1,4 @@
-use Rattle.std.specs.Prelude.{◌≡◌, ◌++◌, ◌∷◌, []}
+use Rattle.std.specs.Prelude.{◌++◌, ◌∷◌, []}
 use Rattle.std.proofs.Common.{ap, ◌∙◌}
 use Rattle.template_tree.specs.Stop.{plain_stop}
 use Rattle.cursor_moves.proofs.Stops.AnsweredStops.{last_stands}

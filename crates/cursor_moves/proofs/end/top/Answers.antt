@@ -1,4 +1,4 @@
-use Rattle.std.specs.Prelude.{◌≡◌, ◌++◌, ◌∷◌, []}
+use Rattle.std.specs.Prelude.{◌++◌, ◌∷◌, []}
 use Rattle.std.proofs.Common.{ap, ◌∙◌}
 use Rattle.cursor_moves.proofs.Stops.EndStops.{first_stands, first_stop}
 use Rattle.cursor_moves.proofs.end.top.Goals as goal

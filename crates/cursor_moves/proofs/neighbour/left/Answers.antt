@@ -1,4 +1,3 @@
-use Rattle.std.proofs.Common.{ap, sym, ◌∙◌}
 use Rattle.template_tree.specs.Stop.{plain_stop}
 use Rattle.cursor_moves.proofs.Stops.AnsweredStops.{last_stands, left_from_first, left_from_node, left_from_part, previous_there}
 use Rattle.cursor_moves.proofs.Stops.PreviousStops.{next_visible}

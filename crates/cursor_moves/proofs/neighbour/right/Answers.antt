@@ -1,4 +1,4 @@
-use Rattle.std.specs.Prelude.{◌≡◌, Some, None, Option, ℕ}
+use Rattle.std.specs.Prelude.{Some, None, Option, ℕ}
 use Rattle.std.proofs.Common.{ap, sym, ◌∙◌, subst}
 use Rattle.template_tree.specs.Stop.{MayStand, part_stops, plain_stop}
 use Rattle.cursor_moves.specs.Move.{moved_to}

@@ -1,4 +1,4 @@
-use Rattle.std.specs.Prelude.{◌≡◌, ◌++◌, ◌∷◌, [], ◌<◌, ◌+◌, ◌-◌, length, None, Some, slice_get}
+use Rattle.std.specs.Prelude.{◌++◌, ◌∷◌, [], ◌+◌, slice_get}
 use Rattle.std.proofs.Common.{ap, sym, ◌∙◌, arith, append_assoc, lit<}
 use Rattle.std.proofs.lemmas.Option.{none-some, slice_get-get_or, slice_get_past}
 use Rattle.template_tree.specs.PlainTree.{nodes}
@@ -31,8 +31,7 @@ returns t c =
     let node = c.args.node.now in
     let k = c.in-Some.k in
     let rest = c.push_last_below.ensures in
-    let past = slice_get_past (nodes node.inner) (k + 1) (omega (arith, c.in-Some.ensures, c.children.ensures)) in
-    (
+    let past = slice_get_past (nodes node.inner) (k + 1) (omega (arith, c.in-Some.ensures, c.children.ensures)) in (
       k ∷ rest.0,
       rest.1 ∙ ap (λ way. way ++ rest.0) c.push.ensures.items ∙ append_assoc c.args.path.now.items (k ∷ []) rest.0,
       (
