@@ -1,5 +1,5 @@
 -- Lists of which each element and each later one are related.
-use Rattle.std.specs.Prelude.{zero, suc, List, [], ◌∷◌, ◌++◌, map, All, AllPairs}
+use Rattle.std.specs.Prelude.{zero, suc, List, [], ◌∷◌, ◌++◌, map, All, AllPairs, slice_index_or}
 use Rattle.std.proofs.Common.{arith}
 use Rattle.std.proofs.lemmas.List.Elements.{All-append, All-head, All-map, All-tail, All-weaker}
 
@@ -33,3 +33,8 @@ apart_map f R (x ∷ xs) h = (All-map (R (f x)) f xs h.0, apart_map f R xs h.1)
 pub apart_weaker : {X : Type 0} (Q R : X → X → Type 0) → ((x y : X) → Q x y → R x y) → (xs : List X) → Apart Q xs → Apart R xs
 apart_weaker Q R law [] h = tt
 apart_weaker Q R law (x ∷ xs) h = (All-weaker (Q x) (R x) (λ y g. law x y g) xs h.0, apart_weaker Q R law xs h.1)
+
+-- a relation that always holds
+pub apart_any : {X : Type 0} (R : X → X → Type 0) → ((x y : X) → R x y) → (xs : List X) → Apart R xs
+apart_any R law [] = tt
+apart_any R law (x ∷ xs) = ((λ k d h. law x (slice_index_or xs k d)), apart_any R law xs)

@@ -14,3 +14,7 @@ pub mod AnsweredStops
 pub mod EndStops
 -- `stops_are_distinct`: no stop is listed twice
 pub mod DistinctStops
+-- what holds of stops since it holds of their nodes
+pub mod ApartStops
+-- `stops_rise`: their lines rise
+pub mod RisingStops

@@ -10,6 +10,7 @@ use Rattle.cursor_moves.specs.StopLaws.{StopsAreDistinct}
 use Rattle.cursor_moves.proofs.ApartLists.{Apart, apart_append, apart_map, apart_weaker, pairs_apart}
 use Rattle.cursor_moves.proofs.Nodes.DistinctNodes.{IsElsewhere, nodes_apart}
 use Rattle.cursor_moves.proofs.Stops.DividedStops.{stop_of}
+use Rattle.cursor_moves.proofs.Stops.ApartStops.{flat_apart}
 use Rattle.cursor_moves.proofs.Stops.StopMoves.{all_nodes}
 
 -- another stop is a different one
@@ -55,28 +56,18 @@ own_path node =
     All-cons (λ stop. stop.stop.path ≡ node.path) (stop_of node None) (map (λ n. stop_of node (Some n)) (range_with_len 0 node.parts)) refl
     (All-map (λ stop. stop.stop.path ≡ node.path) (λ n. stop_of node (Some n)) (range_with_len 0 node.parts) (λ _ _ _. refl))
 
--- the stops of nodes that stand elsewhere are others
-others_apart : (node : VisibleNode) (stop : VisibleStop) → stop.stop.path ≡ node.path → (nodes : List VisibleNode)
-    → All (IsElsewhere node) nodes → All (IsOther stop) (flat_map stops_of nodes)
-others_apart node stop at [] h = All-nil _
-others_apart node stop at (other ∷ nodes) h =
-    All-append (IsOther stop) (stops_of other) (flat_map stops_of nodes)
-    (All-weaker (λ later. later.stop.path ≡ other.path) (IsOther stop)
-    (λ later is e. All-head (IsElsewhere node) other nodes h (sym is ∙ ap (λ (s : PlainStop). s.path) e ∙ at))
+-- the stops of a node that stands elsewhere are others
+others_apart : (node other : VisibleNode) → IsElsewhere node other → All (λ stop. All (IsOther stop) (stops_of other)) (stops_of node)
+others_apart node other h =
+    All-weaker (λ stop. stop.stop.path ≡ node.path) (λ stop. All (IsOther stop) (stops_of other))
+    (λ stop at.
+    All-weaker (λ later. later.stop.path ≡ other.path) (IsOther stop) (λ later is e. h (sym is ∙ ap (λ (s : PlainStop). s.path) e ∙ at))
     (stops_of other) (own_path other))
-    (others_apart node stop at nodes (All-tail (IsElsewhere node) other nodes h))
-
--- each stop is another one than those before it
-flat_apart : (nodes : List VisibleNode) → Apart IsElsewhere nodes → Apart IsOther (flat_map stops_of nodes)
-flat_apart [] h = tt
-flat_apart (node ∷ nodes) h =
-    apart_append IsOther (stops_of node) (flat_map stops_of nodes) (own_apart node) (flat_apart nodes h.1)
-    (All-weaker (λ stop. stop.stop.path ≡ node.path) (λ stop. All (IsOther stop) (flat_map stops_of nodes))
-    (λ stop at. others_apart node stop at nodes h.0) (stops_of node) (own_path node))
+    (stops_of node) (own_path node)
 
 -- no stop is listed twice
 pub distinct : StopsAreDistinct
 distinct items =
     pairs_apart (λ stop later. later ≢ stop) (map (λ listed. listed.stop) (Stops items))
     (apart_map (λ listed. listed.stop) (λ stop later. later ≢ stop) (Stops items)
-    (flat_apart (all_nodes items) (nodes_apart program_sections 0 0 items)))
+    (flat_apart IsOther IsElsewhere own_apart others_apart (all_nodes items) (nodes_apart program_sections 0 0 items)))
