@@ -37,11 +37,10 @@ lower_apart low high (node ∷ nodes) h =
 -- the stops of one node
 same_node : (node : VisibleNode) → Apart IsLaterStop (stops_of node)
 same_node node =
-    let part : ℕ → VisibleStop = λ n. stop_of node (Some n) in
-    (
+    let part : ℕ → VisibleStop = λ n. stop_of node (Some n) in (
       All-map (IsLaterStop (stop_of node None)) part (range_with_len 0 node.parts) (λ _ _ _. inl (refl, refl)),
       apart_map part IsLaterStop (range_with_len 0 node.parts)
-      (apart_any (λ n m. IsLaterStop (part n) (part m)) (λ n m. inl (refl, refl)) (range_with_len 0 node.parts)),
+          (apart_any (λ n m. IsLaterStop (part n) (part m)) (λ n m. inl (refl, refl)) (range_with_len 0 node.parts)),
     )
 
 -- the stops of a node and those of a later one
