@@ -8,3 +8,9 @@ pub mod Stops
 pub mod FoundNodes
 -- lists whose elements are apart
 pub mod ApartLists
+-- the phrase that a test puts into a part
+pub mod TestPhrases
+-- the programs that tests build
+pub mod TestPrograms
+-- the phrase that a test puts into a part
+pub mod TestPhrases

@@ -1,9 +1,12 @@
 //! Tests of all moves over a program with every template, against its stops as written by hand.
-ghost use Rattle.std.specs.Prelude.{◌≡◌, ◌++◌, ◌∷◌, [], IfOk, None, replicate};
+ghost use Rattle.std.specs.Prelude.{◌≡◌, ◌++◌, ◌∷◌, [], IfOk, None, Some, map, replicate};
 ghost use Rattle.plcs_grammar.specs.declared.node_kind.NodeKind.{NodeKind};
 ghost use Rattle.plcs_grammar.specs.declared.node_kind.Sort.{Sort};
 ghost use Rattle.plcs_grammar.specs.declared.template.Template.{Template};
+ghost use Rattle.plcs_grammar.specs.PlainForm.{plain_phrase};
+ghost use Rattle.plcs_grammar.specs.PlainPhrase.{PlainExpr, PlainPhrase, PlainVarRef};
 ghost use Rattle.plcs_grammar.specs.Template.{block, row_of};
+ghost use Rattle.template_tree.specs.PlainPlace.{plain_place};
 ghost use Rattle.template_tree.specs.PlainTree.{forest};
 ghost use Rattle.template_tree.specs.Program.{AreNodes, AreParts, Fill, IsSubtree, parts_of, sort_of, sorts};
 ghost use Rattle.template_tree.specs.Tree.{IsTree};
@@ -35,6 +38,14 @@ fn with(list: Nodes, node: Node) -> Result<Nodes, Fail>
     requires node { IsSubtree node }
     ensures nodes { IfOk result (λ more. AreNodes (forest more.items)) }
     ensures sorts { IfOk result (λ more. sorts (forest more.items) ≡ sorts (forest list.items) ++ sort_of node.label.kind ∷ []) }
+{
+    let more = pushed(list, node)?;
+    Ok(more)
+}
+
+/// The list with the node put at its end.
+fn pushed(list: Nodes, node: Node) -> Result<Nodes, Fail>
+    ensures { IfOk result (λ more. more.items ≡ list.items ++ node ∷ []) }
 {
     let mut list = list;
     list.push(node).map_err(|_| "a node")?;
@@ -109,23 +120,40 @@ fn empty_block(alloc: Global) -> Result<Nodes, Fail>
     with(declaration_holes(alloc)?, hole(alloc)?)
 }
 
-/// The variable without a subscript.
-fn variable(name: Name) -> VarRef {
-    VarRef { name, index: None }
-}
-
 /// `x = y`.
-fn assignment(alloc: Global) -> Result<Node, Fail>
-    ensures node { IfOk result IsSubtree }
-    ensures sort { IfOk result (λ node. sort_of node.label.kind ≡ Sort.Statement) }
+fn copying() -> Result<Phrase, Fail>
+    ensures { IfOk result (λ phrase. plain_phrase phrase ≡ PlainPhrase.assignment (PlainVarRef.simple (120 ∷ [])) (PlainExpr.variable (PlainVarRef.simple (121 ∷ [])))) }
 {
     let x = Name::read(b"x").ok_or("a name")?;
     let y = Name::read(b"y").ok_or("a name")?;
-    let phrase = Phrase::Assignment(variable(x), Expr::Var(variable(y)));
+    let target = VarRef {
+        name: x,
+        index: None,
+    };
+    let value = VarRef {
+        name: y,
+        index: None,
+    };
+    Ok(Phrase::Assignment(target, Expr::Var(value)))
+}
+
+/// One part with the phrase in it.
+fn one_part(alloc: Global, phrase: Phrase) -> Result<Vec<PhrasePlace>, Fail>
+    ensures { IfOk result (λ parts. map plain_place parts.items ≡ Some (plain_phrase phrase) ∷ []) }
+{
     let mut parts = Vec::new(alloc);
     parts
         .push(PhrasePlace::Filled(phrase))
         .map_err(|_| "a part")?;
+    Ok(parts)
+}
+
+/// An assignment.
+fn assignment(alloc: Global) -> Result<Node, Fail>
+    ensures node { IfOk result IsSubtree }
+    ensures sort { IfOk result (λ node. sort_of node.label.kind ≡ Sort.Statement) }
+{
+    let parts = one_part(alloc, copying()?)?;
     Ok(Node::built(NodeKind::Assign, parts, Nodes::new(alloc)))
 }
 
