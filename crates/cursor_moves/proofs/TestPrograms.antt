@@ -32,8 +32,7 @@ statements_filled n ss some e =
 pub block_filled : (n m : ℕ) (ss : List Sort) → 1 ≤ length (replicate n Sort.Declaration) → 1 ≤ length (replicate m Sort.Statement)
     → ss ≡ replicate n Sort.Declaration ++ replicate m Sort.Statement → Fill block ss
 block_filled n m ss some more e =
-    subst (Fill block) (sym e)
-    (
+    subst (Fill block) (sym e) (
       replicate n Sort.Declaration,
       replicate m Sort.Statement,
       refl,
@@ -45,8 +44,7 @@ block_filled n m ss some more e =
 pub program_filled : (n : ℕ) (ss : List Sort) → 1 ≤ length (replicate n Sort.Procedure) → ss ≡ Sort.Main ∷ replicate n Sort.Procedure
     → Fill program_sections ss
 program_filled n ss some e =
-    subst (Fill program_sections) (sym e)
-    (
+    subst (Fill program_sections) (sym e) (
       Sort.Main ∷ [],
       replicate n Sort.Procedure,
       refl,

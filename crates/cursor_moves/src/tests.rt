@@ -117,7 +117,8 @@ fn empty_block(alloc: Global) -> Result<Nodes, Fail>
     ensures nodes { IfOk result (λ list. AreNodes (forest list.items)) }
     ensures filled { IfOk result (λ list. Fill block (sorts (forest list.items))) }
 {
-    with(declaration_holes(alloc)?, hole(alloc)?)
+    let list = with(declaration_holes(alloc)?, hole(alloc)?)?;
+    Ok(list)
 }
 
 /// `x = y`.
