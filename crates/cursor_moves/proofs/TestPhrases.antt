@@ -1,15 +1,14 @@
 -- The phrase that a test puts into a part.
-use Rattle.std.specs.Prelude.{◌≡◌, refl, ℕ, ◌+◌, ◌≤◌, ◌==◌, Bool, true, false, codes, IsTrue, List, [], ◌∷◌, ◌++◌, length, All, Option, Some, None}
+use Rattle.std.specs.Prelude.{◌≡◌, refl, ℕ, ◌≤◌, ◌==◌, Bool, true, false, codes, IsTrue, List, [], ◌∷◌, ◌++◌, length, None}
 use Rattle.std.proofs.Common.{ap, sym, ◌∙◌, subst, arith, inl, lit≤, length-append}
 use Rattle.std.proofs.Math.Bool.{false≢true}
 use Rattle.std.proofs.lemmas.List.Elements.{All-nil}
-use Rattle.plcs_base.specs.Byte.{is_digit, is_name_byte}
 use Rattle.plcs_base.specs.Name.{IsName, is_keyword}
 use Rattle.plcs_grammar.specs.declared.category.Category.{Category}
 use Rattle.plcs_grammar.specs.declared.sign.Sign.{Sign}
 use Rattle.plcs_grammar.specs.PlainPhrase.{PlainExpr, PlainVarRef, PlainPhrase}
 use Rattle.plcs_grammar.specs.Sign.{sign_bytes}
-use Rattle.plcs_grammar.specs.Token.{First, IsToken, Token, begins_with}
+use Rattle.plcs_grammar.specs.Token.{IsToken, Token}
 use Rattle.plcs_grammar.specs.Cuts.{Cuts, Piece}
 use Rattle.template_tree.specs.Program.{IsPhrase}
 

@@ -1,13 +1,13 @@
 -- No stop is listed twice.
-use Rattle.std.specs.Prelude.{◌≡◌, ◌≢◌, refl, ℕ, zero, suc, ◌+◌, ◌<◌, List, [], ◌∷◌, map, flat_map, All, slice_index_or, Option, Some, None}
+use Rattle.std.specs.Prelude.{◌≡◌, ◌≢◌, refl, ℕ, zero, suc, ◌+◌, ◌<◌, map, All, slice_index_or, Option, Some, None}
 use Rattle.std.specs.List.{range_with_len}
 use Rattle.std.proofs.Common.{ap, sym, ◌∙◌, arith}
 use Rattle.std.proofs.lemmas.Option.{none-some}
-use Rattle.std.proofs.lemmas.List.Elements.{All-append, All-cons, All-head, All-map, All-nil, All-tail, All-weaker}
+use Rattle.std.proofs.lemmas.List.Elements.{All-cons, All-map, All-nil, All-weaker}
 use Rattle.plcs_grammar.specs.Template.{program_sections}
 use Rattle.template_tree.specs.Stop.{PlainStop, Stops, VisibleNode, VisibleStop, stops_of}
 use Rattle.cursor_moves.specs.StopLaws.{StopsAreDistinct}
-use Rattle.cursor_moves.proofs.ApartLists.{Apart, apart_append, apart_map, apart_weaker, pairs_apart}
+use Rattle.cursor_moves.proofs.ApartLists.{Apart, apart_map, apart_weaker, pairs_apart}
 use Rattle.cursor_moves.proofs.Nodes.DistinctNodes.{IsElsewhere, nodes_apart}
 use Rattle.cursor_moves.proofs.Stops.DividedStops.{stop_of}
 use Rattle.cursor_moves.proofs.Stops.ApartStops.{flat_apart}
