@@ -12,3 +12,5 @@ pub mod PreviousNodes
 pub mod NextPaths
 -- no node is listed twice
 pub mod DistinctNodes
+-- `ensures` of `push_last_below`
+pub mod LastItems

@@ -8,7 +8,7 @@ use Rattle.template_tree.specs.Path.{node_at}
 use Rattle.template_tree.specs.Program.{IsProgram}
 use Rattle.template_tree.specs.Stop.{IsStop, PlainStop, Stops, VisibleNode, part_stops, stops_of, visible_at}
 use Rattle.cursor_moves.specs.Move.{first_of, last_of}
-use Rattle.cursor_moves.specs.Private.NextPart.{last_part}
+use Rattle.cursor_moves.specs.Private.Number.{last_number}
 use Rattle.cursor_moves.specs.Private.NextPath.{IsLastBelow, next_of}
 use Rattle.cursor_moves.proofs.FoundNodes.{holds}
 use Rattle.cursor_moves.proofs.Nodes.PathSteps.{seen}
@@ -64,10 +64,10 @@ end_at items k begin way rest last_is begin_is way_is below =
 
 -- its last stop is the last of all
 pub last_stop : (items : Forest) (way : List ℕ) (to : PlainStop) → IsEnd items way
-    → IsSomeAnd (node_at items way) (λ node. to ≡ record { path = way; part = last_part (part_stops node.label.kind) })
+    → IsSomeAnd (node_at items way) (λ node. to ≡ record { path = way; part = last_number (part_stops node.label.kind) })
     → option_map (λ listed. listed.stop) (last_of (Stops items)) ≡ Some to
 last_stop items way to end last =
-    let there = there_is (λ node. to ≡ record { path = way; part = last_part (part_stops node.label.kind) }) (node_at items way) last in
+    let there = there_is (λ node. to ≡ record { path = way; part = last_number (part_stops node.label.kind) }) (node_at items way) last in
     let same : there.0 ≡ end.node = same_Some there.0 end.node (sym there.1 ∙ seen items way end.node end.visible) in
     let place = place_of items way end.node end.visible in
     let behind : place.behind ≡ [] = none_left place.behind (place.next_is ∙ end.none) in
@@ -75,9 +75,9 @@ last_stop items way to end last =
     place.stands ∙ ap (λ nodes. place.before ++ place.here ∷ nodes) behind in
     ap (λ nodes. option_map (λ listed. listed.stop) (last_of (flat_map stops_of nodes))) all
     ∙ ap (option_map (λ listed. listed.stop)) (last_flat place.before place.here)
-    ∙ ap (λ parts. Some record { path = place.here.path; part = last_part parts }) place.parts_are
-    ∙ ap (λ path. Some record { path = path; part = last_part (part_stops end.node.label.kind) }) place.path_is
-    ∙ sym (ap Some there.2 ∙ ap (λ (n : PlainNode). Some record { path = way; part = last_part (part_stops n.label.kind) }) same)
+    ∙ ap (λ parts. Some record { path = place.here.path; part = last_number parts }) place.parts_are
+    ∙ ap (λ path. Some record { path = path; part = last_number (part_stops end.node.label.kind) }) place.path_is
+    ∙ sym (ap Some there.2 ∙ ap (λ (n : PlainNode). Some record { path = way; part = last_number (part_stops n.label.kind) }) same)
 
 pub end_there : (items : Forest) (way : List ℕ) → IsEnd items way → IsSome (node_at items way)
 end_there items way end = rw (seen items way end.node end.visible) refl

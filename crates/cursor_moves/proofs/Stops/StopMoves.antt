@@ -12,7 +12,7 @@ use Rattle.plcs_grammar.specs.Template.{program_sections}
 use Rattle.template_tree.specs.PlainTree.{Forest, PlainNode}
 use Rattle.template_tree.specs.Stop.{PlainStop, Stops, VisibleNode, VisibleStop, part_stops, stops_of, visible_at, visible_nodes}
 use Rattle.cursor_moves.specs.Move.{Choice, IsMove, first_of, last_of}
-use Rattle.cursor_moves.specs.Private.NextPart.{last_part, next_part}
+use Rattle.cursor_moves.specs.Private.Number.{last_number, next_number}
 use Rattle.cursor_moves.specs.Private.NextPath.{first_inside, next_of, next_with}
 use Rattle.cursor_moves.proofs.ListEnds.{last_append}
 use Rattle.cursor_moves.proofs.Nodes.NextNodes.{IsPlaced, from_none, placed}
@@ -78,7 +78,7 @@ chosen false node part = refl
 
 -- the first stop of the node behind one of its stops
 pub first_rear : (node : VisibleNode) (part : Option ℕ)
-    → first_of (rear node part) ≡ option_map (λ n. stop_of node (Some n)) (next_part node.parts part)
+    → first_of (rear node part) ≡ option_map (λ n. stop_of node (Some n)) (next_number node.parts part)
 first_rear node None = first_range node 0 node.parts ∙ chosen (nat_lt 0 node.parts) node 0
 first_rear node (Some part) =
     first_range node (part + 1) (node.parts - (part + 1))
@@ -87,7 +87,7 @@ first_rear node (Some part) =
 
 -- the last stop of the node, where it has so many parts
 pub last_own : (node : VisibleNode) (parts : ℕ)
-    → last_of (stop_of node None ∷ map (λ n. stop_of node (Some n)) (range_with_len 0 parts)) ≡ Some (stop_of node (last_part parts))
+    → last_of (stop_of node None ∷ map (λ n. stop_of node (Some n)) (range_with_len 0 parts)) ≡ Some (stop_of node (last_number parts))
 last_own node zero = refl
 last_own node (suc parts) =
     let stop : ℕ → VisibleStop = λ n. stop_of node (Some n) in
