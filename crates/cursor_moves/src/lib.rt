@@ -1,5 +1,5 @@
 //! Moves of the cursor over the stops of a tree.
-#![tactic(auto, using(template_tree::specs::PlainTree::nodes_forest))]
+#![tactic(auto)]
 
 mod cursor_move;
 mod end;
