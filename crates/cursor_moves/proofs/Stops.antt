@@ -1,0 +1,20 @@
+-- the stops divided at one of them
+pub mod DividedStops
+-- `stops_are_listed`: the cursor may stand exactly at the visible stops
+pub mod ListedStops
+-- `moved` of each move: where it begins
+pub mod StopMoves
+-- `moved` of `right` and `down`
+pub mod NextStops
+-- `moved` of `left` and `up`
+pub mod PreviousStops
+-- `moved` and `stop` of all moves, as they are answered
+pub mod AnsweredStops
+-- `top` and `bottom`
+pub mod EndStops
+-- `stops_are_distinct`: no stop is listed twice
+pub mod DistinctStops
+-- what holds of stops since it holds of their nodes
+pub mod ApartStops
+-- `stops_rise`: their lines rise
+pub mod RisingStops
