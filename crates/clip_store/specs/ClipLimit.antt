@@ -38,7 +38,7 @@ is_full name slots pairs =
 abbrev pub has_room : List ℕ → PlainClips → Bool
 has_room name clips = is_some (clip_named name clips.pairs) || nat_lt 0 clips.spare
 
--- why a fragment of so many slots isn't taken
-abbrev pub HasCause : ClipFault → List ℕ → ℕ → PlainClips → Type 0
-HasCause ClipFault.Full name slots clips = is_full name slots clips.pairs ≡ true
-HasCause ClipFault.OutOfMemory name slots clips = (is_full name slots clips.pairs ≡ false) × (has_room name clips ≡ false)
+-- the fault with which a fragment of so many slots isn't taken; memory runs out only where there is no room
+abbrev pub IsClipFault : ClipFault → List ℕ → ℕ → PlainClips → Type 0
+IsClipFault ClipFault.Full name slots clips = is_full name slots clips.pairs ≡ true
+IsClipFault ClipFault.OutOfMemory name slots clips = (is_full name slots clips.pairs ≡ false) × (has_room name clips ≡ false)

@@ -2,7 +2,7 @@
 ghost use Rattle.std.specs.Prelude.{◌≡◌, ◌+◌, ◌<◌, ◌≤◌, true, false, not, [], length, is_some, option_map, IfErr, IfOk, IfSome, IsOk, OnErr, OnOk};
 ghost use Rattle.clip_store.specs.PlainFragment.{IsFragment, plain_fragment, slots_of};
 ghost use Rattle.clip_store.specs.PlainClips.{clip_named, slots_held, with_clip, without};
-ghost use Rattle.clip_store.specs.ClipLimit.{AreClips, HasCause, IsClip, has_room, is_full, most_clip_slots};
+ghost use Rattle.clip_store.specs.ClipLimit.{AreClips, IsClip, IsClipFault, has_room, is_full, most_clip_slots};
 
 use crate::fragment::Fragment;
 use crate::limit::{MOST_CLIP_SLOTS, MOST_CLIPS};
@@ -70,7 +70,7 @@ impl Clips {
         ensures replaced { IfOk result (λ old. option_map plain_fragment old ≡ clip_named name self.old.pairs) }
         ensures clip { IfOk result (λ old. IfSome old (λ fragment. IsClip (plain_fragment fragment))) }
         ensures fits { OnOk result (is_full name (slots_of (plain_fragment fragment)) self.old.pairs ≡ false) }
-        ensures cause { IfErr result (λ refusal. HasCause refusal.0 name (slots_of (plain_fragment fragment)) self.old) }
+        ensures cause { IfErr result (λ refusal. IsClipFault refusal.0 name (slots_of (plain_fragment fragment)) self.old) }
         ensures refused { IfErr result (λ refusal. (refusal.1 ≡ fragment) × (self.new.pairs ≡ self.old.pairs)) }
         ensures succeeds { is_full name (slots_of (plain_fragment fragment)) self.old.pairs ≡ false → has_room name self.old ≡ true → IsOk result }
         ensures room { self.old.spare ≤ self.new.spare + 1 }

@@ -1,5 +1,5 @@
 -- Its holes are one or more, and with its own slot they are as many as asked for.
-use Rattle.std.proofs.Common.{◌≡◌, ◌+◌, ◌<◌, ◌-◌, ap, sym, arith}
+use Rattle.std.proofs.Common.{◌≡◌, ◌-◌, ap, arith}
 use Rattle.template_tree.specs.PlainTree.{forest}
 use Rattle.template_tree.specs.Slots.{count}
 use Rattle.clip_store.proofs.TestFragments.{group_is}

@@ -1,7 +1,5 @@
 -- Whatever room its list has, it is a subtree.
 use Rattle.std.proofs.Common.{sym, subst}
-use Rattle.template_tree.specs.Build.{built_label}
-use Rattle.plcs_grammar.specs.declared.node_kind.NodeKind.{NodeKind}
 use Rattle.template_tree.specs.PlainTree.{forest}
 use Rattle.template_tree.specs.Program.{AreNodes}
 use Rattle.clip_store.proofs.TestFragments.{empty_hole_is}
