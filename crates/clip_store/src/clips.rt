@@ -44,7 +44,7 @@ impl Model for Clips {
 }
 
 impl Clips {
-    /// No clips.
+    /// No clips. It takes no memory yet, though its answer allows for that.
     pub fn new(alloc: Global) -> Result<Clips, OutOfMemory>
         ensures { IfOk result (λ clips. clips.pairs ≡ []) }
     {
