@@ -1,0 +1,7 @@
+-- Words that private contracts alone cite: nobody has to believe them.
+-- ---- how the plain data is told apart
+pub mod ClipsCode
+-- ---- clips in memory
+pub mod ClipsView
+-- ---- the fragments of tests
+pub mod Holes
