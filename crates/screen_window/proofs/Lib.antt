@@ -1,0 +1,2 @@
+-- `lines.rt` and Terminal::clear: rows of cells, one of which is changed
+pub mod ChangedLines
