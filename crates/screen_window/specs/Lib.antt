@@ -4,6 +4,7 @@ pub mod Cell
 pub mod PlainGrid
 -- ---- painting
 pub mod Paint
+pub mod Writes
 -- ---- the plain terminal
 pub mod PlainTerminal
 pub mod Terminal

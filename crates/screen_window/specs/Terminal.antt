@@ -1,5 +1,5 @@
 -- What a plain terminal makes of bytes.
-use Rattle.std.specs.Prelude.{ℕ, ◌+◌, ◌-◌, ◌*◌, min, Bool, true, false, ◌==◌, ◌&&◌, List, [], ◌++◌, take, replicate, slice_index_or, slice_set, fold, if◌then◌else◌}
+use Rattle.std.specs.Prelude.{ℕ, ◌+◌, ◌-◌, ◌*◌, min, Bool, true, false, ◌==◌, List, [], ◌++◌, take, replicate, slice_index_or, slice_set, fold, if◌then◌else◌}
 use Rattle.plcs_base.specs.Byte.{is_digit, is_printable}
 use Rattle.screen_window.specs.declared.sequence.Sequence.{Sequence}
 use Rattle.screen_window.specs.declared.sequence.Sequence.TheVariants.{Absent, Escape, Behind}

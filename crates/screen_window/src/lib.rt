@@ -2,10 +2,15 @@
 //! the plain terminal.
 #![tactic(auto)]
 
+mod grid;
 mod limit;
 mod lines;
+mod painting;
 mod sequence;
 mod terminal;
+mod text;
 
+pub use grid::Grid;
 pub use limit::{FEWEST_COLS, FEWEST_ROWS, MOST_COLS, MOST_ROWS};
+pub use painting::paint;
 pub use terminal::Terminal;

@@ -10,8 +10,8 @@ ghost use Rattle.screen_window.specs.Terminal.{Term, cleared, ended, ended_behin
 use crate::limit::{FEWEST_COLS, FEWEST_ROWS, MOST_COLS, MOST_ROWS};
 use crate::lines::{blank_all, blank_lines, set_cell, set_tail};
 use crate::sequence::{Gathered, Sequence};
-use plcs_base::{is_digit, is_printable};
-use std::alloc::{AllocError, Global};
+use plcs_base::{OutOfMemory, is_digit, is_printable};
+use std::alloc::Global;
 use std::marker::Model;
 
 /// A terminal that takes bytes: cells, a cursor and an image.
@@ -60,7 +60,7 @@ impl Model for Terminal {
 
 impl Terminal {
     /// A blank terminal in default image, with the cursor in its first place.
-    pub fn new(alloc: Global, rows: u16, cols: u16) -> Result<Self, AllocError>
+    pub fn new(alloc: Global, rows: u16, cols: u16) -> Result<Self, OutOfMemory>
         requires least_rows { FEWEST_ROWS ≤ rows }
         requires most_rows { rows ≤ MOST_ROWS }
         requires least_cols { FEWEST_COLS ≤ cols }
