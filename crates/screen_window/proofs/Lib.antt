@@ -6,3 +6,9 @@ pub mod VisibleCells
 pub mod Fronts
 pub mod Owing
 pub mod WritesInTurn
+-- `painted_terminal_shows`: bytes one after the other, the sequence that moves the cursor, cells in their image, and rows
+pub mod TakenBytes
+pub mod TakenNumbers
+pub mod TakenCells
+pub mod TakenRows
+pub mod PaintedTerminal

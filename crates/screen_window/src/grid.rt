@@ -28,19 +28,19 @@ impl Model for Grid {
     ghost Value = { PlainGrid };
 
     ghost view = { λ g. record {
-        rows = length g.lines.items;
-        cols = g.cols;
-        lines = plain_lines g.lines;
-        row = g.row;
-        col = g.col;
+      rows = length g.lines.items;
+      cols = g.cols;
+      lines = plain_lines g.lines;
+      row = g.row;
+      col = g.col;
     } };
 
     ghost invariant = { λ g. IsGrid (record {
-        rows = length g.lines.items;
-        cols = g.cols;
-        lines = plain_lines g.lines;
-        row = g.row;
-        col = g.col;
+      rows = length g.lines.items;
+      cols = g.cols;
+      lines = plain_lines g.lines;
+      row = g.row;
+      col = g.col;
     }) };
 }
 

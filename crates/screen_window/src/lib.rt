@@ -5,6 +5,7 @@
 mod grid;
 mod limit;
 mod lines;
+mod painted_terminal;
 mod painting;
 mod sequence;
 mod terminal;
@@ -12,5 +13,6 @@ mod text;
 
 pub use grid::Grid;
 pub use limit::{FEWEST_COLS, FEWEST_ROWS, MOST_COLS, MOST_ROWS};
+pub use painted_terminal::painted_terminal_shows;
 pub use painting::paint;
 pub use terminal::Terminal;

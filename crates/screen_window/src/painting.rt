@@ -17,11 +17,7 @@ type Piece = ArrayVec<u8, 1024>;
 /// row that differs as one piece, and then the cursor's place. After a fault a front of them was
 /// written.
 #[tactic(auto, unfolding(crate::specs::Paint::Paint))]
-pub fn paint<K: Sink>(
-    old: &Grid,
-    new: &Grid,
-    sink: &mut K,
-) -> Result<(), SinkFault>
+pub fn paint<K: Sink>(old: &Grid, new: &Grid, sink: &mut K) -> Result<(), SinkFault>
     requires rows { old.now.rows ≡ new.now.rows }
     requires cols { old.now.cols ≡ new.now.cols }
     ensures { Writes (Paint old.now new.now) result
@@ -32,11 +28,7 @@ pub fn paint<K: Sink>(
 }
 
 /// Paints the rows that differ, from the top.
-fn paint_rows<K: Sink>(
-    old: &Grid,
-    new: &Grid,
-    sink: &mut K,
-) -> Result<(), SinkFault>
+fn paint_rows<K: Sink>(old: &Grid, new: &Grid, sink: &mut K) -> Result<(), SinkFault>
     requires rows { old.now.rows ≡ new.now.rows }
     requires cols { old.now.cols ≡ new.now.cols }
     ensures { Writes (rows_paint 1 old.now.lines new.now.lines) result

@@ -38,23 +38,23 @@ impl Model for Terminal {
     ghost Value = { PlainTerminal };
 
     ghost view = { λ z. record {
-        rows = length z.lines.items;
-        cols = z.cols;
-        lines = plain_lines z.lines;
-        above = z.above;
-        before = z.before;
-        negative = z.negative;
-        sequence = z.sequence;
+      rows = length z.lines.items;
+      cols = z.cols;
+      lines = plain_lines z.lines;
+      above = z.above;
+      before = z.before;
+      negative = z.negative;
+      sequence = z.sequence;
     } };
 
     ghost invariant = { λ z. IsTerminal (record {
-        rows = length z.lines.items;
-        cols = z.cols;
-        lines = plain_lines z.lines;
-        above = z.above;
-        before = z.before;
-        negative = z.negative;
-        sequence = z.sequence;
+      rows = length z.lines.items;
+      cols = z.cols;
+      lines = plain_lines z.lines;
+      above = z.above;
+      before = z.before;
+      negative = z.negative;
+      sequence = z.sequence;
     }) };
 }
 
@@ -193,7 +193,12 @@ impl Terminal {
     fn type_byte(&mut self, byte: u8)
         ensures { self.new ≡ typed self.old byte }
     {
-        set_cell(&mut self.lines, self.above, self.before, cell_of(self.negative, byte));
+        set_cell(
+            &mut self.lines,
+            self.above,
+            self.before,
+            cell_of(self.negative, byte),
+        );
         self.before = (self.before + 1).min(self.cols - 1);
     }
 }
@@ -202,7 +207,11 @@ impl Terminal {
 fn cell_of(negative: bool, byte: u8) -> u16
     ensures { result ≡ cell_of negative byte }
 {
-    if negative { u16::from(byte) + 256 } else { u16::from(byte) }
+    if negative {
+        u16::from(byte) + 256
+    } else {
+        u16::from(byte)
+    }
 }
 
 /// Of so many rows or columns, how many are before the one of this number, which counts from 1.
