@@ -1,0 +1,14 @@
+-- `lines.rt` and Terminal::clear: rows of cells, one of which is changed
+pub mod ChangedLines
+-- `cells` of visible_len: blanks at the end of a row
+pub mod VisibleCells
+-- `Writes` of the painting: fronts of bytes, bytes taken piece by piece, and bytes one after the other
+pub mod Fronts
+pub mod Owing
+pub mod WritesInTurn
+-- `painted_terminal_shows`: bytes one after the other, the sequence that moves the cursor, cells in their image, and rows
+pub mod TakenBytes
+pub mod TakenNumbers
+pub mod TakenCells
+pub mod TakenRows
+pub mod PaintedTerminal

@@ -1,0 +1,14 @@
+-- ---- screens
+pub mod Limit
+pub mod Cell
+pub mod PlainGrid
+-- ---- painting
+pub mod Paint
+pub mod Writes
+-- ---- the plain terminal
+pub mod PlainTerminal
+pub mod Terminal
+-- ---- the law
+pub mod PaintShows
+-- ---- what private contracts alone cite
+pub mod Private

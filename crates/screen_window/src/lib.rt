@@ -1,0 +1,18 @@
+//! The screen: grids of cells, how a program is shown on them, how they are painted on a terminal, and
+//! the plain terminal.
+#![tactic(auto)]
+
+mod grid;
+mod limit;
+mod lines;
+mod painted_terminal;
+mod painting;
+mod sequence;
+mod terminal;
+mod text;
+
+pub use grid::Grid;
+pub use limit::{FEWEST_COLS, FEWEST_ROWS, MOST_COLS, MOST_ROWS};
+pub use painted_terminal::painted_terminal_shows;
+pub use painting::paint;
+pub use terminal::Terminal;
