@@ -23,6 +23,16 @@ pub struct Played {
 }
 
 impl Played {
+    /// Whether the session ended so, the sink took these bytes, and the disk reads as these.
+    pub fn is(&self, status: KeptStatus, written: &[u8], kept: &[u8]) -> bool {
+        self.status == status && self.written() == written && self.disk.bytes() == kept
+    }
+
+    /// Whether the first gate isn't open.
+    pub fn is_cleared(&self) -> bool {
+        self.disk.bytes().first() == Some(&0)
+    }
+
     /// All bytes that the sink took.
     pub fn written(&self) -> &[u8] {
         self.screen.bytes()
@@ -111,10 +121,11 @@ pub fn disk_of(alloc: Global, image: &[u8]) -> Result<MemDisk, DiskFault> {
 /// The keys behind the open gates of an image.
 pub fn recovered(alloc: Global, image: &[u8]) -> Result<Vec<u8>, AllocError> {
     let mut keys = Vec::new(alloc);
-    let mut rest = image;
-    while let [1, key, behind @ ..] = rest {
-        keys.push(*key)?;
-        rest = behind;
+    for block in image.chunks(2) {
+        match block {
+            [1, key] => keys.push(*key)?,
+            _ => break,
+        }
     }
     Ok(keys)
 }
