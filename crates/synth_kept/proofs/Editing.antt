@@ -20,6 +20,7 @@ use Rattle.synth_top.specs.Words.{PlainOptions}
 use Rattle.synth_kept.proofs.GivenKeys.{given_all, given_before}
 use Rattle.synth_kept.proofs.Limits.{IsLimited}
 use Rattle.synth_kept.proofs.Moments.{newest_weaker, one_of_all, still_told, throughout_both, throughout_same, throughout_weaker}
+use Rattle.synth_kept.proofs.PressedKeys.{leaves_given}
 use Rattle.synth_kept.proofs.Quits.{clears_at_quit, stands_undone}
 
 -- the bytes that the editor was given by reads that were Ok
@@ -173,6 +174,11 @@ module _ {S D : Type 0} (left : S → Option (List ℕ)) (source_faults : S → 
         let given_keys : TellsBoth before → AreKeys (kept (past first.disk)) leads.taken [] ended.course.bytes × (length ended.course.bytes ≡ now.given) =
         λ told. told_all (left first.inner) (left now.inner) (past first.disk) (past now.disk) now.given leads.taken ended.course.bytes
         told.source (told_then told) leads.consumes keeps (read_ok none_lost) in
+        let are : TellsBoth before → AreKeys (kept origin) leads.taken [] ended.course.bytes =
+        λ told. subst (λ (keys : List ℕ). AreKeys keys leads.taken [] ended.course.bytes) same (given_keys told).0 in
+        let safe_now : Newest (LeavesOneOf (kept origin ++ leads.taken) []) (past now.disk) =
+        newest_weaker _ _ (past now.disk) (one_of_all (kept origin ++ leads.taken))
+        (subst (λ (keys : List ℕ). Newest (LeavesOnly (keys ++ leads.taken)) (past now.disk)) same keeps.safe) in
         record {
           taken = leads.taken;
           last = [];
@@ -182,13 +188,13 @@ module _ {S D : Type 0} (left : S → Option (List ℕ)) (source_faults : S → 
           each = subst (λ (all : List ℕ). Throughout (LeavesBetween (kept origin) all) origin (past now.disk))
               (sym (append-nil (kept origin ++ leads.taken)))
               (from_origin origin (past first.disk) (past now.disk) leads.taken opens same keeps.each);
-          safe = newest_weaker _ _ (past now.disk) (one_of_all (kept origin ++ leads.taken))
-              (subst (λ (keys : List ℕ). Newest (LeavesOnly (keys ++ leads.taken)) (past now.disk)) same keeps.safe);
+          safe = safe_now;
           edits = record {
             given = now.given;
             reads = now.reads;
             ended = record { course = ended.course; stopped = ended.stopped; source = inl (leads.source, none_lost); rescued = ended.rescued };
-            keys = λ told. subst (λ (keys : List ℕ). AreKeys keys leads.taken [] ended.course.bytes) same (given_keys told).0;
+            keys = are;
+            none_lost = λ told. leaves_given (kept origin) leads.taken [] ended.course.bytes (past now.disk) (are told) safe_now;
             quit = λ told.
                 clears_at_quit options limited (told_editor before 0 0) (told_editor after now.given now.reads) ended.course refl
                 now.given leads.counts.ends now.ended (given_keys told).1
@@ -205,6 +211,16 @@ module _ {S D : Type 0} (left : S → Option (List ℕ)) (source_faults : S → 
     edits_before breaks cut why =
         let keeps = breaks.keeps few_given safe in
         let undone : run ≡ Done → ⊥ = λ done. elim why as (λ _. ⊥) [ inl fault ↦ absurd (cc (fault, done)) | inr want ↦ absurd (cc (want, done)) ] in
+        let are : TellsBoth before → AreKeys (kept origin) breaks.taken breaks.last ended.course.bytes =
+        λ told. subst (λ (keys : List ℕ). AreKeys keys breaks.taken breaks.last ended.course.bytes) same
+        (told_before (left first.inner) (left now.inner) (past first.disk) (past now.disk) now.given breaks.counts.ends
+        breaks.taken breaks.last ended.course.bytes ended.course.lost told.source (told_then told) breaks.consumes keeps read_first
+        (let made : now.reads ≡ length ended.course.bytes + 1 = omega (arith, ended.course.made, cut.one_more, cut.below, limited) in
+        let counted = breaks.counts.counted (omega (arith, made, cut.below, limited)) in
+        omega (arith, made, counted, none_given, none_read))
+        (breaks.counts.none_behind not_ended told.source (still_told _ (past first.disk) (past now.disk) keeps.each (told_then told)))) in
+        let safe_now : Newest (LeavesOneOf (kept origin ++ breaks.taken) breaks.last) (past now.disk) =
+        subst (λ (keys : List ℕ). Newest (LeavesOneOf (keys ++ breaks.taken) breaks.last) (past now.disk)) same keeps.safe in
         record {
           taken = breaks.taken;
           last = breaks.last;
@@ -216,18 +232,13 @@ module _ {S D : Type 0} (left : S → Option (List ℕ)) (source_faults : S → 
               (from_origin origin (past first.disk) (past now.disk) (breaks.taken ++ breaks.last) opens same
               (subst (λ (all : List ℕ). Throughout (LeavesBetween (kept (past first.disk)) all) (past first.disk) (past now.disk))
               (append_assoc (kept (past first.disk)) breaks.taken breaks.last) keeps.each));
-          safe = subst (λ (keys : List ℕ). Newest (LeavesOneOf (keys ++ breaks.taken) breaks.last) (past now.disk)) same keeps.safe;
+          safe = safe_now;
           edits = record {
             given = now.given;
             reads = now.reads;
             ended = record { course = ended.course; stopped = ended.stopped; source = inr (breaks.source, cut); rescued = ended.rescued };
-            keys = λ told. subst (λ (keys : List ℕ). AreKeys keys breaks.taken breaks.last ended.course.bytes) same
-                (told_before (left first.inner) (left now.inner) (past first.disk) (past now.disk) now.given breaks.counts.ends
-                breaks.taken breaks.last ended.course.bytes ended.course.lost told.source (told_then told) breaks.consumes keeps read_first
-                (let made : now.reads ≡ length ended.course.bytes + 1 = omega (arith, ended.course.made, cut.one_more, cut.below, limited) in
-                let counted = breaks.counts.counted (omega (arith, made, cut.below, limited)) in
-                omega (arith, made, counted, none_given, none_read))
-                (breaks.counts.none_behind not_ended told.source (still_told _ (past first.disk) (past now.disk) keeps.each (told_then told))));
+            keys = are;
+            none_lost = λ told. leaves_given (kept origin) breaks.taken breaks.last ended.course.bytes (past now.disk) (are told) safe_now;
             quit = λ told. stands_undone (QuitPressed ended.course) run now.given now.ended closing undone agrees;
           };
         }

@@ -2,6 +2,8 @@
 pub mod Moments
 -- `ended`: the bytes that the editor was given, as keys that were kept or taken
 pub mod GivenKeys
+-- `ended`: the keys that were pressed among those that a crash leaves
+pub mod PressedKeys
 -- `ended`: how many keys are taken at most
 pub mod Limits
 -- `ended`: where a key ended the session, and where the source did

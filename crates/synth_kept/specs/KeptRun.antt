@@ -2,7 +2,7 @@
 use Rattle.std.specs.Prelude.{◌≡◌, ◌≢◌, ◌⊎◌, ℕ, ◌≤◌, List, [], ◌++◌, length, Option, Some, None, IsSome}
 use Rattle.std.specs.Io.KnownBytes.{Consumes}
 use Rattle.key_journal.specs.AfterReads.{LeavesBetween}
-use Rattle.key_journal.specs.Crash.{LeavesOneOf, Throughout}
+use Rattle.key_journal.specs.Crash.{EachRecovers, LeavesOneOf, Throughout}
 use Rattle.key_journal.specs.Disk.{DiskState, Newest}
 use Rattle.key_journal.specs.Journal.{left_of_both}
 use Rattle.key_journal.specs.Recovered.{kept}
@@ -49,6 +49,10 @@ AreKeys keys taken last bytes =
     (bytes ≡ keys ++ taken)
     ⊎ ((taken ++ last ≡ []) × ((rest : List ℕ) × (keys ≡ bytes ++ rest)))
 
+-- these keys are recovered, and perhaps others behind them
+abbrev pub LeavesAllOf : List ℕ → DiskState → Type 0
+LeavesAllOf keys = EachRecovers (λ found. (rest : List ℕ) × (found ≡ keys ++ rest))
+
 -- the editor ran over the kept keys and then the bytes of the source, as over any source of these bytes
 pub record Replays (options : PlainOptions) (run : Status) (closing : Closing) (before now : KeptTold)
     (taken last : List ℕ) (after_reads after_fault : Type 0) : Type 0 where
@@ -56,8 +60,11 @@ pub record Replays (options : PlainOptions) (run : Status) (closing : Closing) (
   pub reads : ℕ
   pub ended : Ended run options (told_editor before 0 0) (told_editor now given reads)
       after_reads (after_reads ⊎ after_fault)
-  -- which bytes it was given, and that the journal is cleared exactly where a key ended the session
+  -- which bytes it was given; a crash leaves all of them, whether they were kept before or taken now, and
+  -- perhaps others behind them
   pub keys : TellsBoth before → AreKeys (kept before.past) taken last ended.course.bytes
+  pub none_lost : TellsBoth before → Newest (LeavesAllOf ended.course.bytes) now.past
+  -- the journal is cleared exactly where a key ended the session
   pub quit : TellsBoth before →
       ClearsWhere ((run ≡ Done) × QuitPressed ended.course) closing
 
