@@ -1,0 +1,295 @@
+-- What the editor did over a journal, by what became of the journal.
+use Rattle.std.proofs.Common.{◌≡◌, ℕ, ◌+◌, ◌≤◌, ◌⊎◌, inl, inr, false, List, [], ◌∷◌, ◌++◌, length, refl, sym, ap, ◌∙◌, subst, arith, Some, None, Option, append-nil, append_assoc}
+use Rattle.std.specs.Prelude.{◌≢◌, IfSome, IsSome}
+use Rattle.std.proofs.KnownBytes.{Consumes-nil}
+use Rattle.std.specs.Io.KnownBytes.{Consumes}
+use Rattle.key_journal.specs.AfterReads.{BreaksAt, KeepsAll, KeepsAllButLast, LeadsTo, LeavesBetween}
+use Rattle.key_journal.specs.Crash.{LeavesOnly, LeavesOneOf, Throughout}
+use Rattle.key_journal.specs.Disk.{DiskState, Newest}
+use Rattle.key_journal.specs.Journal.{PlainJournal, left_of_both}
+use Rattle.key_journal.specs.Recovered.{kept, recovered}
+use Rattle.synth_kept.specs.Closing.{Closing}
+use Rattle.synth_kept.specs.KeptRun.{AreKeys, EditsKept, KeptTold, TellsBoth, told_editor}
+use Rattle.synth_kept.specs.Private.Agreement.{Agrees}
+use Rattle.synth_outside.specs.Files.{FileMap}
+use Rattle.synth_top.specs.declared.status.Status.{Status}
+use Rattle.synth_top.specs.declared.status.Status.TheVariants.{Done, ReadFault, WriteFault, NoMemory, BadWords, KeyLimit}
+use Rattle.synth_top.specs.Run.{Ended, NoneLost, QuitPressed, ReadCut, Told}
+use Rattle.synth_top.specs.Status.{LeftAs}
+use Rattle.synth_top.specs.Words.{PlainOptions}
+use Rattle.synth_kept.proofs.GivenKeys.{given_all, given_before}
+use Rattle.synth_kept.proofs.Limits.{IsLimited}
+use Rattle.synth_kept.proofs.Moments.{newest_weaker, one_of_all, still_told, throughout_both, throughout_same, throughout_weaker}
+use Rattle.synth_kept.proofs.PressedKeys.{leaves_given}
+use Rattle.synth_kept.proofs.Quits.{clears_at_quit, stands_undone}
+
+-- the bytes that the editor was given by reads that were Ok
+told_all : (left left_after : Option (List ℕ)) (past now : List DiskState) (given : ℕ) (taken bytes : List ℕ) →
+    IsSome left → past ≢ [] → Consumes left left_after taken → KeepsAll past now given taken →
+    Consumes (left_of_both left past 0) (left_of_both left_after now given) bytes →
+    AreKeys (kept past) taken [] bytes × (length bytes ≡ given)
+told_all None left_after past now given taken bytes source disk took keeps read = absurd (cc (source))
+told_all (Some left) left_after [] now given taken bytes source disk took keeps read = absurd (disk refl)
+told_all (Some left) None (state ∷ past) now given taken bytes source disk took keeps read = absurd took
+told_all (Some left) (Some left_after) (state ∷ past) [] given taken bytes source disk took keeps read =
+    absurd (still_told _ (state ∷ past) [] keeps.each disk refl)
+told_all (Some left) (Some left_after) (state ∷ past) (next ∷ now) given taken bytes source disk took keeps read =
+    given_all _ left left_after bytes taken _ given took keeps.safe.reads keeps.within keeps.behind read
+
+-- and by such reads and then one that wasn't
+told_before : (left left_after : Option (List ℕ)) (past now : List DiskState) (given ends : ℕ)
+    (taken last bytes lost : List ℕ) → IsSome left → past ≢ [] → Consumes left left_after (taken ++ last) →
+    KeepsAllButLast past now given taken last →
+    Consumes (left_of_both left past 0) (left_of_both left_after now given) (bytes ++ lost) →
+    length bytes ≡ given + ends → (ends ≡ 0) ⊎ (last ≡ []) → AreKeys (kept past) taken last bytes
+told_before None left_after past now given ends taken last bytes lost source disk took keeps read many none = absurd (cc (source))
+told_before (Some left) left_after [] now given ends taken last bytes lost source disk took keeps read many none = absurd (disk refl)
+told_before (Some left) None (state ∷ past) now given ends taken last bytes lost source disk took keeps read many none = absurd took
+told_before (Some left) (Some left_after) (state ∷ past) [] given ends taken last bytes lost source disk took keeps read many none =
+    absurd (still_told _ (state ∷ past) [] keeps.each disk refl)
+told_before (Some left) (Some left_after) (state ∷ past) (next ∷ now) given ends taken last bytes lost source disk took keeps read many none =
+    given_before _ left left_after bytes lost taken last _ given ends took keeps.safe.reads keeps.within keeps.behind read many none
+
+-- a journal that was opened keeps the keys that were kept before
+pub kept_still : (origin past : List DiskState) → Throughout (LeavesOnly (kept origin)) origin past →
+    Newest (LeavesOnly (kept origin)) past → kept past ≡ kept origin
+kept_still [] past each safe = ap kept each
+kept_still (state ∷ origin) [] each safe = absurd (still_told _ (state ∷ origin) [] each (λ never. cc (never)) refl)
+kept_still (state ∷ origin) (next ∷ past) each safe = safe.reads
+
+-- and the same is left to read
+left_still : (left : Option (List ℕ)) (origin past : List DiskState) → Throughout (LeavesOnly (kept origin)) origin past →
+    kept past ≡ kept origin → left_of_both left past 0 ≡ left_of_both left origin 0
+left_still None origin past each same = refl
+left_still (Some left) [] [] each same = refl
+left_still (Some left) [] (next ∷ past) each same = absurd (cc (each))
+left_still (Some left) (state ∷ origin) [] each same = absurd (still_told _ (state ∷ origin) [] each (λ never. cc (never)) refl)
+left_still (Some left) (state ∷ origin) (next ∷ past) each same = ap (λ (keys : List ℕ). Some (keys ++ left)) same
+
+-- a crash that leaves the keys leaves them and none of the others
+between_none : (keys more : List ℕ) (state : DiskState) → LeavesOnly keys state → LeavesBetween keys (keys ++ more) state
+between_none keys more state only = record {
+  images = λ image left. front (recovered image) (only.images image left);
+  reads = front (recovered state.bytes) only.reads;
+} where
+  front : (found : List ℕ) → found ≡ keys → (some : List ℕ) × (rest : List ℕ) × (found ≡ keys ++ some) × (keys ++ more ≡ found ++ rest)
+  front found same = ([], more, same ∙ sym (append-nil keys), ap (λ (l : List ℕ). l ++ more) (sym same))
+
+-- the moments from before a journal was opened
+from_origin : (origin past now : List DiskState) (more : List ℕ) → Throughout (LeavesOnly (kept origin)) origin past →
+    kept past ≡ kept origin → Throughout (LeavesBetween (kept past) (kept past ++ more)) past now →
+    Throughout (LeavesBetween (kept origin) (kept origin ++ more)) origin now
+from_origin origin past now more opens same each =
+    throughout_both _ origin past now
+    (throughout_weaker _ _ origin past (between_none (kept origin) more) opens)
+    (subst (λ (keys : List ℕ). Throughout (LeavesBetween keys (keys ++ more)) past now) same each)
+
+-- ---- a run over a journal
+
+module _ {S D : Type 0} (left : S → Option (List ℕ)) (source_faults : S → ℕ)
+    (leads_to breaks_at : S → S → Type 0) (past : D → List DiskState) (disk_faults : D → ℕ)
+    (first now : PlainJournal S D) (none_given : first.given ≡ 0) (not_ended : first.ended ≡ false)
+    (none_read : first.reads ≡ 0)
+    (origin : List DiskState)
+    (opens : Throughout (LeavesOnly (kept origin)) origin (past first.disk))
+    (is_safe : Newest (LeavesOnly (kept origin)) (past first.disk))
+    (written written_after : Option (List ℕ)) (files files_after : Option FileMap)
+    (file_faults file_faults_after : ℕ) where
+  abbrev pub before : KeptTold
+  before = record {
+    left = left first.inner;
+    past = origin;
+    taken = written;
+    files = files;
+    file_faults = file_faults;
+  }
+
+  abbrev pub after : KeptTold
+  after = record {
+    left = left now.inner;
+    past = past now.disk;
+    taken = written_after;
+    files = files_after;
+    file_faults = file_faults_after;
+  }
+
+  abbrev Leads : Type 0
+  Leads = LeadsTo left source_faults leads_to past disk_faults first now
+
+  abbrev Breaks : Type 0
+  Breaks = BreaksAt left source_faults leads_to breaks_at past disk_faults first now
+
+  -- the run that `synth` says of
+  abbrev pub SynthEnded : Status → PlainOptions → Type 0
+  SynthEnded run options = Ended run options
+      (record { left = left_of_both (left first.inner) (past first.disk) first.given; reads = first.reads; taken = written; files = files; file_faults = file_faults })
+      (told_editor after now.given now.reads) Leads Breaks
+
+  same : kept (past first.disk) ≡ kept origin
+  same = kept_still origin (past first.disk) opens is_safe
+
+  left_same : left_of_both (left first.inner) (past first.disk) 0 ≡ left_of_both (left first.inner) origin 0
+  left_same = left_still (left first.inner) origin (past first.disk) opens same
+
+  safe : Newest (LeavesOnly (kept (past first.disk))) (past first.disk)
+  safe = subst (λ (keys : List ℕ). Newest (LeavesOnly keys) (past first.disk)) (sym same) is_safe
+
+  -- what is told before it, with this left and so many reads
+  abbrev told_first : Option (List ℕ) → ℕ → Told
+  told_first bytes reads = record { left = bytes; reads = reads; taken = written; files = files; file_faults = file_faults }
+
+  from_first : (run : Status) (options : PlainOptions) → SynthEnded run options →
+      Ended run options (told_editor before 0 0) (told_editor after now.given now.reads) Leads Breaks
+  from_first run options ended =
+      subst (λ (bytes : Option (List ℕ)). Ended run options (told_first bytes 0) (told_editor after now.given now.reads) Leads Breaks)
+      (ap (λ (given : ℕ). left_of_both (left first.inner) (past first.disk) given) none_given ∙ left_same)
+      (subst (λ (reads : ℕ). Ended run options (told_first (left_of_both (left first.inner) (past first.disk) first.given) reads) (told_editor after now.given now.reads) Leads Breaks)
+      none_read ended)
+
+  few_given : first.given ≤ length (kept (past first.disk))
+  few_given = omega (arith, none_given)
+
+  module _ (run : Status) (options : PlainOptions) (limited : IsLimited options) (closing : Closing)
+      (agrees : Agrees closing run now.given now.ended) (same_outside : Type 0)
+      (ended : Ended run options (told_editor before 0 0) (told_editor after now.given now.reads) Leads Breaks) where
+    -- the bytes that were read, from the disk that was opened
+    read_first : Consumes (left_of_both (left first.inner) (past first.disk) 0) (left_of_both (left now.inner) (past now.disk) now.given) (ended.course.bytes ++ ended.course.lost)
+    read_first =
+        subst (λ (bytes : Option (List ℕ)). Consumes bytes (left_of_both (left now.inner) (past now.disk) now.given) (ended.course.bytes ++ ended.course.lost))
+        (sym left_same) ended.course.read
+
+    read_ok : NoneLost ended.course → Consumes (left_of_both (left first.inner) (past first.disk) 0) (left_of_both (left now.inner) (past now.disk) now.given) ended.course.bytes
+    read_ok none_lost =
+        subst (Consumes (left_of_both (left first.inner) (past first.disk) 0) (left_of_both (left now.inner) (past now.disk) now.given))
+        (ap (λ (lost : List ℕ). ended.course.bytes ++ lost) none_lost ∙ append-nil ended.course.bytes) read_first
+
+    told_then : TellsBoth before → past first.disk ≢ []
+    told_then told = still_told _ origin (past first.disk) opens told.disk
+
+    -- all reads were Ok
+    edits_all : Leads → NoneLost ended.course →
+        EditsKept (Some options) run closing before after same_outside (leads_to first.inner now.inner) (breaks_at first.inner now.inner)
+    edits_all leads none_lost =
+        let keeps = leads.keeps few_given safe in
+        let given_keys : TellsBoth before → AreKeys (kept (past first.disk)) leads.taken [] ended.course.bytes × (length ended.course.bytes ≡ now.given) =
+        λ told. told_all (left first.inner) (left now.inner) (past first.disk) (past now.disk) now.given leads.taken ended.course.bytes
+        told.source (told_then told) leads.consumes keeps (read_ok none_lost) in
+        let are : TellsBoth before → AreKeys (kept origin) leads.taken [] ended.course.bytes =
+        λ told. subst (λ (keys : List ℕ). AreKeys keys leads.taken [] ended.course.bytes) same (given_keys told).0 in
+        let safe_now : Newest (LeavesOneOf (kept origin ++ leads.taken) []) (past now.disk) =
+        newest_weaker _ _ (past now.disk) (one_of_all (kept origin ++ leads.taken))
+        (subst (λ (keys : List ℕ). Newest (LeavesOnly (keys ++ leads.taken)) (past now.disk)) same keeps.safe) in
+        record {
+          taken = leads.taken;
+          last = [];
+          took = subst (Consumes (left first.inner) (left now.inner)) (sym (append-nil leads.taken)) leads.consumes;
+          few = omega arith;
+          failed = inl refl;
+          each = subst (λ (all : List ℕ). Throughout (LeavesBetween (kept origin) all) origin (past now.disk))
+              (sym (append-nil (kept origin ++ leads.taken)))
+              (from_origin origin (past first.disk) (past now.disk) leads.taken opens same keeps.each);
+          safe = safe_now;
+          edits = record {
+            given = now.given;
+            reads = now.reads;
+            ended = record { course = ended.course; stopped = ended.stopped; source = inl (leads.source, none_lost); rescued = ended.rescued };
+            keys = are;
+            none_lost = λ told. leaves_given (kept origin) leads.taken [] ended.course.bytes (past now.disk) (are told) safe_now;
+            quit = λ told.
+                clears_at_quit options limited (told_editor before 0 0) (told_editor after now.given now.reads) ended.course refl
+                now.given leads.counts.ends now.ended (given_keys told).1
+                (λ few. let counted = leads.counts.counted few in omega (arith, counted, none_given, none_read))
+                (leads.counts.noted not_ended)
+                (leads.counts.stays not_ended told.source (still_told _ (past first.disk) (past now.disk) keeps.each (told_then told)))
+                run closing ended.stopped agrees;
+          };
+        }
+
+    -- a read wasn't Ok
+    edits_before : Breaks → ReadCut ended.course → (run ≡ ReadFault) ⊎ (run ≡ NoMemory) →
+        EditsKept (Some options) run closing before after same_outside (leads_to first.inner now.inner) (breaks_at first.inner now.inner)
+    edits_before breaks cut why =
+        let keeps = breaks.keeps few_given safe in
+        let undone : run ≡ Done → ⊥ = λ done. elim why as (λ _. ⊥) [ inl fault ↦ absurd (cc (fault, done)) | inr want ↦ absurd (cc (want, done)) ] in
+        let are : TellsBoth before → AreKeys (kept origin) breaks.taken breaks.last ended.course.bytes =
+        λ told. subst (λ (keys : List ℕ). AreKeys keys breaks.taken breaks.last ended.course.bytes) same
+        (told_before (left first.inner) (left now.inner) (past first.disk) (past now.disk) now.given breaks.counts.ends
+        breaks.taken breaks.last ended.course.bytes ended.course.lost told.source (told_then told) breaks.consumes keeps read_first
+        (let made : now.reads ≡ length ended.course.bytes + 1 = omega (arith, ended.course.made, cut.one_more, cut.below, limited) in
+        let counted = breaks.counts.counted (omega (arith, made, cut.below, limited)) in
+        omega (arith, made, counted, none_given, none_read))
+        (breaks.counts.none_behind not_ended told.source (still_told _ (past first.disk) (past now.disk) keeps.each (told_then told)))) in
+        let safe_now : Newest (LeavesOneOf (kept origin ++ breaks.taken) breaks.last) (past now.disk) =
+        subst (λ (keys : List ℕ). Newest (LeavesOneOf (keys ++ breaks.taken) breaks.last) (past now.disk)) same keeps.safe in
+        record {
+          taken = breaks.taken;
+          last = breaks.last;
+          took = breaks.consumes;
+          few = breaks.few;
+          failed = inr why;
+          each = subst (λ (all : List ℕ). Throughout (LeavesBetween (kept origin) all) origin (past now.disk))
+              (sym (append_assoc (kept origin) breaks.taken breaks.last))
+              (from_origin origin (past first.disk) (past now.disk) (breaks.taken ++ breaks.last) opens same
+              (subst (λ (all : List ℕ). Throughout (LeavesBetween (kept (past first.disk)) all) (past first.disk) (past now.disk))
+              (append_assoc (kept (past first.disk)) breaks.taken breaks.last) keeps.each));
+          safe = safe_now;
+          edits = record {
+            given = now.given;
+            reads = now.reads;
+            ended = record { course = ended.course; stopped = ended.stopped; source = inr (breaks.source, cut); rescued = ended.rescued };
+            keys = are;
+            none_lost = λ told. leaves_given (kept origin) breaks.taken breaks.last ended.course.bytes (past now.disk) (are told) safe_now;
+            quit = λ told. stands_undone (QuitPressed ended.course) run now.given now.ended closing undone agrees;
+          };
+        }
+
+  -- by how the editor ended
+  edits_by : (run : Status) (options : PlainOptions) → IsLimited options → (closing : Closing) → Agrees closing run now.given now.ended →
+      (same_outside : Type 0) → LeftAs run Leads Breaks → SynthEnded run options →
+      EditsKept (Some options) run closing before after same_outside (leads_to first.inner now.inner) (breaks_at first.inner now.inner)
+  edits_by Done options limited closing agrees same_outside left_as ended =
+      let e = from_first Done options ended in edits_all Done options limited closing agrees same_outside e left_as e.stopped.1
+  edits_by KeyLimit options limited closing agrees same_outside left_as ended =
+      let e = from_first KeyLimit options ended in edits_all KeyLimit options limited closing agrees same_outside e left_as e.stopped.1
+  edits_by WriteFault options limited closing agrees same_outside left_as ended =
+      let e = from_first WriteFault options ended in edits_all WriteFault options limited closing agrees same_outside e left_as e.stopped.0
+  edits_by ReadFault options limited closing agrees same_outside left_as ended =
+      let e = from_first ReadFault options ended in edits_before ReadFault options limited closing agrees same_outside e left_as e.stopped.1 (inl refl)
+  edits_by NoMemory options limited closing agrees same_outside left_as ended =
+      let e = from_first NoMemory options ended in
+      elim e.source as (λ _. EditsKept (Some options) NoMemory closing before after same_outside (leads_to first.inner now.inner) (breaks_at first.inner now.inner)) [
+        | inl all ↦ edits_all NoMemory options limited closing agrees same_outside e all.0 all.1
+        | inr cut ↦ edits_before NoMemory options limited closing agrees same_outside e cut.0 cut.1 (inr refl)
+      ]
+  edits_by BadWords options limited closing agrees same_outside left_as ended = absurd ended.stopped
+
+  -- words that aren't of the command
+  edits_none : (run : Status) (closing : Closing) (same_outside : Type 0) → run ≡ BadWords → now ≡ first → same_outside →
+      EditsKept None run closing before after same_outside (leads_to first.inner now.inner) (breaks_at first.inner now.inner)
+  edits_none run closing same_outside refused unread outside = record {
+    taken = [];
+    last = [];
+    took = subst (λ (journal : PlainJournal S D). Consumes (left first.inner) (left journal.inner) []) (sym unread) (Consumes-nil (left first.inner));
+    few = omega arith;
+    failed = inl refl;
+    each = subst (λ (all : List ℕ). Throughout (LeavesBetween (kept origin) all) origin (past now.disk))
+        (sym (append-nil (kept origin ++ [])))
+        (from_origin origin (past first.disk) (past now.disk) [] opens same
+        (subst (λ (journal : PlainJournal S D). Throughout (LeavesBetween (kept (past first.disk)) (kept (past first.disk) ++ [])) (past first.disk) (past journal.disk))
+        (sym unread) (throughout_same _ (past first.disk))));
+    safe = subst (λ (journal : PlainJournal S D). Newest (LeavesOneOf (kept origin ++ []) []) (past journal.disk)) (sym unread)
+        (newest_weaker _ _ (past first.disk) (one_of_all (kept origin ++ []))
+        (subst (λ (keys : List ℕ). Newest (LeavesOnly keys) (past first.disk)) (sym (append-nil (kept origin))) is_safe));
+    edits = record { refused = refused; none = refl; outside = outside };
+  }
+
+  -- by the words
+  pub edits_with : (words : Option PlainOptions) → IfSome words IsLimited → (run : Status) (closing : Closing) →
+      Agrees closing run now.given now.ended → (same_outside : Type 0) →
+      (words ≡ None → (run ≡ BadWords) × (now ≡ first) × same_outside) → LeftAs run Leads Breaks →
+      IfSome words (λ options. SynthEnded run options) →
+      EditsKept words run closing before after same_outside (leads_to first.inner now.inner) (breaks_at first.inner now.inner)
+  edits_with None limited run closing agrees same_outside bad left_as ended =
+      edits_none run closing same_outside (bad refl).0 (bad refl).1 (bad refl).2
+  edits_with (Some options) limited run closing agrees same_outside bad left_as ended =
+      edits_by run options limited closing agrees same_outside left_as ended

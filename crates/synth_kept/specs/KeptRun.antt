@@ -1,0 +1,125 @@
+-- A session whose keys are kept: which keys the editor was given, what it wrote, and what a crash leaves.
+use Rattle.std.specs.Prelude.{◌≡◌, ◌≢◌, ◌⊎◌, ℕ, ◌≤◌, List, [], ◌++◌, length, Option, Some, None, IsSome}
+use Rattle.std.specs.Io.KnownBytes.{Consumes}
+use Rattle.key_journal.specs.AfterReads.{LeavesBetween}
+use Rattle.key_journal.specs.Crash.{EachRecovers, LeavesOneOf, Throughout}
+use Rattle.key_journal.specs.Disk.{DiskState, Newest}
+use Rattle.key_journal.specs.Journal.{left_of_both}
+use Rattle.key_journal.specs.Recovered.{kept}
+use Rattle.key_journal.specs.declared.disk.DiskFault.{DiskFault}
+use Rattle.synth_kept.specs.Closing.{Closing, Closes, ClearsWhere}
+use Rattle.synth_kept.specs.KeptStatus.{fault_status}
+use Rattle.synth_kept.specs.declared.status.KeptStatus.{KeptStatus}
+use Rattle.synth_outside.specs.Files.{FileMap}
+use Rattle.synth_top.specs.declared.status.Status.{Status}
+use Rattle.synth_top.specs.declared.status.Status.TheVariants.{Done, ReadFault, NoMemory, BadWords}
+use Rattle.synth_top.specs.Run.{Ended, QuitPressed, Told}
+use Rattle.synth_top.specs.Words.{PlainOptions}
+
+-- what is told of the outside of a kept session: the bytes that the source of new keys has left, the
+-- states of the disk, the bytes that the sink took, the map of the files, and how many faults these
+-- counted
+pub record KeptTold : Type 0 where
+  pub left : Option (List ℕ)
+  pub past : List DiskState
+  pub taken : Option (List ℕ)
+  pub files : Option FileMap
+  pub file_faults : ℕ
+
+-- both the source of new keys and the disk tell
+pub record TellsBoth (told : KeptTold) : Type 0 where
+  pub source : IsSome told.left
+  pub disk : told.past ≢ []
+
+-- what the editor is told once it was given so many keys, by so many reads: the kept keys behind those,
+-- and then the bytes of the source, are left to read
+abbrev pub told_editor : KeptTold → ℕ → ℕ → Told
+told_editor told given reads = record {
+  left = left_of_both told.left told.past given;
+  reads = reads;
+  taken = told.taken;
+  files = told.files;
+  file_faults = told.file_faults;
+}
+
+-- the bytes given to the editor are the kept keys and then all that was taken from the source; or
+-- nothing was taken, and they are the first ones of the kept keys
+abbrev pub AreKeys : List ℕ → List ℕ → List ℕ → List ℕ → Type 0
+AreKeys keys taken last bytes =
+    (bytes ≡ keys ++ taken)
+    ⊎ ((taken ++ last ≡ []) × ((rest : List ℕ) × (keys ≡ bytes ++ rest)))
+
+-- these keys are recovered, and perhaps others behind them
+abbrev pub LeavesAllOf : List ℕ → DiskState → Type 0
+LeavesAllOf keys = EachRecovers (λ found. (rest : List ℕ) × (found ≡ keys ++ rest))
+
+-- the editor ran over the kept keys and then the bytes of the source, as over any source of these bytes
+pub record Replays (options : PlainOptions) (run : Status) (closing : Closing) (before now : KeptTold)
+    (taken last : List ℕ) (after_reads after_fault : Type 0) : Type 0 where
+  pub given : ℕ
+  pub reads : ℕ
+  pub ended : Ended run options (told_editor before 0 0) (told_editor now given reads)
+      after_reads (after_reads ⊎ after_fault)
+  -- which bytes it was given; a crash leaves all of them, whether they were kept before or taken now, and
+  -- perhaps others behind them
+  pub keys : TellsBoth before → AreKeys (kept before.past) taken last ended.course.bytes
+  pub none_lost : TellsBoth before → Newest (LeavesAllOf ended.course.bytes) now.past
+  -- the journal is cleared exactly where a key ended the session
+  pub quit : TellsBoth before →
+      ClearsWhere ((run ≡ Done) × QuitPressed ended.course) closing
+
+-- words that aren't of the command are refused, and nothing is read
+pub record RefusesWords (run : Status) (taken last : List ℕ) (same_outside : Type 0) : Type 0 where
+  pub refused : run ≡ BadWords
+  pub none : taken ++ last ≡ []
+  pub outside : same_outside
+
+-- what the editor did, by the words
+abbrev pub Edits : Option PlainOptions → Status → Closing → KeptTold → KeptTold → List ℕ → List ℕ →
+    Type 0 → Type 0 → Type 0 → Type 0
+Edits None run closing before now taken last same_outside after_reads after_fault =
+    RefusesWords run taken last same_outside
+Edits (Some options) run closing before now taken last same_outside after_reads after_fault =
+    Replays options run closing before now taken last after_reads after_fault
+
+-- a run of the editor over an open journal
+pub record EditsKept (words : Option PlainOptions) (run : Status) (closing : Closing)
+    (before now : KeptTold) (same_outside after_reads after_fault : Type 0) : Type 0 where
+  -- the bytes that were taken from the source of new keys, and one behind them at most that a failed
+  -- read took
+  pub taken : List ℕ
+  pub last : List ℕ
+  pub took : Consumes before.left now.left (taken ++ last)
+  pub few : length last ≤ 1
+  pub failed : (last ≡ []) ⊎ ((run ≡ ReadFault) ⊎ (run ≡ NoMemory))
+  -- at each moment a crash leaves the kept keys and then some of those bytes, in their order; at the end
+  -- all of them, but for the one that a failed read took
+  pub each : Throughout (LeavesBetween (kept before.past) ((kept before.past ++ taken) ++ last))
+      before.past now.past
+  pub safe : Newest (LeavesOneOf (kept before.past ++ taken) last) now.past
+  pub edits : Edits words run closing before now taken last same_outside after_reads after_fault
+
+-- the journal was opened: the editor ran over it, and then it was closed
+pub record KeepsKeys (words : Option PlainOptions) (status : KeptStatus) (before now : KeptTold)
+    (same_outside after_reads after_fault : Type 0) : Type 0 where
+  -- how the editor ended, the states of the disk then, and how the journal was closed
+  pub run : Status
+  pub behind : List DiskState
+  pub closing : Closing
+  pub editing : EditsKept words run closing before (record now { past = behind })
+      same_outside after_reads after_fault
+  pub closed : Closes closing run status (kept before.past ++ editing.taken) behind now.past
+
+-- the journal couldn't be opened: nothing else was done, and a crash leaves what it could leave before
+pub record NotOpened (status : KeptStatus) (before now : KeptTold) (same_outside : Type 0) : Type 0 where
+  pub fault : DiskFault
+  pub answer : status ≡ fault_status fault
+  pub outside : same_outside
+  pub same : now ≡ before
+
+-- a kept session ended so
+abbrev pub KeptEnded : Option PlainOptions → KeptStatus → KeptTold → KeptTold → Type 0 → Type 0 →
+    Type 0 → Type 0
+KeptEnded words status before now same_outside after_reads after_fault =
+    NotOpened status before now same_outside
+    ⊎ KeepsKeys words status before now same_outside after_reads after_fault

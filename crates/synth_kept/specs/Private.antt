@@ -1,0 +1,3 @@
+-- Words that private contracts alone cite: nobody has to believe them.
+pub mod Clearing
+pub mod Agreement

@@ -1,0 +1,82 @@
+//! The program: key bytes on standard input, each kept in the file `JOURNAL` before it is acted on, and
+//! screens on standard output.
+#![tactic(auto)]
+
+mod kept;
+mod status;
+
+use kept::synth_kept;
+use key_journal::StdDisk;
+use plcs_base::Counts;
+use status::KeptStatus;
+use std::alloc::Global;
+use std::io::ErrorKind;
+use std::process::ExitCode;
+use std::rt::Env;
+use std::{env, io};
+use synth_outside::{MemFiles, StdSink, StdSource};
+use synth_top::Status;
+
+/// The words that follow the program's name. One that isn't text is no word of the command.
+fn words_of<R: Env + AllocGlobal>(rt: &R, alloc: Global) -> Result<Vec<String>, Status> {
+    let arguments = env::args(rt).map_err(|error| match error.kind() {
+        ErrorKind::OutOfMemory => Status::NoMemory,
+        _ => Status::BadWords,
+    })?;
+    let mut words = Vec::new(alloc);
+    for word in arguments.skip(1) {
+        if words.push(word).is_err() {
+            return Err(Status::NoMemory);
+        }
+    }
+    Ok(words)
+}
+
+/// How a session ends whose journal's file can't be opened.
+fn status_of(error: &io::Error) -> KeptStatus {
+    match error.kind() {
+        ErrorKind::OutOfMemory => KeptStatus::Run(Status::NoMemory),
+        _ => KeptStatus::JournalFault,
+    }
+}
+
+/// Edits over the system's streams, with the journal in the current folder.
+fn run(rt: &HostRuntime) -> KeptStatus {
+    let alloc = rt.alloc();
+    let words = match words_of(rt, alloc) {
+        Ok(words) => words,
+        Err(status) => return KeptStatus::Run(status),
+    };
+    let disk = match StdDisk::open(rt) {
+        Ok(disk) => disk,
+        Err(error) => return status_of(&error),
+    };
+    let mut screen = StdSink::new(rt.stdout());
+    let mut files = MemFiles::new(alloc, Vec::new(alloc));
+    let mut work = Counts::default();
+    let (status, _, _) = synth_kept(
+        alloc,
+        words.as_slice(),
+        StdSource::new(rt.stdin()),
+        &mut screen,
+        &mut files,
+        disk,
+        &mut work,
+    );
+    status
+}
+
+fn main(rt: HostRuntime) -> ExitCode {
+    let status = run(&rt);
+    if status == KeptStatus::Run(Status::BadWords) {
+        let _ = eprintln!(&rt; "usage: synth [--rows N --cols M]");
+    }
+    ExitCode::from(status.code())
+}
+
+#[cfg(test)]
+mod crash_tests;
+#[cfg(test)]
+mod playing;
+#[cfg(test)]
+mod row_tests;
