@@ -1,7 +1,7 @@
 -- Fragments as plain data.
 use Rattle.std.specs.Prelude.{ℕ, ◌+◌}
 use Rattle.plcs_grammar.specs.PlainPhrase.{PlainPhrase, category_of}
-use Rattle.plcs_grammar.specs.PlainForm.{plain_phrase}
+use Rattle.plcs_grammar.specs.PlainPhrase.{plain_phrase}
 use Rattle.template_tree.specs.PlainTree.{PlainNode}
 use Rattle.template_tree.specs.Program.{IsPhrase, IsSubtree}
 use Rattle.template_tree.specs.Slots.{count}

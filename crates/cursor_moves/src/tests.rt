@@ -3,7 +3,7 @@ ghost use Rattle.std.specs.Prelude.{◌≡◌, ◌++◌, ◌∷◌, [], IfOk, No
 ghost use Rattle.plcs_grammar.specs.declared.node_kind.NodeKind.{NodeKind};
 ghost use Rattle.plcs_grammar.specs.declared.node_kind.Sort.{Sort};
 ghost use Rattle.plcs_grammar.specs.declared.template.Template.{Template};
-ghost use Rattle.plcs_grammar.specs.PlainForm.{plain_phrase};
+ghost use Rattle.plcs_grammar.specs.PlainPhrase.{plain_phrase};
 ghost use Rattle.plcs_grammar.specs.PlainPhrase.{PlainExpr, PlainPhrase, PlainVarRef};
 ghost use Rattle.plcs_grammar.specs.Template.{block, row_of};
 ghost use Rattle.template_tree.specs.PlainPlace.{plain_place};

@@ -1,7 +1,7 @@
 -- A journal that is closed behind the editor's run.
 use Rattle.std.proofs.Common.{◌≡◌, ℕ, Bool, false, ◌⊎◌, inl, inr, List, [], ◌∷◌, ◌++◌, refl, sym, ap, ◌∙◌, subst, Option, append-nil}
 use Rattle.std.specs.Prelude.{IsTrue}
-use Rattle.key_journal.specs.Clearing.{LeavesNothingOr}
+use Rattle.key_journal.specs.ClearedJournal.{LeavesNothingOr}
 use Rattle.key_journal.specs.Crash.{LeavesOnly, LeavesOneOf}
 use Rattle.key_journal.specs.Disk.{DiskState, Newest}
 use Rattle.key_journal.specs.Journal.{PlainJournal}
