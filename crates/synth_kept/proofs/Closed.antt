@@ -8,7 +8,7 @@ use Rattle.key_journal.specs.Journal.{PlainJournal}
 use Rattle.key_journal.specs.Recovered.{kept, recovered}
 use Rattle.synth_kept.specs.Closing.{Closing, Closes}
 use Rattle.synth_kept.specs.Closing.Closing.{LeftStanding, Cleared, NotCleared}
-use Rattle.synth_kept.specs.KeptRun.{EditsKept, KeepsKeys, KeptTold}
+use Rattle.synth_kept.specs.KeptRun.{JournalRun, JournalSession, KeptTold}
 use Rattle.synth_kept.specs.Private.Agreement.{Agrees, IsToClear}
 use Rattle.synth_kept.specs.Private.Clearing.{ClearsKeys}
 use Rattle.synth_kept.specs.declared.status.KeptStatus.{KeptStatus}
@@ -45,7 +45,7 @@ all_of_one keys last none state one = record {
 -- a run that is done left all keys
 done_safe : (words : Option PlainOptions) (run : Status) (closing : Closing) (before now : KeptTold)
     (same_outside after_reads after_fault : Type 0)
-    (editing : EditsKept words run closing before now same_outside after_reads after_fault) → run ≡ Done →
+    (editing : JournalRun words run closing before now same_outside after_reads after_fault) → run ≡ Done →
     Newest (LeavesOnly (kept before.past ++ editing.taken)) now.past
 done_safe words run closing before now same_outside after_reads after_fault editing done =
     newest_weaker _ _ now.past (all_of_one (kept before.past ++ editing.taken) editing.last none_last) editing.safe where
@@ -76,20 +76,20 @@ module _ {S : Type 0} (left : S → Option (List ℕ)) (leads_to breaks_at : S �
     (file_faults file_faults_after : ℕ) (same_outside : Type 0) where
   abbrev pub Editing : Closing → Type 0
   Editing closing =
-      EditsKept words run closing (told_of left written files file_faults first origin)
+      JournalRun words run closing (told_of left written files file_faults first origin)
       (told_of left written_after files_after file_faults_after last behind) same_outside (leads_to first last) (breaks_at first last)
 
   abbrev pub Keeps : KeptStatus → List DiskState → Type 0
   Keeps status past =
-      KeepsKeys words status (told_of left written files file_faults keys origin)
+      JournalSession words status (told_of left written files file_faults keys origin)
       (told_of left written_after files_after file_faults_after source past) same_outside (leads_to keys source) (breaks_at keys source)
 
   keeps : (closing : Closing) (editing : Editing closing) (status : KeptStatus) (past : List DiskState) →
       Closes closing run status (kept origin ++ editing.taken) behind past → Keeps status past
   keeps closing editing status past closed =
-      subst (λ (s : S). KeepsKeys words status (told_of left written files file_faults s origin)
+      subst (λ (s : S). JournalSession words status (told_of left written files file_faults s origin)
       (told_of left written_after files_after file_faults_after source past) same_outside (leads_to s source) (breaks_at s source)) same_first
-      (subst (λ (s : S). KeepsKeys words status (told_of left written files file_faults first origin)
+      (subst (λ (s : S). JournalSession words status (told_of left written files file_faults first origin)
       (told_of left written_after files_after file_faults_after s past) same_outside (leads_to first s) (breaks_at first s)) (sym same_last)
       (record { run = run; behind = behind; closing = closing; editing = editing; closed = closed }))
 

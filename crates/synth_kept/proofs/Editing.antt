@@ -9,7 +9,7 @@ use Rattle.key_journal.specs.Disk.{DiskState, Newest}
 use Rattle.key_journal.specs.Journal.{PlainJournal, left_of_both}
 use Rattle.key_journal.specs.Recovered.{kept, recovered}
 use Rattle.synth_kept.specs.Closing.{Closing}
-use Rattle.synth_kept.specs.KeptRun.{AreKeys, EditsKept, KeptTold, TellsBoth, told_editor}
+use Rattle.synth_kept.specs.KeptRun.{AreKeys, JournalRun, KeptTold, TellsBoth, told_editor}
 use Rattle.synth_kept.specs.Private.Agreement.{Agrees}
 use Rattle.synth_outside.specs.Files.{FileMap}
 use Rattle.synth_top.specs.declared.status.Status.{Status}
@@ -168,7 +168,7 @@ module _ {S D : Type 0} (left : S → Option (List ℕ)) (source_faults : S → 
 
     -- all reads were Ok
     edits_all : Leads → NoneLost ended.course →
-        EditsKept (Some options) run closing before after same_outside (leads_to first.inner now.inner) (breaks_at first.inner now.inner)
+        JournalRun (Some options) run closing before after same_outside (leads_to first.inner now.inner) (breaks_at first.inner now.inner)
     edits_all leads none_lost =
         let keeps = leads.keeps few_given safe in
         let given_keys : TellsBoth before → AreKeys (kept (past first.disk)) leads.taken [] ended.course.bytes × (length ended.course.bytes ≡ now.given) =
@@ -207,7 +207,7 @@ module _ {S D : Type 0} (left : S → Option (List ℕ)) (source_faults : S → 
 
     -- a read wasn't Ok
     edits_before : Breaks → ReadCut ended.course → (run ≡ ReadFault) ⊎ (run ≡ NoMemory) →
-        EditsKept (Some options) run closing before after same_outside (leads_to first.inner now.inner) (breaks_at first.inner now.inner)
+        JournalRun (Some options) run closing before after same_outside (leads_to first.inner now.inner) (breaks_at first.inner now.inner)
     edits_before breaks cut why =
         let keeps = breaks.keeps few_given safe in
         let undone : run ≡ Done → ⊥ = λ done. elim why as (λ _. ⊥) [ inl fault ↦ absurd (cc (fault, done)) | inr want ↦ absurd (cc (want, done)) ] in
@@ -246,7 +246,7 @@ module _ {S D : Type 0} (left : S → Option (List ℕ)) (source_faults : S → 
   -- by how the editor ended
   edits_by : (run : Status) (options : PlainOptions) → IsLimited options → (closing : Closing) → Agrees closing run now.given now.ended →
       (same_outside : Type 0) → LeftAs run Leads Breaks → SynthEnded run options →
-      EditsKept (Some options) run closing before after same_outside (leads_to first.inner now.inner) (breaks_at first.inner now.inner)
+      JournalRun (Some options) run closing before after same_outside (leads_to first.inner now.inner) (breaks_at first.inner now.inner)
   edits_by Done options limited closing agrees same_outside left_as ended =
       let e = from_first Done options ended in edits_all Done options limited closing agrees same_outside e left_as e.stopped.1
   edits_by KeyLimit options limited closing agrees same_outside left_as ended =
@@ -257,7 +257,7 @@ module _ {S D : Type 0} (left : S → Option (List ℕ)) (source_faults : S → 
       let e = from_first ReadFault options ended in edits_before ReadFault options limited closing agrees same_outside e left_as e.stopped.1 (inl refl)
   edits_by NoMemory options limited closing agrees same_outside left_as ended =
       let e = from_first NoMemory options ended in
-      elim e.source as (λ _. EditsKept (Some options) NoMemory closing before after same_outside (leads_to first.inner now.inner) (breaks_at first.inner now.inner)) [
+      elim e.source as (λ _. JournalRun (Some options) NoMemory closing before after same_outside (leads_to first.inner now.inner) (breaks_at first.inner now.inner)) [
         | inl all ↦ edits_all NoMemory options limited closing agrees same_outside e all.0 all.1
         | inr cut ↦ edits_before NoMemory options limited closing agrees same_outside e cut.0 cut.1 (inr refl)
       ]
@@ -265,7 +265,7 @@ module _ {S D : Type 0} (left : S → Option (List ℕ)) (source_faults : S → 
 
   -- words that aren't of the command
   edits_none : (run : Status) (closing : Closing) (same_outside : Type 0) → run ≡ BadWords → now ≡ first → same_outside →
-      EditsKept None run closing before after same_outside (leads_to first.inner now.inner) (breaks_at first.inner now.inner)
+      JournalRun None run closing before after same_outside (leads_to first.inner now.inner) (breaks_at first.inner now.inner)
   edits_none run closing same_outside refused unread outside = record {
     taken = [];
     last = [];
@@ -288,7 +288,7 @@ module _ {S D : Type 0} (left : S → Option (List ℕ)) (source_faults : S → 
       Agrees closing run now.given now.ended → (same_outside : Type 0) →
       (words ≡ None → (run ≡ BadWords) × (now ≡ first) × same_outside) → LeftAs run Leads Breaks →
       IfSome words (λ options. SynthEnded run options) →
-      EditsKept words run closing before after same_outside (leads_to first.inner now.inner) (breaks_at first.inner now.inner)
+      JournalRun words run closing before after same_outside (leads_to first.inner now.inner) (breaks_at first.inner now.inner)
   edits_with None limited run closing agrees same_outside bad left_as ended =
       edits_none run closing same_outside (bad refl).0 (bad refl).1 (bad refl).2
   edits_with (Some options) limited run closing agrees same_outside bad left_as ended =

@@ -16,7 +16,7 @@ pub data Closing : Type 0 where
   NotCleared : DiskFault → Closing
 
 -- a journal that stands is as the run left it, and the answer is the run's
-pub record Stands (run : Status) (status : KeptStatus) (behind now : List DiskState) : Type 0 where
+pub record IsLeftStanding (run : Status) (status : KeptStatus) (behind now : List DiskState) : Type 0 where
   pub answer : status ≡ Run run
   pub same : now ≡ behind
 
@@ -40,7 +40,7 @@ pub record IsNotCleared (fault : DiskFault) (run : Status) (status : KeptStatus)
 
 -- how the session ended, and what a crash leaves, by how the journal of these keys was closed
 abbrev pub Closes : Closing → Status → KeptStatus → List ℕ → List DiskState → List DiskState → Type 0
-Closes LeftStanding run status keys behind now = Stands run status behind now
+Closes LeftStanding run status keys behind now = IsLeftStanding run status behind now
 Closes Cleared run status keys behind now = IsCleared run status keys behind now
 Closes (NotCleared fault) run status keys behind now =
     IsNotCleared fault run status keys behind now

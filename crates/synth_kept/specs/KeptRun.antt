@@ -54,7 +54,7 @@ abbrev pub LeavesAllOf : List ℕ → DiskState → Type 0
 LeavesAllOf keys = EachRecovers (λ found. (rest : List ℕ) × (found ≡ keys ++ rest))
 
 -- the editor ran over the kept keys and then the bytes of the source, as over any source of these bytes
-pub record Replays (options : PlainOptions) (run : Status) (closing : Closing) (before now : KeptTold)
+pub record RunOverKeys (options : PlainOptions) (run : Status) (closing : Closing) (before now : KeptTold)
     (taken last : List ℕ) (after_reads after_fault : Type 0) : Type 0 where
   pub given : ℕ
   pub reads : ℕ
@@ -75,15 +75,15 @@ pub record RefusesWords (run : Status) (taken last : List ℕ) (same_outside : T
   pub outside : same_outside
 
 -- what the editor did, by the words
-abbrev pub Edits : Option PlainOptions → Status → Closing → KeptTold → KeptTold → List ℕ → List ℕ →
+abbrev pub RunByWords : Option PlainOptions → Status → Closing → KeptTold → KeptTold → List ℕ → List ℕ →
     Type 0 → Type 0 → Type 0 → Type 0
-Edits None run closing before now taken last same_outside after_reads after_fault =
+RunByWords None run closing before now taken last same_outside after_reads after_fault =
     RefusesWords run taken last same_outside
-Edits (Some options) run closing before now taken last same_outside after_reads after_fault =
-    Replays options run closing before now taken last after_reads after_fault
+RunByWords (Some options) run closing before now taken last same_outside after_reads after_fault =
+    RunOverKeys options run closing before now taken last after_reads after_fault
 
 -- a run of the editor over an open journal
-pub record EditsKept (words : Option PlainOptions) (run : Status) (closing : Closing)
+pub record JournalRun (words : Option PlainOptions) (run : Status) (closing : Closing)
     (before now : KeptTold) (same_outside after_reads after_fault : Type 0) : Type 0 where
   -- the bytes that were taken from the source of new keys, and one behind them at most that a failed
   -- read took
@@ -97,16 +97,16 @@ pub record EditsKept (words : Option PlainOptions) (run : Status) (closing : Clo
   pub each : Throughout (LeavesBetween (kept before.past) ((kept before.past ++ taken) ++ last))
       before.past now.past
   pub safe : Newest (LeavesOneOf (kept before.past ++ taken) last) now.past
-  pub edits : Edits words run closing before now taken last same_outside after_reads after_fault
+  pub edits : RunByWords words run closing before now taken last same_outside after_reads after_fault
 
 -- the journal was opened: the editor ran over it, and then it was closed
-pub record KeepsKeys (words : Option PlainOptions) (status : KeptStatus) (before now : KeptTold)
+pub record JournalSession (words : Option PlainOptions) (status : KeptStatus) (before now : KeptTold)
     (same_outside after_reads after_fault : Type 0) : Type 0 where
   -- how the editor ended, the states of the disk then, and how the journal was closed
   pub run : Status
   pub behind : List DiskState
   pub closing : Closing
-  pub editing : EditsKept words run closing before (record now { past = behind })
+  pub editing : JournalRun words run closing before (record now { past = behind })
       same_outside after_reads after_fault
   pub closed : Closes closing run status (kept before.past ++ editing.taken) behind now.past
 
@@ -122,4 +122,4 @@ abbrev pub KeptEnded : Option PlainOptions → KeptStatus → KeptTold → KeptT
     Type 0 → Type 0
 KeptEnded words status before now same_outside after_reads after_fault =
     NotOpened status before now same_outside
-    ⊎ KeepsKeys words status before now same_outside after_reads after_fault
+    ⊎ JournalSession words status before now same_outside after_reads after_fault
