@@ -2,7 +2,7 @@
 use Rattle.std.proofs.Common.{◌≡◌, ℕ, Bool, true, false, List, [], ◌∷◌, Option, Some, None, refl}
 use Rattle.std.specs.Prelude.{IfSome, ◌&&◌, codes, bytes_eq, if◌then◌else◌}
 use Rattle.std.specs.Option.{option_and_then}
-use Rattle.synth_top.specs.Words.{PlainOptions, count_between, options_for, options_of, options_with}
+use Rattle.synth_top.specs.Options.{PlainOptions, count_between, options_for, options_of, options_with}
 
 -- these options have the limit
 abbrev pub IsLimited : PlainOptions → Type 0
