@@ -16,3 +16,7 @@ pub mod StopLines
 pub mod TurnedBones
 -- the cells of a line while they are put
 pub mod PutCells
+-- the mark that a test has
+pub mod OneMarks
+-- the nodes that tests build
+pub mod BuiltNodes

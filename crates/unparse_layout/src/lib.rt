@@ -5,6 +5,8 @@ mod elided;
 mod law;
 mod lay;
 mod layout;
+#[cfg(test)]
+mod layout_tests;
 mod line;
 mod line_of;
 mod new;
