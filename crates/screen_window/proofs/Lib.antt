@@ -1,11 +1,19 @@
--- `lines.rt` and Terminal::clear: rows of cells, one of which is changed
+-- the limits: their values
+pub mod Limits
+-- `lines.rt`: rows of cells, one of which is changed
 pub mod ChangedLines
+-- `row_text.rt`: rows that are shown, cell by cell
+pub mod ShownRows
+-- Grid::show: grids of which a row was drawn
+pub mod DrawnRows
 -- `cells` of visible_len: blanks at the end of a row
 pub mod VisibleCells
 -- `Writes` of the painting: fronts of bytes, bytes taken piece by piece, and bytes one after the other
 pub mod Fronts
 pub mod Owing
 pub mod WritesInTurn
+-- `rows` and `cols` of Terminal::take: no byte changes a terminal's size
+pub mod TerminalSizes
 -- `painted_terminal_shows`: bytes one after the other, the sequence that moves the cursor, cells in their image, and rows
 pub mod TakenBytes
 pub mod TakenNumbers

@@ -2,6 +2,7 @@
 pub mod Limit
 pub mod Cell
 pub mod PlainGrid
+pub mod ShownRow
 -- ---- painting
 pub mod Paint
 pub mod Writes

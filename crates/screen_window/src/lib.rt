@@ -1,5 +1,4 @@
-//! The screen: grids of cells, how a program is shown on them, how they are painted on a terminal, and
-//! the plain terminal.
+//! The screen: grids of cells, how they are painted on a terminal, and the plain terminal.
 #![tactic(auto)]
 
 mod grid;
@@ -7,8 +6,13 @@ mod limit;
 mod lines;
 mod painted_terminal;
 mod painting;
+#[cfg(test)]
+mod painting_tests;
+mod row_text;
 mod sequence;
 mod terminal;
+#[cfg(test)]
+mod terminal_tests;
 mod text;
 
 pub use grid::Grid;
