@@ -1,0 +1,195 @@
+//! A list of numbers with the running sum of every 64th beside it.
+ghost use Rattle.std.specs.Prelude.{◌≡◌, ◌+◌, ◌*◌, ◌^◌, ◌<◌, ◌≤◌, [], OnOk, Some, length, slice_get, slice_set, sum, take, vec_capacity, vec_len};
+ghost use Rattle.std.specs.List.{insert};
+ghost use Rattle.prefix_sums.specs.Found.{IsFound};
+ghost use Rattle.prefix_sums.specs.PlainSums.{with_more, with_number, without};
+
+use crate::position::Position;
+use std::alloc::{AllocError, Global};
+use std::marker::Model;
+
+/// How many numbers lie between two marks.
+const BLOCK: usize = 64;
+
+/// A list of numbers, whose sums are found in few steps however long it is. Contracts see it as the list,
+/// with how many more numbers it has room for.
+#[derive(Drop)]
+pub struct PrefixSums {
+    numbers: Vec<u32>,
+    marks: Vec<u32>,
+    total: u32,
+}
+
+impl Model for PrefixSums {
+    ghost use Rattle.prefix_sums.specs.PlainSums.{PlainSums};
+
+    ghost Value = { PlainSums };
+
+    ghost use Rattle.prefix_sums.specs.Private.RunningSums.{IsRight, seen};
+
+    ghost view = { seen };
+
+    ghost invariant = { IsRight };
+}
+
+impl PrefixSums {
+    /// No numbers. It takes no memory.
+    pub fn new(alloc: Global) -> PrefixSums
+        ensures { result.numbers ≡ [] }
+    {
+        PrefixSums {
+            numbers: Vec::new(alloc),
+            marks: Vec::new(alloc),
+            total: 0,
+        }
+    }
+
+    /// How many numbers there are.
+    pub fn len(&self) -> usize
+        ensures { result ≡ length self.now.numbers }
+    {
+        self.numbers.len()
+    }
+
+    /// The sum of all of them.
+    pub fn total(&self) -> u32
+        ensures total { result ≡ sum self.now.numbers }
+    {
+        self.total
+    }
+
+    /// The sum of the first `k` of them, or of all where there are fewer.
+    pub fn before(&self, k: usize) -> u32
+        ensures { result ≡ sum (take k self.now.numbers) }
+    {
+        let end = k.min(self.numbers.len());
+        let block = end / BLOCK;
+        let mut sum = self.mark_before(block);
+        for i in BLOCK * block..end {
+            sum += self.numbers[i];
+        }
+        sum
+    }
+}
+
+impl PrefixSums {
+    /// In which number the count runs out, where each number takes its share of it in turn, or `None`
+    /// where all of them together are no more than the count.
+    pub fn find(&self, at: u32) -> Option<Position>
+        ensures { IsFound self.now.numbers at result }
+    {
+        let len = self.numbers.len();
+        let block = self.block_of(at);
+        let mut index = BLOCK * block;
+        let mut rest = at - self.mark_before(block);
+        while index < len {
+            let number = self.numbers[index];
+            if rest < number {
+                return Some(Position { index, rest });
+            }
+            rest -= number;
+            index += 1;
+        }
+        None
+    }
+
+    /// How many marks aren't above the count.
+    fn block_of(&self, at: u32) -> usize
+        ensures whole { 64 * result ≤ length self.now.numbers }
+        ensures before { sum (take (64 * result) self.now.numbers) ≤ at }
+        ensures behind { 64 * result + 64 ≤ length self.now.numbers → at < sum (take (64 * result + 64) self.now.numbers) }
+    {
+        let mut low = 0;
+        let mut high = self.marks.len();
+        while low < high {
+            let middle = low + (high - low) / 2;
+            if self.marks[middle] <= at {
+                low = middle + 1;
+            } else {
+                high = middle;
+            }
+        }
+        low
+    }
+
+    /// The sum of the numbers in so many blocks.
+    fn mark_before(&self, block: usize) -> u32
+        requires whole { 64 * block ≤ length self.now.numbers }
+        ensures { result ≡ sum (take (64 * block) self.now.numbers) }
+    {
+        if block == 0 {
+            return 0;
+        }
+        self.marks[block - 1]
+    }
+}
+
+impl PrefixSums {
+    /// Makes room for so many more numbers, or leaves the list as it is where there is no memory for it.
+    pub fn reserve(&mut self, more: usize) -> Result<(), AllocError>
+        requires few { length self.old.numbers + more < 2 ^ 48 }
+        ensures room { OnOk result (more ≤ self.new.spare) }
+        ensures same { self.new.numbers ≡ self.old.numbers }
+        ensures kept { self.old.spare ≤ self.new.spare }
+    {
+        self.numbers.reserve(more)?;
+        self.marks.reserve(more / BLOCK + 1)
+    }
+
+    /// Sets the number in this place, counted from 0. It takes no memory.
+    pub fn set(&mut self, k: usize, number: u32)
+        requires there { k < length self.old.numbers }
+        requires fits { sum (slice_set self.old.numbers k number) < 2 ^ 32 }
+        ensures { self.new ≡ with_number self.old k number }
+    {
+        let old = self.numbers[k];
+        self.numbers[k] = number;
+        self.total = self.total - old + number;
+        for b in k / BLOCK..self.marks.len() {
+            self.marks[b] = self.marks[b] - old + number;
+        }
+    }
+
+    /// Puts a number in before the one in this place, counted from 0, or at the end. It takes no memory.
+    pub fn insert(&mut self, k: usize, number: u32)
+        requires there { k ≤ length self.old.numbers }
+        requires room { 0 < self.old.spare }
+        requires fits { sum (insert self.old.numbers k number) < 2 ^ 32 }
+        ensures { self.new ≡ with_more self.old k number }
+    {
+        insert_reserved(&mut self.numbers, k, number);
+        for b in k / BLOCK..self.marks.len() {
+            self.marks[b] = self.marks[b] + number - self.numbers[BLOCK * b + BLOCK];
+        }
+        self.total += number;
+        if self.numbers.len() % BLOCK == 0 {
+            self.marks.push_reserved(self.total);
+        }
+    }
+
+    /// Takes the number in this place out, counted from 0. The room for it stays.
+    pub fn remove(&mut self, k: usize) -> u32
+        requires there { k < length self.old.numbers }
+        ensures taken { Some result ≡ slice_get self.old.numbers k }
+        ensures left { self.new ≡ without self.old k }
+    {
+        self.marks.truncate((self.numbers.len() - 1) / BLOCK);
+        let number = self.numbers.remove(k);
+        for b in k / BLOCK..self.marks.len() {
+            self.marks[b] = self.marks[b] + self.numbers[BLOCK * b + BLOCK - 1] - number;
+        }
+        self.total -= number;
+        number
+    }
+}
+
+/// Puts a number into the room that a list has.
+fn insert_reserved(numbers: &mut Vec<u32>, k: usize, number: u32)
+    requires there { k ≤ vec_len numbers.old }
+    requires room { vec_len numbers.old < vec_capacity numbers.old }
+    ensures put { numbers.new.items ≡ insert numbers.old.items k number }
+    ensures len { vec_len numbers.new ≡ vec_len numbers.old + 1 }
+    ensures room { vec_capacity numbers.new ≡ vec_capacity numbers.old }
+{
+    if let Err(_) = numbers.insert(k, number) {}
+}

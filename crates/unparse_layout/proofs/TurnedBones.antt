@@ -1,0 +1,153 @@
+-- A layout after a refinement was hidden or shown.
+use Rattle.std.specs.Prelude.{◌≡◌, refl, ℕ, zero, suc, ◌+◌, ◌<◌, ◌≤◌, Bool, true, false, not, if◌then◌else◌, List, [], ◌∷◌, length, sum, Option, Some, None, is_some, option_map, option_and_then, slice_get, slice_set}
+use Rattle.std.specs.Option.{unwrap_or}
+use Rattle.std.proofs.Common.{ap, sym, ◌∙◌, arith}
+use Rattle.std.proofs.lemmas.List.Sums.{sum_by-set}
+use Rattle.plcs_grammar.specs.Template.{PlainSection, row_of, program_sections}
+use Rattle.template_tree.specs.PlainTree.{Label, Forest, PlainNode, nodes}
+use Rattle.template_tree.specs.Path.{below, node_at}
+use Rattle.template_tree.specs.Program.{sort_of}
+use Rattle.template_tree.specs.Section.{left_for, left_after, next_lead}
+use Rattle.template_tree.specs.Edit.{edit_at, edit_below, give_way}
+use Rattle.template_tree.specs.Elision.{is_comment, turn}
+use Rattle.unparse_layout.specs.Bones.{Bone, Bones, bones_of}
+use Rattle.unparse_layout.specs.Private.PlainOutline.{PlainOutline, bones, bones_outlines, outlines}
+use Rattle.unparse_layout.specs.Private.Height.{bone_count}
+use Rattle.unparse_layout.specs.Private.OutlineLend.{with_elision}
+
+-- nodes in which the one at the path is elided or not
+abbrev pub set_in : Bones → ℕ → List ℕ → Bool → Bones
+set_in items k path elided =
+    unwrap_or (option_map (λ item. bones (slice_set (outlines items) k (with_elision path elided item))) (slice_get (outlines items) k)) items
+
+-- what stands inside a node where one below it is set
+pub inner_set : (outline : PlainOutline) (k : ℕ) (path : List ℕ) (elided : Bool)
+    → (with_elision (k ∷ path) elided outline).inner ≡ set_in outline.inner k path elided
+inner_set outline k path elided = found (slice_get (outlines outline.inner) k)
+  where
+    found : (o : Option PlainOutline)
+        → (unwrap_or (option_map (λ item. record outline { inner = bones (slice_set (outlines outline.inner) k (with_elision path elided item)) }) o) outline).inner
+        ≡ unwrap_or (option_map (λ item. bones (slice_set (outlines outline.inner) k (with_elision path elided item))) o) outline.inner
+    found None = refl
+    found (Some item) = refl
+
+-- the node itself stays as it is
+pub bone_kept : (outline : PlainOutline) (k : ℕ) (path : List ℕ) (elided : Bool) → (with_elision (k ∷ path) elided outline).bone ≡ outline.bone
+bone_kept outline k path elided = found (slice_get (outlines outline.inner) k)
+  where
+    found : (o : Option PlainOutline)
+        → (unwrap_or (option_map (λ item. record outline { inner = bones (slice_set (outlines outline.inner) k (with_elision path elided item)) }) o) outline).bone ≡ outline.bone
+    found None = refl
+    found (Some item) = refl
+
+-- setting a node behind the first one
+pub set_next : (bone : Bone) (inner rest : Bones) (k : ℕ) (path : List ℕ) (elided : Bool)
+    → set_in (Bones.cons bone inner rest) (suc k) path elided ≡ Bones.cons bone inner (set_in rest k path elided)
+set_next bone inner rest k path elided = found (slice_get (outlines rest) k)
+  where
+    found : (o : Option PlainOutline)
+        → unwrap_or (option_map (λ item. Bones.cons bone inner (bones (slice_set (outlines rest) k (with_elision path elided item)))) o) (Bones.cons bone inner rest)
+        ≡ Bones.cons bone inner (unwrap_or (option_map (λ item. bones (slice_set (outlines rest) k (with_elision path elided item))) o) rest)
+    found None = refl
+    found (Some item) = refl
+
+-- a comment turned differs in its elision alone
+pub turned_node : (label : Label) (inner : Forest) (comment : Bool) (node : PlainNode)
+    → node ≡ (if comment then record { label = record label { elided = not label.elided }; inner = inner } else record { label = label; inner = inner })
+    → node ≡ record { label = record label { elided = node.label.elided }; inner = inner }
+turned_node label inner true node is =
+    let e : node.label.elided ≡ not label.elided = ap (λ (n : PlainNode). n.label.elided) is in
+    is ∙ (λ i. let n : PlainNode = record { label = record label { elided = sym e i }; inner = inner } in n)
+turned_node label inner false node is =
+    let e : node.label.elided ≡ label.elided = ap (λ (n : PlainNode). n.label.elided) is in
+    is ∙ (λ i. let n : PlainNode = record { label = record label { elided = sym e i }; inner = inner } in n)
+
+-- turning the comment at a path sets its elision in the layout, where it is told what it is then
+pub turned_bones : (items : Forest) (left : List PlainSection) (k : ℕ) (path : List ℕ) (elided : Bool) (node : PlainNode)
+    → option_and_then (λ item. below item path) (slice_get (nodes (give_way (edit_below turn path) k items)) k) ≡ Some node
+    → node.label.elided ≡ elided
+    → bones_of left (give_way (edit_below turn path) k items) ≡ set_in (bones_of left items) k path elided
+turned_bones Forest.nil left k path elided node there is = absurd (cc)
+turned_bones (Forest.cons label inner rest) left zero [] elided node there is =
+    let own : PlainNode = record { label = label; inner = inner } in
+    let new : PlainNode = if is_comment label.kind then record { label = record label { elided = not label.elided }; inner = inner } else own in
+    let same : new ≡ node = cc in
+    let here = left_for (sort_of label.kind) left in
+    let sections = (row_of label.kind).sections in
+    let whole : new ≡ record { label = record label { elided = new.label.elided }; inner = inner } = turned_node label inner (is_comment label.kind) new refl in
+    let e : new.label.elided ≡ elided = ap (λ (n : PlainNode). n.label.elided) same ∙ is in
+    ap (λ (n : PlainNode). bones_of left (Forest.cons n.label n.inner rest)) whole
+    ∙ (λ i. Bones.cons record { slot = label.slot; kind = label.kind; elided = e i; led = is_some (next_lead here) } (bones_of sections inner)
+    (sym (bones_outlines (bones_of (left_after here) rest)) i))
+turned_bones (Forest.cons label inner rest) left zero (n ∷ path) elided node there is =
+    let here = left_for (sort_of label.kind) left in
+    let sections = (row_of label.kind).sections in
+    let bone : Bone = record { slot = label.slot; kind = label.kind; elided = label.elided; led = is_some (next_lead here) } in
+    let outline : PlainOutline = record { bone = bone; inner = bones_of sections inner } in
+    let below_it = turned_bones inner sections n path elided node there is in
+    λ i. Bones.cons (sym (bone_kept outline n path elided) i) ((below_it ∙ sym (inner_set outline n path elided)) i)
+    (sym (bones_outlines (bones_of (left_after here) rest)) i)
+turned_bones (Forest.cons label inner rest) left (suc k) path elided node there is =
+    let here = left_for (sort_of label.kind) left in
+    let bone : Bone = record { slot = label.slot; kind = label.kind; elided = label.elided; led = is_some (next_lead here) } in
+    ap (Bones.cons bone (bones_of (row_of label.kind).sections inner)) (turned_bones rest (left_after here) k path elided node there is)
+    ∙ sym (set_next bone (bones_of (row_of label.kind).sections inner) (bones_of (left_after here) rest) k path elided)
+
+-- where nothing stands there, nothing is turned
+pub none_turned : (items : Forest) (left : List PlainSection) (k : ℕ) (path : List ℕ)
+    → option_and_then (λ item. below item path) (slice_get (nodes (give_way (edit_below turn path) k items)) k) ≡ None
+    → bones_of left (give_way (edit_below turn path) k items) ≡ bones_of left items
+none_turned Forest.nil left k path none = refl
+none_turned (Forest.cons label inner rest) left zero [] none = absurd (cc)
+none_turned (Forest.cons label inner rest) left zero (n ∷ path) none =
+    let here = left_for (sort_of label.kind) left in
+    let bone : Bone = record { slot = label.slot; kind = label.kind; elided = label.elided; led = is_some (next_lead here) } in
+    ap (λ b. Bones.cons bone b (bones_of (left_after here) rest)) (none_turned inner (row_of label.kind).sections n path none)
+none_turned (Forest.cons label inner rest) left (suc k) path none =
+    let here = left_for (sort_of label.kind) left in
+    let bone : Bone = record { slot = label.slot; kind = label.kind; elided = label.elided; led = is_some (next_lead here) } in
+    ap (Bones.cons bone (bones_of (row_of label.kind).sections inner)) (none_turned rest (left_after here) k path none)
+
+-- the layout of a program after a comment was turned
+pub turned_layout : (items before : Forest) (path : List ℕ) (elided : Bool) (root : PlainOutline) (node : PlainNode)
+    → root.inner ≡ bones_of program_sections before → items ≡ edit_at turn path before → node_at items path ≡ Some node
+    → node.label.elided ≡ elided → (with_elision path elided root).inner ≡ bones_of program_sections items
+turned_layout items before [] elided root node same turned there is = absurd (cc)
+turned_layout items before (k ∷ path) elided root node same turned there is =
+    inner_set root k path elided
+    ∙ ap (λ b. set_in b k path elided) same
+    ∙ sym (turned_bones before program_sections k path elided node (sym (ap (λ f. node_at f (k ∷ path)) turned) ∙ there) is)
+    ∙ ap (bones_of program_sections) (sym turned)
+
+pub layout_kept : (items before : Forest) (path : List ℕ) → items ≡ edit_at turn path before → node_at items path ≡ None
+    → bones_of program_sections before ≡ bones_of program_sections items
+layout_kept items before [] turned none = ap (bones_of program_sections) (sym turned)
+layout_kept items before (k ∷ path) turned none =
+    sym (none_turned before program_sections k path (sym (ap (λ f. node_at f (k ∷ path)) turned) ∙ none))
+    ∙ ap (bones_of program_sections) (sym turned)
+
+-- as many nodes as before where one gives way to one as large
+pub count_set : (items : Bones) (k : ℕ) (item new : PlainOutline) → slice_get (outlines items) k ≡ Some item
+    → bone_count new.inner ≡ bone_count item.inner → bone_count (bones (slice_set (outlines items) k new)) ≡ bone_count items
+count_set Bones.nil k item new there same = absurd (cc)
+count_set (Bones.cons bone inner rest) zero item new there same =
+    let own : record { bone = bone; inner = inner } ≡ item = cc in
+    let e : bone_count inner ≡ bone_count item.inner = ap (λ (o : PlainOutline). bone_count o.inner) own in
+    let f : bone_count (bones (outlines rest)) ≡ bone_count rest = ap bone_count (bones_outlines rest) in
+    omega (arith, same, e, f)
+count_set (Bones.cons bone inner rest) (suc k) item new there same = omega (arith, count_set rest k item new there same)
+
+pub count_elision : (path : List ℕ) (elided : Bool) (outline : PlainOutline) → bone_count (with_elision path elided outline).inner ≡ bone_count outline.inner
+count_elision [] elided outline = refl
+count_elision (k ∷ path) elided outline =
+    ap bone_count (inner_set outline k path elided) ∙ found (slice_get (outlines outline.inner) k) refl (λ item. count_elision path elided item)
+  where
+    found : (o : Option PlainOutline) → slice_get (outlines outline.inner) k ≡ o
+        → ((item : PlainOutline) → bone_count (with_elision path elided item).inner ≡ bone_count item.inner)
+        → bone_count (unwrap_or (option_map (λ item. bones (slice_set (outlines outline.inner) k (with_elision path elided item))) o) outline.inner) ≡ bone_count outline.inner
+    found None e law = refl
+    found (Some item) e law = count_set outline.inner k item (with_elision path elided item) e (law item)
+
+-- the numbers with another one in a place fit
+pub set_fits : (numbers : List ℕ) (k number : ℕ) → k < length numbers → sum (slice_set numbers k number) ≤ sum numbers + number
+set_fits numbers k number within = let e = sum_by-set (λ n. n) numbers k number 0 within in omega (arith, e)

@@ -1,0 +1,7 @@
+use Rattle.std.proofs.Common.{arith}
+use Rattle.unparse_layout.proofs.BuiltNodes.{item_is_stop}
+use Rattle.unparse_layout.proofs.layout_tests.item_line.Goals as goal
+
+pub line_of-requires-clause-stop : goal.line_of-requires-clause-stop
+line_of-requires-clause-stop c =
+    item_is_stop c.args.tree.now.items c.args.k c.path_of_item.result.items c.path_of_item.ensures (omega (arith, c.procedures.ensures))

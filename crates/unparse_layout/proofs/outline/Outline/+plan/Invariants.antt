@@ -1,0 +1,5 @@
+use Rattle.template_tree.specs.Slots.{count}
+use Rattle.unparse_layout.proofs.outline.Outline.+plan.Given as goal
+
+abbrev pub decreases-plan : goal.decreases-plan
+decreases-plan l = count l.node.now.inner

@@ -1,0 +1,27 @@
+-- What a layout keeps of a tree.
+use Rattle.std.specs.Prelude.{ℕ, Bool, List, is_some}
+use Rattle.plcs_grammar.specs.declared.node_kind.NodeKind.{NodeKind}
+use Rattle.plcs_grammar.specs.Template.{PlainSection, row_of}
+use Rattle.template_tree.specs.PlainTree.{Forest}
+use Rattle.template_tree.specs.Program.{sort_of}
+use Rattle.template_tree.specs.Section.{left_for, left_after, next_lead}
+
+-- what is kept of a node: its slot, its kind, whether it is elided, and whether a line of the table stands before it
+pub record Bone : Type 0 where
+  pub slot : ℕ
+  pub kind : NodeKind
+  pub elided : Bool
+  pub led : Bool
+
+-- nodes in order without their phrases, each with what stands inside it
+pub data Bones : Type 0 where
+  nil : Bones
+  cons : (bone : Bone) (inner rest : Bones) → Bones
+
+-- what is kept of nodes for which these sections are left
+abbrev pub bones_of : (left : List PlainSection) → Forest → Bones
+bones_of left Forest.nil = nil
+bones_of left (Forest.cons label inner rest) =
+    let here = left_for (sort_of label.kind) left in
+    cons record { slot = label.slot; kind = label.kind; elided = label.elided; led = is_some (next_lead here) }
+    (bones_of (row_of label.kind).sections inner) (bones_of (left_after here) rest)

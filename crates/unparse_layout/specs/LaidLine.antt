@@ -1,0 +1,45 @@
+-- Lines of the screen as cells.
+use Rattle.std.specs.Prelude.{ℕ, ◌+◌, ◌*◌, Bool, true, false, List, ◌++◌, map, flat_map, take, replicate, Option, Some, None, is_some}
+use Rattle.std.specs.FinMap.{get}
+use Rattle.plcs_base.specs.Mark.{MarkMap}
+use Rattle.template_tree.specs.PlainTree.{Forest}
+use Rattle.unparse_layout.specs.declared.line.LineKind.{LineKind}
+use Rattle.unparse_layout.specs.declared.line.TheConstants.{LONGEST_LINE}
+use Rattle.unparse_layout.specs.OwnedLine.{Stretch, OwnedLine, OwnedLines}
+
+-- how many cells a line may have
+abbrev pub longest_line : ℕ
+longest_line = LONGEST_LINE
+
+-- the cell of a byte, in negative image or not
+abbrev pub cell : Bool → ℕ → ℕ
+cell false byte = byte
+cell true byte = byte + 256
+
+-- whether what stands in the part, if it is one, is marked
+abbrev pub is_marked : MarkMap → ℕ → Option ℕ → Bool
+is_marked marks slot None = false
+is_marked marks slot (Some part) = is_some (get marks record { slot = record { 0 = slot }; part = part })
+
+-- the cells of a stretch of a line that belongs to the slot
+abbrev pub stretch_cells : MarkMap → ℕ → Stretch → List ℕ
+stretch_cells marks slot stretch = map (cell (is_marked marks slot stretch.part)) stretch.bytes
+
+-- the cells of a line, as many as a line may have: two blanks for each level, and what is written
+abbrev pub line_cells : MarkMap → OwnedLine → List ℕ
+line_cells marks line =
+    take longest_line (replicate (2 * line.level) 32 ++ flat_map (stretch_cells marks line.slot) line.stretches)
+
+-- a line as it is laid: the slot of the node to which it belongs, which of the node's lines it is, and its cells
+pub record LaidLine : Type 0 where
+  pub slot : ℕ
+  pub kind : LineKind
+  pub cells : List ℕ
+
+-- a line as it is laid under these marks
+abbrev pub laid_line : MarkMap → OwnedLine → LaidLine
+laid_line marks line = record { slot = line.slot; kind = line.kind; cells = line_cells marks line }
+
+-- the lines that are shown of a program under these marks
+abbrev pub LaidLines : MarkMap → Forest → List LaidLine
+LaidLines marks items = map (laid_line marks) (OwnedLines items)

@@ -1,0 +1,10 @@
+-- ---- the lines of the screen
+pub mod OwnedLine
+pub mod LaidLine
+-- ---- the layout of a tree
+pub mod Bones
+pub mod Agreement
+-- ---- the line of a stop
+pub mod StopLine
+-- ---- what private contracts alone cite
+pub mod Private

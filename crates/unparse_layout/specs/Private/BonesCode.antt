@@ -1,0 +1,61 @@
+-- How layouts are told apart: each is a tree of labels, which gives it back.
+use Rattle.std.specs.Prelude.{◌≡◌, ℕ, Bool, List, refl}
+use Rattle.std.proofs.Common.{ap, sym, subst}
+use Rattle.std.specs.Coded.{Coded, code_by, coded×, coded_ℕ, coded_bool, coded_list}
+use base.Stored.{Gv, gnil, gnum, gcons}
+use Rattle.plcs_grammar.specs.declared.node_kind.NodeKind.{NodeKind}
+use Rattle.plcs_grammar.specs.contracts.node_kind.NodeKind as kind_row
+use Rattle.unparse_layout.specs.Bones.{Bone, Bones}
+use Rattle.unparse_layout.specs.Private.PlainOutline.{PlainOutline, PlainOutlines}
+
+-- what is kept of a node is told by its fields
+abbrev pub bone_code : Coded Bone
+bone_code =
+    code_by (ℕ × (NodeKind × (Bool × Bool)))
+    (coded× coded_ℕ (coded× kind_row.the_row.coded (coded× coded_bool coded_bool)))
+    (λ b. (b.slot, (b.kind, (b.elided, b.led))))
+    (λ t. record { slot = t.0; kind = t.1.0; elided = t.1.1.0; led = t.1.1.1 }) (λ _. refl)
+
+abbrev pub front : Gv → Gv
+front gnil = gnil
+front (gnum n) = gnil
+front (gcons a b) = a
+
+abbrev pub back : Gv → Gv
+back gnil = gnil
+back (gnum n) = gnil
+back (gcons a b) = b
+
+abbrev pub IsPair : Gv → Type 0
+IsPair gnil = ⊥
+IsPair (gnum n) = ⊥
+IsPair (gcons a b) = Unit {0}
+
+abbrev pub bones_code_of : Bones → Gv
+bones_code_of Bones.nil = gnil
+bones_code_of (Bones.cons bone inner rest) = gcons (bone_code.code bone) (gcons (bones_code_of inner) (bones_code_of rest))
+
+pub bones_code_of_inj : (x y : Bones) → bones_code_of x ≡ bones_code_of y → x ≡ y
+bones_code_of_inj Bones.nil Bones.nil p = refl
+bones_code_of_inj (Bones.cons l a b) (Bones.cons m c d) p =
+    λ i.
+    Bones.cons (bone_code.inj l m (ap front p) i) (bones_code_of_inj a c (ap (λ g. front (back g)) p) i)
+    (bones_code_of_inj b d (ap (λ g. back (back g)) p) i)
+bones_code_of_inj Bones.nil (Bones.cons m c d) p = absurd (subst IsPair (sym p) tt)
+bones_code_of_inj (Bones.cons l a b) Bones.nil p = absurd (subst IsPair p tt)
+
+-- a layout is told by what is kept of its nodes
+abbrev pub bones_code : Coded Bones
+bones_code = record { code = bones_code_of; inj = bones_code_of_inj }
+
+-- a node of a layout is told by its fields
+abbrev pub outline_code : Coded PlainOutline
+outline_code =
+    code_by (Bone × Bones) (coded× bone_code bones_code) (λ o. (o.bone, o.inner))
+    (λ t. record { bone = t.0; inner = t.1 }) (λ _. refl)
+
+-- a list of them by its items and its room
+abbrev pub outlines_code : Coded PlainOutlines
+outlines_code =
+    code_by (List PlainOutline × ℕ) (coded× (coded_list outline_code) coded_ℕ) (λ l. (l.items, l.spare))
+    (λ t. record { items = t.0; spare = t.1 }) (λ _. refl)

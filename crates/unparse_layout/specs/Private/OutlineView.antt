@@ -1,0 +1,19 @@
+-- What a node of a layout in memory is seen as.
+use Rattle.std.specs.Prelude.{◌≡◌, map}
+use Rattle.unparse_layout.specs.declared.outline.Outline.TheInside.{Inside}
+use Rattle.unparse_layout.specs.Private.PlainOutline.{PlainOutline, bones}
+use Rattle.unparse_layout.specs.Private.Height.{height}
+
+-- its fields, with what stands inside it as nodes in order
+abbrev pub seen : Inside → PlainOutline
+seen a =
+    record {
+      bone =
+          record
+          { slot = a.slot.0; kind = a.kind; elided = a.elided; led = a.led };
+      inner = bones a.inner.items;
+    }
+
+-- the numbers that are kept are those of the lines of what stands inside it
+pub record IsRight (a : Inside) : Type 0 where
+  pub heights : a.heights.numbers ≡ map height a.inner.items

@@ -1,0 +1,22 @@
+-- How large layouts are: what stands inside a node is smaller than the node.
+use Rattle.std.specs.Prelude.{ℕ, suc, ◌+◌, ◌≤◌, List, [], ◌∷◌}
+use Rattle.std.proofs.Common.{arith}
+use denote.Param.Weighed.{most}
+use Rattle.unparse_layout.specs.Bones.{Bones}
+use Rattle.unparse_layout.specs.Private.PlainOutline.{PlainOutline, PlainOutlines, bones}
+
+-- two for each node, since a node and its list take turns
+abbrev pub bones_weight : Bones → ℕ
+bones_weight Bones.nil = 0
+bones_weight (Bones.cons bone inner rest) = suc (suc (bones_weight inner + bones_weight rest))
+
+abbrev pub weight : PlainOutline → ℕ
+weight outline = suc (suc (bones_weight outline.inner))
+
+abbrev pub list_weight : PlainOutlines → ℕ
+list_weight list = suc (bones_weight (bones list.items))
+
+-- no item is heavier than its list
+pub most_le_weight : (items : List PlainOutline) → most (λ outline. weight outline + 1) items ≤ bones_weight (bones items) + 1
+most_le_weight [] = omega arith
+most_le_weight (outline ∷ rest) = omega (arith, most_le_weight rest)

@@ -1,0 +1,47 @@
+//! Layouts after a refinement was hidden or shown.
+ghost use Rattle.std.specs.Prelude.{◌≡◌, ◌≤◌};
+ghost use Rattle.template_tree.specs.Limit.{most_slots};
+ghost use Rattle.template_tree.specs.Tree.{IsTree};
+ghost use Rattle.unparse_layout.specs.Agreement.{IsLayoutBeforeTurn, IsLayoutOf};
+ghost use Rattle.unparse_layout.specs.Private.Height.{bone_count};
+ghost use Rattle.unparse_layout.specs.Private.OutlineLend.{with_elision};
+
+use crate::layout::Layout;
+use crate::outline::Outline;
+use plcs_base::Work;
+use template_tree::{Path, Tree};
+
+impl<W: Work> Layout<W> {
+    /// Makes it the layout of the tree again, after `Tree::elide` turned the comment at the path. It
+    /// takes no memory.
+    pub fn elided(&mut self, tree: &Tree, path: &Path)
+        requires tree { IsTree tree.now }
+        requires before { IsLayoutBeforeTurn self.old path.now.items tree.now }
+        ensures { IsLayoutOf self.new tree.now }
+    {
+        let Some(node) = tree.node(path) else {
+            return;
+        };
+        self.root.set_elision(path, node.is_elided());
+    }
+}
+
+impl Outline {
+    /// Notes whether the refinement of the node at the path is hidden, and how many lines the nodes on the
+    /// way have then.
+    fn set_elision(&mut self, path: &[u32], elided: bool)
+        requires few { bone_count self.old.inner ≤ most_slots }
+        ensures { self.new ≡ with_elision path.now elided self.old }
+    {
+        let Some((k, rest)) = path.split_first() else {
+            self.elided = elided;
+            return;
+        };
+        let Some(item) = self.inner.get_mut(*k as usize) else {
+            return;
+        };
+        item.set_elision(rest, elided);
+        let height = item.height();
+        self.heights.set(*k as usize, height);
+    }
+}

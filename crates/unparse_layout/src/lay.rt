@@ -1,0 +1,168 @@
+//! Lines laid as cells.
+ghost use Rattle.std.specs.Prelude.{◌≡◌, ◌+◌, ◌*◌, ◌≤◌, ◌<◌, [], false, flat_map, length, map, option_and_then, option_map, replicate, take, ◌++◌};
+ghost use Rattle.plcs_base.specs.Put.{PutsAll};
+ghost use Rattle.plcs_grammar.specs.Template.{plain_segment, row_of};
+ghost use Rattle.template_tree.specs.Limit.{deepest_path};
+ghost use Rattle.template_tree.specs.Line.{part_text};
+ghost use Rattle.template_tree.specs.PlainPlace.{plain_place};
+ghost use Rattle.unparse_layout.specs.LaidLine.{cell, laid_line, longest_line, stretch_cells};
+ghost use Rattle.unparse_layout.specs.OwnedLine.{first_line, next_after, part_at, stretch_of, stretches_of};
+ghost use Rattle.unparse_layout.specs.Private.Cells.{PutsAside};
+ghost use Rattle.unparse_layout.specs.Private.PlainPlan.{planned};
+
+use crate::line::{LONGEST_LINE, Line, LineKind};
+use crate::plan::Plan;
+use arrayvec::ArrayVec;
+use plcs_base::{ByteOut, Marked, PhraseAt, Slot, put_bytes};
+use plcs_grammar::{Category, Segment, show};
+use template_tree::{Node, PhrasePlace};
+
+/// What is added to a byte in negative image.
+const NEGATIVE: u16 = 256;
+
+/// Lays the line under these marks.
+pub(crate) fn lay<W, M: Marked>(plan: &Plan, marks: &M) -> Line<W>
+    ensures { result ≡ laid_line (M.marks marks.now) (planned plan.now) }
+{
+    match plan {
+        Plan::Fixed(slot, kind, level, bytes) => lay_fixed(*slot, *kind, *level, bytes),
+        Plan::First(level, node) => lay_first(*level, node, marks),
+    }
+}
+
+/// Lays a line in which no part stands.
+fn lay_fixed<W>(slot: Slot, kind: LineKind, level: u32, bytes: &[u8]) -> Line<W>
+    ensures { result ≡ record { slot = slot.0; kind = kind; cells = take longest_line (replicate (2 * level) 32 ++ bytes.now) } }
+{
+    let mut out = CellsOut {
+        cells: ArrayVec::new(),
+        negative: false,
+    };
+    put_blanks(level, &mut out);
+    put_bytes(bytes, &mut out);
+    Line::laid(slot, kind, out.cells)
+}
+
+/// Lays the first line of the node.
+fn lay_first<W, M: Marked>(level: u32, node: &Node, marks: &M) -> Line<W>
+    ensures { result ≡ laid_line (M.marks marks.now) (first_line level node.now.label) }
+{
+    let mut out = CellsOut {
+        cells: ArrayVec::new(),
+        negative: false,
+    };
+    put_blanks(level, &mut out);
+    put_first(node, marks, &mut out);
+    Line::laid(node.slot(), LineKind::First, out.cells)
+}
+
+/// Puts the blanks before a line of the level.
+fn put_blanks(level: u32, out: &mut CellsOut)
+    requires plain { out.old.negative ≡ false }
+    requires short { length out.old.cells.items ≤ longest_line }
+    ensures { PutsAside out.old (replicate (2 * level) 32) out.new }
+{
+    'levels: for _ in 0..level {
+        put_bytes(b"  ", out);
+    }
+}
+
+/// Puts the first line of a node behind the blanks.
+fn put_first<M: Marked>(node: &Node, marks: &M, out: &mut CellsOut)
+    requires plain { out.old.negative ≡ false }
+    requires short { length out.old.cells.items ≤ longest_line }
+    ensures { PutsAside out.old (flat_map (stretch_cells (M.marks marks.now) node.now.label.slot) (stretches_of 0 (row_of node.now.label.kind).line node.now.label.parts)) out.new }
+{
+    let mut part = 0;
+    for segment in node.kind().row().line {
+        part = put_segment(*segment, node, part, marks, out);
+    }
+}
+
+/// Puts a segment, where the next part has this number, and gives the number of the part after it.
+fn put_segment<M: Marked>(
+    segment: Segment,
+    node: &Node,
+    part: u8,
+    marks: &M,
+    out: &mut CellsOut,
+) -> u8
+    requires few { part < 255 }
+    requires plain { out.old.negative ≡ false }
+    requires short { length out.old.cells.items ≤ longest_line }
+    ensures put { PutsAside out.old (stretch_cells (M.marks marks.now) node.now.label.slot (stretch_of part (plain_segment segment) node.now.label.parts)) out.new }
+    ensures next { result ≡ next_after part (plain_segment segment) }
+{
+    match segment {
+        Segment::Words(bytes) => {
+            put_bytes(bytes, out);
+            part
+        }
+        Segment::Part(category) => {
+            put_part(category, node, part, marks, out);
+            part + 1
+        }
+    }
+}
+
+/// Puts what stands in a part, in negative image where it is marked.
+fn put_part<M: Marked>(category: Category, node: &Node, part: u8, marks: &M, out: &mut CellsOut)
+    requires short { length out.old.cells.items ≤ longest_line }
+    ensures { PutsAside out.old (stretch_cells (M.marks marks.now) node.now.label.slot (record { part = Some part; bytes = part_text category (part_at node.now.label.parts part) })) out.new }
+{
+    let at = PhraseAt {
+        slot: node.slot(),
+        part,
+    };
+    out.negative = marks.mark(at).is_some();
+    put_place(category, node.part(part), out);
+    out.negative = false;
+}
+
+/// Puts the phrase that stands in a part, or the placeholder of its category.
+fn put_place<O: ByteOut>(category: Category, place: Option<&PhrasePlace>, out: &mut O)
+    ensures { PutsAll O.puts out.old (part_text category (option_and_then (λ phrase. phrase) (option_map (λ place. plain_place place.now) place.entry))) out.new }
+{
+    match place {
+        Some(place) => put_filled(category, place, out),
+        None => put_bytes(category.placeholder(), out),
+    }
+}
+
+/// The same where the node has the part.
+fn put_filled<O: ByteOut>(category: Category, place: &PhrasePlace, out: &mut O)
+    ensures { PutsAll O.puts out.old (part_text category (plain_place place.now)) out.new }
+{
+    match place {
+        PhrasePlace::Filled(phrase) => show(phrase, out),
+        PhrasePlace::Empty => put_bytes(category.placeholder(), out),
+    }
+}
+
+/// The cells of a line so far, and whether the bytes that come are in negative image.
+#[derive(Drop)]
+struct CellsOut {
+    cells: ArrayVec<u16, LONGEST_LINE>,
+    negative: bool,
+}
+
+impl ByteOut for CellsOut {
+    ghost use Rattle.unparse_layout.specs.Private.Cells.{PutsCell};
+
+    ghost puts = { PutsCell };
+
+    fn put(&mut self, byte: u8) {
+        let cell = cell_of(self.negative, byte);
+        if let Err(_) = self.cells.try_push(cell) {}
+    }
+}
+
+/// The cell of a byte.
+fn cell_of(negative: bool, byte: u8) -> u16
+    ensures { result ≡ cell negative byte }
+{
+    if negative {
+        return u16::from(byte) + NEGATIVE;
+    }
+    u16::from(byte)
+}

@@ -1,0 +1,65 @@
+//! Layouts of trees.
+ghost use Rattle.std.specs.Prelude.{◌≡◌, ◌≤◌, ◌*◌, length, slice_get};
+ghost use Rattle.plcs_base.specs.Count.{raised};
+ghost use Rattle.template_tree.specs.Limit.{most_slots};
+ghost use Rattle.template_tree.specs.Line.{Lines};
+ghost use Rattle.template_tree.specs.PlainTree.{PlainTree};
+ghost use Rattle.template_tree.specs.Tree.{IsTree};
+ghost use Rattle.unparse_layout.specs.Agreement.{IsLayoutOf};
+ghost use Rattle.unparse_layout.specs.LaidLine.{LaidLines};
+
+use crate::lay::lay;
+use crate::line::Line;
+use crate::outline::Outline;
+use plcs_base::{Marked, Work};
+use std::marker::{Model, PhantomData};
+use template_tree::Tree;
+
+/// The layout of a tree: how many lines of the screen each of its nodes has. Contracts see it as what is
+/// left of the tree without its phrases.
+///
+/// Main and the procedures stand inside a node of its own, so that they have a list like every other.
+#[derive(Drop)]
+pub struct Layout<W> {
+    pub(crate) root: Outline,
+    pub(crate) of: PhantomData<W>,
+}
+
+impl<W> Model for Layout<W> {
+    ghost use Rattle.unparse_layout.specs.Bones.{Bones};
+    ghost use Rattle.unparse_layout.specs.Private.BonesCode.{bones_code};
+
+    ghost Value = { Bones };
+
+    ghost coded = { bones_code };
+
+    ghost view = { λ a. a.root.inner };
+}
+
+impl<W: Work> Layout<W> {
+    /// How many lines of the screen there are. It takes no memory.
+    pub fn lines(&self) -> u32
+        ensures lines { (tree : PlainTree) → IsLayoutOf self.now tree → result ≡ length (Lines tree.items) }
+        ensures few { (tree : PlainTree) → IsLayoutOf self.now tree → IsTree tree → result ≤ 4 * most_slots }
+    {
+        self.root.lines_inside()
+    }
+
+    /// The line of this number, counted from 0, under these marks, or `None` exactly where there is no
+    /// such line. It is counted as laid either way. It takes no memory.
+    pub fn line<M: Marked>(&self, tree: &Tree, marks: &M, k: u32, work: &mut W) -> Option<Line<W>>
+        requires tree { IsTree tree.now }
+        requires agrees { IsLayoutOf self.now tree.now }
+        ensures line { result ≡ slice_get (LaidLines (M.marks marks.now) tree.now.items) k }
+        ensures laid { W.laid work.new ≡ raised (W.laid work.old) }
+        ensures emitted { W.emitted work.new ≡ W.emitted work.old }
+        ensures checked { W.checked work.new ≡ W.checked work.old }
+        ensures fetched { W.fetched work.new ≡ W.fetched work.old }
+    {
+        work.laid();
+        let Some(plan) = self.root.plan_of(tree, k) else {
+            return None;
+        };
+        Some(lay(&plan, marks))
+    }
+}

@@ -1,0 +1,19 @@
+//! The layout of a tree: the lines of the screen, found by number, and the lines of stops.
+#![tactic(auto, using(crate::specs::Private::PlainOutline::outlines_bones))]
+
+mod elided;
+mod law;
+mod lay;
+mod layout;
+#[cfg(test)]
+mod layout_tests;
+mod line;
+mod line_of;
+mod new;
+mod outline;
+mod plan;
+mod sections_left;
+
+pub use law::owned_lines_are_lines;
+pub use layout::Layout;
+pub use line::{LONGEST_LINE, Line, LineKind};

@@ -1,0 +1,79 @@
+//! Lines of the screen.
+ghost use Rattle.std.specs.Prelude.{◌≡◌, ◌≤◌, length};
+ghost use Rattle.unparse_layout.specs.LaidLine.{longest_line};
+
+use arrayvec::ArrayVec;
+use plcs_base::Slot;
+use std::marker::{Model, PhantomData};
+
+/// How many cells a line may have: what goes beyond is cut.
+pub const LONGEST_LINE: usize = 158;
+
+/// Which of a node's lines a line is.
+#[derive(Clone, Copy, Debug, PartialEq, Eq)]
+pub enum LineKind {
+    /// Its first line.
+    First,
+    /// A line before some of what stands inside it, as `ELSE`.
+    Lead,
+    /// The line that stands for its elided refinement.
+    Elision,
+    /// Its last line, `END;`.
+    Last,
+}
+
+/// A line of the screen, which contracts see as its cells with the slot of the node to which it belongs.
+///
+/// Only `Layout::line` makes one, which is counted as work of `W`.
+#[derive(Drop)]
+pub struct Line<W> {
+    slot: Slot,
+    kind: LineKind,
+    cells: ArrayVec<u16, LONGEST_LINE>,
+    of: PhantomData<W>,
+}
+
+impl<W> Model for Line<W> {
+    ghost use Rattle.unparse_layout.specs.LaidLine.{LaidLine};
+
+    ghost Value = { LaidLine };
+
+    ghost view = { λ a. record { slot = a.slot.0; kind = a.kind; cells = a.cells.items } };
+}
+
+impl<W> Line<W> {
+    /// The line with these cells.
+    pub(crate) fn laid(slot: Slot, kind: LineKind, cells: ArrayVec<u16, LONGEST_LINE>) -> Line<W>
+        ensures { result ≡ record { slot = slot.0; kind = kind; cells = cells.items } }
+    {
+        Line {
+            slot,
+            kind,
+            cells,
+            of: PhantomData,
+        }
+    }
+
+    /// Its cells from the left, at most 158: a byte, plus 256 where it is in negative image. The blanks
+    /// of its level are among them.
+    pub fn cells(&self) -> &[u16]
+        ensures cells { result.now ≡ self.now.cells }
+        ensures short { length result.now ≤ longest_line }
+    {
+        self.cells.as_slice()
+    }
+
+    /// The slot of the node to which it belongs.
+    pub fn slot(&self) -> Slot
+        ensures { result.0 ≡ self.now.slot }
+    {
+        self.slot
+    }
+
+    /// Which of the node's lines it is.
+    pub fn kind(&self) -> LineKind
+        ensures { result ≡ self.now.kind }
+    {
+        self.kind
+    }
+}

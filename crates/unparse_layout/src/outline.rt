@@ -1,0 +1,172 @@
+//! Nodes of a layout, and the lists in which they stand.
+ghost use Rattle.std.specs.Prelude.{◌≡◌, ◌+◌, ◌<◌, ◌^◌, ◌++◌, ◌∷◌, [], OnErr, OnOk, Some, None, length, option_map, slice_get, sum, map, false};
+ghost use Rattle.std.specs.Borrow.{LendsIf, sem};
+ghost use Rattle.unparse_layout.specs.contracts.outline.Outline as outline_row;
+ghost use Rattle.unparse_layout.specs.contracts.outline.Outlines as list_row;
+ghost use Rattle.unparse_layout.specs.Bones.{Bones};
+ghost use Rattle.unparse_layout.specs.Private.Height.{height, heights, line_count};
+ghost use Rattle.unparse_layout.specs.Private.OutlineLend.{with_item};
+ghost use Rattle.unparse_layout.specs.Private.PlainOutline.{outlines, with_last};
+
+use plcs_base::{OutOfMemory, Slot};
+use plcs_grammar::NodeKind;
+use prefix_sums::PrefixSums;
+use std::alloc::Global;
+use std::marker::Model;
+
+/// What a layout keeps of a node, with how many lines each node inside it has.
+#[cycle(outline)]
+#[derive(Drop)]
+pub(crate) struct Outline {
+    pub(crate) slot: Slot,
+    pub(crate) kind: NodeKind,
+    pub(crate) elided: bool,
+    pub(crate) led: bool,
+    pub(crate) inner: Outlines,
+    pub(crate) heights: PrefixSums,
+}
+
+/// Nodes of a layout in order.
+#[cycle(outline)]
+#[derive(Drop)]
+pub(crate) struct Outlines {
+    list: Vec<Outline>,
+}
+
+impl Model for Outline {
+    ghost use Rattle.std.proofs.Common.{arith};
+    ghost use Rattle.unparse_layout.specs.Private.BonesCode.{outline_code};
+    ghost use Rattle.unparse_layout.specs.Private.PlainOutline.{PlainOutline};
+    ghost use Rattle.unparse_layout.specs.Private.Weight.{weight};
+
+    ghost Value = { PlainOutline };
+
+    ghost coded = { outline_code };
+
+    ghost use Rattle.unparse_layout.specs.Private.OutlineView.{IsRight, seen};
+
+    ghost view = { seen };
+
+    ghost invariant = { IsRight };
+
+    ghost size = { weight };
+
+    ghost size_decreases = { λ a h. omega arith };
+}
+
+impl Model for Outlines {
+    ghost use Rattle.std.proofs.Common.{arith};
+    ghost use Rattle.std.specs.Prelude.{◌-◌, vec_len, vec_capacity};
+    ghost use Rattle.unparse_layout.specs.Private.BonesCode.{outlines_code};
+    ghost use Rattle.unparse_layout.specs.Private.PlainOutline.{PlainOutlines};
+    ghost use Rattle.unparse_layout.specs.Private.Weight.{list_weight, most_le_weight};
+
+    ghost Value = { PlainOutlines };
+
+    ghost coded = { outlines_code };
+
+    ghost view = { λ a. record { items = a.list.items; spare = vec_capacity a.list - vec_len a.list } };
+
+    ghost size = { list_weight };
+
+    ghost size_decreases = { λ a h. omega (arith, most_le_weight a.list.items) };
+}
+
+impl Outline {
+    /// A node with nothing inside. It takes no memory.
+    pub(crate) fn bare(
+        alloc: Global,
+        slot: Slot,
+        kind: NodeKind,
+        elided: bool,
+        led: bool,
+    ) -> Outline
+        ensures { result ≡ record { bone = record { slot = slot.0; kind = kind; elided = elided; led = led }; inner = Bones.nil } }
+    {
+        Outline {
+            slot,
+            kind,
+            elided,
+            led,
+            inner: Outlines::new(alloc),
+            heights: PrefixSums::new(alloc),
+        }
+    }
+
+    /// Puts one more behind those inside it.
+    pub(crate) fn push(&mut self, item: Outline) -> Result<(), OutOfMemory>
+        requires few { length (outlines self.old.inner) < 2 ^ 32 }
+        requires fits { heights self.old.inner + height item < 2 ^ 32 }
+        ensures { OnOk result (self.new ≡ with_last self.old item) }
+    {
+        let height = item.height();
+        self.heights.reserve(1)?;
+        self.inner.push(item)?;
+        self.heights.insert(self.heights.len(), height);
+        Ok(())
+    }
+
+    /// How many lines what stands inside it has.
+    pub(crate) fn lines_inside(&self) -> u32
+        ensures { result ≡ heights self.now.inner }
+    {
+        self.heights.total()
+    }
+
+    /// How many lines it has, the line before it among them.
+    pub(crate) fn height(&self) -> u32
+        requires fits { height self.now < 2 ^ 32 }
+        ensures { result ≡ height self.now }
+    {
+        let around = u32::from(self.led) + 1 + line_count(self.kind.row().last);
+        if self.elided {
+            return around + 1;
+        }
+        around + self.heights.total()
+    }
+}
+
+/// How many lines a line of the table is that is there or not.
+pub(crate) fn line_count(line: Option<&[u8]>) -> u32
+    ensures { result ≡ line_count (option_map (λ bytes. bytes.now) line.entry) }
+{
+    match line {
+        Some(_) => 1,
+        None => 0,
+    }
+}
+
+impl Outlines {
+    /// None, taking no memory.
+    fn new(alloc: Global) -> Outlines
+        ensures { result.items ≡ [] }
+    {
+        Outlines {
+            list: Vec::new(alloc),
+        }
+    }
+
+    /// Puts one more behind them.
+    fn push(&mut self, item: Outline) -> Result<(), OutOfMemory>
+        ensures put { OnOk result (self.new.items ≡ self.old.items ++ item ∷ []) }
+        ensures same { OnErr result (self.new.items ≡ self.old.items) }
+    {
+        self.list.push(item)?;
+        Ok(())
+    }
+
+    /// The one of this number.
+    pub(crate) fn get(&self, k: usize) -> Option<&Outline>
+        ensures { option_map (λ outline. outline.now) result ≡ slice_get self.now.items k }
+    {
+        self.list.get(k)
+    }
+
+    /// Lends the one of this number.
+    pub(crate) fn get_mut(&mut self, k: usize) -> Option<&mut Outline>
+        ensures* writes_back { sem 𝓛 (LendsIf list_row.the_row outline_row.the_row self.entry result (with_item self.old k) self.old) }
+        ensures found { option_map (λ outline. outline.now) result ≡ slice_get self.old.items k }
+    {
+        self.list.get_mut(k)
+    }
+}

@@ -1,0 +1,69 @@
+//! Which section of a node's row the next item stands in.
+ghost use Rattle.std.specs.Prelude.{◌≡◌, map, option_map};
+ghost use Rattle.plcs_grammar.specs.Template.{plain_section};
+ghost use Rattle.unparse_layout.specs.Private.PlainLeft.{plain_left};
+ghost use Rattle.template_tree.specs.Section.{left_after, left_for, next_lead};
+
+use plcs_grammar::{Amount, Section, Sort};
+
+/// The sections of a row that are left for the next items, and whether the first of them has items
+/// already.
+#[derive(Clone, Copy)]
+pub(crate) struct SectionsLeft {
+    sections: &'static [Section],
+    begun: bool,
+}
+
+impl SectionsLeft {
+    /// All of them.
+    pub(crate) fn of(sections: &'static [Section]) -> SectionsLeft
+        ensures { plain_left result ≡ map plain_section sections.now }
+    {
+        SectionsLeft {
+            sections,
+            begun: false,
+        }
+    }
+
+    /// Those that are left for an item of the sort and the items after it.
+    pub(crate) fn at(self, sort: Sort) -> SectionsLeft
+        ensures { plain_left result ≡ left_for sort (plain_left self) }
+    {
+        let Some((section, others)) = self.sections.split_first() else {
+            return self;
+        };
+        if section.sort == sort {
+            return self;
+        }
+        SectionsLeft::of(others).at(sort)
+    }
+
+    /// The line before the next item, if there is one.
+    pub(crate) fn lead(self) -> Option<&'static [u8]>
+        ensures { option_map (λ bytes. bytes.now) result ≡ next_lead (plain_left self) }
+    {
+        if self.begun {
+            return None;
+        }
+        let Some((section, _)) = self.sections.split_first() else {
+            return None;
+        };
+        section.lead
+    }
+
+    /// Those that are left after an item of the first.
+    pub(crate) fn after(self) -> SectionsLeft
+        ensures { plain_left result ≡ left_after (plain_left self) }
+    {
+        let Some((section, others)) = self.sections.split_first() else {
+            return self;
+        };
+        match section.amount {
+            Amount::One => SectionsLeft::of(others),
+            Amount::Many => SectionsLeft {
+                sections: self.sections,
+                begun: true,
+            },
+        }
+    }
+}
