@@ -20,3 +20,10 @@ pub mod TakenNumbers
 pub mod TakenCells
 pub mod TakenRows
 pub mod PaintedTerminal
+-- `node_line.rt`: the line of a place of a run, looked for item by item
+pub mod PlaceLines
+-- `output_row`: lines of the output, looked for byte by byte
+pub mod OutputLines
+-- `drawn` of compose: rows drawn one after the other, and the row of the cursor, looked for row by row
+pub mod ComposedRows
+pub mod FoundRows
