@@ -1,14 +1,29 @@
--- `lines.rt` and Terminal::clear: rows of cells, one of which is changed
+-- the limits: their values
+pub mod Limits
+-- `lines.rt`: rows of cells, one of which is changed
 pub mod ChangedLines
+-- `row_text.rt`: rows that are shown, cell by cell
+pub mod ShownRows
+-- Grid::show: grids of which a row was drawn
+pub mod DrawnRows
 -- `cells` of visible_len: blanks at the end of a row
 pub mod VisibleCells
 -- `Writes` of the painting: fronts of bytes, bytes taken piece by piece, and bytes one after the other
 pub mod Fronts
 pub mod Owing
 pub mod WritesInTurn
+-- `rows` and `cols` of Terminal::take: no byte changes a terminal's size
+pub mod TerminalSizes
 -- `painted_terminal_shows`: bytes one after the other, the sequence that moves the cursor, cells in their image, and rows
 pub mod TakenBytes
 pub mod TakenNumbers
 pub mod TakenCells
 pub mod TakenRows
 pub mod PaintedTerminal
+-- `node_line.rt`: the line of a place of a run, looked for item by item
+pub mod PlaceLines
+-- `output_row`: lines of the output, looked for byte by byte
+pub mod OutputLines
+-- `drawn` of compose: rows drawn one after the other, and the row of the cursor, looked for row by row
+pub mod ComposedRows
+pub mod FoundRows

@@ -2,6 +2,15 @@
 pub mod Limit
 pub mod Cell
 pub mod PlainGrid
+pub mod ShownRow
+-- ---- what is shown on a screen, and where
+pub mod PlainView
+pub mod View
+pub mod NodeLine
+pub mod Window
+pub mod LowerRows
+pub mod Cursor
+pub mod Screen
 -- ---- painting
 pub mod Paint
 pub mod Writes

@@ -1,11 +1,15 @@
 //! Grids: what a screen shows.
 
-ghost use Rattle.std.specs.Prelude.{◌≡◌, ◌-◌, ◌≤◌, [], length, slice_index_or, IfOk};
+ghost use Rattle.std.specs.Prelude.{◌≡◌, ◌-◌, ◌≤◌, ◌<◌, [], length, slice_index_or, IfOk};
 ghost use Rattle.screen_window.specs.declared.limit.TheConstants.{FEWEST_ROWS, MOST_ROWS, FEWEST_COLS, MOST_COLS};
 ghost use Rattle.screen_window.specs.PlainGrid.{blank_grid, IsGrid};
+ghost use Rattle.screen_window.specs.ShownRow.{shown_row};
+ghost use Rattle.screen_window.specs.Private.RowText.{text_cells};
+ghost use Rattle.screen_window.specs.Private.WithRow.{with_row};
 
 use crate::limit::{FEWEST_COLS, FEWEST_ROWS, MOST_COLS, MOST_ROWS};
 use crate::lines::blank_lines;
+use crate::row_text::{RowText, show_row};
 use plcs_base::OutOfMemory;
 use std::alloc::Global;
 use std::marker::Model;
@@ -97,5 +101,27 @@ impl Grid {
         ensures col { result.1 ≡ self.now.col }
     {
         (self.row, self.col)
+    }
+}
+
+impl Grid {
+    /// Shows what is written in a row, which counts from 0.
+    pub(crate) fn show(&mut self, row: u16, text: RowText<'_>)
+        requires { row < self.old.rows }
+        ensures { self.new ≡ with_row self.old row (shown_row self.old.cols (text_cells self.old.cols text.entry)) }
+    {
+        show_row(&mut self.lines[usize::from(row)], text);
+    }
+
+    /// Places the cursor.
+    pub(crate) fn place_cursor(&mut self, row: u16, col: u16)
+        requires least_row { 1 ≤ row }
+        requires most_row { row ≤ self.old.rows }
+        requires least_col { 1 ≤ col }
+        requires most_col { col ≤ self.old.cols }
+        ensures { self.new ≡ record self.old { row = row; col = col } }
+    {
+        self.row = row;
+        self.col = col;
     }
 }

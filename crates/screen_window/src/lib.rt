@@ -2,17 +2,29 @@
 //! the plain terminal.
 #![tactic(auto)]
 
+mod composing;
+mod cursor;
 mod grid;
 mod limit;
 mod lines;
+mod lower_rows;
+mod node_line;
 mod painted_terminal;
 mod painting;
+#[cfg(test)]
+mod painting_tests;
+mod row_text;
 mod sequence;
 mod terminal;
+#[cfg(test)]
+mod terminal_tests;
 mod text;
+mod view;
 
+pub use composing::compose;
 pub use grid::Grid;
 pub use limit::{FEWEST_COLS, FEWEST_ROWS, MOST_COLS, MOST_ROWS};
 pub use painted_terminal::painted_terminal_shows;
 pub use painting::paint;
 pub use terminal::Terminal;
+pub use view::View;

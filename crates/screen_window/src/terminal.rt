@@ -4,7 +4,7 @@ ghost use Rattle.std.specs.Prelude.{◌≡◌, ◌+◌, ◌-◌, ◌≤◌, ◌<
 ghost use Rattle.screen_window.specs.declared.limit.TheConstants.{FEWEST_ROWS, MOST_ROWS, FEWEST_COLS, MOST_COLS};
 ghost use Rattle.screen_window.specs.Cell.{blank, cell_of};
 ghost use Rattle.screen_window.specs.PlainGrid.{blank_lines};
-ghost use Rattle.screen_window.specs.PlainTerminal.{new_terminal};
+ghost use Rattle.screen_window.specs.PlainTerminal.{IsTerminal, new_terminal};
 ghost use Rattle.screen_window.specs.Terminal.{Term, cleared, ended, ended_behind_digit, moved, nearest, step, step_in, tail_blanked, typed, with_sequence};
 
 use crate::limit::{FEWEST_COLS, FEWEST_ROWS, MOST_COLS, MOST_ROWS};
@@ -80,7 +80,9 @@ impl Terminal {
     /// Takes bytes. A sequence that they leave unfinished waits for its next byte.
     #[tactic(auto, unfolding(crate::specs::Terminal::Term))]
     pub fn take(&mut self, bytes: &[u8])
-        ensures { self.new ≡ Term self.old bytes.now }
+        ensures taken { self.new ≡ Term self.old bytes.now }
+        ensures rows { self.new.rows ≡ self.old.rows }
+        ensures cols { self.new.cols ≡ self.old.cols }
     {
         for byte in bytes {
             self.take_byte(*byte);
@@ -92,7 +94,8 @@ impl Terminal {
     pub fn cells(&self, row: u16) -> &[u16]
         requires least { 1 ≤ row }
         requires most { row ≤ self.now.rows }
-        ensures { result.now ≡ slice_index_or self.now.lines (row - 1) [] }
+        ensures cells { result.now ≡ slice_index_or self.now.lines (row - 1) [] }
+        ensures terminal { IsTerminal self.now }
     {
         self.lines[usize::from(row - 1)].as_slice()
     }

@@ -1,0 +1,284 @@
+//! Views drawn on grids.
+
+ghost use Rattle.std.specs.Prelude.{◌≡◌, ℕ, ◌+◌, ◌-◌, ◌≤◌, ◌<◌, [], Some, map, length, slice_index_or, option_map, nat_lt, if◌then◌else◌, ◌^◌, ◌++◌};
+ghost use Rattle.template_tree.specs.Path.{slot_at};
+ghost use Rattle.template_tree.specs.Tree.{IsTree};
+ghost use Rattle.unparse_layout.specs.Agreement.{IsLayoutOf};
+ghost use Rattle.screen_window.specs.NodeLine.{is_line};
+ghost use Rattle.screen_window.specs.Screen.{Screen, screen_row, window_rows};
+ghost use Rattle.screen_window.specs.ShownRow.{shown_row};
+ghost use Rattle.screen_window.specs.View.{plain_view};
+ghost use Rattle.screen_window.specs.Window.{is_run_line, line_row, run_line};
+ghost use Rattle.screen_window.specs.Private.RowText.{text_cells};
+ghost use Rattle.screen_window.specs.Cursor.{begins_node, cursor_place, cut_col};
+ghost use Rattle.screen_window.specs.LowerRows.{last_ones};
+ghost use Rattle.screen_window.specs.Private.Drawing.{IsDrawn, begins_stop, found_or, row_from, row_line};
+ghost use Rattle.screen_window.specs.Private.WithRow.{with_row};
+
+use crate::cursor::stop_col;
+use crate::grid::Grid;
+use crate::lower_rows::{last_ones, message_row, output_row};
+use crate::node_line::{NodeLine, is_line, place_line};
+use crate::row_text::RowText;
+use crate::view::View;
+use plcs_base::{Marked, Place, Work};
+use template_tree::{Stop, Tree};
+use unparse_layout::{Line, LineKind};
+
+/// The rows that aren't the window's: dashes, three rows of output, the message and the input.
+const OTHER_ROWS: u16 = 6;
+
+/// Draws a view on a grid. It takes no memory, and lays no more lines than the window has rows.
+pub fn compose<W: Work, M: Marked>(grid: &mut Grid, view: &View<'_, W, M>, work: &mut W)
+    requires tree { IsTree view.now.tree.now }
+    requires layout { IsLayoutOf view.now.layout.now view.now.tree.now }
+    requires top { view.now.top + grid.old.rows < 2 ^ 32 }
+    ensures drawn { grid.new ≡ Screen grid.old.rows grid.old.cols (plain_view M.marks view.now) }
+    ensures laid { W.laid work.new ≤ W.laid work.old + window_rows grid.old.rows }
+    ensures lays { W.laid work.old ≤ W.laid work.new }
+    ensures emitted { W.emitted work.new ≡ W.emitted work.old }
+    ensures checked { W.checked work.new ≡ W.checked work.old }
+    ensures fetched { W.fetched work.new ≡ W.fetched work.old }
+{
+    let found = draw_rows(grid, view, work);
+    let (row, col) = cursor_place(grid.rows(), grid.cols(), view, found);
+    grid.place_cursor(row, col);
+}
+
+/// Draws the rows of a view, and tells in which row of the window the line of the cursor's stop is, where
+/// rows count from 0.
+fn draw_rows<W: Work, M: Marked>(
+    grid: &mut Grid,
+    view: &View<'_, W, M>,
+    work: &mut W,
+) -> Option<u16>
+    requires tree { IsTree view.now.tree.now }
+    requires layout { IsLayoutOf view.now.layout.now view.now.tree.now }
+    requires top { view.now.top + grid.old.rows < 2 ^ 32 }
+    ensures drawn { IsDrawn (λ row. shown_row grid.old.cols (screen_row grid.old.rows grid.old.cols (plain_view M.marks view.now) row))
+        grid.old.rows grid.old grid.new }
+    ensures found { result ≡ row_from (plain_view M.marks view.now) (slot_at view.now.tree.now.items view.now.stop.now.path.items) 0 (window_rows grid.old.rows) }
+    ensures laid { W.laid work.new ≤ W.laid work.old + window_rows grid.old.rows }
+    ensures lays { W.laid work.old ≤ W.laid work.new }
+    ensures emitted { W.emitted work.new ≡ W.emitted work.old }
+    ensures checked { W.checked work.new ≡ W.checked work.old }
+    ensures fetched { W.fetched work.new ≡ W.fetched work.old }
+{
+    let run = run_line(view.tree, view.run_place);
+    let stop = stop_slot(view.tree, view.stop);
+    let rows = grid.rows();
+    let mut found = None;
+    for row in 0..rows {
+        let laid = laid_line(view, rows - OTHER_ROWS, row, work);
+        found = found_or(found, begins_stop(stop, laid.as_ref()), row);
+        draw_row(grid, view, row, run, laid.as_ref());
+    }
+    found
+}
+
+/// The program's line in a row of the screen, where that lies in the window, which has so many rows.
+fn laid_line<W: Work, M: Marked>(
+    view: &View<'_, W, M>,
+    window: u16,
+    row: u16,
+    work: &mut W,
+) -> Option<Line<W>>
+    requires tree { IsTree view.now.tree.now }
+    requires layout { IsLayoutOf view.now.layout.now view.now.tree.now }
+    requires top { view.now.top + row < 2 ^ 32 }
+    ensures line { result ≡ row_line window (plain_view M.marks view.now) row }
+    ensures laid { W.laid work.new ≤ W.laid work.old + (if nat_lt row window then 1 else 0) }
+    ensures lays { W.laid work.old ≤ W.laid work.new }
+    ensures emitted { W.emitted work.new ≡ W.emitted work.old }
+    ensures checked { W.checked work.new ≡ W.checked work.old }
+    ensures fetched { W.fetched work.new ≡ W.fetched work.old }
+{
+    if row < window {
+        view.layout
+            .line(view.tree, view.marks, view.top + u32::from(row), work)
+    } else {
+        None
+    }
+}
+
+/// The slot of the node at which the cursor stands, if there is one.
+fn stop_slot(tree: &Tree, stop: &Stop) -> Option<u32>
+    requires { IsTree tree.now }
+    ensures { result ≡ slot_at tree.now.items stop.now.path.items }
+{
+    let node = tree.node(&stop.path)?;
+    Some(node.slot().0)
+}
+
+/// Whether a line is the first of the node in the slot, where there is one.
+fn begins_stop<W>(slot: Option<u32>, laid: Option<&Line<W>>) -> bool
+    ensures { result ≡ begins_stop slot (option_map (λ line. line.now) laid.entry) }
+{
+    match slot {
+        Some(slot) => begins_node(slot, laid),
+        None => false,
+    }
+}
+
+/// Whether a line is the first of the node in the slot.
+fn begins_node<W>(slot: u32, laid: Option<&Line<W>>) -> bool
+    ensures { result ≡ begins_node slot (option_map (λ line. line.now) laid.entry) }
+{
+    match laid {
+        Some(laid) => is_line(
+            NodeLine {
+                slot,
+                kind: LineKind::First,
+            },
+            laid,
+        ),
+        None => false,
+    }
+}
+
+/// The row that was found, or else this one where it is the one that is looked for.
+fn found_or(found: Option<u16>, here: bool, row: u16) -> Option<u16>
+    ensures { result ≡ found_or found here row }
+{
+    match found {
+        Some(found) => Some(found),
+        None if here => Some(row),
+        None => None,
+    }
+}
+
+/// The row and the column of the cursor, which count from 1, where the line of its stop is in this row of
+/// the window, which counts from 0.
+fn cursor_place<W: Work, M: Marked>(
+    rows: u16,
+    cols: u16,
+    view: &View<'_, W, M>,
+    found: Option<u16>,
+) -> (u16, u16)
+    requires tree { IsTree view.now.tree.now }
+    requires least_rows { 12 ≤ rows }
+    requires most_rows { rows ≤ 100 }
+    requires least_cols { 40 ≤ cols }
+    requires most_cols { cols ≤ 160 }
+    requires found { found ≡ row_from (plain_view M.marks view.now) (slot_at view.now.tree.now.items view.now.stop.now.path.items) 0 (window_rows rows) }
+    ensures within { result.0 ≤ rows }
+    ensures row { result.0 ≡ (cursor_place rows cols (plain_view M.marks view.now)).row }
+    ensures col { result.1 ≡ (cursor_place rows cols (plain_view M.marks view.now)).col }
+{
+    if !view.typed.is_empty() {
+        return (rows, typed_col(cols, view.prompt, view.typed));
+    }
+    match (view.tree.node(&view.stop.path), found) {
+        (Some(node), Some(row)) => (row + 1, stop_col(cols, view.stop, node)),
+        _ => (1, 1),
+    }
+}
+
+/// The column behind the prompt and the end of the typed line, or the last but one where it lies beyond.
+fn typed_col(cols: u16, prompt: &[u8], typed: &[u8]) -> u16
+    requires least { 40 ≤ cols }
+    requires most { cols ≤ 160 }
+    ensures { result ≡ cut_col cols (length (prompt.now ++ last_ones (cols - 2 - length prompt.now) typed.now) + 1) }
+{
+    let room = usize::from(cols - 2).saturating_sub(prompt.len());
+    let col = prompt
+        .len()
+        .saturating_add(last_ones(typed, room).len())
+        .saturating_add(1);
+    col.min(usize::from(cols - 1)) as u16
+}
+
+/// Draws a row of a view, which counts from 0, where this line lies in it.
+#[tactic(auto, unfolding(crate::specs::Screen::screen_row))]
+fn draw_row<W: Work, M: Marked>(
+    grid: &mut Grid,
+    view: &View<'_, W, M>,
+    row: u16,
+    run: Option<NodeLine>,
+    laid: Option<&Line<W>>,
+)
+    requires tree { IsTree view.now.tree.now }
+    requires row { row < grid.old.rows }
+    requires run { run ≡ run_line view.now.tree.now.items view.now.run_place }
+    requires line { option_map (λ line. line.now) laid ≡ row_line (window_rows grid.old.rows) (plain_view M.marks view.now) row }
+    ensures { grid.new ≡ with_row grid.old row (shown_row grid.old.cols (screen_row grid.old.rows grid.old.cols (plain_view M.marks view.now) row)) }
+{
+    let rows = grid.rows();
+    let cols = grid.cols();
+    if row < rows - OTHER_ROWS {
+        match view.code {
+            Some(code) => grid.show(row, RowText::Code(code_text(code, row))),
+            None => grid.show(row, line_text(run, laid)),
+        }
+    } else {
+        grid.show(row, lower_text(view, rows, cols, row));
+    }
+}
+
+/// What is written in a row below the window.
+#[tactic(auto, unfolding(crate::specs::Screen::screen_row))]
+fn lower_text<'a, W: Work, M: Marked>(
+    view: &View<'a, W, M>,
+    rows: u16,
+    cols: u16,
+    row: u16,
+) -> RowText<'a>
+    requires tree { IsTree view.now.tree.now }
+    requires rows { 12 ≤ rows }
+    requires few { rows ≤ 100 }
+    requires below { window_rows rows ≤ row }
+    ensures { text_cells cols result ≡ screen_row rows cols (plain_view M.marks view.now) row }
+{
+    let window = rows - OTHER_ROWS;
+    if row == window {
+        RowText::Dashes
+    } else if row < rows - 2 {
+        RowText::Text(output_row(view.output, usize::from(row - (window + 1))))
+    } else if row == rows - 2 {
+        RowText::Text(message_row(view.message, view.tree, view.stop, view.marks))
+    } else {
+        let room = usize::from(cols).saturating_sub(2);
+        RowText::Input(
+            view.prompt,
+            last_ones(view.typed, room.saturating_sub(view.prompt.len())),
+        )
+    }
+}
+
+/// An instruction, or nothing below the last.
+fn code_text(rows: &[Vec<u8>], row: u16) -> &[u8]
+    ensures { result.now ≡ slice_index_or (map (λ text. text.items) rows.now) row [] }
+{
+    match rows.get(usize::from(row)) {
+        Some(text) => text.as_slice(),
+        None => &[],
+    }
+}
+
+/// A line of the program, or nothing below the last.
+fn line_text<'a, W>(run: Option<NodeLine>, laid: Option<&'a Line<W>>) -> RowText<'a>
+    ensures { (cols : ℕ) → text_cells cols result ≡ line_row run (option_map (λ line. line.now) laid.entry) }
+{
+    match laid {
+        Some(laid) => RowText::Line(is_run_line(run, laid), laid.cells()),
+        None => RowText::Text(&[]),
+    }
+}
+
+/// Whether a laid line is that of the run's place.
+fn is_run_line<W>(run: Option<NodeLine>, laid: &Line<W>) -> bool
+    ensures { result ≡ is_run_line run laid.now }
+{
+    match run {
+        Some(line) => is_line(line, laid),
+        None => false,
+    }
+}
+
+/// The line of the run's place, if a run stands and its slot is live.
+fn run_line(tree: &Tree, place: Option<Place>) -> Option<NodeLine>
+    requires { IsTree tree.now }
+    ensures { result ≡ run_line tree.now.items place }
+{
+    place_line(tree, place?)
+}

@@ -1,0 +1,69 @@
+//! Where the cursor stands in the line of its stop.
+
+ghost use Rattle.std.specs.Prelude.{◌≡◌, ◌+◌, ◌≤◌, length, map};
+ghost use Rattle.plcs_grammar.specs.Template.{plain_segment, row_of};
+ghost use Rattle.template_tree.specs.Line.{part_text};
+ghost use Rattle.unparse_layout.specs.OwnedLine.{part_at, stretches_of};
+ghost use Rattle.screen_window.specs.Cursor.{bytes_before, cut_col, stop_col, stop_offset};
+ghost use Rattle.screen_window.specs.Private.Capped.{capped};
+
+use plcs_grammar::{Category, Segment, shown_len};
+use template_tree::{Node, PhrasePlace, Stop};
+
+/// The column of a stop in the node, which counts from 1, or the last but one where it lies beyond.
+pub fn stop_col(cols: u16, stop: &Stop, node: &Node) -> u16
+    ensures { result ≡ cut_col cols (stop_col stop.now.path.items stop.now.part node.now) }
+{
+    let level = (stop.path.len() as u32).saturating_sub(1);
+    let col = stop_offset(node, stop.part).saturating_add(3 + 2 * level);
+    col.min(u32::from(cols.saturating_sub(1))) as u16
+}
+
+/// How many bytes of the node's first line stand before the stop, behind the level's blanks; past
+/// 4294967295 it is that number.
+fn stop_offset(node: &Node, part: Option<u8>) -> u32
+    ensures { result ≡ capped (stop_offset node.now part) }
+{
+    match part {
+        None => 0,
+        Some(part) => bytes_before(node, part, node.kind().row().line, 0),
+    }
+}
+
+/// How many bytes of these segments, of which the next part has this number, stand before a part.
+fn bytes_before(node: &Node, part: u8, segments: &[Segment], next: u8) -> u32
+    requires { next + length segments.now ≤ 100 }
+    ensures { result ≡ capped (bytes_before part (stretches_of next (map plain_segment segments.now) node.now.label.parts)) }
+{
+    let Some((first, rest)) = segments.split_first() else {
+        return 0;
+    };
+    match *first {
+        Segment::Words(bytes) => {
+            let behind = bytes_before(node, part, rest, next);
+            behind.saturating_add(capped(bytes.len()))
+        }
+        Segment::Part(_) if next == part => 0,
+        Segment::Part(category) => {
+            let behind = bytes_before(node, part, rest, next + 1);
+            behind.saturating_add(part_len(node, category, next))
+        }
+    }
+}
+
+/// A number, or the greatest one that is kept.
+fn capped(number: usize) -> u32
+    ensures { result ≡ capped number }
+{
+    number.min(4_294_967_295) as u32
+}
+
+/// How many bytes are written for the part of this number.
+fn part_len(node: &Node, category: Category, part: u8) -> u32
+    ensures { result ≡ capped (length (part_text category (part_at node.now.label.parts part))) }
+{
+    match node.part(part) {
+        Some(PhrasePlace::Filled(phrase)) => shown_len(phrase),
+        _ => capped(category.placeholder().len()),
+    }
+}

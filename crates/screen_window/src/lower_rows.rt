@@ -1,0 +1,130 @@
+//! The rows below the window: the output, the message, the prompt and the typed line.
+
+ghost use Rattle.std.specs.Prelude.{◌≡◌, ◌+◌, ◌≤◌, [], length, slice_index_or};
+ghost use Rattle.template_tree.specs.Listing.{split_at_ends};
+ghost use Rattle.template_tree.specs.Path.{node_at};
+ghost use Rattle.template_tree.specs.Tree.{IsTree};
+ghost use Rattle.screen_window.specs.LowerRows.{cursor_mark, cursor_part, last_ones, mark_text, marked_text, message_or, output_row};
+
+use plcs_base::{MarkKind, Marked, PhraseAt};
+use plcs_grammar::NodeKind;
+use template_tree::{Stop, Tree};
+
+/// How many rows show the output.
+pub const OUTPUT_ROWS: usize = 3;
+
+/// A row of the output, which counts from 0.
+pub fn output_row(output: &[u8], row: usize) -> &[u8]
+    requires { row ≤ 100 }
+    ensures { result.now ≡ output_row output.now row }
+{
+    if output.is_empty() {
+        return output;
+    }
+    line_at(output, line_count(output).saturating_sub(OUTPUT_ROWS) + row)
+}
+
+/// How many lines there are.
+fn line_count(bytes: &[u8]) -> usize
+    ensures lines { result ≡ length (split_at_ends [] bytes.now) }
+    ensures few { result ≤ length bytes.now + 1 }
+{
+    let mut ends = 0;
+    for byte in bytes {
+        if *byte != b'\n' {
+            continue;
+        }
+        ends += 1;
+    }
+    ends + 1
+}
+
+/// The line of the number, which counts from 0, or nothing behind the last.
+fn line_at(bytes: &[u8], number: usize) -> &[u8]
+    ensures { result.now ≡ slice_index_or (split_at_ends [] bytes.now) number [] }
+{
+    let mut start = 0;
+    let mut left = number;
+    for at in 0..bytes.len() {
+        if bytes[at] != b'\n' {
+            continue;
+        }
+        if left == 0 {
+            return &bytes[start..at];
+        }
+        left -= 1;
+        start = at + 1;
+    }
+    if left == 0 { &bytes[start..] } else { &[] }
+}
+
+/// The message, or where it is empty the mark at the cursor.
+pub fn message_row<'a, M: Marked>(
+    message: &'a [u8],
+    tree: &Tree,
+    stop: &Stop,
+    marks: &M,
+) -> &'a [u8]
+    requires { IsTree tree.now }
+    ensures { result.now ≡ message_or message.now (marked_text (cursor_mark (M.marks marks.now) stop.now.part (node_at tree.now.items stop.now.path.items))) }
+{
+    if !message.is_empty() {
+        return message;
+    }
+    match cursor_mark(tree, stop, marks) {
+        Some(mark) => mark_text(mark),
+        None => message,
+    }
+}
+
+/// The mark of the cursor's phrase or assignment, if it has one.
+fn cursor_mark<M: Marked>(tree: &Tree, stop: &Stop, marks: &M) -> Option<MarkKind>
+    requires { IsTree tree.now }
+    ensures { result ≡ cursor_mark (M.marks marks.now) stop.now.part (node_at tree.now.items stop.now.path.items) }
+{
+    let node = tree.node(&stop.path)?;
+    let part = cursor_part(node.kind(), stop.part)?;
+    marks.mark(PhraseAt {
+        slot: node.slot(),
+        part,
+    })
+}
+
+/// The part at which the cursor stands, as far as marks go.
+fn cursor_part(kind: NodeKind, part: Option<u8>) -> Option<u8>
+    ensures { result ≡ cursor_part kind part }
+{
+    match part {
+        Some(part) => Some(part),
+        None => match kind {
+            NodeKind::Assign => Some(0),
+            _ => None,
+        },
+    }
+}
+
+/// The text of a mark.
+fn mark_text(mark: MarkKind) -> &'static [u8]
+    ensures { result.now ≡ mark_text mark }
+{
+    match mark {
+        MarkKind::Undeclared => b"UNDECLARED",
+        MarkKind::TypeMismatch => b"TYPE MISMATCH",
+        MarkKind::NotArray => b"NOT AN ARRAY",
+        MarkKind::NeedsSubscript => b"NEEDS SUBSCRIPT",
+        MarkKind::Duplicate => b"DUPLICATE",
+        MarkKind::UnknownProcedure => b"UNKNOWN PROCEDURE",
+        MarkKind::WrongCount => b"WRONG COUNT",
+        MarkKind::ArgumentType => b"ARGUMENT TYPE",
+        MarkKind::ParameterUndeclared => b"PARAMETER UNDECLARED",
+        MarkKind::TooManyCells => b"TOO MANY CELLS",
+        MarkKind::Reserved => b"RESERVED",
+    }
+}
+
+/// The last bytes of the typed line, at most so many.
+pub fn last_ones(typed: &[u8], room: usize) -> &[u8]
+    ensures { result.now ≡ last_ones room typed.now }
+{
+    &typed[typed.len().saturating_sub(room)..]
+}

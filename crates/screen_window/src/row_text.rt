@@ -1,0 +1,119 @@
+//! Rows of cells, as they are written.
+
+ghost use Rattle.std.specs.Prelude.{◌≡◌, ℕ, ◌-◌, List, ◌++◌, length, replicate};
+ghost use Rattle.plcs_base.specs.Byte.{is_printable};
+ghost use Rattle.screen_window.specs.Cell.{is_cell};
+ghost use Rattle.screen_window.specs.ShownRow.{margin, shown_cell, shown_row};
+ghost use Rattle.screen_window.specs.Private.RowText.{text_cells};
+
+use crate::lines::BLANK;
+
+/// What is written in a row.
+#[derive(Clone, Copy)]
+pub enum RowText<'a> {
+    /// A line of the program behind its margin, which says whether the run stands there.
+    Line(bool, &'a [u16]),
+    /// An instruction behind a blank margin.
+    Code(&'a [u8]),
+    /// A text from the first column on.
+    Text(&'a [u8]),
+    /// Dashes.
+    Dashes,
+    /// The prompt and the end of the typed line.
+    Input(&'a [u8], &'a [u8]),
+}
+
+/// Shows what is written in a row of cells.
+pub fn show_row(line: &mut Vec<u16>, text: RowText<'_>)
+    ensures { line.new.items ≡ shown_row (length line.old.items) (text_cells (length line.old.items) text.entry) }
+{
+    match text {
+        RowText::Line(runs, cells) => {
+            show_bytes(line, 0, margin(runs));
+            show_cells(line, 2, cells);
+        }
+        RowText::Code(bytes) => {
+            show_bytes(line, 0, margin(false));
+            show_bytes(line, 2, bytes);
+        }
+        RowText::Text(bytes) => show_bytes(line, 0, bytes),
+        RowText::Dashes => show_dashes(line),
+        RowText::Input(prompt, typed) => {
+            show_bytes(line, 0, prompt);
+            show_bytes(line, prompt.len(), typed);
+        }
+    }
+}
+
+/// The margin of a line.
+fn margin(runs: bool) -> &'static [u8]
+    ensures { result.now ≡ margin runs }
+{
+    if runs { b"> " } else { b"  " }
+}
+
+/// Shows bytes from a column on, which counts from 0.
+fn show_bytes(line: &mut Vec<u16>, from: usize, bytes: &[u8])
+    ensures first { from ≡ 0 → line.new.items ≡ shown_row (length line.old.items) bytes.now }
+    ensures behind { (front : List ℕ) → length front ≡ from → line.old.items ≡ shown_row (length line.old.items) front
+        → line.new.items ≡ shown_row (length line.old.items) (front ++ bytes.now) }
+{
+    let cols = line.len();
+    for col in from..cols {
+        line[col] = if col + 1 < cols && col - from < bytes.len() {
+            shown_cell(u16::from(bytes[col - from]))
+        } else {
+            BLANK
+        };
+    }
+}
+
+/// Shows cells from a column on, which counts from 0.
+fn show_cells(line: &mut Vec<u16>, from: usize, cells: &[u16])
+    ensures { (front : List ℕ) → length front ≡ from → line.old.items ≡ shown_row (length line.old.items) front
+        → line.new.items ≡ shown_row (length line.old.items) (front ++ cells.now) }
+{
+    let cols = line.len();
+    for col in from..cols {
+        line[col] = if col + 1 < cols && col - from < cells.len() {
+            shown_cell(cells[col - from])
+        } else {
+            BLANK
+        };
+    }
+}
+
+/// Shows dashes in all columns but the last.
+fn show_dashes(line: &mut Vec<u16>)
+    ensures { line.new.items ≡ shown_row (length line.old.items) (replicate (length line.old.items - 1) 45) }
+{
+    let cols = line.len();
+    for col in 0..cols {
+        line[col] = if col + 1 < cols {
+            u16::from(b'-')
+        } else {
+            BLANK
+        };
+    }
+}
+
+/// A cell, or a blank in place of what is none.
+fn shown_cell(cell: u16) -> u16
+    ensures { result ≡ shown_cell cell }
+{
+    if is_cell(cell) { cell } else { BLANK }
+}
+
+/// Whether a number is a cell.
+fn is_cell(cell: u16) -> bool
+    ensures { result ≡ is_cell cell }
+{
+    is_in_range(cell) || is_in_range(cell.saturating_sub(256))
+}
+
+/// Whether a number is a printable byte.
+fn is_in_range(byte: u16) -> bool
+    ensures { result ≡ is_printable byte }
+{
+    32 <= byte && byte <= 126
+}
