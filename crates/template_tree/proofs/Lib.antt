@@ -64,3 +64,5 @@ pub mod Assignments
 mod ApartSections
 mod FilledLists
 mod ListTrees
+-- the text of a comment that a test sets
+pub mod RemarkText
