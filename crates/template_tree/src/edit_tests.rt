@@ -202,7 +202,9 @@ fn remark(alloc: Global) -> Result<PhrasePlace, Fail>
     ensures { IfOk result (λ place. IsPlace (plain_place place)) }
 {
     let mut bytes = Vec::new(alloc);
-    bytes.push(b'a').map_err(|_| "a letter")?;
+    if let Err(_) = bytes.push(b'a') {
+        return Err("a letter".into());
+    }
     Ok(PhrasePlace::Filled(Phrase::CommentText(bytes)))
 }
 
