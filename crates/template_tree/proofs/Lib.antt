@@ -62,3 +62,5 @@ pub mod FreshNodes
 mod ApartSections
 mod FilledLists
 mod ListTrees
+-- which list an item stands in, and the items beside it
+mod BesidePaths
