@@ -66,3 +66,5 @@ mod FilledLists
 mod ListTrees
 -- the text of a comment that a test sets
 pub mod RemarkText
+-- which list an item stands in, and the items beside it
+mod BesidePaths
