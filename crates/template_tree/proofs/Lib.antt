@@ -64,3 +64,7 @@ pub mod Assignments
 mod ApartSections
 mod FilledLists
 mod ListTrees
+-- the text of a comment that a test sets
+pub mod RemarkText
+-- which list an item stands in, and the items beside it
+mod BesidePaths

@@ -20,6 +20,7 @@ use Rattle.template_tree.specs.ListItem.{is_listed, sections_at, siblings_at, ho
 use Rattle.template_tree.specs.EditAnswer.{IsListItem, IsSpareHole}
 use Rattle.template_tree.specs.Receipt.{with_beside}
 use Rattle.template_tree.specs.Private.Apart.{AreApart}
+use Rattle.template_tree.specs.Private.Beside.{last_of}
 use Rattle.template_tree.proofs.SameEdits.{taken, edits_alike}
 use Rattle.template_tree.proofs.SlotEdits.{slot_edit_is_path_edit}
 use Rattle.template_tree.proofs.PutTrees.{below_more, none_above}
@@ -129,12 +130,6 @@ with_inner change (Forest.cons label inner rest) zero path j sound law =
 with_inner change (Forest.cons label inner rest) (suc k) path j sound law =
     let h = with_inner change rest k path j sound.2 (λ node e. law node e) in
     (ap (λ ss. sort_of label.kind ∷ ss) h.0, (sound.0, sound.1, h.1))
-
--- the number in its list of the node at a path
-abbrev pub last_of : List ℕ → ℕ
-last_of [] = 0
-last_of (k ∷ []) = k
-last_of (k ∷ (j ∷ path)) = last_of (j ∷ path)
 
 -- the edit keeps the list in which the node at a path stands
 abbrev pub KeepsAt : (PlainNode → List PlainNode) → List PlainSection → Forest → List ℕ → Type 0

@@ -14,3 +14,4 @@ pub mod Exchange
 pub mod Restored
 -- ---- lists of items
 pub mod Apart
+pub mod Beside

@@ -1,6 +1,7 @@
 //! The tree of templates: programs, their listing, and how they are read.
 #![tactic(auto, using(crate::specs::PlainTree::nodes_forest))]
 
+mod beside;
 mod build;
 #[cfg(test)]
 mod build_tests;
@@ -19,6 +20,7 @@ mod limit;
 mod limit_reached;
 mod list_change;
 mod list_edit;
+mod list_item;
 mod listing;
 mod node;
 mod node_at;

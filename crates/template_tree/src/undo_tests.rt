@@ -60,24 +60,17 @@ enum Edit {
     Take,
 }
 
-/// An edit, and the path at which it is made.
-#[derive(Clone, Copy)]
-struct Step {
-    edit: Edit,
-    numbers: &'static [u32],
-}
-
 /// Makes the edits one after the other, and then undoes them in reverse order.
-fn walk(alloc: Global, tree: &mut Tree, steps: &[Step]) -> Result<(), Fail>
+fn walk(alloc: Global, tree: &mut Tree, steps: &[(Edit, &[u32])]) -> Result<(), Fail>
     requires tree { IsTree tree.old }
     ensures tree { OnOk result (IsTree tree.new) }
     ensures same { OnOk result (roomless_tree tree.new ≡ roomless_tree tree.old) }
 {
-    let Some((step, rest)) = steps.split_first() else {
+    let Some(((edit, numbers), rest)) = steps.split_first() else {
         return Ok(());
     };
-    let at = path(step.numbers)?;
-    match step.edit {
+    let at = path(numbers)?;
+    match *edit {
         Edit::Fill(template) => {
             let receipt = tree.fill(alloc, &at, template).map_err(|_| "a hole for it")?;
             walk(alloc, tree, rest)?;
@@ -103,28 +96,36 @@ fn walk(alloc: Global, tree: &mut Tree, steps: &[Step]) -> Result<(), Fail>
     }
 }
 
+const STEPS: [(Edit, &[u32]); 11] = [
+    (Edit::Fill(Template::IfElse), &[0, 1]),
+    (Edit::Fill(Template::For), &[0, 1, 1]),
+    (Edit::Empty(2), &[0, 1, 1]),
+    (Edit::Fill(Template::ProcP), &[1]),
+    (Edit::Fill(Template::Char), &[1, 0]),
+    (Edit::Fill(Template::Comment), &[0, 1, 1, 0]),
+    (Edit::Take, &[0, 1, 1]),
+    (Edit::Fill(Template::Group), &[0, 1, 1]),
+    (Edit::Take, &[0, 1]),
+    (Edit::Take, &[1]),
+    (Edit::Fill(Template::Proc), &[1]),
+];
+
+/// Makes the walk on a new tree, and says whether it left the listing and the slots as they were.
+fn comes_back(alloc: Global) -> Result<bool, Fail> {
+    let mut tree = Tree::new(alloc).map_err(|_| "a tree")?;
+    let before = listing(alloc, &tree)?;
+    walk(alloc, &mut tree, &STEPS)?;
+    let after = listing(alloc, &tree)?;
+    let hole = path(&[0, 1])?;
+    let receipt = tree.fill(alloc, &hole, Template::Group).map_err(|_| "a hole for it")?;
+    let Some(inner) = tree.node(&path(&[0, 1, 0])?) else {
+        return Ok(false);
+    };
+    Ok(before == after && receipt.change().slot == Slot(2) && inner.slot() == Slot(4))
+}
+
 #[test]
 fn edits_undone_in_reverse_order_leave_nothing(rt: HostRuntime) -> Result<(), Fail> {
-    let mut tree = Tree::new(rt.alloc()).map_err(|_| "a tree")?;
-    let before = listing(rt.alloc(), &tree)?;
-    let steps: &[Step] = &[
-        Step { edit: Edit::Fill(Template::IfElse), numbers: &[0, 1] },
-        Step { edit: Edit::Fill(Template::For), numbers: &[0, 1, 1] },
-        Step { edit: Edit::Empty(2), numbers: &[0, 1, 1] },
-        Step { edit: Edit::Fill(Template::ProcP), numbers: &[1] },
-        Step { edit: Edit::Fill(Template::Char), numbers: &[1, 0] },
-        Step { edit: Edit::Fill(Template::Comment), numbers: &[0, 1, 1, 0] },
-        Step { edit: Edit::Take, numbers: &[0, 1, 1] },
-        Step { edit: Edit::Fill(Template::Group), numbers: &[0, 1, 1] },
-        Step { edit: Edit::Take, numbers: &[0, 1] },
-        Step { edit: Edit::Take, numbers: &[1] },
-        Step { edit: Edit::Fill(Template::Proc), numbers: &[1] },
-    ];
-    walk(rt.alloc(), &mut tree, steps)?;
-    let after = listing(rt.alloc(), &tree)?;
-    assert!(rt; before == after && tree.slots() == 4);
-    let receipt = tree.fill(rt.alloc(), &path(&[0, 1])?, Template::Group).map_err(|_| "a hole for it")?;
-    assert!(rt; receipt.change().slot == Slot(2));
-    assert!(rt; tree.node(&path(&[0, 1, 0])?).map(|node| node.slot()) == Some(Slot(4)));
+    assert!(rt; comes_back(rt.alloc())?);
     Ok(())
 }
