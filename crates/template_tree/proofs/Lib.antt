@@ -30,7 +30,18 @@ pub mod KeptTrees
 pub mod SlotPaths
 -- the slots of a tree that is built are drawn in listing order, and each but once
 pub mod DrawnSlots
+-- an edit does the same without the room of lists; what an undone edit gives back
+pub mod RoomlessEdits
+-- a tree is one with and without room
+pub mod RoomlessTrees
+-- what stands at the path of an edit after it, how deep that is, and in which procedure
+pub mod EditedNodes
+pub mod Procedures
+-- nothing is elided in a node that comes into a slot
+pub mod RevealedNodes
 -- a tree stays one where a node comes into a slot
 pub mod PutTrees
 -- the program that a test builds is one
 pub mod BuiltProgram
+-- a node that came in place of another is an edit, which its receipt undoes
+pub mod PutEdits

@@ -1,5 +1,5 @@
 -- Edits of a tree, each at a slot.
-use Rattle.std.specs.Prelude.{◌≡◌, ℕ, zero, suc, ◌+◌, false, if◌then◌else◌, ◌==◌, nat_lt, List, [], ◌∷◌, ◌++◌, find, Option, Some, None, option_map}
+use Rattle.std.specs.Prelude.{◌≡◌, ℕ, zero, suc, ◌+◌, Bool, true, false, if◌then◌else◌, ◌==◌, nat_lt, List, [], ◌∷◌, ◌++◌, find, Option, Some, None, option_map}
 use Rattle.plcs_grammar.specs.declared.node_kind.NodeKind.{NodeKind}
 use Rattle.plcs_grammar.specs.declared.node_kind.Sort.{Sort}
 use Rattle.plcs_grammar.specs.PlainPhrase.{PlainPhrase}
@@ -55,6 +55,17 @@ hole_of Sort.Main = None
 hole_of Sort.Procedure = Some NodeKind.ProcedureHole
 hole_of Sort.Declaration = Some NodeKind.DeclarationHole
 hole_of Sort.Statement = Some NodeKind.StatementHole
+
+-- whether nodes of the kind are holes
+abbrev pub is_hole : NodeKind → Bool
+is_hole NodeKind.DeclarationHole = true
+is_hole NodeKind.StatementHole = true
+is_hole NodeKind.ProcedureHole = true
+is_hole other = false
+
+-- the kind of the hole that stays where a node of the kind is taken out; main isn't taken out, and neither is a hole
+abbrev pub hole_left : NodeKind → Option NodeKind
+hole_left kind = if is_hole kind then None else hole_of (sort_of kind)
 
 -- a node of the kind with no parts and nothing inside
 abbrev pub lone : ℕ → NodeKind → PlainNode

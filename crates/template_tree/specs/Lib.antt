@@ -16,6 +16,11 @@ pub mod Lend
 pub mod Descent
 pub mod TreeLend
 pub mod Elision
+pub mod FreshNode
+pub mod TreeEdit
+pub mod Receipt
+pub mod ListItem
+pub mod EditAnswer
 -- ---- places of a run
 pub mod Place
 -- ---- the laws

@@ -57,6 +57,10 @@ abbrev pub roomless : Forest → Forest
 roomless nil = nil
 roomless (cons label inner rest) = cons (record label { spare = 0 }) (roomless inner) (roomless rest)
 
+-- a node without the room of its lists
+abbrev pub roomless_node : PlainNode → PlainNode
+roomless_node node = record { label = record node.label { spare = 0 }; inner = roomless node.inner }
+
 -- a list of nodes, with how many more it has room for
 pub record PlainNodes : Type 0 where
   pub items : List PlainNode
@@ -68,3 +72,7 @@ pub record PlainTree : Type 0 where
   pub spare : ℕ
   pub drawn : ℕ
   pub live : ℕ
+
+-- a tree without the room of its lists
+abbrev pub roomless_tree : PlainTree → PlainTree
+roomless_tree tree = record { items = roomless tree.items; spare = 0; drawn = tree.drawn; live = tree.live }

@@ -4,6 +4,11 @@ pub mod PhraseCode
 pub mod NodeCode
 pub mod Weight
 pub mod NodeView
+pub mod ReceiptCode
+pub mod ReceiptView
 -- ---- the listing while it is put
 pub mod PlainLeft
 pub mod NodeLines
+-- ---- an edit in its steps
+pub mod Exchange
+pub mod Restored

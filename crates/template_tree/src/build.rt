@@ -68,7 +68,7 @@ impl Tree {
 }
 
 /// Whether no path in these nodes has more than so many numbers. Its stack grows with that number.
-fn is_within_depth(nodes: &[Node], most: u32) -> bool
+pub(crate) fn is_within_depth(nodes: &[Node], most: u32) -> bool
     ensures { IsTrue result ↔ (depth (forest nodes.now) ≤ most) }
 {
     for node in nodes {
@@ -83,7 +83,7 @@ fn is_within_depth(nodes: &[Node], most: u32) -> bool
 }
 
 /// How many slots are left of so many when each node has one, or `None` where they are too few.
-fn slots_left(nodes: &[Node], slots: u32) -> Option<u32>
+pub(crate) fn slots_left(nodes: &[Node], slots: u32) -> Option<u32>
     ensures left { IfSome result (λ left. left + count (forest nodes.now) ≡ slots) }
     ensures few { IfNone result (slots < count (forest nodes.now)) }
 {
@@ -101,7 +101,7 @@ fn slots_left(nodes: &[Node], slots: u32) -> Option<u32>
 }
 
 /// Gives the nodes the slots from this number on in listing order, and says which number is next.
-fn draw_slots(list: &mut Nodes, first: u32) -> u32
+pub(crate) fn draw_slots(list: &mut Nodes, first: u32) -> u32
     requires few { first + count (forest list.old.items) ≤ 4294967295 }
     ensures drawn { list.new ≡ record list.old { items = nodes (with_slots_from first (forest list.old.items)) } }
     ensures next { result ≡ first + count (forest list.old.items) }

@@ -1,0 +1,59 @@
+use Rattle.std.specs.Prelude.{◌≡◌, ◌+◌, ◌-◌, ◌≤◌, Some}
+use Rattle.std.proofs.Common.{arith, sym, ap, ◌∙◌}
+use Rattle.template_tree.specs.contracts.tree.Tree.{the_view}
+use Rattle.template_tree.specs.PlainTree.{PlainNode, PlainTree}
+use Rattle.template_tree.specs.Path.{node_at}
+use Rattle.template_tree.specs.Slots.{count}
+use Rattle.template_tree.specs.Edit.{Put, node_in_slot}
+use Rattle.template_tree.specs.Private.Exchange.{MayReplace}
+use Rattle.template_tree.proofs.Counts.{counted_below}
+use Rattle.template_tree.proofs.PutEdits.{come, exchanged_is, put_change, of_there}
+use Rattle.template_tree.proofs.tree.Tree.exchange.Goals as goal
+
+-- the old node stands at the path
+there : (c : goal.After-of_node-2) → node_at c.args.self.now.items c.args.path.now.items ≡ Some c.replace-old.result
+there c = sym c.in-Some.ensures.found ∙ ap Some (sym c.replace-old.ensures.value)
+
+-- how many slots it has
+slots_are : (c : goal.After-of_node-2) → c.slots.result ≡ count c.replace-old.result.inner + 1
+slots_are c = c.slots.ensures
+
+-- the new node is there
+came_is : (c : goal.After-of_node-2) → c.replace-old.new.dest ≡ come c.args.self.now c.replace-old.result c.args.node
+came_is c =
+    c.replace-old.ensures.after
+    ∙ (c.settle-next.ensures.settled
+    ∙ λ i. node_in_slot ((ap (λ (n : PlainNode). n.label.slot) (c.there.view_is ∙ sym c.replace-old.ensures.value)) i)
+      ((ap (λ (t : PlainTree). t.drawn) c.self.view_is) i) c.args.node)
+
+few : (c : goal.After-of_node-2) → c.slots.result ≤ c.args.self.now.live
+few c = omega (arith, slots_are c, counted_below c.args.self.now.items c.args.path.now.items c.replace-old.result (there c), c.requires.tree.live)
+
+pub overflow_sub-self : goal.overflow_sub-self
+overflow_sub-self c =
+    let found = sym c.in-Some.ensures.found ∙ ap Some (sym c.replace-old.ensures.value) in
+    omega (
+      arith,
+      c.slots.ensures,
+      counted_below c.args.self.now.items c.args.path.now.items c.replace-old.result found,
+      c.requires.tree.live,
+      ap (λ (t : PlainTree). t.live) c.self.view_is,
+    )
+
+pub returns-clause-put : goal.returns-clause-put
+returns-clause-put c =
+    let drawn : c.self.inside.drawn ≡ c.args.self.now.drawn = ap (λ (t : PlainTree). t.drawn) c.self.view_is in
+    let live : c.self.inside.live ≡ c.args.self.now.live = ap (λ (t : PlainTree). t.live) c.self.view_is in
+    exchanged_is c.args.self.now c.args.path.now.items c.replace-old.result c.args.node c.replace-old.new.dest (the_view c.self-2.inside)
+    c.settle-next.result (c.self.inside.live - c.slots.result + 1 + (c.settle-next.result - c.self.inside.drawn)) c.slots.result
+    c.requires.tree (there c) c.self-2.view_is (came_is c)
+    (c.settle-next.ensures.next ∙ ap (λ n. n + count c.args.node.inner) drawn)
+    c.slots.ensures (λ i. live i - c.slots.result + 1 + (c.settle-next.result - drawn i)) (few c)
+
+pub returns-clause-change : goal.returns-clause-change
+returns-clause-change c =
+    put_change c.args.self.now c.args.path.now.items c.replace-old.result c.args.node _ c.there.inside.slot c.procedure_at-procedure.result
+    c.of_node-2.result c.requires.tree (there c)
+    (of_there (node_at c.args.self.now.items c.args.path.now.items) (MayReplace c.args.self.now c.args.node) c.replace-old.result (there c) c.requires.fits)
+    (returns-clause-put c) (ap (λ (n : PlainNode). n.label.slot) (c.there.view_is ∙ sym c.replace-old.ensures.value)) c.procedure_at-procedure.ensures
+    c.of_node-2.ensures

@@ -1,0 +1,24 @@
+use Rattle.std.specs.Prelude.{◌≡◌, refl, List, [], ◌∷◌, ℕ}
+use Rattle.std.proofs.Common.{ap, sym, ◌∙◌}
+use Rattle.template_tree.specs.PlainTree.{Forest, PlainNode, PlainTree, roomless_node, roomless_tree}
+use Rattle.template_tree.specs.Receipt.{node_back}
+use Rattle.template_tree.specs.Private.Restored.{with_edit}
+use Rattle.template_tree.proofs.RoomlessEdits.{with_edit_is, nowhere_is, stays}
+use Rattle.template_tree.proofs.tree.Tree.restore_node.Goals as goal
+
+pub returns-in_default : goal.returns-in_default
+returns-in_default c =
+    rw c.in_default.is
+    (ap (λ (items : Forest). let t : PlainTree = record (roomless_tree c.args.self.now) { items = items } in t)
+    (sym (stays c.args.path.now.items (roomless_tree c.args.self.now).items)))
+
+pub returns-in_default-node_mut : goal.returns-in_default-node_mut
+returns-in_default-node_mut c =
+    rw c.in-Some.is
+    (nowhere_is (λ _. c.in-Some.node ∷ []) (λ _. roomless_node c.in-Some.node ∷ []) (λ _. refl) c.args.path.now.items c.args.self.now
+    (sym c.in_default-node_mut.ensures.found))
+
+pub returns : goal.returns
+returns c =
+    rw (c.in-Some.is, c.replace.ensures.after)
+    (with_edit_is (λ _. c.in-Some.node ∷ []) (λ _. roomless_node c.in-Some.node ∷ []) (λ _. refl) c.args.path.now.items c.args.self.now)

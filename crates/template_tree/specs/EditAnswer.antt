@@ -1,0 +1,90 @@
+-- What an edit answers: the receipt of the edit, or why it is refused.
+use Rattle.std.specs.Prelude.{◌≡◌, ℕ, ◌<◌, ◌≤◌, List, Option, Some, None, IsSome, IsSomeAnd, IsTrue, ◌⊎◌}
+use Rattle.plcs_grammar.specs.declared.category.Category.{Category}
+use Rattle.plcs_grammar.specs.declared.node_kind.NodeKind.{NodeKind}
+use Rattle.plcs_grammar.specs.PlainPhrase.{PlainPhrase, category_of}
+use Rattle.template_tree.specs.declared.change.Change.{Change}
+use Rattle.template_tree.specs.declared.tree_fault.TreeFault.{TreeFault}
+use Rattle.template_tree.specs.Limit.{deepest_path, most_slots, most_drawn}
+use Rattle.template_tree.specs.PlainTree.{Forest, PlainNode, PlainTree, roomless_tree}
+use Rattle.template_tree.specs.Path.{node_at}
+use Rattle.template_tree.specs.Slots.{depth}
+use Rattle.template_tree.specs.Tree.{IsTree}
+use Rattle.plcs_grammar.specs.Template.{program_sections}
+use Rattle.template_tree.specs.Program.{sort_of, sorts}
+use Rattle.template_tree.specs.ListItem.{is_listed, sections_at, siblings_at, how_many}
+use Rattle.template_tree.specs.Part.{Takes, part_category}
+use Rattle.template_tree.specs.Stop.{part_stops}
+use Rattle.template_tree.specs.Edit.{Differs, hole_of, hole_left, is_hole, lone}
+use Rattle.template_tree.specs.TreeEdit.{TreeEdit, tree_after, what_of, changed_slot}
+use Rattle.template_tree.specs.Receipt.{PlainReceipt, undone, CanUndo}
+
+-- the edit at the node in the slot made one tree of the other; the receipt names it and undoes it, with the node that the
+-- edit gave out, if it gave one
+pub record IsEdit (edit : TreeEdit) (slot : ℕ) (before after : PlainTree) (receipt : PlainReceipt) (back : Option PlainNode) : Type 0 where
+  pub became : roomless_tree after ≡ roomless_tree (tree_after edit before slot)
+  pub tree : IsTree after
+  pub what : receipt.change.what ≡ what_of edit
+  pub slot_is : receipt.change.slot.0 ≡ changed_slot edit before slot
+  pub differs : Differs before after receipt.change
+  pub undoes : undone receipt back (roomless_tree after) ≡ roomless_tree before
+  pub can_undo : CanUndo receipt back after
+
+-- the edit was made at a node of which this holds, and gave nothing out
+abbrev pub Edits : TreeEdit → Option PlainNode → (PlainNode → Type 0) → (before after : PlainTree) → PlainReceipt → Type 0
+Edits edit there Here before after receipt =
+    IsSomeAnd there (λ node. Here node × IsEdit edit node.label.slot before after receipt None)
+
+-- a tree within the limits
+pub record IsWithin (tree : PlainTree) : Type 0 where
+  pub shallow : depth tree.items ≤ deepest_path
+  pub few : tree.live ≤ most_slots
+  pub drawn_few : tree.drawn ≤ most_drawn
+
+-- a tree is over a limit, and over none that is asked for before it; where memory is wanting, it is over none
+abbrev pub IsOver : TreeFault → PlainTree → Type 0
+IsOver TreeFault.NotHere tree = ⊥
+IsOver TreeFault.TooDeep tree = deepest_path < depth tree.items
+IsOver TreeFault.TooLarge tree = (depth tree.items ≤ deepest_path) × (most_slots < tree.live)
+IsOver TreeFault.SlotsUsedUp tree = (depth tree.items ≤ deepest_path) × (tree.live ≤ most_slots) × (most_drawn < tree.drawn)
+IsOver TreeFault.OutOfMemory tree = IsWithin tree
+
+-- an edit is refused at a node, if there is one, of which this has to hold: it doesn't, or the tree after the edit would be
+-- over a limit
+abbrev pub Refuses : TreeEdit → Option PlainNode → (PlainNode → Type 0) → PlainTree → TreeFault → Type 0
+Refuses edit there Here before TreeFault.NotHere = IsSomeAnd there Here → ⊥
+Refuses edit there Here before fault =
+    IsSomeAnd there (λ node. Here node × IsOver fault (tree_after edit before node.label.slot))
+
+-- the node is a hole where nodes of the kind stand
+abbrev pub IsHoleFor : NodeKind → PlainNode → Type 0
+IsHoleFor kind node = hole_of (sort_of kind) ≡ Some node.label.kind
+
+-- the node becomes the assignment: it is a statement hole or an assignment, and the phrase is one
+abbrev pub TakesAssignment : PlainPhrase → PlainNode → Type 0
+TakesAssignment phrase node =
+    ((node.label.kind ≡ NodeKind.StatementHole) ⊎ (node.label.kind ≡ NodeKind.Assign)) × (category_of phrase ≡ Category.Assignment)
+
+-- the node has this stop, and its part takes this
+abbrev pub TakesAtStop : ℕ → Option PlainPhrase → PlainNode → Type 0
+TakesAtStop part place node = (part < part_stops node.label.kind) × Takes (part_category node.label.kind part) place
+
+-- the node may be taken out: it is neither main nor a hole
+abbrev pub MayTake : PlainNode → Type 0
+MayTake node = IsSome (hole_left node.label.kind)
+
+-- the edit took the node out of the tree, and left a hole in its slot
+abbrev pub TakesOut : PlainNode → (before after : PlainTree) → PlainReceipt → Type 0
+TakesOut node before after receipt =
+    IsSomeAnd (hole_left node.label.kind)
+    (λ hole. IsEdit (TreeEdit.put (lone 0 hole)) node.label.slot before after receipt (Some node))
+
+-- the node at the path is an item of a list
+abbrev pub IsListItem : Forest → List ℕ → PlainNode → Type 0
+IsListItem items path node = IsTrue (is_listed (sort_of node.label.kind) (sections_at program_sections items path))
+
+-- the node at the path is a hole in a list of two or more
+pub record IsSpareHole (items : Forest) (path : List ℕ) (node : PlainNode) : Type 0 where
+  pub hole : IsTrue (is_hole node.label.kind)
+  pub listed : IsListItem items path node
+  pub others : 2 ≤ how_many (sort_of node.label.kind) (sorts (siblings_at items path))

@@ -1,0 +1,112 @@
+//! Holes filled with templates.
+ghost use Rattle.std.specs.Prelude.{◌≡◌, IfErr, IfOk, None, map};
+ghost use Rattle.plcs_grammar.specs.Template.{plain_section, plain_segment};
+ghost use Rattle.plcs_grammar.specs.declared.node_kind.NodeKind.{NodeKind};
+ghost use Rattle.template_tree.specs.EditAnswer.{Edits, IsHoleFor, Refuses};
+ghost use Rattle.template_tree.specs.FreshNode.{fresh_node, section_holes};
+ghost use Rattle.template_tree.specs.Path.{node_at};
+ghost use Rattle.template_tree.specs.PlainPlace.{plain_place};
+ghost use Rattle.template_tree.specs.PlainTree.{forest, roomless, roomless_node};
+ghost use Rattle.template_tree.specs.Program.{parts_of};
+ghost use Rattle.template_tree.specs.Slots.{count};
+ghost use Rattle.template_tree.specs.Tree.{IsTree};
+ghost use Rattle.template_tree.specs.TreeEdit.{TreeEdit};
+
+use crate::hole::{hole_for, hole_of};
+use crate::limit::DEEPEST_PATH;
+use crate::node::{Node, Nodes};
+use crate::path::Path;
+use crate::phrase_place::PhrasePlace;
+use crate::receipt::Receipt;
+use crate::tree::Tree;
+use crate::tree_fault::TreeFault;
+use plcs_base::{OutOfMemory, Slot};
+use plcs_grammar::{NodeKind, Section, Segment, Template};
+use std::alloc::Global;
+
+impl Tree {
+    /// The hole at the path becomes the template, with its parts empty and with a hole for each list or
+    /// body, which take the next slots. `NotHere` where no hole of its sort is at the path.
+    pub fn fill(&mut self, alloc: Global, path: &Path, template: Template) -> Result<Receipt, TreeFault>
+        requires tree { IsTree self.old }
+        ensures edited { IfOk result (Edits (TreeEdit.put (fresh_node (NodeKind.Filled template))) (node_at self.old.items path.now.items) (IsHoleFor (NodeKind.Filled template)) self.old self.new) }
+        ensures refused { IfErr result (Refuses (TreeEdit.put (fresh_node (NodeKind.Filled template))) (node_at self.old.items path.now.items) (IsHoleFor (NodeKind.Filled template)) self.old) }
+        ensures unchanged { IfErr result (λ _. self.new ≡ self.old) }
+    {
+        let kind = NodeKind::Filled(template);
+        let Some(there) = self.node(path) else {
+            return Err(TreeFault::NotHere);
+        };
+        if hole_for(kind) != Some(there.kind) {
+            return Err(TreeFault::NotHere);
+        }
+        let slots = hole_count(kind.row().sections);
+        let is_shallow = slots == 0 || path.len() < DEEPEST_PATH;
+        if let Some(fault) = self.limit_reached(is_shallow, slots) {
+            return Err(fault);
+        }
+        let Ok(node) = Node::fresh(alloc, kind) else {
+            return Err(TreeFault::OutOfMemory);
+        };
+        Ok(self.put(path, node))
+    }
+}
+
+impl Node {
+    /// A node of the kind with its parts empty, and with a hole in each section of its row.
+    fn fresh(alloc: Global, kind: NodeKind) -> Result<Node, OutOfMemory>
+        ensures { IfOk result (λ node. roomless_node node ≡ fresh_node kind) }
+    {
+        let row = kind.row();
+        Ok(Node {
+            slot: Slot(0),
+            kind,
+            elided: false,
+            parts: empty_parts(alloc, row.line)?,
+            inner: holes(alloc, row.sections)?,
+        })
+    }
+}
+
+/// Nothing in each part of a line.
+fn empty_parts(alloc: Global, line: &[Segment]) -> Result<Vec<PhrasePlace>, OutOfMemory>
+    ensures { IfOk result (λ parts. map plain_place parts.items ≡ map (λ _. None) (parts_of (map plain_segment line.now))) }
+{
+    let mut parts = Vec::new(alloc);
+    for segment in line {
+        if let Segment::Part(_) = segment {
+            if let Err(_) = parts.push(PhrasePlace::Empty) {
+                return Err(OutOfMemory);
+            }
+        }
+    }
+    Ok(parts)
+}
+
+/// A hole in each of the sections.
+fn holes(alloc: Global, sections: &[Section]) -> Result<Nodes, OutOfMemory>
+    ensures { IfOk result (λ list. roomless (forest list.items) ≡ section_holes (map plain_section sections.now)) }
+{
+    let mut list = Nodes::new(alloc);
+    for section in sections {
+        if let Some(kind) = hole_of(section.sort) {
+            if let Err(_) = list.push(Node::bare(alloc, Slot(0), kind)) {
+                return Err(OutOfMemory);
+            }
+        }
+    }
+    Ok(list)
+}
+
+/// How many holes that is.
+fn hole_count(sections: &[Section]) -> u32
+    ensures { result ≡ count (section_holes (map plain_section sections.now)) }
+{
+    let mut count = 0;
+    for section in sections {
+        if hole_of(section.sort).is_some() {
+            count += 1;
+        }
+    }
+    count
+}

@@ -1,0 +1,73 @@
+//! Holes and assignments that become assignments.
+ghost use Rattle.std.specs.Prelude.{◌≡◌, ◌↔◌, ◌⊎◌, IfErr, IfOk, IsTrue, Some};
+ghost use Rattle.plcs_grammar.specs.declared.category.Category.{Category};
+ghost use Rattle.plcs_grammar.specs.declared.node_kind.NodeKind.{NodeKind};
+ghost use Rattle.plcs_grammar.specs.PlainForm.{plain_phrase};
+ghost use Rattle.template_tree.specs.EditAnswer.{Edits, Refuses, TakesAssignment};
+ghost use Rattle.template_tree.specs.FreshNode.{assignment_node};
+ghost use Rattle.template_tree.specs.Part.{IsPlace};
+ghost use Rattle.template_tree.specs.Path.{node_at};
+ghost use Rattle.template_tree.specs.PlainTree.{roomless_node};
+ghost use Rattle.template_tree.specs.Tree.{IsTree};
+ghost use Rattle.template_tree.specs.TreeEdit.{TreeEdit};
+
+use crate::node::{Node, Nodes};
+use crate::path::Path;
+use crate::phrase_place::PhrasePlace;
+use crate::receipt::Receipt;
+use crate::tree::Tree;
+use crate::tree_fault::TreeFault;
+use plcs_base::Slot;
+use plcs_grammar::{Category, NodeKind, Phrase};
+use std::alloc::Global;
+
+impl Tree {
+    /// The statement hole or the assignment at the path becomes this assignment. `NotHere` where neither
+    /// is there, and where the phrase is no assignment. The phrase is given back where it is refused.
+    pub fn fill_assign(&mut self, alloc: Global, path: &Path, phrase: Phrase) -> Result<Receipt, (TreeFault, Phrase)>
+        requires tree { IsTree self.old }
+        requires phrase { IsPlace (Some (plain_phrase phrase)) }
+        ensures edited { IfOk result (Edits (TreeEdit.put (assignment_node (plain_phrase phrase))) (node_at self.old.items path.now.items) (TakesAssignment (plain_phrase phrase)) self.old self.new) }
+        ensures refused { IfErr result (λ back. Refuses (TreeEdit.put (assignment_node (plain_phrase phrase))) (node_at self.old.items path.now.items) (TakesAssignment (plain_phrase phrase)) self.old back.0) }
+        ensures unchanged { IfErr result (λ back. (back.1 ≡ phrase) × (self.new ≡ self.old)) }
+    {
+        let Some(there) = self.node(path) else {
+            return Err((TreeFault::NotHere, phrase));
+        };
+        if !takes_assignments(there.kind) || phrase.category() != Category::Assignment {
+            return Err((TreeFault::NotHere, phrase));
+        }
+        match Node::assignment(alloc, phrase) {
+            Ok(node) => Ok(self.put(path, node)),
+            Err(back) => Err((TreeFault::OutOfMemory, back)),
+        }
+    }
+}
+
+/// Whether nodes of the kind become assignments where one is typed.
+fn takes_assignments(kind: NodeKind) -> bool
+    ensures { IsTrue result ↔ ((kind ≡ NodeKind.StatementHole) ⊎ (kind ≡ NodeKind.Assign)) }
+{
+    kind == NodeKind::StatementHole || kind == NodeKind::Assign
+}
+
+impl Node {
+    /// The assignment, or the phrase back where there is no memory for it.
+    fn assignment(alloc: Global, phrase: Phrase) -> Result<Node, Phrase>
+        ensures assignment { IfOk result (λ node. roomless_node node ≡ assignment_node (plain_phrase phrase)) }
+        ensures refused { IfErr result (λ back. back ≡ phrase) }
+    {
+        let mut parts = Vec::new(alloc);
+        if let Err(_) = parts.reserve(1) {
+            return Err(phrase);
+        }
+        parts.push_reserved(PhrasePlace::Filled(phrase));
+        Ok(Node {
+            slot: Slot(0),
+            kind: NodeKind::Assign,
+            elided: false,
+            parts,
+            inner: Nodes::new(alloc),
+        })
+    }
+}

@@ -1,0 +1,46 @@
+//! The kinds of holes.
+ghost use Rattle.std.specs.Prelude.{◌≡◌};
+ghost use Rattle.template_tree.specs.Edit.{hole_left, hole_of, is_hole};
+ghost use Rattle.template_tree.specs.Program.{sort_of};
+
+use plcs_grammar::{NodeKind, Sort};
+
+/// The kind of the hole that stays where a node of the kind is taken out, or `None` where it is main or
+/// a hole.
+pub(crate) fn hole_left(kind: NodeKind) -> Option<NodeKind>
+    ensures { result ≡ hole_left kind }
+{
+    if is_hole(kind) {
+        return None;
+    }
+    hole_for(kind)
+}
+
+/// Whether nodes of the kind are holes.
+pub(crate) fn is_hole(kind: NodeKind) -> bool
+    ensures { result ≡ is_hole kind }
+{
+    matches!(
+        kind,
+        NodeKind::DeclarationHole | NodeKind::StatementHole | NodeKind::ProcedureHole
+    )
+}
+
+/// The kind of the hole that stands where nodes of the kind stand; main has none.
+pub(crate) fn hole_for(kind: NodeKind) -> Option<NodeKind>
+    ensures { result ≡ hole_of (sort_of kind) }
+{
+    hole_of(kind.row().sort)
+}
+
+/// The kind of the hole of the sort; main has none.
+pub(crate) fn hole_of(sort: Sort) -> Option<NodeKind>
+    ensures { result ≡ hole_of sort }
+{
+    match sort {
+        Sort::Main => None,
+        Sort::Procedure => Some(NodeKind::ProcedureHole),
+        Sort::Declaration => Some(NodeKind::DeclarationHole),
+        Sort::Statement => Some(NodeKind::StatementHole),
+    }
+}

@@ -1,0 +1,45 @@
+//! Nodes put into holes.
+ghost use Rattle.std.specs.Prelude.{◌≡◌, IfErr, IfOk};
+ghost use Rattle.template_tree.specs.EditAnswer.{Edits, IsHoleFor, Refuses};
+ghost use Rattle.template_tree.specs.Path.{node_at};
+ghost use Rattle.template_tree.specs.Program.{IsSubtree};
+ghost use Rattle.template_tree.specs.Tree.{IsTree};
+ghost use Rattle.template_tree.specs.TreeEdit.{TreeEdit};
+ghost use Rattle.template_tree.specs.declared.tree_fault.TreeFault.{TreeFault};
+
+use crate::build::is_within_depth;
+use crate::hole::hole_for;
+use crate::limit::DEEPEST_PATH;
+use crate::limit_reached::slots_up_to_limit;
+use crate::node::Node;
+use crate::path::Path;
+use crate::receipt::Receipt;
+use crate::tree::Tree;
+use crate::tree_fault::TreeFault;
+
+impl Tree {
+    /// The hole at the path becomes the node, whose inner nodes take the next slots in listing order;
+    /// nothing in it is elided. It takes no memory, and gives the node back where it is refused:
+    /// `NotHere` where no hole of its sort is at the path, or a limit.
+    pub fn insert(&mut self, path: &Path, node: Node) -> Result<Receipt, (TreeFault, Node)>
+        requires tree { IsTree self.old }
+        requires node { IsSubtree node }
+        ensures edited { IfOk result (Edits (TreeEdit.put node) (node_at self.old.items path.now.items) (IsHoleFor node.label.kind) self.old self.new) }
+        ensures refused { IfErr result (λ back. Refuses (TreeEdit.put node) (node_at self.old.items path.now.items) (IsHoleFor node.label.kind) self.old back.0) }
+        ensures unchanged { IfErr result (λ back. (back.1 ≡ node) × (self.new ≡ self.old)) }
+        ensures no_memory { IfErr result (λ back. back.0 ≡ TreeFault.OutOfMemory → ⊥) }
+    {
+        let Some(there) = self.node(path) else {
+            return Err((TreeFault::NotHere, node));
+        };
+        if hole_for(node.kind) != Some(there.kind) {
+            return Err((TreeFault::NotHere, node));
+        }
+        let most = (DEEPEST_PATH - path.len()) as u32;
+        let is_shallow = is_within_depth(node.inner.as_slice(), most);
+        if let Some(fault) = self.limit_reached(is_shallow, slots_up_to_limit(&node.inner)) {
+            return Err((fault, node));
+        }
+        Ok(self.put(path, node))
+    }
+}

@@ -1,0 +1,59 @@
+//! Phrases set at stops.
+ghost use Rattle.std.specs.Prelude.{◌≡◌, IfErr, IfOk, IsSomeAnd};
+ghost use Rattle.template_tree.specs.EditAnswer.{Edits, TakesAtStop};
+ghost use Rattle.template_tree.specs.Part.{IsPlace};
+ghost use Rattle.template_tree.specs.Path.{node_at};
+ghost use Rattle.template_tree.specs.PlainPlace.{plain_place};
+ghost use Rattle.template_tree.specs.Tree.{IsTree};
+ghost use Rattle.template_tree.specs.TreeEdit.{TreeEdit};
+ghost use Rattle.template_tree.specs.declared.tree_fault.TreeFault.{TreeFault};
+
+use crate::change::{Change, What};
+use crate::exchange::copied;
+use crate::phrase_place::PhrasePlace;
+use crate::receipt::{Receipt, Undoing};
+use crate::stop::Stop;
+use crate::tree::Tree;
+use crate::tree_fault::TreeFault;
+use plcs_grammar::NodeKind;
+
+impl Tree {
+    /// Puts this into the part at the stop, which need not be visible. `NotHere` where there is no such
+    /// stop, and where the part doesn't take it; it is given back then. It takes no memory.
+    pub fn set_phrase(&mut self, stop: &Stop, place: PhrasePlace) -> Result<Receipt, (TreeFault, PhrasePlace)>
+        requires tree { IsTree self.old }
+        requires phrase { IsPlace (plain_place place) }
+        ensures edited { IfOk result (λ receipt. IsSomeAnd stop.now.part (λ part. Edits (TreeEdit.set_part part (plain_place place)) (node_at self.old.items stop.now.path.items) (TakesAtStop part (plain_place place)) self.old self.new receipt)) }
+        ensures refused { IfErr result (λ back. (back.0 ≡ TreeFault.NotHere) × (IsSomeAnd stop.now.part (λ part. IsSomeAnd (node_at self.old.items stop.now.path.items) (TakesAtStop part (plain_place place))) → ⊥)) }
+        ensures unchanged { IfErr result (λ back. (back.1 ≡ place) × (self.new ≡ self.old)) }
+    {
+        let (drawn, live) = (self.drawn, self.live);
+        let procedure = self.procedure_at(&stop.path);
+        let Some(part) = stop.part else {
+            return Err((TreeFault::NotHere, place));
+        };
+        let Some(node) = self.node_mut(&stop.path) else {
+            return Err((TreeFault::NotHere, place));
+        };
+        if node.kind == NodeKind::Assign {
+            return Err((TreeFault::NotHere, place));
+        }
+        let slot = node.slot;
+        let old = match node.put_part(part, place) {
+            Ok(old) => old,
+            Err(back) => return Err((TreeFault::NotHere, back)),
+        };
+        let change = Change {
+            slot,
+            procedure,
+            what: What::Part(part),
+        };
+        Ok(Receipt {
+            change,
+            path: copied(&stop.path),
+            undoing: Undoing::SetPart(part, old),
+            drawn,
+            live,
+        })
+    }
+}
