@@ -1,0 +1,41 @@
+-- Paths of visible nodes, one after the other in listing order.
+use Rattle.std.specs.Prelude.{◌≡◌, ℕ, ◌+◌, ◌-◌, true, false, if◌then◌else◌, List, [], ◌∷◌, length, Option, Some, None, option_and_then, option_map, slice_get, IsSomeAnd, ◌⊎◌}
+use Rattle.std.specs.Option.{option_map_or, option_or}
+use Rattle.template_tree.specs.PlainTree.{Forest, PlainNode, nodes}
+use Rattle.template_tree.specs.Stop.{visible_at}
+
+-- what stands in the item of this number
+abbrev pub inner_of : Forest → ℕ → Forest
+inner_of items k = option_map_or (λ item. item.inner) (slice_get (nodes items) k) Forest.nil
+
+-- the path of the item behind the one of this number, if there is one
+abbrev pub item_behind : Forest → ℕ → Option (List ℕ)
+item_behind items k = option_map (λ _. (k + 1) ∷ []) (slice_get (nodes items) (k + 1))
+
+-- the path of the first visible item of a node, if there is one
+abbrev pub first_inside : PlainNode → Option (List ℕ)
+first_inside node = if node.label.elided then None else option_map (λ _. 0 ∷ []) (slice_get (nodes node.inner) 0)
+
+-- the path of what comes behind the node at the path: this, which stands in it, or else the next item of the innermost
+-- list that has one
+abbrev pub next_with : Option (List ℕ) → Forest → List ℕ → Option (List ℕ)
+next_with inside items [] = inside
+next_with inside items (k ∷ path) =
+    option_or (option_map (λ way. k ∷ way) (next_with inside (inner_of items k) path)) (item_behind items k)
+
+-- the path of the visible node that comes next
+abbrev pub next_of : Forest → List ℕ → Option (List ℕ)
+next_of items path = option_and_then (λ node. next_with (first_inside node) items path) (visible_at items path)
+
+-- there is a node at each step of the path
+abbrev pub LeadsOn : Forest → List ℕ → Type 0
+LeadsOn items [] = Unit {0}
+LeadsOn items (k ∷ path) = IsSomeAnd (slice_get (nodes items) k) (λ item. LeadsOn item.inner path)
+
+-- the path leads from the node to the last visible node in it, or nowhere where there is none
+abbrev pub IsLastBelow : PlainNode → List ℕ → Type 0
+IsLastBelow node [] = first_inside node ≡ None
+IsLastBelow node (k ∷ path) =
+    (node.label.elided ≡ false)
+    × (slice_get (nodes node.inner) (k + 1) ≡ None)
+    × IsSomeAnd (slice_get (nodes node.inner) k) (λ item. IsLastBelow item path)

@@ -1,0 +1,12 @@
+-- The laws of stops.
+use Rattle.std.specs.Prelude.{◌≢◌, ◌↔◌, map, AllPairs, Contains}
+use Rattle.template_tree.specs.PlainTree.{Forest}
+use Rattle.template_tree.specs.Stop.{IsStop, PlainStop, Stops}
+
+-- the cursor may stand at a stop exactly where it is one of the visible stops
+abbrev pub StopsAreListed : Type 0
+StopsAreListed = (items : Forest) (stop : PlainStop) → IsStop items stop ↔ Contains (map (λ listed. listed.stop) (Stops items)) stop
+
+-- no stop is listed twice
+abbrev pub StopsAreDistinct : Type 0
+StopsAreDistinct = (items : Forest) → AllPairs (λ stop later. later ≢ stop) (map (λ listed. listed.stop) (Stops items))

@@ -1,0 +1,20 @@
+//! Moves of the cursor over the stops of a tree.
+#![tactic(auto, using(template_tree::specs::PlainTree::nodes_forest))]
+
+mod cursor_move;
+mod end;
+mod line;
+mod neighbour;
+mod next_node;
+mod part_stops;
+mod path_copy;
+mod previous_node;
+mod stop_laws;
+#[cfg(test)]
+mod tests;
+
+pub use cursor_move::Move;
+pub use end::{bottom, top};
+pub use line::{down, up};
+pub use neighbour::{left, right};
+pub use stop_laws::{stops_are_distinct, stops_are_listed};

@@ -1,0 +1,59 @@
+//! The visible node before another one.
+ghost use Rattle.std.specs.Prelude.{◌≡◌, ◌+◌, ◌≤◌, ◌++◌, ◌∷◌, [], IfNone, IfSome, IsSome, IsSomeAnd, List, Some, length, ℕ};
+ghost use Rattle.template_tree.specs.Limit.{deepest_path, most_slots};
+ghost use Rattle.template_tree.specs.Slots.{count, depth};
+ghost use Rattle.template_tree.specs.Stop.{visible_at};
+ghost use Rattle.template_tree.specs.Tree.{IsTree};
+ghost use Rattle.cursor_moves.specs.Private.NextPath.{IsLastBelow, next_of};
+
+use crate::path_copy::copy_of;
+use template_tree::{Node, Path, Tree};
+
+/// The path of the visible node before the one at the path, if there is one.
+pub(crate) fn previous_node(tree: &Tree, path: &Path) -> Option<Path>
+    requires tree { IsTree tree.now }
+    requires visible { IsSome (visible_at tree.now.items path.now.items) }
+    ensures none { IfNone result (path.now.items ≡ 0 ∷ []) }
+    ensures next { IfSome result (λ previous. next_of tree.now.items previous.items ≡ Some path.now.items) }
+{
+    let mut previous = copy_of(path);
+    let Some(k) = previous.pop() else {
+        return None;
+    };
+    let Some(before) = k.checked_sub(1) else {
+        return if previous.is_empty() { None } else { Some(previous) };
+    };
+    previous.push(before);
+    push_last(tree, &mut previous);
+    Some(previous)
+}
+
+/// Goes on from the node at the path to the last visible node in it, if there is one.
+pub(crate) fn push_last(tree: &Tree, path: &mut Path)
+    requires tree { IsTree tree.now }
+    requires visible { IsSome (visible_at tree.now.items path.old.items) }
+    ensures { (way : List ℕ) × (path.new.items ≡ path.old.items ++ way) × IsSomeAnd (visible_at tree.now.items path.old.items) (λ node. IsLastBelow node way) }
+{
+    if let Some(node) = tree.node(path) {
+        push_last_below(node, path);
+    }
+}
+
+/// Goes on from the node to the last visible node in it, if there is one.
+fn push_last_below(node: &Node, path: &mut Path)
+    requires few { count node.now.inner ≤ most_slots }
+    requires room { length path.old.items + depth node.now.inner ≤ deepest_path }
+    ensures { (way : List ℕ) × (path.new.items ≡ path.old.items ++ way) × IsLastBelow node.now way }
+{
+    if node.is_elided() {
+        return;
+    }
+    let Some(k) = node.children().checked_sub(1) else {
+        return;
+    };
+    let Some(item) = node.child(k) else {
+        return;
+    };
+    path.push(k);
+    push_last_below(item, path);
+}
