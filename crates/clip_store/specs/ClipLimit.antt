@@ -1,0 +1,39 @@
+-- The limits of clips, and what is refused by them.
+use Rattle.std.specs.Prelude.{◌≡◌, ℕ, ◌+◌, ◌≤◌, Bool, true, false, ◌||◌, nat_le, nat_lt, List, length, All, is_some}
+use Rattle.std.specs.List.{IsDistinct}
+use Rattle.std.specs.Map.{keys_of, values_of}
+use Rattle.std.specs.Str.{bytes_eq}
+use Rattle.clip_store.specs.declared.limit.TheConstants.{MOST_CLIPS, MOST_CLIP_SLOTS}
+use Rattle.clip_store.specs.declared.clips.ClipFault.{ClipFault}
+use Rattle.clip_store.specs.PlainFragment.{IsFragment}
+use Rattle.clip_store.specs.PlainClips.{Pair, PlainClips, clip_named, slots_held, without}
+
+-- how many names may be held
+abbrev pub most_clips : ℕ
+most_clips = MOST_CLIPS
+
+-- how many slots the fragments may have together
+abbrev pub most_clip_slots : ℕ
+most_clip_slots = MOST_CLIP_SLOTS
+
+-- pairs within the limits: each name is held once, and each fragment may come into a program
+pub record AreClips (pairs : List Pair) : Type 0 where
+  pub once : IsDistinct bytes_eq (keys_of pairs)
+  pub few : length pairs ≤ most_clips
+  pub small : slots_held pairs ≤ most_clip_slots
+  pub sound : All IsFragment (values_of pairs)
+
+-- a fragment of so many slots can't come under the name: as many other names are held as may be, or together with the
+-- fragments under other names it would have too many slots
+abbrev pub is_full : List ℕ → ℕ → List Pair → Bool
+is_full name slots pairs =
+    nat_le most_clips (length (without name pairs)) || nat_lt most_clip_slots (slots_held (without name pairs) + slots)
+
+-- a fragment comes under the name without memory: the name is held, or there is room for a new one
+abbrev pub has_room : List ℕ → PlainClips → Bool
+has_room name clips = is_some (clip_named name clips.pairs) || nat_lt 0 clips.spare
+
+-- why a fragment of so many slots isn't taken
+abbrev pub HasCause : ClipFault → List ℕ → ℕ → PlainClips → Type 0
+HasCause ClipFault.Full name slots clips = is_full name slots clips.pairs ≡ true
+HasCause ClipFault.OutOfMemory name slots clips = (is_full name slots clips.pairs ≡ false) × (has_room name clips ≡ false)

@@ -1,0 +1,7 @@
+-- ---- fragments and clips as plain data
+pub mod PlainFragment
+pub mod PlainClips
+-- ---- what they may be, and which are refused
+pub mod ClipLimit
+-- ---- what private contracts alone cite
+pub mod Private

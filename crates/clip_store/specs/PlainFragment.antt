@@ -1,0 +1,28 @@
+-- Fragments as plain data.
+use Rattle.std.specs.Prelude.{ℕ, ◌+◌}
+use Rattle.plcs_grammar.specs.PlainPhrase.{PlainPhrase, category_of}
+use Rattle.plcs_grammar.specs.PlainForm.{plain_phrase}
+use Rattle.template_tree.specs.PlainTree.{PlainNode}
+use Rattle.template_tree.specs.Program.{IsPhrase, IsSubtree}
+use Rattle.template_tree.specs.Slots.{count}
+use Rattle.clip_store.specs.declared.fragment.Fragment.{Fragment}
+
+-- a node with what stands inside it, or a phrase
+pub data PlainFragment : Type 0 where
+  node : PlainNode → PlainFragment
+  phrase : PlainPhrase → PlainFragment
+
+-- the plain form of a fragment
+abbrev pub plain_fragment : Fragment → PlainFragment
+plain_fragment (Fragment.Node n) = PlainFragment.node n
+plain_fragment (Fragment.Phrase p) = PlainFragment.phrase (plain_phrase p)
+
+-- how many slots it counts as: those of its nodes, and one for a phrase
+abbrev pub slots_of : PlainFragment → ℕ
+slots_of (PlainFragment.node n) = count n.inner + 1
+slots_of (PlainFragment.phrase p) = 1
+
+-- it may come into a program: a part of one, or a phrase that may stand in a part of its category
+abbrev pub IsFragment : PlainFragment → Type 0
+IsFragment (PlainFragment.node n) = IsSubtree n
+IsFragment (PlainFragment.phrase p) = IsPhrase (category_of p) p
