@@ -45,3 +45,12 @@ pub mod PutTrees
 pub mod BuiltProgram
 -- a node that came in place of another is an edit, which its receipt undoes
 pub mod PutEdits
+-- so is a part that was set
+pub mod PartEdits
+-- which limit a node that comes would break, and that a hole may come where a node is taken out
+pub mod PutLimits
+pub mod Holes
+-- why an edit is refused at a node
+pub mod Refusals
+-- a fresh node has empty parts, and a hole in each section
+pub mod FreshNodes

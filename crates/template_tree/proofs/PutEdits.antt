@@ -17,7 +17,7 @@ use Rattle.template_tree.specs.Private.Exchange.{MayReplace, IsChangeOf, first_i
 use Rattle.template_tree.proofs.SlotEdits.{slot_edit_is_path_edit}
 use Rattle.template_tree.proofs.PutTrees.{put_keeps_tree}
 use Rattle.template_tree.proofs.DrawnSlots.{count_numbered}
-use Rattle.template_tree.proofs.RoomlessEdits.{count_whole, roomless_edit}
+use Rattle.template_tree.proofs.RoomlessEdits.{count_whole, roomless_edit, roomless_put}
 use Rattle.template_tree.proofs.RoomlessTrees.{tree_without_room}
 use Rattle.template_tree.proofs.EditedNodes.{count_after, edit_back}
 use Rattle.template_tree.proofs.Procedures.{procedure_after}
@@ -133,4 +133,34 @@ put_edit tree path old new after change undoing back t there may is changed give
       differs = put_differs tree old new after change is changed;
       undoes = undoes;
       can_undo = record { room = room _; before = subst IsTree (sym undoes) (tree_without_room tree t) };
+    }
+
+-- the same of a receipt as it is seen
+pub put_receipt : (tree : PlainTree) (path : List ℕ) (old new : PlainNode) (after : PlainTree) (change : Change) (undoing : PlainUndoing) (back : Option PlainNode)
+    (receipt : PlainReceipt) → IsTree tree → node_at tree.items path ≡ Some old → MayReplace tree new old → after ≡ Put tree old.label.slot new
+    → IsChangeOf after old.label.slot What.Node change
+    → items_before undoing back ≡ (λ _. roomless_node old ∷ []) → ((room : ℕ) → HasRoomBack undoing room)
+    → receipt ≡ record { change = change; path = path; undoing = undoing; drawn = tree.drawn; live = tree.live }
+    → IsEdit (TreeEdit.put new) old.label.slot tree after receipt back
+put_receipt tree path old new after change undoing back receipt t there may is changed gives room receipt_is =
+    subst (λ r. IsEdit (TreeEdit.put new) old.label.slot tree after r back) (sym receipt_is)
+    (put_edit tree path old new after change undoing back t there may is changed gives room)
+
+-- what holds of the node that is there
+pub at_there : (there : Option PlainNode) (Holds : PlainNode → Type 0) (node : PlainNode) → there ≡ Some node → Holds node → IsSomeAnd there Holds
+at_there there Holds node e h = subst (λ o. IsSomeAnd o Holds) (sym e) h
+
+-- a node is as good as one that is the same but for the room of its lists
+pub edit_like : (one other : PlainNode) (slot : ℕ) (before after : PlainTree) (receipt : PlainReceipt) (back : Option PlainNode)
+    → roomless_node one ≡ roomless_node other → IsEdit (TreeEdit.put one) slot before after receipt back
+    → IsEdit (TreeEdit.put other) slot before after receipt back
+edit_like one other slot before after receipt back same e =
+    record {
+      became = e.became ∙ roomless_put before slot one other same;
+      tree = e.tree;
+      what = e.what;
+      slot_is = e.slot_is;
+      differs = e.differs;
+      undoes = e.undoes;
+      can_undo = e.can_undo;
     }

@@ -12,7 +12,7 @@ ghost use Rattle.template_tree.specs.Slots.{count};
 ghost use Rattle.template_tree.specs.Tree.{IsTree};
 ghost use Rattle.template_tree.specs.TreeEdit.{TreeEdit};
 
-use crate::hole::{hole_for, hole_of};
+use crate::hole::{hole_of, is_hole_for};
 use crate::limit::DEEPEST_PATH;
 use crate::node::{Node, Nodes};
 use crate::path::Path;
@@ -37,7 +37,7 @@ impl Tree {
         let Some(there) = self.node(path) else {
             return Err(TreeFault::NotHere);
         };
-        if hole_for(kind) != Some(there.kind) {
+        if !is_hole_for(kind, there.kind) {
             return Err(TreeFault::NotHere);
         }
         let slots = hole_count(kind.row().sections);

@@ -1,5 +1,6 @@
-//! The kinds of holes.
-ghost use Rattle.std.specs.Prelude.{◌≡◌};
+//! The kinds of holes and assignments.
+ghost use Rattle.std.specs.Prelude.{◌≡◌, ◌↔◌, IsTrue, Some};
+ghost use Rattle.plcs_grammar.specs.declared.node_kind.NodeKind.{NodeKind};
 ghost use Rattle.template_tree.specs.Edit.{hole_left, hole_of, is_hole};
 ghost use Rattle.template_tree.specs.Program.{sort_of};
 
@@ -27,10 +28,20 @@ pub(crate) fn is_hole(kind: NodeKind) -> bool
 }
 
 /// The kind of the hole that stands where nodes of the kind stand; main has none.
-pub(crate) fn hole_for(kind: NodeKind) -> Option<NodeKind>
+fn hole_for(kind: NodeKind) -> Option<NodeKind>
     ensures { result ≡ hole_of (sort_of kind) }
 {
     hole_of(kind.row().sort)
+}
+
+/// Whether a node of the one kind is the hole where nodes of the other stand.
+pub(crate) fn is_hole_for(kind: NodeKind, hole: NodeKind) -> bool
+    ensures { IsTrue result ↔ (hole_of (sort_of kind) ≡ Some hole) }
+{
+    match hole_for(kind) {
+        Some(own) => own == hole,
+        None => false,
+    }
 }
 
 /// The kind of the hole of the sort; main has none.
@@ -43,4 +54,11 @@ pub(crate) fn hole_of(sort: Sort) -> Option<NodeKind>
         Sort::Declaration => Some(NodeKind::DeclarationHole),
         Sort::Statement => Some(NodeKind::StatementHole),
     }
+}
+
+/// Whether nodes of the kind are assignments.
+pub(crate) fn is_assignment(kind: NodeKind) -> bool
+    ensures { IsTrue result ↔ (kind ≡ NodeKind.Assign) }
+{
+    kind == NodeKind::Assign
 }

@@ -8,7 +8,7 @@ ghost use Rattle.template_tree.specs.TreeEdit.{TreeEdit};
 ghost use Rattle.template_tree.specs.declared.tree_fault.TreeFault.{TreeFault};
 
 use crate::build::is_within_depth;
-use crate::hole::hole_for;
+use crate::hole::is_hole_for;
 use crate::limit::DEEPEST_PATH;
 use crate::limit_reached::slots_up_to_limit;
 use crate::node::Node;
@@ -32,7 +32,7 @@ impl Tree {
         let Some(there) = self.node(path) else {
             return Err((TreeFault::NotHere, node));
         };
-        if hole_for(node.kind) != Some(there.kind) {
+        if !is_hole_for(node.kind, there.kind) {
             return Err((TreeFault::NotHere, node));
         }
         let most = (DEEPEST_PATH - path.len()) as u32;

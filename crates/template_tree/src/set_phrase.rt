@@ -10,12 +10,12 @@ ghost use Rattle.template_tree.specs.declared.tree_fault.TreeFault.{TreeFault};
 
 use crate::change::{Change, What};
 use crate::exchange::copied;
+use crate::hole::is_assignment;
 use crate::phrase_place::PhrasePlace;
 use crate::receipt::{Receipt, Undoing};
 use crate::stop::Stop;
 use crate::tree::Tree;
 use crate::tree_fault::TreeFault;
-use plcs_grammar::NodeKind;
 
 impl Tree {
     /// Puts this into the part at the stop, which need not be visible. `NotHere` where there is no such
@@ -35,7 +35,7 @@ impl Tree {
         let Some(node) = self.node_mut(&stop.path) else {
             return Err((TreeFault::NotHere, place));
         };
-        if node.kind == NodeKind::Assign {
+        if is_assignment(node.kind) {
             return Err((TreeFault::NotHere, place));
         }
         let slot = node.slot;

@@ -1,0 +1,48 @@
+use Rattle.std.specs.Prelude.{◌≡◌, refl, Some}
+use Rattle.std.proofs.Common.{ap, sym, ◌∙◌}
+use Rattle.std.proofs.Math.Bool.{false≢true}
+use Rattle.template_tree.specs.declared.change.What.{What}
+use Rattle.template_tree.specs.PlainPlace.{plain_place}
+use Rattle.template_tree.specs.PlainTree.{PlainNode, PlainTree}
+use Rattle.template_tree.specs.Path.{node_at}
+use Rattle.template_tree.specs.Receipt.{PlainUndoing}
+use Rattle.template_tree.specs.TreeLend.{with_node}
+use Rattle.template_tree.proofs.PutEdits.{at_there}
+use Rattle.template_tree.proofs.PartEdits.{with_node_same, part_edit, part_stop}
+use Rattle.template_tree.proofs.tree.Tree.set_phrase.Goals as goal
+
+pub returns-then-is_assignment-clause-unchanged : goal.returns-then-is_assignment-clause-unchanged
+returns-then-is_assignment-clause-unchanged c =
+    (refl, with_node_same c.args.self.now c.args.stop.now.path.items c.in-Some-node_mut.node.now (sym c.in-Some-node_mut.ensures.found))
+
+pub returns-in-Err-clause-unchanged : goal.returns-in-Err-clause-unchanged
+returns-in-Err-clause-unchanged c = (
+  c.in-Err.ensures.refused.0,
+  ap (with_node c.args.self.now c.args.stop.now.path.items) c.in-Err.ensures.refused.1
+  ∙ with_node_same c.args.self.now c.args.stop.now.path.items c.in-Some-node_mut.node.now (sym c.in-Some-node_mut.ensures.found),
+)
+
+pub returns-clause-edited : goal.returns-clause-edited
+returns-clause-edited c =
+    let node = c.in-Some-node_mut.node.now in
+    let there = sym c.in-Some-node_mut.ensures.found in
+    let takes = c.in-Ok.ensures.fits.0 refl in
+    let kind = ap (λ (n : PlainNode). n.label.kind) c.node.view_is in
+    let drawn = ap (λ (t : PlainTree). t.drawn) c.self.view_is in
+    let live = ap (λ (t : PlainTree). t.live) c.self.view_is in
+    rw c.in-Some.is
+    (at_there (node_at c.args.self.now.items c.args.stop.now.path.items) _ node there
+    (
+      (part_stop node.label.kind c.in-Some.part (plain_place c.args.place) (λ is. false≢true (sym c.if-is_assignment.false ∙ c.is_assignment.ensures.1 (kind ∙ is))) takes, takes),
+      part_edit c.args.self.now c.args.stop.now.path.items node c.in-Some.part (plain_place c.args.place) (plain_place c.in-Ok.old) _
+      c.node.inside.slot c.procedure_at-procedure.result _ c.requires.tree there takes c.requires.phrase c.in-Ok.ensures.set.0
+      (ap (with_node c.args.self.now c.args.stop.now.path.items) c.in-Ok.ensures.set.1) (ap (λ (n : PlainNode). n.label.slot) c.node.view_is)
+      c.procedure_at-procedure.ensures
+      (λ i. record {
+        change = record { slot = c.node.inside.slot; procedure = c.procedure_at-procedure.result; what = What.Part c.in-Some.part };
+        path = c.copied.ensures i;
+        undoing = PlainUndoing.set_part c.in-Some.part (plain_place c.in-Ok.old);
+        drawn = drawn i;
+        live = live i;
+      }),
+    ))
