@@ -1,0 +1,83 @@
+//! What is deleted or taken out at the cursor.
+use crate::applied::Applied;
+use crate::here::takes;
+use crate::path_copy::{copy_of, same_stop};
+use plcs_grammar::Sort;
+use std::alloc::Global;
+use template_tree::{Path, PhrasePlace, Stop, Tree, TreeFault};
+
+/// A hole in a list of two or more is dropped; all else is taken out. It takes no memory.
+pub(crate) fn delete(alloc: Global, tree: &mut Tree, at: &Stop) -> Result<Applied, TreeFault> {
+    if let Some(applied) = drop_hole(tree, at) {
+        return Ok(applied);
+    }
+    take_out(alloc, tree, at)
+}
+
+/// Drops the hole at the cursor, if one is there in a list of two or more.
+fn drop_hole(tree: &mut Tree, at: &Stop) -> Option<Applied> {
+    if at.part.is_some() {
+        return None;
+    }
+    let Some(sort) = sort_at(tree, &at.path) else {
+        return None;
+    };
+    let Ok(receipt) = tree.drop_hole(&at.path) else {
+        return None;
+    };
+    let path = path_after_drop(tree, sort, &at.path);
+    Some(Applied {
+        receipt,
+        taken: None,
+        stop: Stop { path, part: None },
+    })
+}
+
+/// The sort of the node at the path, if there is one.
+fn sort_at(tree: &Tree, path: &Path) -> Option<Sort> {
+    let Some(node) = tree.node(path) else {
+        return None;
+    };
+    Some(node.kind().row().sort)
+}
+
+/// The path of the item of the sort that is now at the path, or else of the one before it.
+fn path_after_drop(tree: &Tree, sort: Sort, path: &Path) -> Path {
+    let mut path_now = copy_of(path);
+    if sort_at(tree, path) == Some(sort) {
+        return path_now;
+    }
+    if let Some(k) = path_now.pop() {
+        path_now.push(k.saturating_sub(1));
+    }
+    path_now
+}
+
+/// What stands at the cursor is taken out: a node, in whose place a hole stays, or a phrase. It takes no
+/// memory.
+pub(crate) fn take_out(alloc: Global, tree: &mut Tree, at: &Stop) -> Result<Applied, TreeFault> {
+    if at.part.is_some() {
+        return empty_part(tree, at);
+    }
+    let (node, receipt) = tree.take(alloc, &at.path)?;
+    Ok(Applied {
+        receipt,
+        taken: Some(node),
+        stop: same_stop(at),
+    })
+}
+
+/// The part at the cursor is emptied, if a phrase stands in it.
+fn empty_part(tree: &mut Tree, at: &Stop) -> Result<Applied, TreeFault> {
+    if !takes(tree, at) {
+        return Err(TreeFault::NotHere);
+    }
+    match tree.set_phrase(at, PhrasePlace::Empty) {
+        Ok(receipt) => Ok(Applied {
+            receipt,
+            taken: None,
+            stop: same_stop(at),
+        }),
+        Err((fault, _)) => Err(fault),
+    }
+}
