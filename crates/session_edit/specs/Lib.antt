@@ -8,3 +8,5 @@ pub mod ShownStop
 -- ---- what an edit does, and what is answered
 pub mod Edited
 pub mod AppliedEdit
+-- ---- what private contracts alone cite
+pub mod Private

@@ -1,6 +1,6 @@
 -- Edits at the stop of the cursor as plain data.
 use Rattle.std.specs.Prelude.{Some}
-use Rattle.plcs_grammar.specs.PlainForm.{plain_phrase}
+use Rattle.plcs_grammar.specs.PlainPhrase.{plain_phrase}
 use Rattle.plcs_grammar.specs.PlainPhrase.{PlainPhrase}
 use Rattle.plcs_grammar.specs.declared.template.Template.{Template}
 use Rattle.template_tree.specs.declared.side.Side.{Side}

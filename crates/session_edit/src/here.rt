@@ -1,7 +1,8 @@
 //! What may be done at a stop.
-ghost use Rattle.std.specs.Prelude.{◌≡◌, is_some, map, slice_get};
+ghost use Rattle.std.specs.Prelude.{◌≡◌, is_some, map, option_and_then, slice_get};
 ghost use Rattle.plcs_grammar.specs.Template.{plain_segment};
 ghost use Rattle.template_tree.specs.Edit.{hole_left};
+ghost use Rattle.template_tree.specs.PlainPlace.{plain_place};
 ghost use Rattle.template_tree.specs.PlainTree.{roomless_tree};
 ghost use Rattle.template_tree.specs.Program.{parts_of};
 ghost use Rattle.template_tree.specs.Stop.{IsStop, plain_stop};
@@ -80,7 +81,9 @@ fn can_take(node: &Node, part: Option<u8>) -> bool
 }
 
 /// Whether a phrase stands in the part, if there is such a part.
-fn is_filled(place: Option<&PhrasePlace>) -> bool {
+fn is_filled(place: Option<&PhrasePlace>) -> bool
+    ensures { result ≡ is_some (option_and_then (λ there. plain_place there.now) place.entry) }
+{
     matches!(place, Some(PhrasePlace::Filled(_)))
 }
 

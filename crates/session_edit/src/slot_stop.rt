@@ -1,8 +1,10 @@
 //! The stop at which a slot is shown.
-ghost use Rattle.std.specs.Prelude.{◌≡◌, IfSome, option_map};
+ghost use Rattle.std.specs.Prelude.{◌≡◌, ◌+◌, ◌++◌, ◌≤◌, IfSome, length, option_map};
+ghost use Rattle.template_tree.specs.Limit.{deepest_path};
 ghost use Rattle.template_tree.specs.PlainTree.{roomless_tree};
 ghost use Rattle.template_tree.specs.Stop.{IsStop, plain_stop};
 ghost use Rattle.template_tree.specs.Tree.{IsTree};
+ghost use Rattle.session_edit.specs.Private.ShownNumbers.{shown_below, shown_numbers};
 ghost use Rattle.session_edit.specs.ShownStop.{shown_at};
 
 use plcs_base::Slot;
@@ -25,7 +27,10 @@ pub fn shown_stop(tree: &Tree, slot: Slot) -> Option<Stop>
 }
 
 /// The first numbers of the path of a node, up to the first elided comment on it.
-fn shown_part(tree: &Tree, path: &Path) -> Path {
+fn shown_part(tree: &Tree, path: &Path) -> Path
+    requires tree { IsTree tree.now }
+    ensures { result.items ≡ shown_numbers tree.now.items path.now.items }
+{
     let mut shown = Path::new();
     let Some((k, rest)) = path.split_first() else {
         return shown;
@@ -39,16 +44,19 @@ fn shown_part(tree: &Tree, path: &Path) -> Path {
 }
 
 /// Puts the numbers of the path below the node behind others, up to the first elided comment on it.
-fn push_shown(node: &Node, path: &[u32], shown: &mut Path) {
-    if node.is_elided() {
-        return;
-    }
+fn push_shown(node: &Node, path: &[u32], shown: &mut Path)
+    requires room { length shown.old.items + length path.now ≤ deepest_path }
+    ensures { shown.new.items ≡ shown.old.items ++ shown_below node.now path.now }
+{
     let Some((k, rest)) = path.split_first() else {
         return;
     };
+    if node.is_elided() {
+        return;
+    }
+    shown.push(*k);
     let Some(item) = node.child(*k) else {
         return;
     };
-    shown.push(*k);
     push_shown(item, rest, shown)
 }
