@@ -4,3 +4,6 @@ pub mod RoomlessNodes
 pub mod StopNodes
 -- ---- paths to slots: `shown_stop`
 pub mod ShownPaths
+-- ---- the next stop: `apply`
+pub mod RoomlessStops
+pub mod StopsBehind

@@ -25,15 +25,14 @@ abbrev pub stops_behind : PlainStop → List VisibleStop → List VisibleStop
 stops_behind stop [] = []
 stops_behind stop (listed ∷ others) = if same_stop listed.stop stop then others else stops_behind stop others
 
--- the next stop, if there is one, where it lies in the same node or in a node inside it, and else the stop itself
-abbrev pub or_next : PlainStop → Option VisibleStop → PlainStop
-or_next stop None = stop
-or_next stop (Some next) = if starts_with nat_eq next.stop.path stop.path then next.stop else stop
+-- the next stop, where it lies in the same node or in a node inside it, and else the stop itself
+abbrev pub stop_or_next : PlainStop → PlainStop → PlainStop
+stop_or_next stop next = if starts_with nat_eq next.path stop.path then next else stop
 
 -- where the cursor goes from a stop that was filled: to the next stop, where that lies in the same node or in a node inside
 -- it; without such a next stop it stays
 abbrev pub onward : Forest → PlainStop → PlainStop
-onward items stop = or_next stop (first_of (stops_behind stop (Stops items)))
+onward items stop = option_map_or (λ next. stop_or_next stop next.stop) (first_of (stops_behind stop (Stops items))) stop
 
 -- the path with another last number
 abbrev pub with_last : (ℕ → ℕ) → List ℕ → List ℕ
