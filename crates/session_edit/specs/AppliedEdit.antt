@@ -1,5 +1,5 @@
 -- What is answered to an edit.
-use Rattle.std.specs.Prelude.{◌≡◌, Bool, true, false, IsTrue, IfSome, is_none, Option, option_map}
+use Rattle.std.specs.Prelude.{◌≡◌, Bool, true, false, IsTrue, IfSome, is_none, Option, option_map, Result, Ok, Err}
 use Rattle.template_tree.specs.declared.tree_fault.TreeFault.{TreeFault}
 use Rattle.template_tree.specs.Edit.{Differs}
 use Rattle.template_tree.specs.PlainTree.{PlainTree, roomless_node, roomless_tree}
@@ -38,3 +38,9 @@ is_made (Edited.refused fault) = false
 abbrev pub IsRefused : Bool → Edited → TreeFault → Type 0
 IsRefused takes_memory outcome TreeFault.OutOfMemory = IsTrue takes_memory × IsTrue (is_made outcome)
 IsRefused takes_memory outcome fault = outcome ≡ Edited.refused fault
+
+-- what is answered to an edit, of which it is told whether it takes memory and what was to come of it: it was made, or it is
+-- refused and the tree is as before
+abbrev pub IsAnswer : Bool → Edited → (before after : PlainTree) → Result Applied TreeFault → Type 0
+IsAnswer takes_memory outcome before after (Ok applied) = IsApplied outcome before after applied
+IsAnswer takes_memory outcome before after (Err fault) = IsRefused takes_memory outcome fault × (after ≡ before)

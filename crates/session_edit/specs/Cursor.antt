@@ -29,10 +29,14 @@ stops_behind stop (listed ∷ others) = if same_stop listed.stop stop then other
 abbrev pub stop_or_next : PlainStop → PlainStop → PlainStop
 stop_or_next stop next = if starts_with nat_eq next.path stop.path then next else stop
 
--- where the cursor goes from a stop that was filled: to the next stop, where that lies in the same node or in a node inside
--- it; without such a next stop it stays
+-- where the cursor goes from a stop that was filled, among visible stops: to the next one, where that lies in the same node
+-- or in a node inside it; without such a next stop it stays
+abbrev pub onward_among : List VisibleStop → PlainStop → PlainStop
+onward_among stops stop = option_map_or (λ next. stop_or_next stop next.stop) (first_of (stops_behind stop stops)) stop
+
+-- the same among the visible stops of nodes
 abbrev pub onward : Forest → PlainStop → PlainStop
-onward items stop = option_map_or (λ next. stop_or_next stop next.stop) (first_of (stops_behind stop (Stops items))) stop
+onward items stop = onward_among (Stops items) stop
 
 -- the path with another last number
 abbrev pub with_last : (ℕ → ℕ) → List ℕ → List ℕ

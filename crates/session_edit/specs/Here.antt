@@ -1,5 +1,5 @@
 -- What may be done at a stop: which phrase text is wanted there, what can be taken out, and what can be put in.
-use Rattle.std.specs.Prelude.{ℕ, zero, suc, Bool, true, false, ◌&&◌, nat_le, if◌then◌else◌, List, [], ◌∷◌, length, take, Option, Some, None, is_some, is_none, option_and_then, slice_get}
+use Rattle.std.specs.Prelude.{ℕ, zero, suc, Bool, true, false, ◌&&◌, nat_le, ◌==◌, if◌then◌else◌, List, [], ◌∷◌, length, take, Option, Some, None, is_some, is_none, option_and_then, slice_get}
 use Rattle.std.specs.Option.{option_map_or}
 use Rattle.plcs_grammar.specs.Template.{program_sections}
 use Rattle.plcs_grammar.specs.declared.category.Category.{Category}
@@ -30,21 +30,24 @@ category_in (Some part) kind = part_category kind part
 unfoldable pub category_at : PlainTree → PlainStop → Option Category
 category_at tree stop = option_and_then (λ node. category_in stop.part node.label.kind) (node_at tree.items stop.path)
 
+-- the number of a category, by which categories are told apart
+abbrev pub category_number : Category → ℕ
+category_number Assignment = 0
+category_number Condition = 1
+category_number Expression = 2
+category_number ExpressionList = 3
+category_number VariableList = 4
+category_number Variable = 5
+category_number CallRef = 6
+category_number DeclaredList = 7
+category_number ProcedureName = 8
+category_number NameList = 9
+category_number Length = 10
+category_number CommentText = 11
+
 -- whether two categories are one
 abbrev pub same_category : Category → Category → Bool
-same_category Assignment Assignment = true
-same_category Condition Condition = true
-same_category Expression Expression = true
-same_category ExpressionList ExpressionList = true
-same_category VariableList VariableList = true
-same_category Variable Variable = true
-same_category CallRef CallRef = true
-same_category DeclaredList DeclaredList = true
-same_category ProcedureName ProcedureName = true
-same_category NameList NameList = true
-same_category Length Length = true
-same_category CommentText CommentText = true
-same_category one other = false
+same_category one other = category_number one == category_number other
 
 -- whether the phrase is of the category that phrase text has there, if it has one
 abbrev pub is_wanted : PlainPhrase → Option Category → Bool

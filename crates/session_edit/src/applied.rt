@@ -1,9 +1,8 @@
 //! Edits applied at the stop of the cursor, and what they answer.
-ghost use Rattle.std.specs.Prelude.{◌≡◌, IfErr, IfOk};
 ghost use Rattle.template_tree.specs.PlainTree.{roomless_tree};
 ghost use Rattle.template_tree.specs.Stop.{IsStop, plain_stop};
 ghost use Rattle.template_tree.specs.Tree.{IsTree};
-ghost use Rattle.session_edit.specs.AppliedEdit.{IsApplied, IsRefused, takes_memory};
+ghost use Rattle.session_edit.specs.AppliedEdit.{IsAnswer, takes_memory};
 ghost use Rattle.session_edit.specs.Edited.{edited};
 ghost use Rattle.session_edit.specs.PlainEdit.{BringsWhatMayStand, plain_edit};
 
@@ -36,9 +35,7 @@ pub fn apply(alloc: Global, tree: &mut Tree, at: &Stop, edit: Edit) -> Result<Ap
     requires tree { IsTree tree.old }
     requires stop { IsStop (roomless_tree tree.old).items (plain_stop at.now) }
     requires edit { BringsWhatMayStand edit }
-    ensures applied { IfOk result (IsApplied (edited (roomless_tree tree.old) (plain_stop at.now) (plain_edit edit)) tree.old tree.new) }
-    ensures refused { IfErr result (IsRefused (takes_memory (plain_edit edit) (plain_stop at.now)) (edited (roomless_tree tree.old) (plain_stop at.now) (plain_edit edit))) }
-    ensures unchanged { IfErr result (λ _. tree.new ≡ tree.old) }
+    ensures { IsAnswer (takes_memory (plain_edit edit) (plain_stop at.now)) (edited (roomless_tree tree.old) (plain_stop at.now) (plain_edit edit)) tree.old tree.new result }
 {
     match edit {
         Edit::Fill(template) => fill(alloc, tree, at, template),

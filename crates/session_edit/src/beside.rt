@@ -1,11 +1,25 @@
 //! Holes that come beside list items.
+ghost use Rattle.std.specs.Prelude.{◌≡◌, ◌<◌, All, true};
+ghost use Rattle.template_tree.specs.Limit.{most_slots};
+ghost use Rattle.template_tree.specs.PlainTree.{roomless_tree};
+ghost use Rattle.template_tree.specs.Tree.{IsTree};
+ghost use Rattle.session_edit.specs.AppliedEdit.{IsAnswer};
+ghost use Rattle.session_edit.specs.Cursor.{beside_path};
+ghost use Rattle.session_edit.specs.Edited.{hole_beside};
+ghost use Rattle.session_edit.specs.Here.{enclosing_item};
+ghost use Rattle.session_edit.specs.Private.ShownPath.{IsShown};
+
 use crate::applied::Applied;
 use std::alloc::Global;
 use template_tree::{Path, Side, Stop, Tree, TreeFault};
 
 /// A hole comes on this side of the nearest list item that the node at the path is, or in which it
 /// stands; the cursor goes to it.
-pub(crate) fn add_beside(alloc: Global, tree: &mut Tree, path: Path, side: Side) -> Result<Applied, TreeFault> {
+pub(crate) fn add_beside(alloc: Global, tree: &mut Tree, path: Path, side: Side) -> Result<Applied, TreeFault>
+    requires tree { IsTree tree.old }
+    requires seen { IsShown tree.old.items path.items }
+    ensures { IsAnswer true (hole_beside (roomless_tree tree.old) side (enclosing_item (roomless_tree tree.old).items path.items)) tree.old tree.new result }
+{
     match tree.add_hole(alloc, &path, side) {
         Ok(receipt) => Ok(Applied {
             receipt,
@@ -27,7 +41,10 @@ pub(crate) fn add_beside(alloc: Global, tree: &mut Tree, path: Path, side: Side)
 }
 
 /// The path of the hole beside the item at the path.
-fn beside(path: Path, side: Side) -> Path {
+fn beside(path: Path, side: Side) -> Path
+    requires few { All (λ k. k < most_slots) path.items }
+    ensures { result.items ≡ beside_path side path.items }
+{
     let mut path = path;
     if side == Side::Before {
         return path;
