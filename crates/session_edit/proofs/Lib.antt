@@ -14,3 +14,4 @@ pub mod VisibleEdits
 pub mod Outcomes
 pub mod StopTests
 pub mod PutCommands
+pub mod PartCommands

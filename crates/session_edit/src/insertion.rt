@@ -16,7 +16,7 @@ use crate::here::takes;
 use crate::path_copy::same_stop;
 use clip_store::Fragment;
 use plcs_grammar::Phrase;
-use template_tree::{Node, PhrasePlace, Stop, Tree, TreeFault};
+use template_tree::{Node, PhrasePlace, Stop, Tree, TreeFault, slot_edit_is_path_edit};
 
 /// A node comes into the hole of its sort at the cursor, a phrase into the empty part of its category;
 /// the cursor stays on it. It takes no memory.
@@ -42,6 +42,7 @@ fn insert_node(tree: &mut Tree, at: &Stop, node: Node) -> Result<Applied, TreeFa
     if at.part.is_some() {
         return Err(TreeFault::NotHere);
     }
+    slot_edit_is_path_edit();
     match tree.insert(&at.path, node) {
         Ok(receipt) => Ok(Applied {
             receipt,
@@ -62,6 +63,7 @@ fn insert_phrase(tree: &mut Tree, at: &Stop, phrase: Phrase) -> Result<Applied, 
     if takes(tree, at) {
         return Err(TreeFault::NotHere);
     }
+    slot_edit_is_path_edit();
     match tree.set_phrase(at, PhrasePlace::Filled(phrase)) {
         Ok(receipt) => Ok(Applied {
             receipt,

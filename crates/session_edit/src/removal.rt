@@ -15,7 +15,7 @@ use crate::here::takes;
 use crate::path_copy::{copy_of, same_stop};
 use plcs_grammar::Sort;
 use std::alloc::Global;
-use template_tree::{Path, PhrasePlace, Stop, Tree, TreeFault};
+use template_tree::{Path, PhrasePlace, Stop, Tree, TreeFault, slot_edit_is_path_edit};
 
 /// A hole in a list of two or more is dropped; all else is taken out. It takes no memory.
 pub(crate) fn delete(alloc: Global, tree: &mut Tree, at: &Stop) -> Result<Applied, TreeFault>
@@ -90,12 +90,15 @@ pub(crate) fn take_out(alloc: Global, tree: &mut Tree, at: &Stop) -> Result<Appl
     if at.part.is_some() {
         return empty_part(tree, at);
     }
-    let (node, receipt) = tree.take(alloc, &at.path)?;
-    Ok(Applied {
-        receipt,
-        taken: Some(node),
-        stop: same_stop(at),
-    })
+    slot_edit_is_path_edit();
+    match tree.take(alloc, &at.path) {
+        Ok((node, receipt)) => Ok(Applied {
+            receipt,
+            taken: Some(node),
+            stop: same_stop(at),
+        }),
+        Err(fault) => Err(fault),
+    }
 }
 
 /// The part at the cursor is emptied, if a phrase stands in it.
@@ -108,6 +111,7 @@ fn empty_part(tree: &mut Tree, at: &Stop) -> Result<Applied, TreeFault>
     if !takes(tree, at) {
         return Err(TreeFault::NotHere);
     }
+    slot_edit_is_path_edit();
     match tree.set_phrase(at, PhrasePlace::Empty) {
         Ok(receipt) => Ok(Applied {
             receipt,
