@@ -16,3 +16,7 @@ returns c = (
   c.in-Err.ensures.refused.0 c.in-Err.ensures.refused.1,
   c.in-Err.ensures.unchanged.1,
 )
+
+pub returns-then-takes : goal.returns-then-takes
+returns-then-takes c =
+    (insert_full c.args.tree.now (plain_stop c.args.at.now) (plain_phrase c.args.phrase) c.requires.stop (sym c.if-takes.true ∙ c.takes.ensures), refl)
