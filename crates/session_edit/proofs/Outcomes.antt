@@ -167,6 +167,15 @@ unfolding edited
 edited_is tree at edit node e =
     ap (at_node (edited_at (roomless_tree tree) at edit)) (node_roomless tree.items at.path ∙ ap (option_map roomless_node) e)
 
+-- the nodes after an edit by slot are those after the edit at the path
+pub items_after : SlotEditIsPathEdit → (before after : PlainTree) (path : List ℕ) (node : PlainNode) (change : PlainNode → List PlainNode)
+    (drawn : ℕ)
+    → IsTree before → node_at before.items path ≡ Some node
+    → roomless_tree after ≡ roomless_tree (with_items before (edit_slot node.label.slot change before.items) drawn)
+    → roomless after.items ≡ roomless (edit_at change path before.items)
+items_after law before after path node change drawn tree there became =
+    ap (λ (t : PlainTree). t.items) became ∙ ap roomless (law change before.items path node (tree.once node.label.slot) there)
+
 -- the cursor may stand where a visible node stands after the edit
 pub stands_after : SlotEditIsPathEdit → (before after : PlainTree) (path : List ℕ) (node : PlainNode) (change : PlainNode → List PlainNode)
     (drawn : ℕ) (at : PlainStop) (new : PlainNode)
@@ -175,12 +184,6 @@ pub stands_after : SlotEditIsPathEdit → (before after : PlainTree) (path : Lis
     → visible_at (edit_at change path before.items) at.path ≡ Some new → MayStand at.part new.label.kind
     → IsStop (roomless after.items) at
 stands_after law before after path node change drawn at new tree there became seen stands =
-    let by_path : edit_slot node.label.slot change before.items ≡ edit_at change path before.items =
-    law change before.items path node (tree.once node.label.slot) there
-    in
-    let same : roomless after.items ≡ roomless (edit_at change path before.items) =
-    ap (λ (t : PlainTree). t.items) became ∙ ap roomless by_path
-    in
-    subst (λ items. IsStop items at) (sym same)
+    subst (λ items. IsStop items at) (sym (items_after law before after path node change drawn tree there became))
     (stop_roomless (edit_at change path before.items) at
     (subst (λ found. IsSomeAnd found (λ (n : PlainNode). MayStand at.part n.label.kind)) (sym seen) stands))

@@ -22,7 +22,7 @@ shelf items (k ∷ (j ∷ path)) =
     option_and_then (λ item. if item.label.elided then None else shelf item.inner (j ∷ path)) (slice_get (nodes items) k)
 
 -- the item of this number among nodes
-abbrev item_of : ℕ → Forest → Option PlainNode
+abbrev pub item_of : ℕ → Forest → Option PlainNode
 item_of k items = slice_get (nodes items) k
 
 itself : (found : Option PlainNode) → option_and_then (λ item. visible_below item []) found ≡ found
@@ -73,7 +73,7 @@ shelf_below change j path give same (Some item) =
     shelf_unless item.label.elided give (shelf (edit_at change (j ∷ path) item.inner) (j ∷ path)) (shelf item.inner (j ∷ path)) (same item.inner)
 
 -- the nodes there after an edit at the path
-shelf_after : (change : PlainNode → List PlainNode) (items : Forest) (path : List ℕ)
+pub shelf_after : (change : PlainNode → List PlainNode) (items : Forest) (path : List ℕ)
     → shelf (edit_at change path items) path ≡ option_map (give_way change (last_number path)) (shelf items path)
 shelf_after change items [] = refl
 shelf_after change items (k ∷ []) = refl

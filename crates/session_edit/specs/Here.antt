@@ -1,5 +1,5 @@
 -- What may be done at a stop: which phrase text is wanted there, what can be taken out, and what can be put in.
-use Rattle.std.specs.Prelude.{ℕ, zero, suc, Bool, true, false, ◌&&◌, nat_le, ◌==◌, if◌then◌else◌, List, [], ◌∷◌, length, take, Option, Some, None, is_some, is_none, option_and_then, slice_get}
+use Rattle.std.specs.Prelude.{ℕ, zero, suc, Bool, true, false, ◌&&◌, nat_lt, ◌==◌, if◌then◌else◌, List, [], ◌∷◌, length, take, Option, Some, None, is_some, is_none, option_and_then, slice_get}
 use Rattle.std.specs.Option.{option_map_or}
 use Rattle.plcs_grammar.specs.Template.{program_sections}
 use Rattle.plcs_grammar.specs.declared.category.Category.{Category}
@@ -85,7 +85,7 @@ is_item items path =
 abbrev pub is_spare_hole : Forest → PlainStop → PlainNode → Bool
 is_spare_hole items stop node =
     (is_none stop.part && is_hole node.label.kind)
-    && (is_item items stop.path && nat_le 2 (how_many (sort_of node.label.kind) (sorts (siblings_at items stop.path))))
+    && (is_item items stop.path && nat_lt 1 (how_many (sort_of node.label.kind) (sorts (siblings_at items stop.path))))
 
 -- the longest of the first so many numbers of a path that leads to an item of a list
 abbrev pub nearest_item : Forest → List ℕ → ℕ → Option (List ℕ)

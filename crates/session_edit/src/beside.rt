@@ -10,8 +10,10 @@ ghost use Rattle.session_edit.specs.Here.{enclosing_item};
 ghost use Rattle.session_edit.specs.Private.ShownPath.{IsShown};
 
 use crate::applied::Applied;
+use crate::path_copy::copy_of;
+use crate::path_last::path_behind;
 use std::alloc::Global;
-use template_tree::{Path, Side, Stop, Tree, TreeFault};
+use template_tree::{Path, Side, Stop, Tree, TreeFault, slot_edit_is_path_edit};
 
 /// A hole comes on this side of the nearest list item that the node at the path is, or in which it
 /// stands; the cursor goes to it.
@@ -20,12 +22,13 @@ pub(crate) fn add_beside(alloc: Global, tree: &mut Tree, path: Path, side: Side)
     requires seen { IsShown tree.old.items path.items }
     ensures { IsAnswer true (hole_beside (roomless_tree tree.old) side (enclosing_item (roomless_tree tree.old).items path.items)) tree.old tree.new result }
 {
+    slot_edit_is_path_edit();
     match tree.add_hole(alloc, &path, side) {
         Ok(receipt) => Ok(Applied {
             receipt,
             taken: None,
             stop: Stop {
-                path: beside(path, side),
+                path: beside(&path, side),
                 part: None,
             },
         }),
@@ -41,16 +44,12 @@ pub(crate) fn add_beside(alloc: Global, tree: &mut Tree, path: Path, side: Side)
 }
 
 /// The path of the hole beside the item at the path.
-fn beside(path: Path, side: Side) -> Path
-    requires few { All (λ k. k < most_slots) path.items }
-    ensures { result.items ≡ beside_path side path.items }
+fn beside(path: &Path, side: Side) -> Path
+    requires few { All (λ k. k < most_slots) path.now.items }
+    ensures { result.items ≡ beside_path side path.now.items }
 {
-    let mut path = path;
-    if side == Side::Before {
-        return path;
+    match side {
+        Side::Before => copy_of(path),
+        Side::After => path_behind(path),
     }
-    if let Some(k) = path.pop() {
-        path.push(k + 1);
-    }
-    path
 }

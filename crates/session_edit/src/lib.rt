@@ -9,6 +9,7 @@ mod here;
 mod insertion;
 mod next_stop;
 mod path_copy;
+mod path_last;
 mod removal;
 mod slot_stop;
 #[cfg(test)]

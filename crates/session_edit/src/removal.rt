@@ -13,6 +13,7 @@ ghost use Rattle.session_edit.specs.PlainEdit.{PlainEdit};
 use crate::applied::Applied;
 use crate::here::takes;
 use crate::path_copy::{copy_of, same_stop};
+use crate::path_last::path_before;
 use plcs_grammar::Sort;
 use std::alloc::Global;
 use template_tree::{Path, PhrasePlace, Stop, Tree, TreeFault, slot_edit_is_path_edit};
@@ -43,6 +44,7 @@ fn drop_hole(tree: &mut Tree, at: &Stop) -> Option<Applied>
     let Some(sort) = sort_at(tree, &at.path) else {
         return None;
     };
+    slot_edit_is_path_edit();
     let Ok(receipt) = tree.drop_hole(&at.path) else {
         return None;
     };
@@ -70,14 +72,10 @@ fn path_after_drop(tree: &Tree, sort: Sort, path: &Path) -> Path
     requires tree { IsTree tree.now }
     ensures { result.items ≡ path_after_drop sort tree.now.items path.now.items }
 {
-    let mut path_now = copy_of(path);
     if sort_at(tree, path) == Some(sort) {
-        return path_now;
+        return copy_of(path);
     }
-    if let Some(k) = path_now.pop() {
-        path_now.push(k.saturating_sub(1));
-    }
-    path_now
+    path_before(path)
 }
 
 /// What stands at the cursor is taken out: a node, in whose place a hole stays, or a phrase. It takes no
