@@ -1,0 +1,259 @@
+-- Commands that set a part at the stop of the part.
+use Rattle.std.specs.Prelude.{◌≡◌, refl, ℕ, ◌<◌, Bool, true, false, ◌&&◌, if◌then◌else◌, List, [], ◌∷◌, Option, Some, None, IfSome, IsSome, IsSomeAnd, is_some, is_none, option_map}
+use Rattle.std.specs.Option.{option_map_or}
+use Rattle.std.proofs.Common.{ap, sym, ◌∙◌, subst}
+use Rattle.std.proofs.lemmas.Bool.{false≢true}
+use Rattle.plcs_grammar.specs.PlainPhrase.{PlainPhrase}
+use Rattle.template_tree.specs.declared.stop.Stop.{Stop}
+use Rattle.template_tree.specs.declared.tree_fault.TreeFault.{TreeFault}
+use Rattle.template_tree.specs.EditAnswer.{Edits, IsEdit, TakesAtStop}
+use Rattle.template_tree.specs.Part.{Takes, part_category, with_part}
+use Rattle.template_tree.specs.Path.{node_at}
+use Rattle.template_tree.specs.PlainTree.{PlainNode, PlainTree, roomless_node, roomless_tree}
+use Rattle.template_tree.specs.Receipt.{PlainReceipt}
+use Rattle.template_tree.specs.Stop.{IsStop, MayStand, PlainStop, part_stops, plain_stop}
+use Rattle.template_tree.specs.Tree.{IsTree}
+use Rattle.template_tree.specs.TreeEdit.{TreeEdit, tree_after}
+use Rattle.template_tree.specs.TreeLaws.{SlotEditIsPathEdit}
+use Rattle.clip_store.specs.PlainFragment.{PlainFragment}
+use Rattle.session_edit.specs.AppliedEdit.{IsApplied, IsRefused}
+use Rattle.session_edit.specs.Cursor.{onward}
+use Rattle.session_edit.specs.Edited.{Edited, comes, comes_onward, edited, entry, not_here, phrase_inserted, taken_out}
+use Rattle.session_edit.specs.Here.{can_take, category_in, is_wanted, phrase_in, takes_at, takes_phrase}
+use Rattle.session_edit.specs.PlainEdit.{PlainEdit}
+use Rattle.session_edit.proofs.Outcomes.{Node, applied_is, edited_is, node_there, not_here_is, onward_applied, stands_after}
+use Rattle.session_edit.proofs.PutCommands.{at_found, of_found}
+use Rattle.session_edit.proofs.RoomlessEdits.{part_roomless}
+use Rattle.session_edit.proofs.RoomlessNodes.{stop_with_room}
+use Rattle.session_edit.proofs.StopNodes.{takes_is}
+use Rattle.session_edit.proofs.StopTests.{is_false, part_empties, wanted_takes, wanted_true}
+use Rattle.session_edit.proofs.VisibleEdits.{first_comes, last_number, seen_here, shelf_of}
+
+-- how a part at the stop is set
+abbrev pub SetsPart : PlainStop → Option PlainPhrase → (before after : PlainTree) → PlainReceipt → Type 0
+SetsPart at place before after receipt =
+    IsSomeAnd at.part (λ part. Edits (TreeEdit.set_part part place) (node_at before.items at.path) (TakesAtStop part place) before after receipt)
+
+-- the stop takes this
+abbrev pub TakesThere : PlainStop → Option PlainPhrase → PlainTree → Type 0
+TakesThere at place tree = IsSomeAnd at.part (λ part. IsSomeAnd (node_at tree.items at.path) (TakesAtStop part place))
+
+pub some_part : (part : Option ℕ) → IsSome part → (k : ℕ) × (part ≡ Some k)
+some_part None h = absurd (false≢true h)
+some_part (Some k) h = (k, refl)
+
+held_part : (part : Option ℕ) (P : ℕ → Type 0) → IsSomeAnd part P → (k : ℕ) × (part ≡ Some k) × P k
+held_part None P h = absurd h
+held_part (Some k) P h = (k, refl, h)
+
+-- what was done at a part
+record Setting (at : PlainStop) (place : Option PlainPhrase) (before after : PlainTree) (n : Node before at) (receipt : PlainReceipt) : Type 0 where
+  part : ℕ
+  is : at.part ≡ Some part
+  takes : TakesAtStop part place n.node
+  edit : IsEdit (TreeEdit.set_part part place) n.node.label.slot before after receipt None
+
+setting : (at : PlainStop) (place : Option PlainPhrase) (before after : PlainTree) (n : Node before at) (receipt : PlainReceipt)
+    → SetsPart at place before after receipt → Setting at place before after n receipt
+setting at place before after n receipt sets =
+    let held = held_part at.part
+    (λ part. Edits (TreeEdit.set_part part place) (node_at before.items at.path) (TakesAtStop part place) before after receipt) sets
+    in
+    let made = at_found (node_at before.items at.path)
+    (λ node. TakesAtStop held.0 place node × IsEdit (TreeEdit.set_part held.0 place) node.label.slot before after receipt None) n.node n.there held.2
+    in
+    record { part = held.0; is = held.1; takes = made.0; edit = made.1 }
+
+-- the cursor may stand at the part that was set
+stands : SlotEditIsPathEdit → (before after : PlainTree) (at : PlainStop) (n : Node before at) (part : ℕ) (place : Option PlainPhrase) (receipt : PlainReceipt)
+    → IsTree before → IsEdit (TreeEdit.set_part part place) n.node.label.slot before after receipt None → IsStop (roomless_tree after).items at
+stands law before after at n part place receipt tree edit =
+    let change : PlainNode → List PlainNode = λ node. with_part part place node ∷ [] in
+    let shelf = shelf_of before.items at.path n.node n.seen in
+    stands_after law before after at.path n.node change before.drawn at (with_part part place n.node) tree n.there edit.became
+    (seen_here change before.items at.path shelf.0 shelf.1
+    ∙ first_comes change (last_number at.path) shelf.0 n.node (with_part part place n.node) [] shelf.2 refl)
+    n.stands
+
+pub part_stands : SlotEditIsPathEdit → (before after : PlainTree) (at : PlainStop) (place : Option PlainPhrase) (receipt : PlainReceipt)
+    → IsTree before → IsStop (roomless_tree before).items at → SetsPart at place before after receipt → IsStop after.items at
+part_stands law before after at place receipt tree stop sets =
+    let n = node_there before at stop in
+    let s = setting at place before after n receipt sets in
+    stop_with_room after.items at (stands law before after at n s.part place receipt tree s.edit)
+
+-- phrase text
+enter_if : (tree : PlainTree) (at : PlainStop) (n : Node tree at) (phrase : PlainPhrase) (k : ℕ) (b : Bool) → at.part ≡ Some k
+    → is_wanted phrase (part_category n.node.label.kind k) ≡ b
+    → edited (roomless_tree tree) at (PlainEdit.enter phrase)
+    ≡ (if b
+    then comes_onward (roomless_tree (tree_after (TreeEdit.set_part k (Some phrase)) (roomless_tree tree) n.node.label.slot)) at
+    else not_here)
+enter_if tree at n phrase k b part e =
+    edited_is tree at (PlainEdit.enter phrase) n.node n.there
+    ∙ (ap
+    (λ (p : Option ℕ).
+    if is_wanted phrase (category_in p n.node.label.kind)
+    then comes_onward (roomless_tree (tree_after (entry p phrase) (roomless_tree tree) n.node.label.slot)) at
+    else not_here)
+    part
+    ∙ ap
+    (λ (b : Bool).
+    if b
+    then comes_onward (roomless_tree (tree_after (TreeEdit.set_part k (Some phrase)) (roomless_tree tree) n.node.label.slot)) at
+    else not_here)
+    e)
+
+pub enter_applied : (tree after : PlainTree) (at : PlainStop) (phrase : PlainPhrase) (receipt : PlainReceipt) (stop_after : Stop)
+    → IsStop (roomless_tree tree).items at → SetsPart at (Some phrase) tree after receipt
+    → plain_stop stop_after ≡ onward after.items at → IsStop after.items (plain_stop stop_after)
+    → IsApplied (edited (roomless_tree tree) at (PlainEdit.enter phrase)) tree after record { receipt = receipt; taken = None; stop = stop_after }
+enter_applied tree after at phrase receipt stop_after stop sets there seen =
+    let n = node_there tree at stop in
+    let s = setting at (Some phrase) tree after n receipt sets in
+    let te : TreeEdit = TreeEdit.set_part s.part (Some phrase) in
+    onward_applied (edited (roomless_tree tree) at (PlainEdit.enter phrase)) te te n.node.label.slot tree after receipt stop_after at s.edit
+    (part_roomless tree n.node.label.slot s.part (Some phrase))
+    (enter_if tree at n phrase s.part true s.is (wanted_true phrase (part_category n.node.label.kind s.part) s.takes.1)) there seen
+
+-- the phrase isn't wanted where the stop doesn't take it
+unwanted : (tree : PlainTree) (at : PlainStop) (n : Node tree at) (phrase : PlainPhrase) (k : ℕ) → at.part ≡ Some k
+    → (TakesThere at (Some phrase) tree → ⊥) → is_wanted phrase (part_category n.node.label.kind k) ≡ false
+unwanted tree at n phrase k part missing =
+    is_false (is_wanted phrase (part_category n.node.label.kind k))
+    (λ e.
+    missing
+    (subst (λ (p : Option ℕ). IsSomeAnd p (λ part. IsSomeAnd (node_at tree.items at.path) (TakesAtStop part (Some phrase)))) (sym part)
+    (of_found (node_at tree.items at.path) (TakesAtStop k (Some phrase)) n.node n.there
+    (subst (λ (p : Option ℕ). MayStand p n.node.label.kind) part n.stands, wanted_takes phrase (part_category n.node.label.kind k) e))))
+
+pub enter_refused : (tree : PlainTree) (at : PlainStop) (phrase : PlainPhrase) (fault : TreeFault)
+    → IsStop (roomless_tree tree).items at → IsSome at.part → fault ≡ TreeFault.NotHere
+    → (TakesThere at (Some phrase) tree → ⊥)
+    → IsRefused false (edited (roomless_tree tree) at (PlainEdit.enter phrase)) fault
+enter_refused tree at phrase fault stop part e missing =
+    let n = node_there tree at stop in
+    let p = some_part at.part part in
+    not_here_is false (edited (roomless_tree tree) at (PlainEdit.enter phrase)) fault e
+    (enter_if tree at n phrase p.0 false p.1 (unwanted tree at n phrase p.0 p.1 missing))
+
+-- whether something can be taken out at a part
+takes_there : (tree : PlainTree) (at : PlainStop) (n : Node tree at) (b : Bool) → b ≡ takes_at (roomless_tree tree) at → can_take at.part n.node ≡ b
+takes_there tree at n b e =
+    sym (e ∙ (takes_is tree at ∙ ap (λ (found : Option PlainNode). option_map_or (can_take at.part) found false) n.there))
+
+-- phrases inserted
+insert_is : (tree : PlainTree) (at : PlainStop) (n : Node tree at) (phrase : PlainPhrase) (part : Option ℕ) → at.part ≡ part
+    → edited (roomless_tree tree) at (PlainEdit.insert (PlainFragment.phrase phrase)) ≡ phrase_inserted (roomless_tree tree) at phrase part (roomless_node n.node)
+insert_is tree at n phrase part e =
+    edited_is tree at (PlainEdit.insert (PlainFragment.phrase phrase)) n.node n.there
+    ∙ ap (λ (p : Option ℕ). phrase_inserted (roomless_tree tree) at phrase p (roomless_node n.node)) e
+
+none_as : (A : Type 0) (found : Option A) (b : Bool) → is_some found ≡ b → is_none found ≡ (if b then false else true)
+none_as A None b e = subst (λ b. true ≡ (if b then false else true)) e refl
+none_as A (Some x) b e = subst (λ b. false ≡ (if b then false else true)) e refl
+
+insert_some : (tree : PlainTree) (at : PlainStop) (n : Node tree at) (phrase : PlainPhrase) (k : ℕ) (b : Bool) → at.part ≡ Some k
+    → takes_phrase phrase k n.node ≡ b
+    → edited (roomless_tree tree) at (PlainEdit.insert (PlainFragment.phrase phrase))
+    ≡ (if b then comes (roomless_tree (tree_after (TreeEdit.set_part k (Some phrase)) (roomless_tree tree) n.node.label.slot)) at None else not_here)
+insert_some tree at n phrase k b part e =
+    insert_is tree at n phrase (Some k) part
+    ∙ ap
+    (λ (b : Bool).
+    if b then comes (roomless_tree (tree_after (TreeEdit.set_part k (Some phrase)) (roomless_tree tree) n.node.label.slot)) at None else not_here)
+    e
+
+full_part : (tree : PlainTree) (at : PlainStop) (n : Node tree at) (phrase : PlainPhrase) (part : Option ℕ) → at.part ≡ part
+    → can_take part n.node ≡ true
+    → edited (roomless_tree tree) at (PlainEdit.insert (PlainFragment.phrase phrase)) ≡ not_here
+full_part tree at n phrase None e full = insert_is tree at n phrase None e
+full_part tree at n phrase (Some k) e full =
+    insert_some tree at n phrase k false e
+    (ap (λ (b : Bool). b && is_wanted phrase (part_category n.node.label.kind k)) (none_as PlainPhrase (phrase_in k n.node) true full))
+
+pub insert_full : (tree : PlainTree) (at : PlainStop) (phrase : PlainPhrase) → IsStop (roomless_tree tree).items at
+    → true ≡ takes_at (roomless_tree tree) at → edited (roomless_tree tree) at (PlainEdit.insert (PlainFragment.phrase phrase)) ≡ not_here
+insert_full tree at phrase stop full =
+    let n = node_there tree at stop in full_part tree at n phrase at.part refl (takes_there tree at n true full)
+
+pub insert_applied : SlotEditIsPathEdit → (tree after : PlainTree) (at : PlainStop) (phrase : PlainPhrase) (receipt : PlainReceipt) (stop_after : Stop)
+    → IsTree tree → IsStop (roomless_tree tree).items at → false ≡ takes_at (roomless_tree tree) at
+    → SetsPart at (Some phrase) tree after receipt → plain_stop stop_after ≡ at
+    → IsApplied (edited (roomless_tree tree) at (PlainEdit.insert (PlainFragment.phrase phrase))) tree after
+    record { receipt = receipt; taken = None; stop = stop_after }
+insert_applied law tree after at phrase receipt stop_after is_tree stop empty sets there =
+    let n = node_there tree at stop in
+    let s = setting at (Some phrase) tree after n receipt sets in
+    let te : TreeEdit = TreeEdit.set_part s.part (Some phrase) in
+    let no_phrase : is_none (phrase_in s.part n.node) ≡ true =
+    none_as PlainPhrase (phrase_in s.part n.node) false
+    (ap (λ (p : Option ℕ). can_take p n.node) (sym s.is) ∙ takes_there tree at n false empty)
+    in
+    let fits : takes_phrase phrase s.part n.node ≡ true =
+    ap (λ (b : Bool). b && is_wanted phrase (part_category n.node.label.kind s.part)) no_phrase
+    ∙ wanted_true phrase (part_category n.node.label.kind s.part) s.takes.1
+    in
+    applied_is (edited (roomless_tree tree) at (PlainEdit.insert (PlainFragment.phrase phrase))) te te n.node.label.slot tree after receipt None stop_after at
+    s.edit (part_roomless tree n.node.label.slot s.part (Some phrase)) (insert_some tree at n phrase s.part true s.is fits) there
+    (subst (λ q. IsStop (roomless_tree after).items q) (sym there) (stands law tree after at n s.part (Some phrase) receipt is_tree s.edit)) tt
+
+false_and : (a b : Bool) → b ≡ false → (a && b) ≡ false
+false_and true b e = e
+false_and false b e = refl
+
+unfit : (tree : PlainTree) (at : PlainStop) (n : Node tree at) (phrase : PlainPhrase) (part : Option ℕ) → at.part ≡ part
+    → (TakesThere at (Some phrase) tree → ⊥)
+    → edited (roomless_tree tree) at (PlainEdit.insert (PlainFragment.phrase phrase)) ≡ not_here
+unfit tree at n phrase None e missing = insert_is tree at n phrase None e
+unfit tree at n phrase (Some k) e missing =
+    insert_some tree at n phrase k false e
+    (false_and (is_none (phrase_in k n.node)) (is_wanted phrase (part_category n.node.label.kind k)) (unwanted tree at n phrase k e missing))
+
+pub insert_refused : (tree : PlainTree) (at : PlainStop) (phrase : PlainPhrase) (fault : TreeFault)
+    → IsStop (roomless_tree tree).items at → fault ≡ TreeFault.NotHere → (TakesThere at (Some phrase) tree → ⊥)
+    → IsRefused false (edited (roomless_tree tree) at (PlainEdit.insert (PlainFragment.phrase phrase))) fault
+insert_refused tree at phrase fault stop e missing =
+    let n = node_there tree at stop in
+    not_here_is false (edited (roomless_tree tree) at (PlainEdit.insert (PlainFragment.phrase phrase))) fault e
+    (unfit tree at n phrase at.part refl missing)
+
+-- parts emptied
+empty_if : (tree : PlainTree) (at : PlainStop) (n : Node tree at) (k : ℕ) (b : Bool) → at.part ≡ Some k → can_take (Some k) n.node ≡ b
+    → edited (roomless_tree tree) at PlainEdit.take
+    ≡ (if b then comes (roomless_tree (tree_after (TreeEdit.set_part k None) (roomless_tree tree) n.node.label.slot)) at None else not_here)
+empty_if tree at n k b part e =
+    edited_is tree at PlainEdit.take n.node n.there
+    ∙ (ap (λ (p : Option ℕ). taken_out (roomless_tree tree) at p (roomless_node n.node)) part
+    ∙ ap
+    (λ (b : Bool). if b then comes (roomless_tree (tree_after (TreeEdit.set_part k None) (roomless_tree tree) n.node.label.slot)) at None else not_here)
+    e)
+
+pub empty_missing : (tree : PlainTree) (at : PlainStop) → IsStop (roomless_tree tree).items at → IsSome at.part
+    → false ≡ takes_at (roomless_tree tree) at → edited (roomless_tree tree) at PlainEdit.take ≡ not_here
+empty_missing tree at stop part none =
+    let n = node_there tree at stop in
+    let p = some_part at.part part in
+    empty_if tree at n p.0 false p.1 (ap (λ (q : Option ℕ). can_take q n.node) (sym p.1) ∙ takes_there tree at n false none)
+
+pub empty_applied : SlotEditIsPathEdit → (tree after : PlainTree) (at : PlainStop) (receipt : PlainReceipt) (stop_after : Stop)
+    → IsTree tree → IsStop (roomless_tree tree).items at → true ≡ takes_at (roomless_tree tree) at
+    → SetsPart at None tree after receipt → plain_stop stop_after ≡ at
+    → IsApplied (edited (roomless_tree tree) at PlainEdit.take) tree after record { receipt = receipt; taken = None; stop = stop_after }
+empty_applied law tree after at receipt stop_after is_tree stop full sets there =
+    let n = node_there tree at stop in
+    let s = setting at None tree after n receipt sets in
+    let te : TreeEdit = TreeEdit.set_part s.part None in
+    applied_is (edited (roomless_tree tree) at PlainEdit.take) te te n.node.label.slot tree after receipt None stop_after at s.edit
+    (part_roomless tree n.node.label.slot s.part None)
+    (empty_if tree at n s.part true s.is (ap (λ (q : Option ℕ). can_take q n.node) (sym s.is) ∙ takes_there tree at n true full)) there
+    (subst (λ q. IsStop (roomless_tree after).items q) (sym there) (stands law tree after at n s.part None receipt is_tree s.edit)) tt
+
+-- a part at which the cursor stands is never refused what empties it
+pub empties_there : (tree : PlainTree) (at : PlainStop) → IsStop (roomless_tree tree).items at → IsSome at.part → TakesThere at None tree
+empties_there tree at stop part =
+    let n = node_there tree at stop in
+    let p = some_part at.part part in
+    let within : p.0 < part_stops n.node.label.kind = subst (λ (q : Option ℕ). MayStand q n.node.label.kind) p.1 n.stands in
+    subst (λ (q : Option ℕ). IsSomeAnd q (λ part. IsSomeAnd (node_at tree.items at.path) (TakesAtStop part None))) (sym p.1)
+    (of_found (node_at tree.items at.path) (TakesAtStop p.0 None) n.node n.there (within, part_empties n.node.label.kind p.0 within))

@@ -1,0 +1,59 @@
+-- Where the cursor stands after an edit.
+use Rattle.std.specs.Prelude.{ℕ, suc, ◌-◌, Bool, false, ◌&&◌, nat_eq, if◌then◌else◌, List, [], ◌∷◌, Option, Some, None}
+use Rattle.std.specs.List.{starts_with}
+use Rattle.std.specs.Option.{option_eq, option_map_or}
+use Rattle.std.specs.Str.{bytes_eq}
+use Rattle.plcs_grammar.specs.declared.node_kind.Sort.{Sort}
+use Rattle.template_tree.specs.declared.side.Side.{Side}
+use Rattle.template_tree.specs.Path.{node_at}
+use Rattle.template_tree.specs.PlainTree.{Forest}
+use Rattle.template_tree.specs.Program.{sort_of}
+use Rattle.template_tree.specs.Section.{same_sort}
+use Rattle.template_tree.specs.Stop.{PlainStop, VisibleStop, Stops}
+use Rattle.cursor_moves.specs.Move.{first_of}
+
+-- the stop of a node itself
+abbrev pub node_stop : List ℕ → PlainStop
+node_stop path = record { path = path; part = None }
+
+-- whether two stops are one
+abbrev pub same_stop : PlainStop → PlainStop → Bool
+same_stop one other = bytes_eq one.path other.path && option_eq nat_eq one.part other.part
+
+-- the visible stops behind the stop, in listing order
+abbrev pub stops_behind : PlainStop → List VisibleStop → List VisibleStop
+stops_behind stop [] = []
+stops_behind stop (listed ∷ others) = if same_stop listed.stop stop then others else stops_behind stop others
+
+-- the next stop, where it lies in the same node or in a node inside it, and else the stop itself
+abbrev pub stop_or_next : PlainStop → PlainStop → PlainStop
+stop_or_next stop next = if starts_with nat_eq next.path stop.path then next else stop
+
+-- where the cursor goes from a stop that was filled, among visible stops: to the next one, where that lies in the same node
+-- or in a node inside it; without such a next stop it stays
+abbrev pub onward_among : List VisibleStop → PlainStop → PlainStop
+onward_among stops stop = option_map_or (λ next. stop_or_next stop next.stop) (first_of (stops_behind stop stops)) stop
+
+-- the same among the visible stops of nodes
+abbrev pub onward : Forest → PlainStop → PlainStop
+onward items stop = onward_among (Stops items) stop
+
+-- the path with another last number
+abbrev pub with_last : (ℕ → ℕ) → List ℕ → List ℕ
+with_last change [] = []
+with_last change (k ∷ []) = change k ∷ []
+with_last change (k ∷ (j ∷ path)) = k ∷ with_last change (j ∷ path)
+
+-- the path of the hole that comes beside the item at a path
+abbrev pub beside_path : Side → List ℕ → List ℕ
+beside_path Side.Before path = path
+beside_path Side.After path = with_last suc path
+
+-- whether a node of the sort stands at the path
+abbrev pub has_sort : Sort → Forest → List ℕ → Bool
+has_sort sort items path = option_map_or (λ node. same_sort (sort_of node.label.kind) sort) (node_at items path) false
+
+-- where the cursor goes from an item of the sort that was dropped, over the nodes that are left: to the item of its list
+-- that is now at its number, or else to the last one, which stood before it; the lists in a node are of different sorts
+abbrev pub path_after_drop : Sort → Forest → List ℕ → List ℕ
+path_after_drop sort items path = if has_sort sort items path then path else with_last (λ k. k - 1) path

@@ -1,0 +1,55 @@
+//! Holes that come beside list items.
+ghost use Rattle.std.specs.Prelude.{◌≡◌, ◌<◌, All, true};
+ghost use Rattle.template_tree.specs.Limit.{most_slots};
+ghost use Rattle.template_tree.specs.PlainTree.{roomless_tree};
+ghost use Rattle.template_tree.specs.Tree.{IsTree};
+ghost use Rattle.session_edit.specs.AppliedEdit.{IsAnswer};
+ghost use Rattle.session_edit.specs.Cursor.{beside_path};
+ghost use Rattle.session_edit.specs.Edited.{hole_beside};
+ghost use Rattle.session_edit.specs.Here.{enclosing_item};
+ghost use Rattle.session_edit.specs.Private.ShownPath.{IsShown};
+
+use crate::applied::Applied;
+use crate::path_copy::copy_of;
+use crate::path_last::path_behind;
+use std::alloc::Global;
+use template_tree::{Path, Side, Stop, Tree, TreeFault, slot_edit_is_path_edit};
+
+/// A hole comes on this side of the nearest list item that the node at the path is, or in which it
+/// stands; the cursor goes to it.
+pub(crate) fn add_beside(alloc: Global, tree: &mut Tree, path: Path, side: Side) -> Result<Applied, TreeFault>
+    requires tree { IsTree tree.old }
+    requires seen { IsShown tree.old.items path.items }
+    ensures { IsAnswer true (hole_beside (roomless_tree tree.old) side (enclosing_item (roomless_tree tree.old).items path.items)) tree.old tree.new result }
+{
+    slot_edit_is_path_edit();
+    match tree.add_hole(alloc, &path, side) {
+        Ok(receipt) => Ok(Applied {
+            receipt,
+            taken: None,
+            stop: Stop {
+                path: beside(&path, side),
+                part: None,
+            },
+        }),
+        Err(TreeFault::NotHere) => {
+            let mut outer = path;
+            if outer.pop().is_none() {
+                return Err(TreeFault::NotHere);
+            }
+            add_beside(alloc, tree, outer, side)
+        }
+        Err(fault) => Err(fault),
+    }
+}
+
+/// The path of the hole beside the item at the path.
+fn beside(path: &Path, side: Side) -> Path
+    requires few { All (λ k. k < most_slots) path.now.items }
+    ensures { result.items ≡ beside_path side path.now.items }
+{
+    match side {
+        Side::Before => copy_of(path),
+        Side::After => path_behind(path),
+    }
+}

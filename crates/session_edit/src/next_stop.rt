@@ -1,0 +1,34 @@
+//! Where the cursor goes from what was filled.
+ghost use Rattle.std.specs.Prelude.{◌≡◌};
+ghost use Rattle.template_tree.specs.PlainTree.{roomless_tree};
+ghost use Rattle.template_tree.specs.Stop.{IsStop, plain_stop};
+ghost use Rattle.template_tree.specs.Tree.{IsTree};
+ghost use Rattle.session_edit.specs.Cursor.{onward, stop_or_next};
+
+use crate::path_copy::same_stop;
+use cursor_moves::{Move, right, stops_are_distinct};
+use template_tree::{Stop, Tree};
+
+/// The next stop, where it lies in the same node or in a node inside it, or else the stop itself.
+pub(crate) fn onward(tree: &Tree, at: &Stop) -> Stop
+    requires tree { IsTree tree.now }
+    requires stop { IsStop tree.now.items (plain_stop at.now) }
+    ensures onward { plain_stop result ≡ onward tree.now.items (plain_stop at.now) }
+    ensures stop { IsStop tree.now.items (plain_stop result) }
+{
+    stops_are_distinct();
+    match right(tree, at) {
+        Move::Moved(next) => next_within(at, next),
+        Move::AtEdge => same_stop(at),
+    }
+}
+
+/// The next stop, where it lies in the node of a stop or in a node inside it, or else that stop itself.
+fn next_within(at: &Stop, next: Stop) -> Stop
+    ensures { plain_stop result ≡ stop_or_next (plain_stop at.now) (plain_stop next) }
+{
+    if next.path.starts_with(at.path.as_slice()) {
+        return next;
+    }
+    same_stop(at)
+}

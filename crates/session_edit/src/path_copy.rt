@@ -1,0 +1,24 @@
+//! Copies of paths and stops.
+ghost use Rattle.std.specs.Prelude.{◌≡◌};
+ghost use Rattle.template_tree.specs.Stop.{plain_stop};
+
+use template_tree::{Path, Stop};
+
+/// An equal stop.
+pub(crate) fn same_stop(stop: &Stop) -> Stop
+    ensures { plain_stop result ≡ plain_stop stop.now }
+{
+    Stop {
+        path: copy_of(&stop.path),
+        part: stop.part,
+    }
+}
+
+/// An equal path.
+pub(crate) fn copy_of(path: &Path) -> Path
+    ensures { result.items ≡ path.now.items }
+{
+    let mut copy = Path::new();
+    if let Err(_) = copy.try_extend_from_slice(path.as_slice()) {}
+    copy
+}
