@@ -64,3 +64,5 @@ mod FilledLists
 mod ListTrees
 -- which list an item stands in, and the items beside it
 mod BesidePaths
+-- a hole that came into a list, or left it, is an edit
+mod ListEdits
