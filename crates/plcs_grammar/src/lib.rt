@@ -26,9 +26,9 @@ mod show_phrase;
 mod shown_text_laws;
 mod sign;
 mod template;
-mod trimmed_text;
 #[cfg(test)]
 mod tests;
+mod trimmed_text;
 
 pub use builtin::Builtin;
 pub use category::Category;

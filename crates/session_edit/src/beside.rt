@@ -17,7 +17,12 @@ use template_tree::{Path, Side, Stop, Tree, TreeFault, slot_edit_is_path_edit};
 
 /// A hole comes on this side of the nearest list item that the node at the path is, or in which it
 /// stands; the cursor goes to it.
-pub(crate) fn add_beside(alloc: Global, tree: &mut Tree, path: Path, side: Side) -> Result<Applied, TreeFault>
+pub(crate) fn add_beside(
+    alloc: Global,
+    tree: &mut Tree,
+    path: Path,
+    side: Side,
+) -> Result<Applied, TreeFault>
     requires tree { IsTree tree.old }
     requires seen { IsShown tree.old.items path.items }
     ensures { IsAnswer true (hole_beside (roomless_tree tree.old) side (enclosing_item (roomless_tree tree.old).items path.items)) tree.old tree.new result }
