@@ -6,7 +6,7 @@ use Rattle.synth_outside.specs.Source.{LosesAtMost}
 use Rattle.std.proofs.Math.ListN.{drop_of_length-le}
 use Rattle.key_journal.specs.Crash.{LeavesOnly, LeavesOneOf, Throughout}
 use Rattle.key_journal.specs.Disk.{DiskState, Newest, Syncs, with_sync}
-use Rattle.key_journal.specs.JournalRead.{Answers, Gave, ReadsKey}
+use Rattle.key_journal.specs.JournalRead.{NextOrEnd, Gave, ReadsKey}
 use Rattle.key_journal.specs.Recovered.{recovered, kept}
 use Rattle.key_journal.specs.Private.Keeping.{FindsKey, KeepsKey, Replays, ReplaysAt}
 use Rattle.key_journal.specs.Private.Stages.{IsAppending}
@@ -166,7 +166,7 @@ read_behind left left_after given past between now result each reads =
       behind = subst (λ (keys : List ℕ). (reads.taken ≡ []) ⊎ (drop given keys ≡ [])) same reads.behind;
       each = throughout_both _ past between now (only_one_of (kept past) reads.taken past between each)
           (subst (λ (keys : List ℕ). Throughout (LeavesOneOf keys reads.taken) between now) same reads.each);
-      answer = subst (λ (keys : List ℕ). IfOk result (λ key. Answers key left_after given keys reads.taken now)) same reads.answer;
+      answer = subst (λ (keys : List ℕ). IfOk result (λ key. NextOrEnd key left_after given keys reads.taken now)) same reads.answer;
     }
 
 -- a disk that is synced first

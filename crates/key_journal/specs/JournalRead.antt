@@ -25,9 +25,9 @@ pub record Ends (left : Option (List ℕ)) (place : ℕ) (keys taken : List ℕ)
   pub safe : Newest (LeavesOnly keys) past
 
 -- the answer of a read: the next key, or the end
-abbrev pub Answers : Option ℕ → Option (List ℕ) → ℕ → List ℕ → List ℕ → List DiskState → Type 0
-Answers (Some key) left place keys taken past = Newest (Gave place key (keys ++ taken)) past
-Answers None left place keys taken past = Ends left place keys taken past
+abbrev pub NextOrEnd : Option ℕ → Option (List ℕ) → ℕ → List ℕ → List ℕ → List DiskState → Type 0
+NextOrEnd (Some key) left place keys taken past = Newest (Gave place key (keys ++ taken)) past
+NextOrEnd None left place keys taken past = Ends left place keys taken past
 
 -- one more key was read, or the end, after so many keys
 pub record ReadsKey {E : Type 0} (left left_after : Option (List ℕ)) (place : ℕ)
@@ -39,7 +39,7 @@ pub record ReadsKey {E : Type 0} (left left_after : Option (List ℕ)) (place : 
   pub behind : (taken ≡ []) ⊎ (drop place (kept past) ≡ [])
   -- at each moment a crash leaves the kept keys, or these and then what was taken
   pub each : Throughout (LeavesOneOf (kept past) taken) past past_after
-  pub answer : IfOk result (λ key. Answers key left_after place (kept past) taken past_after)
+  pub answer : IfOk result (λ key. NextOrEnd key left_after place (kept past) taken past_after)
 
 -- the sum of the counts of faults of source and disk has the cause of the answer in it; neither falls,
 -- and both stay where a key or the end is answered
