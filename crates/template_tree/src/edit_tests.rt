@@ -25,18 +25,28 @@ fn filled(alloc: Global, numbers: &[u32], template: Template) -> Result<Tree, Fa
 {
     let mut tree = Tree::new(alloc).map_err(|_| "a tree")?;
     let hole = path(numbers)?;
-    let receipt = tree.fill(alloc, &hole, template).map_err(|_| "a hole for it")?;
+    let receipt = tree
+        .fill(alloc, &hole, template)
+        .map_err(|_| "a hole for it")?;
     let _change = receipt.change();
     Ok(tree)
 }
 
 /// Whether the template fills the hole at the one path with so many slots more, and neither at the other.
-fn fills(alloc: Global, template: Template, hole: &[u32], other: &[u32], slots: u32) -> Result<bool, Fail> {
+fn fills(
+    alloc: Global,
+    template: Template,
+    hole: &[u32],
+    other: &[u32],
+    slots: u32,
+) -> Result<bool, Fail> {
     let mut tree = Tree::new(alloc).map_err(|_| "a tree")?;
     let refused = tree.fill(alloc, &path(other)?, template);
     let is_refused = matches!(refused, Err(TreeFault::NotHere)) && tree.slots() == 4;
     let there = path(hole)?;
-    let receipt = tree.fill(alloc, &there, template).map_err(|_| "a hole for it")?;
+    let receipt = tree
+        .fill(alloc, &there, template)
+        .map_err(|_| "a hole for it")?;
     let Some(node) = tree.node(&there) else {
         return Ok(false);
     };
@@ -45,7 +55,9 @@ fn fills(alloc: Global, template: Template, hole: &[u32], other: &[u32], slots: 
 }
 
 const DECLARATION: &[u32] = &[0, 0];
+
 const STATEMENT: &[u32] = &[0, 1];
+
 const PROCEDURE: &[u32] = &[1];
 
 /// A template, the hole of a new tree that it fills, one that it doesn't, and how many slots it brings.
@@ -97,7 +109,8 @@ fn nested(alloc: Global, tree: &mut Tree, most: u32) -> Result<(u32, TreeFault),
         if let Err(fault) = tree.fill(alloc, &hole, Template::Group) {
             return Ok((count, fault));
         }
-        hole.try_push(0).map_err(|_| "a path of 64 numbers at most")?;
+        hole.try_push(0)
+            .map_err(|_| "a path of 64 numbers at most")?;
     }
     Ok((most, TreeFault::NotHere))
 }

@@ -72,7 +72,9 @@ fn walk(alloc: Global, tree: &mut Tree, steps: &[(Edit, &[u32])]) -> Result<(), 
     let at = path(numbers)?;
     match *edit {
         Edit::Fill(template) => {
-            let receipt = tree.fill(alloc, &at, template).map_err(|_| "a hole for it")?;
+            let receipt = tree
+                .fill(alloc, &at, template)
+                .map_err(|_| "a hole for it")?;
             walk(alloc, tree, rest)?;
             tree.undo(receipt, None);
             Ok(())
@@ -82,7 +84,9 @@ fn walk(alloc: Global, tree: &mut Tree, steps: &[(Edit, &[u32])]) -> Result<(), 
                 path: at,
                 part: Some(part),
             };
-            let receipt = tree.set_phrase(&stop, PhrasePlace::Empty).map_err(|_| "a part")?;
+            let receipt = tree
+                .set_phrase(&stop, PhrasePlace::Empty)
+                .map_err(|_| "a part")?;
             walk(alloc, tree, rest)?;
             tree.undo(receipt, None);
             Ok(())
@@ -117,7 +121,9 @@ fn comes_back(alloc: Global) -> Result<bool, Fail> {
     walk(alloc, &mut tree, &STEPS)?;
     let after = listing(alloc, &tree)?;
     let hole = path(&[0, 1])?;
-    let receipt = tree.fill(alloc, &hole, Template::Group).map_err(|_| "a hole for it")?;
+    let receipt = tree
+        .fill(alloc, &hole, Template::Group)
+        .map_err(|_| "a hole for it")?;
     let Some(inner) = tree.node(&path(&[0, 1, 0])?) else {
         return Ok(false);
     };
