@@ -44,8 +44,7 @@ returns-clause-edited c =
     let edit = drop_edit tree path node after change c.requires.tree there spare others drawn
     (ap (λ (t : PlainTree). t.live - 1) c.self.view_is) room
     record { slot_is = ap (λ (n : PlainNode). n.label.slot) c.hole.view_is; what_is = refl; first = c.procedure_at-procedure.ensures } in
-    at_there (node_at tree.items path) _ node there
-    (
+    at_there (node_at tree.items path) _ node there (
       spare,
       subst (λ (r : PlainReceipt). IsEdit TreeEdit.drop node.label.slot tree after r None)
           (λ i. record {
