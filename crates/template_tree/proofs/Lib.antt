@@ -58,10 +58,14 @@ pub mod Holes
 pub mod Refusals
 -- a fresh node has empty parts, and a hole in each section
 pub mod FreshNodes
+-- an assignment may come in place of a hole or an assignment
+pub mod Assignments
 -- a tree stays one where a hole comes into a list, or leaves it
 mod ApartSections
 mod FilledLists
 mod ListTrees
+-- the text of a comment that a test sets
+pub mod RemarkText
 -- which list an item stands in, and the items beside it
 mod BesidePaths
 -- a hole that came into a list, or left it, is an edit

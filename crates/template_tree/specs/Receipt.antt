@@ -67,6 +67,10 @@ abbrev pub HasRoomBack : PlainUndoing → ℕ → Type 0
 HasRoomBack (PlainUndoing.put_in side hole) room = 0 < room
 HasRoomBack other room = Unit {0}
 
+-- to undo the edit of the receipt no list needs room
+abbrev pub NeedsNoRoom : PlainReceipt → Type 0
+NeedsNoRoom receipt = (room : ℕ) → HasRoomBack receipt.undoing room
+
 -- the receipt is of an edit that made this tree, and what it takes to undo it is there
 pub record CanUndo (receipt : PlainReceipt) (back : Option PlainNode) (tree : PlainTree) : Type 0 where
   pub room : HasRoomBack receipt.undoing (list_room tree.spare tree.items receipt.path)

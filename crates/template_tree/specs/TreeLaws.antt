@@ -5,12 +5,13 @@ use Rattle.template_tree.specs.declared.side.Side.{Side}
 use Rattle.template_tree.specs.EditAnswer.{IsListItem, IsSpareHole}
 use Rattle.template_tree.specs.Limit.{deepest_path, most_slots, most_drawn}
 use Rattle.template_tree.specs.Program.{IsSubtree, sort_of}
-use Rattle.template_tree.specs.PlainTree.{Forest, PlainNode, PlainTree}
+use Rattle.template_tree.specs.PlainTree.{Forest, PlainNode, PlainTree, roomless_tree}
 use Rattle.template_tree.specs.Part.{IsPlace, Takes, part_category, with_part}
 use Rattle.template_tree.specs.Slots.{count, depth, times}
 use Rattle.template_tree.specs.Tree.{IsTree}
 use Rattle.template_tree.specs.TreeLend.{with_node}
 use Rattle.template_tree.specs.Path.{node_at}
+use Rattle.template_tree.specs.Receipt.{PlainReceipt, CanUndo, HasRoomBack, list_room}
 use Rattle.template_tree.specs.Edit.{Add, Drop, Part, Put, edit_at, edit_slot}
 
 -- an edit by slot is the edit at the path of the node that stands there, where the slot stands but once
@@ -67,3 +68,11 @@ DropKeepsTree =
     → IsTree tree → node_at tree.items path ≡ Some node → IsSpareHole tree.items path node
     → IsTree (Drop tree node.label.slot)
     × ((Drop tree node.label.slot).live + 1 ≡ tree.live)
+
+-- an edit can be undone in each tree that is, without the room of lists, the one after it, where a list has the room that
+-- it takes
+abbrev pub UndoStaysPossible : Type 0
+UndoStaysPossible =
+    (receipt : PlainReceipt) (back : Option PlainNode) (one other : PlainTree)
+    → roomless_tree one ≡ roomless_tree other → HasRoomBack receipt.undoing (list_room other.spare other.items receipt.path)
+    → CanUndo receipt back one → CanUndo receipt back other

@@ -8,6 +8,8 @@ mod build_tests;
 mod change;
 mod copy;
 mod descent;
+#[cfg(test)]
+mod edit_tests;
 mod elide;
 mod exchange;
 mod fill;
@@ -42,6 +44,8 @@ mod undo;
 mod undo_item;
 mod undo_node;
 mod undo_part;
+#[cfg(test)]
+mod undo_tests;
 
 pub use build::OverLimit;
 pub use change::{Change, What};
@@ -55,4 +59,7 @@ pub use side::Side;
 pub use stop::Stop;
 pub use tree::Tree;
 pub use tree_fault::TreeFault;
-pub use tree_laws::{part_keeps_tree, put_keeps_tree, set_part_keeps_tree, slot_edit_is_path_edit};
+pub use tree_laws::{
+    add_keeps_tree, drop_keeps_tree, part_keeps_tree, put_keeps_tree, set_part_keeps_tree, slot_edit_is_path_edit,
+    undo_stays_possible,
+};

@@ -29,6 +29,7 @@ impl Tree {
         requires tree { IsTree self.old }
         ensures edited { IfOk result (Edits (TreeEdit.add side) (node_at self.old.items path.now.items) (IsListItem self.old.items path.now.items) self.old self.new) }
         ensures refused { IfErr result (Refuses (TreeEdit.add side) (node_at self.old.items path.now.items) (IsListItem self.old.items path.now.items) self.old) }
+        ensures tree { IsTree self.new }
         ensures unchanged { IfErr result (λ _. self.new ≡ self.old) }
     {
         let Some(there) = self.node(path) else {
@@ -74,6 +75,7 @@ impl Tree {
         ensures edited { IfOk result (Edits TreeEdit.drop (node_at self.old.items path.now.items) (IsSpareHole self.old.items path.now.items) self.old self.new) }
         ensures room { IfOk result (λ _. 0 < list_room self.new.spare self.new.items path.now.items) }
         ensures refused { IfErr result (λ fault. (fault ≡ TreeFault.NotHere) × (IsSomeAnd (node_at self.old.items path.now.items) (IsSpareHole self.old.items path.now.items) → ⊥)) }
+        ensures tree { IsTree self.new }
         ensures unchanged { IfErr result (λ _. self.new ≡ self.old) }
     {
         if !self.is_spare_hole(path) {
