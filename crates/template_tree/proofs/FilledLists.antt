@@ -131,7 +131,7 @@ one_at_most : (b : Bool) → (if b then 1 else 0) ≤ 1
 one_at_most true = omega arith
 one_at_most false = omega arith
 
-many_few : (sort : Sort) (items : List Sort) → how_many sort items ≤ length items
+pub many_few : (sort : Sort) (items : List Sort) → how_many sort items ≤ length items
 many_few sort [] = omega arith
 many_few sort (item ∷ items) = omega (arith, one_at_most (same_sort sort item), many_few sort items)
 

@@ -68,3 +68,5 @@ mod ListTrees
 pub mod RemarkText
 -- which list an item stands in, and the items beside it
 mod BesidePaths
+-- a hole that came into a list, or left it, is an edit
+mod ListEdits

@@ -31,7 +31,7 @@ use Rattle.template_tree.proofs.ApartSections.{row_apart, program_apart}
 use Rattle.template_tree.proofs.FilledLists.{doubled, without, listed_hole, fill_doubled, fill_without}
 
 -- one where the two are the same
-abbrev one_if : ℕ → ℕ → ℕ
+abbrev pub one_if : ℕ → ℕ → ℕ
 one_if a b = if a == b then 1 else 0
 
 -- the nodes after, where a hole in the slot came beside one of them
