@@ -1,25 +1,27 @@
 -- A hole that came beside an item, or left its list, is an edit of the tree, whose receipt undoes it.
-use Rattle.std.specs.Prelude.{◌≡◌, refl, ℕ, zero, suc, pred, ◌+◌, ◌-◌, ◌<◌, ◌≤◌, if◌then◌else◌, ◌==◌, List, [], ◌∷◌, length, Option, Some, None, IfSome, option_map, slice_get}
+use Rattle.std.specs.Prelude.{◌≡◌, refl, ℕ, zero, suc, pred, ◌+◌, ◌-◌, ◌<◌, ◌≤◌, true, if◌then◌else◌, ◌==◌, List, [], ◌∷◌, length, Option, Some, None, IfSome, option_map, slice_get}
 use Rattle.std.specs.Option.{option_map_or}
 use Rattle.std.proofs.Common.{ap, sym, ◌∙◌, subst, arith}
+use Rattle.std.proofs.Math.Bool.{false≢true}
 use Rattle.std.proofs.lemmas.Bool.{eq-eqb}
 use Rattle.std.proofs.lemmas.Option.{none-some}
 use Rattle.plcs_grammar.specs.declared.node_kind.NodeKind.{NodeKind}
 use Rattle.template_tree.specs.declared.side.Side.{Side}
+use Rattle.template_tree.specs.declared.tree_fault.TreeFault.{TreeFault}
 use Rattle.template_tree.specs.declared.change.Change.{Change}
 use Rattle.template_tree.specs.declared.change.What.{What}
 use Rattle.template_tree.specs.PlainTree.{Label, Forest, PlainNode, PlainTree, nodes, forest, join, roomless, roomless_node, roomless_tree}
 use Rattle.template_tree.specs.Program.{sorts, sort_of}
 use Rattle.template_tree.specs.Path.{node_at}
-use Rattle.template_tree.specs.Slots.{count, times}
+use Rattle.template_tree.specs.Slots.{count, depth, times}
 use Rattle.template_tree.specs.Limit.{most_slots, most_drawn}
 use Rattle.template_tree.specs.Tree.{IsTree}
 use Rattle.template_tree.specs.Edit.{Add, Drop, Differs, DifferBy, changed_in, edit_at, edit_below, edit_slot, give_way, hole_of, lone, procedure_of}
 use Rattle.template_tree.specs.TreeEdit.{TreeEdit}
 use Rattle.template_tree.specs.Receipt.{PlainUndoing, PlainReceipt, CanUndo, list_room, undone, with_beside}
-use Rattle.template_tree.specs.EditAnswer.{IsEdit, IsListItem, IsSpareHole}
+use Rattle.template_tree.specs.EditAnswer.{IsEdit, IsListItem, IsOver, IsSpareHole, IsWithin}
 use Rattle.template_tree.specs.ListItem.{siblings_at, how_many}
-use Rattle.template_tree.specs.Private.Exchange.{first_item}
+use Rattle.template_tree.specs.Private.Exchange.{MeetsLimit, first_item}
 use Rattle.template_tree.specs.Private.Beside.{added_path, last_of, side_of, with_last}
 use Rattle.template_tree.proofs.SameEdits.{taken}
 use Rattle.template_tree.proofs.SlotEdits.{present, slot_edit_is_path_edit}
@@ -303,4 +305,39 @@ add_edit tree path node side kind after change t there listed hole_is few drawn_
       differs = differ_so change d What.Added tree after says.slot_is says.what_is (stands, sym without) within;
       undoes = undoes;
       can_undo = record { room = tt; before = subst IsTree (sym undoes) (tree_without_room tree t) };
+    }
+
+-- a hole beside an item leaves a tree as deep as it was
+pub add_depth : (tree : PlainTree) (path : List ℕ) (node : PlainNode) (side : Side) (kind : NodeKind) → IsTree tree
+    → node_at tree.items path ≡ Some node → hole_of (sort_of node.label.kind) ≡ Some kind
+    → depth (Add tree node.label.slot side).items ≡ depth tree.items
+add_depth tree path node side kind t there hole =
+    ap depth (add_by_path tree path node side kind t there hole) ∙ (grown side tree.drawn kind tree.items path node there).depth_is
+
+-- the first limit that is met is the one that the tree would be over
+pub add_over : (fault : TreeFault) (tree : PlainTree) (path : List ℕ) (node : PlainNode) (side : Side) (kind : NodeKind) → IsTree tree
+    → node_at tree.items path ≡ Some node → hole_of (sort_of node.label.kind) ≡ Some kind
+    → MeetsLimit true (tree.live + 1) (tree.drawn + 1) fault → IsOver fault (Add tree node.label.slot side)
+add_over TreeFault.NotHere tree path node side kind t there hole meets = meets
+add_over TreeFault.TooDeep tree path node side kind t there hole meets = absurd (false≢true (sym meets))
+add_over TreeFault.TooLarge tree path node side kind t there hole meets = (
+  omega (arith, add_depth tree path node side kind t there hole, t.shallow),
+  omega (arith, add_live tree path node side kind t there hole, meets.1),
+)
+add_over TreeFault.SlotsUsedUp tree path node side kind t there hole meets = (
+  omega (arith, add_depth tree path node side kind t there hole, t.shallow),
+  omega (arith, add_live tree path node side kind t there hole, meets.1),
+  meets.2,
+)
+add_over TreeFault.OutOfMemory tree path node side kind t there hole meets = absurd meets
+
+-- and none is met where the tree is within them
+pub add_within : (tree : PlainTree) (path : List ℕ) (node : PlainNode) (side : Side) (kind : NodeKind) → IsTree tree
+    → node_at tree.items path ≡ Some node → hole_of (sort_of node.label.kind) ≡ Some kind
+    → tree.live + 1 ≤ most_slots → tree.drawn + 1 ≤ most_drawn → IsWithin (Add tree node.label.slot side)
+add_within tree path node side kind t there hole few drawn_few =
+    record {
+      shallow = omega (arith, add_depth tree path node side kind t there hole, t.shallow);
+      few = omega (arith, add_live tree path node side kind t there hole, few);
+      drawn_few = drawn_few;
     }
