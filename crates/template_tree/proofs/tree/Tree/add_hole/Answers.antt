@@ -18,7 +18,7 @@ use Rattle.template_tree.specs.Private.Beside.{added_path}
 use Rattle.template_tree.specs.Receipt.{PlainReceipt, PlainUndoing, with_beside}
 use Rattle.template_tree.specs.TreeEdit.{TreeEdit}
 use Rattle.template_tree.proofs.Holes.{bare_is}
-use Rattle.template_tree.proofs.PutEdits.{at_there}
+use Rattle.template_tree.proofs.PutEdits.{at_there, edits_at}
 use Rattle.template_tree.proofs.Refusals.{refused_by}
 use Rattle.template_tree.proofs.ListTrees.{hole_kind}
 use Rattle.template_tree.proofs.ListEdits.{add_edit, add_over, add_within, last_small}
@@ -108,8 +108,8 @@ returns-clause-edited c =
     let edit = add_edit tree path node side hole after change c.requires.tree there listed hole_is
     c.in_default-limit_reached.ensures.within.1 c.in_default-limit_reached.ensures.within.2 others (ap (λ n. n + 1) drawn) (ap (λ n. n + 1) live)
     record { slot_is = drawn; what_is = refl; first = first } in
-    at_there (node_at tree.items path) _ node there (
-      listed,
+    edits_at (TreeEdit.add side) (node_at tree.items path) (IsListItem tree.items path) _ _ _ node there listed
+    (
       subst (λ (r : PlainReceipt). IsEdit (TreeEdit.add side) node.label.slot tree after r None)
           (λ i. record {
             change = change;
@@ -118,5 +118,8 @@ returns-clause-edited c =
             drawn = sym drawn i;
             live = sym live i;
           })
-          edit,
+          edit
     )
+
+pub returns-clause-tree : goal.returns-clause-tree
+returns-clause-tree c = (returns-clause-edited c).is_edit.tree
