@@ -1,15 +1,15 @@
 -- The nodes that tests build are what their rows ask for.
-use Rattle.std.specs.Prelude.{◌≡◌, refl, IsSomeAnd, ℕ, zero, suc, ◌<◌, List, [], ◌∷◌, All, Option, None, length, replicate}
-use Rattle.std.proofs.Common.{arith, ap, sym, subst, ◌∙◌}
+use Rattle.std.specs.Prelude.{◌≡◌, refl, IsSomeAnd, ℕ, zero, suc, ◌<◌, List, [], ◌∷◌, All, Option, None, length}
+use Rattle.std.proofs.Common.{arith, sym, subst}
 use Rattle.std.proofs.Math.Bool.{false≢true}
 use Rattle.plcs_grammar.specs.declared.node_kind.NodeKind.{NodeKind}
 use Rattle.plcs_grammar.specs.declared.node_kind.Sort.{Sort}
 use Rattle.plcs_grammar.specs.PlainPhrase.{PlainPhrase}
-use Rattle.plcs_grammar.specs.Template.{PlainSection, block, list_of, program_sections, row_of}
+use Rattle.plcs_grammar.specs.Template.{block, list_of, program_sections, row_of}
 use Rattle.template_tree.specs.Stop.{IsStop, visible_at}
 use Rattle.template_tree.specs.Build.{built_label}
 use Rattle.template_tree.specs.PlainTree.{Forest, PlainNode, forest, nodes}
-use Rattle.template_tree.specs.Program.{AreNodes, AreParts, Fill, IsNode, IsProgram, IsSubtree, parts_of, sort_of, sorts}
+use Rattle.template_tree.specs.Program.{AreNodes, AreParts, Fill, IsNode, IsSubtree, parts_of}
 
 -- one of a sort
 one_of : {sort : Sort} → All (λ item. item ≡ sort) (sort ∷ [])

@@ -10,9 +10,9 @@ use Rattle.plcs_grammar.specs.declared.node_kind.Sort.{Sort}
 use Rattle.plcs_grammar.specs.declared.row.Amount.{Amount}
 use Rattle.template_tree.specs.Section.{left_for, left_after, left_in, next_lead, same_sort}
 use Rattle.unparse_layout.specs.declared.line.LineKind.{LineKind}
-use Rattle.unparse_layout.specs.OwnedLine.{owned_lines, plain_owned, table_line}
+use Rattle.unparse_layout.specs.OwnedLine.{owned_lines, partless_line, table_line}
 use Rattle.unparse_layout.specs.Bones.{bones_of}
-use Rattle.unparse_layout.specs.Private.PlainOutline.{PlainOutline, outlines, outline_of}
+use Rattle.unparse_layout.specs.Private.PlainNodeLayout.{PlainNodeLayout, node_layouts, node_layout_of}
 use Rattle.unparse_layout.specs.Private.Height.{one_if, height}
 use Rattle.unparse_layout.specs.Private.ItemLines.{item_lines, lines_below, node_lines, lead_at}
 use Rattle.unparse_layout.proofs.LineNumbers.{lines_split, lines_length, item_length}
@@ -32,8 +32,8 @@ get_right (x ∷ xs) ys (suc i) past = get_right xs ys i (omega arith) ∙ ap (s
 
 -- the lines of a node among those of its list
 pub found_line : (items : Forest) (left : List PlainSection) (owner level i rest : ℕ) (node : PlainNode)
-    → slice_get (nodes items) i ≡ Some node → rest < slice_index (map height (outlines (bones_of left items))) i
-    → slice_get (owned_lines owner level left items) (sum (take i (map height (outlines (bones_of left items)))) + rest)
+    → slice_get (nodes items) i ≡ Some node → rest < slice_index (map height (node_layouts (bones_of left items))) i
+    → slice_get (owned_lines owner level left items) (sum (take i (map height (node_layouts (bones_of left items)))) + rest)
     ≡ slice_get (item_lines owner level (lead_at left items i) node) rest
 found_line Forest.nil left owner level i rest node there within = absurd (cc)
 found_line (Forest.cons label inner others) left owner level zero rest node there within =
@@ -41,7 +41,7 @@ found_line (Forest.cons label inner others) left owner level zero rest node ther
     let same : own ≡ node = cc in
     let here = left_for (sort_of label.kind) left in
     let long = item_length owner level (next_lead here) own (lines_length label.slot (level + 1) (row_of label.kind).sections inner) in
-    let at : sum (take zero (map height (outlines (bones_of left (Forest.cons label inner others))))) + rest ≡ rest = omega arith in
+    let at : sum (take zero (map height (node_layouts (bones_of left (Forest.cons label inner others))))) + rest ≡ rest = omega arith in
     ap (slice_get (owned_lines owner level left (Forest.cons label inner others))) at
     ∙ ap (λ xs. slice_get xs rest) (lines_split owner level left label inner others)
     ∙ get_left (item_lines owner level (next_lead here) own) (owned_lines owner level (left_after here) others) rest (omega (arith, long, within))
@@ -51,8 +51,8 @@ found_line (Forest.cons label inner others) left owner level (suc i) rest node t
     let here = left_for (sort_of label.kind) left in
     let item = item_lines owner level (next_lead here) own in
     let long = item_length owner level (next_lead here) own (lines_length label.slot (level + 1) (row_of label.kind).sections inner) in
-    let hs = map height (outlines (bones_of (left_after here) others)) in
-    let h = height (outline_of (is_some (next_lead here)) own) in
+    let hs = map height (node_layouts (bones_of (left_after here) others)) in
+    let h = height (node_layout_of (is_some (next_lead here)) own) in
     let total : sum (take (suc i) (h ∷ hs)) ≡ h + sum (take i hs) = sum_by-cons (λ n. n) h (take i hs) in
     let at : sum (take (suc i) (h ∷ hs)) + rest - length item ≡ sum (take i hs) + rest = omega (arith, total, long) in
     ap (λ xs. slice_get xs (sum (take (suc i) (h ∷ hs)) + rest)) (lines_split owner level left label inner others)
@@ -62,25 +62,25 @@ found_line (Forest.cons label inner others) left owner level (suc i) rest node t
 
 -- behind all lines there is none
 pub no_line : (items : Forest) (left : List PlainSection) (owner level at : ℕ)
-    → sum (map height (outlines (bones_of left items))) ≤ at → slice_get (owned_lines owner level left items) at ≡ None
+    → sum (map height (node_layouts (bones_of left items))) ≤ at → slice_get (owned_lines owner level left items) at ≡ None
 no_line items left owner level at past =
     slice_get_past (owned_lines owner level left items) at
     (omega (arith, lines_length owner level left items, heights_sum (bones_of left items), past))
 
 -- what is kept of an item
 pub same_item : (items : Forest) (left : List PlainSection) (i : ℕ)
-    → slice_get (outlines (bones_of left items)) i ≡ option_map (outline_of (is_some (lead_at left items i))) (slice_get (nodes items) i)
+    → slice_get (node_layouts (bones_of left items)) i ≡ option_map (node_layout_of (is_some (lead_at left items i))) (slice_get (nodes items) i)
 same_item Forest.nil left i = refl
 same_item (Forest.cons label inner rest) left zero = refl
 same_item (Forest.cons label inner rest) left (suc i) = same_item rest (left_after (left_for (sort_of label.kind) left)) i
 
 -- an item is kept where it stands
-pub item_kept : (items : Forest) (left : List PlainSection) (i : ℕ) (item : PlainOutline) (node : PlainNode)
-    → slice_get (outlines (bones_of left items)) i ≡ Some item → slice_get (nodes items) i ≡ Some node
-    → item ≡ outline_of (is_some (lead_at left items i)) node
+pub item_kept : (items : Forest) (left : List PlainSection) (i : ℕ) (item : PlainNodeLayout) (node : PlainNode)
+    → slice_get (node_layouts (bones_of left items)) i ≡ Some item → slice_get (nodes items) i ≡ Some node
+    → item ≡ node_layout_of (is_some (lead_at left items i)) node
 item_kept items left i item node kept there =
-    let e : Some item ≡ Some (outline_of (is_some (lead_at left items i)) node) =
-    sym kept ∙ same_item items left i ∙ ap (option_map (outline_of (is_some (lead_at left items i)))) there in
+    let e : Some item ≡ Some (node_layout_of (is_some (lead_at left items i)) node) =
+    sym kept ∙ same_item items left i ∙ ap (option_map (node_layout_of (is_some (lead_at left items i)))) there in
     cc
 
 -- no line stands before any of the sections
@@ -127,13 +127,13 @@ within_sum numbers i rest there within = omega (arith, sum_by_more_le (λ n. n) 
 -- below the first line of a node whose refinement is shown: a line of what stands inside it
 pub below_inside : (level : ℕ) (node : PlainNode) (i rest : ℕ) (child : PlainNode) → node.label.elided ≡ false
     → slice_get (nodes node.inner) i ≡ Some child
-    → i < length (map height (outlines (bones_of (row_of node.label.kind).sections node.inner)))
-    → rest < slice_index (map height (outlines (bones_of (row_of node.label.kind).sections node.inner))) i
-    → slice_get (lines_below level node) (sum (take i (map height (outlines (bones_of (row_of node.label.kind).sections node.inner)))) + rest)
+    → i < length (map height (node_layouts (bones_of (row_of node.label.kind).sections node.inner)))
+    → rest < slice_index (map height (node_layouts (bones_of (row_of node.label.kind).sections node.inner))) i
+    → slice_get (lines_below level node) (sum (take i (map height (node_layouts (bones_of (row_of node.label.kind).sections node.inner)))) + rest)
     ≡ slice_get (item_lines node.label.slot (level + 1) (lead_at (row_of node.label.kind).sections node.inner i) child) rest
 below_inside level node i rest child shown there inside within =
     let sections = (row_of node.label.kind).sections in
-    let hs = map height (outlines (bones_of sections node.inner)) in
+    let hs = map height (node_layouts (bones_of sections node.inner)) in
     let own = owned_lines node.label.slot (level + 1) sections node.inner in
     let last = table_line node.label.slot LineKind.Last level (row_of node.label.kind).last in
     let at : ℕ = sum (take i hs) + rest in
@@ -146,10 +146,10 @@ below_inside level node i rest child shown there inside within =
 
 -- or its last line
 pub below_last : (level : ℕ) (node : PlainNode) (at : ℕ) → node.label.elided ≡ false
-    → sum (map height (outlines (bones_of (row_of node.label.kind).sections node.inner))) ≤ at
+    → sum (map height (node_layouts (bones_of (row_of node.label.kind).sections node.inner))) ≤ at
     → slice_get (lines_below level node) at
     ≡ slice_get (table_line node.label.slot LineKind.Last level (row_of node.label.kind).last)
-    (at - sum (map height (outlines (bones_of (row_of node.label.kind).sections node.inner))))
+    (at - sum (map height (node_layouts (bones_of (row_of node.label.kind).sections node.inner))))
 below_last level node at shown past =
     let sections = (row_of node.label.kind).sections in
     let own = owned_lines node.label.slot (level + 1) sections node.inner in
@@ -165,7 +165,7 @@ below_last level node at shown past =
 pub item_lead : (owner level : ℕ) (lead : Option (List ℕ)) (node : PlainNode) (at : ℕ) → at < one_if (is_some lead)
     → slice_get (item_lines owner (level + 1) lead node) at ≡ slice_get (table_line owner LineKind.Lead level lead) 0
 item_lead owner level None node at before = absurd (omega (arith, before))
-item_lead owner level (Some bytes) node zero before = ap (λ n. Some (plain_owned owner LineKind.Lead n bytes)) (omega arith)
+item_lead owner level (Some bytes) node zero before = ap (λ n. Some (partless_line owner LineKind.Lead n bytes)) (omega arith)
 item_lead owner level (Some bytes) node (suc at) before = absurd (omega (arith, before))
 
 pub item_own : (owner level : ℕ) (lead : Option (List ℕ)) (node : PlainNode) (at : ℕ) → one_if (is_some lead) ≤ at

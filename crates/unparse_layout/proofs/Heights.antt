@@ -9,19 +9,19 @@ use Rattle.template_tree.specs.Program.{sort_of}
 use Rattle.template_tree.specs.Section.{left_for, left_after}
 use Rattle.template_tree.specs.Slots.{count}
 use Rattle.unparse_layout.specs.Bones.{Bone, Bones, bones_of}
-use Rattle.unparse_layout.specs.Private.PlainOutline.{PlainOutline, outlines, bones, outlines_bones}
+use Rattle.unparse_layout.specs.Private.PlainNodeLayout.{PlainNodeLayout, node_layouts, bones, node_layouts_bones}
 use Rattle.unparse_layout.specs.Private.Height.{line_count, one_if, height_around, height, heights, bone_count}
 
 -- the numbers of a list's nodes add up to the number of the list
-pub heights_sum : (items : Bones) → sum (map height (outlines items)) ≡ heights items
+pub heights_sum : (items : Bones) → sum (map height (node_layouts items)) ≡ heights items
 heights_sum Bones.nil = refl
 heights_sum (Bones.cons bone inner rest) =
-    sum_by-cons (λ n. n) (height_around bone (heights inner)) (map height (outlines rest))
+    sum_by-cons (λ n. n) (height_around bone (heights inner)) (map height (node_layouts rest))
     ∙ ap (λ n. height_around bone (heights inner) + n) (heights_sum rest)
 
 -- the same of a list
-pub heights_of_list : (items : List PlainOutline) → sum (map height items) ≡ heights (bones items)
-heights_of_list items = ap (λ xs. sum (map height xs)) (sym (outlines_bones items)) ∙ heights_sum (bones items)
+pub heights_of_list : (items : List PlainNodeLayout) → sum (map height items) ≡ heights (bones items)
+heights_of_list items = ap (λ xs. sum (map height xs)) (sym (node_layouts_bones items)) ∙ heights_sum (bones items)
 
 -- a truth value as a number
 pub byte_is_one_if : (led : Bool) → bool_byte led ≡ one_if led
@@ -52,8 +52,8 @@ heights_le Bones.nil = omega arith
 heights_le (Bones.cons bone inner rest) =
     omega (arith, around_le bone (heights inner), heights_le inner, heights_le rest)
 
-pub height_le : (outline : PlainOutline) → height outline ≤ 4 * bone_count outline.inner + 4
-height_le outline = omega (arith, around_le outline.bone (heights outline.inner), heights_le outline.inner)
+pub height_le : (node_layout : PlainNodeLayout) → height node_layout ≤ 4 * bone_count node_layout.inner + 4
+height_le node_layout = omega (arith, around_le node_layout.bone (heights node_layout.inner), heights_le node_layout.inner)
 
 -- as many nodes are kept as there are
 pub count_bones : (left : List PlainSection) (items : Forest) → bone_count (bones_of left items) ≡ count items
@@ -66,9 +66,9 @@ count_bones left (Forest.cons label inner rest) =
     )
 
 -- a list has no more items than there are nodes
-pub outlines_few : (items : Bones) → length (outlines items) ≤ bone_count items
-outlines_few Bones.nil = omega arith
-outlines_few (Bones.cons bone inner rest) = omega (arith, outlines_few rest)
+pub node_layouts_few : (items : Bones) → length (node_layouts items) ≤ bone_count items
+node_layouts_few Bones.nil = omega arith
+node_layouts_few (Bones.cons bone inner rest) = omega (arith, node_layouts_few rest)
 
 pub nodes_few : (items : Forest) → length (nodes items) ≤ count items
 nodes_few Forest.nil = omega arith
@@ -81,9 +81,9 @@ item_few (Forest.cons label inner rest) zero node there =
     let same : record { label = label; inner = inner } ≡ node = cc in rw (← same) (omega arith)
 item_few (Forest.cons label inner rest) (suc k) node there = omega (arith, item_few rest k node there)
 
-pub outline_few : (items : Bones) (k : ℕ) (outline : PlainOutline) → slice_get (outlines items) k ≡ Some outline
-    → bone_count outline.inner + 1 ≤ bone_count items
-outline_few Bones.nil k outline there = absurd (cc)
-outline_few (Bones.cons bone inner rest) zero outline there =
-    let same : record { bone = bone; inner = inner } ≡ outline = cc in rw (← same) (omega arith)
-outline_few (Bones.cons bone inner rest) (suc k) outline there = omega (arith, outline_few rest k outline there)
+pub node_layout_few : (items : Bones) (k : ℕ) (node_layout : PlainNodeLayout) → slice_get (node_layouts items) k ≡ Some node_layout
+    → bone_count node_layout.inner + 1 ≤ bone_count items
+node_layout_few Bones.nil k node_layout there = absurd (cc)
+node_layout_few (Bones.cons bone inner rest) zero node_layout there =
+    let same : record { bone = bone; inner = inner } ≡ node_layout = cc in rw (← same) (omega arith)
+node_layout_few (Bones.cons bone inner rest) (suc k) node_layout there = omega (arith, node_layout_few rest k node_layout there)

@@ -11,9 +11,9 @@ use Rattle.template_tree.specs.Program.{sort_of}
 use Rattle.template_tree.specs.Section.{left_for, left_after, next_lead}
 use Rattle.template_tree.specs.Line.{Line, lines, fixed_line, elision_line, segment_text, segments_text, parts_after, part_text}
 use Rattle.unparse_layout.specs.declared.line.LineKind.{LineKind}
-use Rattle.unparse_layout.specs.OwnedLine.{OwnedLine, Stretch, bare_line, first_line, owned_lines, part_at, plain_owned, stretches_of, table_line}
+use Rattle.unparse_layout.specs.OwnedLine.{OwnedLine, Stretch, bare_line, first_line, owned_lines, part_at, partless_line, stretches_of, table_line}
 use Rattle.unparse_layout.specs.Bones.{bones_of}
-use Rattle.unparse_layout.specs.Private.PlainOutline.{outline_of}
+use Rattle.unparse_layout.specs.Private.PlainNodeLayout.{node_layout_of}
 use Rattle.unparse_layout.specs.Private.Height.{line_count, one_if, height, heights}
 use Rattle.unparse_layout.specs.Private.ItemLines.{item_lines}
 
@@ -27,7 +27,7 @@ lines_split owner level left label inner rest =
     let lead = table_line owner LineKind.Lead (level - 1) (next_lead here) in
     let middle =
     if label.elided
-    then plain_owned label.slot LineKind.Elision (level + 1) (codes "...") ∷ []
+    then partless_line label.slot LineKind.Elision (level + 1) (codes "...") ∷ []
     else owned_lines label.slot (level + 1) (row_of label.kind).sections inner in
     let last = table_line label.slot LineKind.Last level (row_of label.kind).last in
     let more = owned_lines owner level (left_after here) rest in
@@ -45,7 +45,7 @@ one_if_some (Some bytes) = refl
 
 -- how many lines stand below the first line of a node
 pub inside_length : (elided : Bool) (slot level inside : ℕ) (inner : List OwnedLine) → length inner ≡ inside
-    → length (if elided then plain_owned slot LineKind.Elision (level + 1) (codes "...") ∷ [] else inner) ≡ (if elided then 1 else inside)
+    → length (if elided then partless_line slot LineKind.Elision (level + 1) (codes "...") ∷ [] else inner) ≡ (if elided then 1 else inside)
 inside_length true slot level inside inner e = refl
 inside_length false slot level inside inner e = e
 
@@ -53,11 +53,11 @@ inside_length false slot level inside inner e = e
 pub item_length : (owner level : ℕ) (lead : Option (List ℕ)) (node : PlainNode)
     → length (owned_lines node.label.slot (level + 1) (row_of node.label.kind).sections node.inner)
     ≡ heights (bones_of (row_of node.label.kind).sections node.inner)
-    → length (item_lines owner level lead node) ≡ height (outline_of (is_some lead) node)
+    → length (item_lines owner level lead node) ≡ height (node_layout_of (is_some lead) node)
 item_length owner level lead node inside =
     let own = owned_lines node.label.slot (level + 1) (row_of node.label.kind).sections node.inner in
     let middle =
-    if node.label.elided then plain_owned node.label.slot LineKind.Elision (level + 1) (codes "...") ∷ [] else own in
+    if node.label.elided then partless_line node.label.slot LineKind.Elision (level + 1) (codes "...") ∷ [] else own in
     let last = table_line node.label.slot LineKind.Last level (row_of node.label.kind).last in
     let a = length-append (table_line owner LineKind.Lead (level - 1) lead) (first_line level node.label ∷ (middle ++ last)) in
     let b = length-append middle last in
@@ -91,7 +91,7 @@ bare_table slot kind level None = refl
 bare_table slot kind level (Some bytes) =
     ap (λ text. let l : Line = record { level = level; text = text } in l ∷ []) (one_stretch record { part = None; bytes = bytes })
 
-pub bare_elision : (slot level : ℕ) → map bare_line (plain_owned slot LineKind.Elision level (codes "...") ∷ []) ≡ elision_line level ∷ []
+pub bare_elision : (slot level : ℕ) → map bare_line (partless_line slot LineKind.Elision level (codes "...") ∷ []) ≡ elision_line level ∷ []
 bare_elision slot level =
     ap (λ text. let l : Line = record { level = level; text = text } in l ∷ []) (one_stretch record { part = None; bytes = codes "..." })
 
@@ -126,7 +126,7 @@ stretch_text n (PlainSegment.part category ∷ segments) parts =
 
 -- the lines below a node's first one
 pub bare_middle : (elided : Bool) (slot level : ℕ) (own : List OwnedLine) (plain : List Line) → map bare_line own ≡ plain
-    → map bare_line (if elided then plain_owned slot LineKind.Elision (level + 1) (codes "...") ∷ [] else own)
+    → map bare_line (if elided then partless_line slot LineKind.Elision (level + 1) (codes "...") ∷ [] else own)
     ≡ (if elided then elision_line (level + 1) ∷ [] else plain)
 bare_middle true slot level own plain e = bare_elision slot (level + 1)
 bare_middle false slot level own plain e = e
@@ -151,7 +151,7 @@ bare_lines owner level left (Forest.cons label inner rest) =
     let here = left_for (sort_of label.kind) left in
     let lead = table_line owner LineKind.Lead (level - 1) (next_lead here) in
     let own = owned_lines label.slot (level + 1) (row_of label.kind).sections inner in
-    let middle = if label.elided then plain_owned label.slot LineKind.Elision (level + 1) (codes "...") ∷ [] else own in
+    let middle = if label.elided then partless_line label.slot LineKind.Elision (level + 1) (codes "...") ∷ [] else own in
     let last = table_line label.slot LineKind.Last level (row_of label.kind).last in
     let more = owned_lines owner level (left_after here) rest in
     joined lead (first_line level label) middle last more _ _ _ _ _

@@ -1,5 +1,5 @@
 -- A map of one mark, which a test has.
-use Rattle.std.specs.Prelude.{◌≡◌, Option, Some, None, cond}
+use Rattle.std.specs.Prelude.{◌≡◌, Some, None, cond}
 use Rattle.std.proofs.Common.{ap, sym, ◌∙◌}
 use Rattle.std.specs.Cmp.{IsTotalOrder}
 use Rattle.std.specs.Ordering.{is_eq}

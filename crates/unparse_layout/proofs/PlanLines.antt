@@ -9,11 +9,11 @@ use Rattle.template_tree.specs.Program.{sort_of}
 use Rattle.template_tree.specs.Section.{left_for, left_after}
 use Rattle.template_tree.specs.Slots.{depth}
 use Rattle.unparse_layout.specs.declared.line.LineKind.{LineKind}
-use Rattle.unparse_layout.specs.declared.outline.Outline.TheInside.{Inside}
-use Rattle.unparse_layout.specs.OwnedLine.{OwnedLines, plain_owned, table_line}
+use Rattle.unparse_layout.specs.declared.node_layout.NodeLayout.TheInside.{Inside}
+use Rattle.unparse_layout.specs.OwnedLine.{OwnedLines, partless_line, table_line}
 use Rattle.unparse_layout.specs.Bones.{bones_of}
-use Rattle.unparse_layout.specs.Private.OutlineView.{IsRight, seen}
-use Rattle.unparse_layout.specs.Private.PlainOutline.{PlainOutline, outlines, outline_of}
+use Rattle.unparse_layout.specs.Private.NodeLayoutView.{IsRight, seen}
+use Rattle.unparse_layout.specs.Private.PlainNodeLayout.{PlainNodeLayout, node_layouts, node_layout_of}
 use Rattle.unparse_layout.specs.Private.Height.{one_if, height}
 use Rattle.unparse_layout.specs.Private.ItemLines.{item_lines, lines_below, node_lines, lead_at}
 use Rattle.unparse_layout.proofs.Opened.{numbers_are}
@@ -26,7 +26,7 @@ past_where_none (x ∷ xs) zero none = absurd (cc)
 past_where_none (x ∷ xs) (suc i) none = omega (arith, past_where_none xs i none)
 
 -- as many are kept as there are
-pub kept_length : (items : Forest) (left : List PlainSection) → length (outlines (bones_of left items)) ≡ length (nodes items)
+pub kept_length : (items : Forest) (left : List PlainSection) → length (node_layouts (bones_of left items)) ≡ length (nodes items)
 kept_length Forest.nil left = refl
 kept_length (Forest.cons label inner rest) left = ap suc (kept_length rest (left_after (left_for (sort_of label.kind) left)))
 
@@ -46,41 +46,41 @@ pub at_one : (items : Forest) (path : List ℕ) (k : ℕ) → path ≡ k ∷ [] 
 at_one items path k one = ap (node_at items) one ∙ one_step (slice_get (nodes items) k)
 
 -- the numbers that a node of a layout keeps
-pub plan_numbers : (a : Inside) (self : PlainOutline) (node : PlainNode) → seen a ≡ self → IsRight a → self ≡ outline_of self.bone.led node
-    → a.heights.numbers ≡ map height (outlines (bones_of (row_of node.label.kind).sections node.inner))
+pub plan_numbers : (a : Inside) (self : PlainNodeLayout) (node : PlainNode) → seen a ≡ self → IsRight a → self ≡ node_layout_of self.bone.led node
+    → a.heights.numbers ≡ map height (node_layouts (bones_of (row_of node.label.kind).sections node.inner))
 plan_numbers a self node view right agrees =
-    numbers_are a self view right ∙ ap (λ (o : PlainOutline). map height (outlines o.inner)) agrees
+    numbers_are a self view right ∙ ap (λ (o : PlainNodeLayout). map height (node_layouts o.inner)) agrees
 
 -- whether the node is elided
-pub plan_elided : (a : Inside) (self : PlainOutline) (node : PlainNode) (elided : Bool) → seen a ≡ self → self ≡ outline_of self.bone.led node
+pub plan_elided : (a : Inside) (self : PlainNodeLayout) (node : PlainNode) (elided : Bool) → seen a ≡ self → self ≡ node_layout_of self.bone.led node
     → a.elided ≡ elided → node.label.elided ≡ elided
 plan_elided a self node elided view agrees e =
-    sym (ap (λ (o : PlainOutline). o.bone.elided) view ∙ ap (λ (o : PlainOutline). o.bone.elided) agrees) ∙ e
+    sym (ap (λ (o : PlainNodeLayout). o.bone.elided) view ∙ ap (λ (o : PlainNodeLayout). o.bone.elided) agrees) ∙ e
 
 -- a number within those that are kept is that of an item
 pub number_within : (numbers : List ℕ) (items : Forest) (left : List PlainSection) (i : ℕ)
-    → numbers ≡ map height (outlines (bones_of left items)) → i < length numbers → i < length (nodes items)
+    → numbers ≡ map height (node_layouts (bones_of left items)) → i < length numbers → i < length (nodes items)
 number_within numbers items left i same within =
-    omega (arith, within, ap length same, length-map (outlines (bones_of left items)) height, kept_length items left)
+    omega (arith, within, ap length same, length-map (node_layouts (bones_of left items)) height, kept_length items left)
 
 -- the item that is found and the child that is found
-pub child_led : (self item : PlainOutline) (led : Bool) (node child : PlainNode) (i : ℕ) → self ≡ outline_of led node
-    → slice_get (outlines self.inner) i ≡ Some item → slice_get (nodes node.inner) i ≡ Some child
-    → item ≡ outline_of (is_some (lead_at (row_of node.label.kind).sections node.inner i)) child
+pub child_led : (self item : PlainNodeLayout) (led : Bool) (node child : PlainNode) (i : ℕ) → self ≡ node_layout_of led node
+    → slice_get (node_layouts self.inner) i ≡ Some item → slice_get (nodes node.inner) i ≡ Some child
+    → item ≡ node_layout_of (is_some (lead_at (row_of node.label.kind).sections node.inner i)) child
 child_led self item led node child i agrees kept there =
     item_kept node.inner (row_of node.label.kind).sections i item child
-    (sym (ap (λ (o : PlainOutline). slice_get (outlines o.inner) i) agrees) ∙ kept) there
+    (sym (ap (λ (o : PlainNodeLayout). slice_get (node_layouts o.inner) i) agrees) ∙ kept) there
 
-pub led_again : (item : PlainOutline) (led : Bool) (child : PlainNode) → item ≡ outline_of led child → item ≡ outline_of item.bone.led child
-led_again item led child agrees = agrees ∙ ap (λ b. outline_of b child) (sym (ap (λ (o : PlainOutline). o.bone.led) agrees))
+pub led_again : (item : PlainNodeLayout) (led : Bool) (child : PlainNode) → item ≡ node_layout_of led child → item ≡ node_layout_of item.bone.led child
+led_again item led child agrees = agrees ∙ ap (λ b. node_layout_of b child) (sym (ap (λ (o : PlainNodeLayout). o.bone.led) agrees))
 
 -- below the first line where the refinement is elided
 pub elided_below : (level : ℕ) (node : PlainNode) (at : ℕ) → node.label.elided ≡ true → 0 < at
-    → slice_get (plain_owned node.label.slot LineKind.Elision (level + 1) (codes "...") ∷ table_line node.label.slot LineKind.Last level (row_of node.label.kind).last) (at - 1)
+    → slice_get (partless_line node.label.slot LineKind.Elision (level + 1) (codes "...") ∷ table_line node.label.slot LineKind.Last level (row_of node.label.kind).last) (at - 1)
     ≡ slice_get (node_lines level node) at
 elided_below level node zero hidden below = absurd (omega (arith, below))
 elided_below level node (suc n) hidden below =
-    let all = plain_owned node.label.slot LineKind.Elision (level + 1) (codes "...") ∷ table_line node.label.slot LineKind.Last level (row_of node.label.kind).last in
+    let all = partless_line node.label.slot LineKind.Elision (level + 1) (codes "...") ∷ table_line node.label.slot LineKind.Last level (row_of node.label.kind).last in
     let lines : lines_below level node ≡ all = rw hidden refl in
     ap (slice_get all) (omega arith) ∙ ap (λ xs. slice_get xs n) (sym lines)
 
@@ -91,10 +91,10 @@ below_first level node (suc n) below = ap (slice_get (lines_below level node)) (
 
 -- the last line
 pub last_below : (level : ℕ) (node : PlainNode) (at total : ℕ) (numbers : List ℕ) → node.label.elided ≡ false → 0 < at
-    → numbers ≡ map height (outlines (bones_of (row_of node.label.kind).sections node.inner)) → total ≡ sum numbers → sum numbers ≤ at - 1
+    → numbers ≡ map height (node_layouts (bones_of (row_of node.label.kind).sections node.inner)) → total ≡ sum numbers → sum numbers ≤ at - 1
     → slice_get (table_line node.label.slot LineKind.Last level (row_of node.label.kind).last) (at - 1 - total) ≡ slice_get (node_lines level node) at
 last_below level node at total numbers shown below same total_is past =
-    let sums : sum numbers ≡ sum (map height (outlines (bones_of (row_of node.label.kind).sections node.inner))) = ap sum same in
+    let sums : sum numbers ≡ sum (map height (node_layouts (bones_of (row_of node.label.kind).sections node.inner))) = ap sum same in
     ap (λ n. slice_get (table_line node.label.slot LineKind.Last level (row_of node.label.kind).last) (at - 1 - n)) (total_is ∙ sums)
     ∙ sym (below_last level node (at - 1) shown (omega (arith, sums, past)))
     ∙ sym (below_first level node at below)
@@ -105,7 +105,7 @@ pub record IsChildLine (level : ℕ) (node : PlainNode) (at i rest : ℕ) (child
       ≡ slice_get (item_lines node.label.slot (level + 1) (lead_at (row_of node.label.kind).sections node.inner i) child) rest
 
 pub child_line : (level : ℕ) (node : PlainNode) (at i rest : ℕ) (child : PlainNode) (numbers : List ℕ) → node.label.elided ≡ false → 0 < at
-    → numbers ≡ map height (outlines (bones_of (row_of node.label.kind).sections node.inner))
+    → numbers ≡ map height (node_layouts (bones_of (row_of node.label.kind).sections node.inner))
     → slice_get (nodes node.inner) i ≡ Some child → i < length numbers → sum (take i numbers) + rest ≡ at - 1 → rest < slice_index numbers i
     → IsChildLine level node at i rest child
 child_line level node at i rest child numbers shown below same there inside place within = record {
@@ -133,7 +133,7 @@ own_of_child level node at i rest child lead l lead_is past =
 
 -- a line of an item of a program
 pub program_line : (items : Forest) (at i rest : ℕ) (node : PlainNode) (numbers : List ℕ)
-    → numbers ≡ map height (outlines (bones_of program_sections items))
+    → numbers ≡ map height (node_layouts (bones_of program_sections items))
     → slice_get (nodes items) i ≡ Some node → sum (take i numbers) + rest ≡ at → rest < slice_index numbers i
     → slice_get (node_lines 0 node) rest ≡ slice_get (OwnedLines items) at
 program_line items at i rest node numbers same there place within =

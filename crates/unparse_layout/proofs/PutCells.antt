@@ -14,7 +14,7 @@ use Rattle.plcs_grammar.specs.Template.{PlainSegment, plain_segment, row_of}
 use Rattle.unparse_layout.specs.declared.lay.CellsOut.{CellsOut}
 use Rattle.unparse_layout.specs.declared.line.LineKind.{LineKind}
 use Rattle.unparse_layout.specs.LaidLine.{LaidLine, cell, laid_line, longest_line, stretch_cells}
-use Rattle.unparse_layout.specs.OwnedLine.{next_after, plain_owned, stretch_of, stretches_of}
+use Rattle.unparse_layout.specs.OwnedLine.{next_after, partless_line, stretch_of, stretches_of}
 use Rattle.unparse_layout.specs.Private.Cells.{HasMore, PutsAside, PutsCell}
 
 -- the front of a list is all that its front tells
@@ -198,7 +198,7 @@ laid_of slot kind cells = record { slot = slot; kind = kind; cells = cells }
 
 -- a line in which no part stands, laid under any marks
 pub fixed_cells : (marks : MarkMap) (slot : ℕ) (kind : LineKind) (level : ℕ) (bytes : List ℕ)
-    → laid_line marks (plain_owned slot kind level bytes)
+    → laid_line marks (partless_line slot kind level bytes)
     ≡ laid_of slot kind (take longest_line (replicate (2 * level) 32 ++ bytes))
 fixed_cells marks slot kind level bytes =
     let e : flat_map (stretch_cells marks slot) (record { part = None; bytes = bytes } ∷ []) ≡ bytes =

@@ -17,7 +17,7 @@ use Rattle.template_tree.specs.Stop.{VisibleNode, VisibleStop, PlainStop, IsStop
 use Rattle.unparse_layout.specs.OwnedLine.{bare_line, owned_lines}
 use Rattle.unparse_layout.specs.StopLine.{StandsOn}
 use Rattle.unparse_layout.specs.Bones.{Bone, Bones, bones_of}
-use Rattle.unparse_layout.specs.Private.PlainOutline.{PlainOutline, outlines, outline_of}
+use Rattle.unparse_layout.specs.Private.PlainNodeLayout.{PlainNodeLayout, node_layouts, node_layout_of}
 use Rattle.unparse_layout.specs.Private.Height.{one_if, height_around, height, heights, bone_count}
 use Rattle.unparse_layout.specs.Private.ItemLines.{lines_before}
 use Rattle.unparse_layout.proofs.Heights.{around_le, heights_le, heights_sum, one_if_le}
@@ -71,9 +71,9 @@ among_inside k all node m = record {
 pub lines_before_next : (bone : Bone) (inner rest : Bones) (j : ℕ) (path : List ℕ)
     → lines_before (Bones.cons bone inner rest) (suc j) path ≡ height_around bone (heights inner) + lines_before rest j path
 lines_before_next bone inner rest j [] =
-    omega (arith, sum_by-cons (λ n. n) (height_around bone (heights inner)) (take j (map height (outlines rest))))
+    omega (arith, sum_by-cons (λ n. n) (height_around bone (heights inner)) (take j (map height (node_layouts rest))))
 lines_before_next bone inner rest j (n ∷ path) =
-    omega (arith, sum_by-cons (λ n. n) (height_around bone (heights inner)) (take j (map height (outlines rest))))
+    omega (arith, sum_by-cons (λ n. n) (height_around bone (heights inner)) (take j (map height (node_layouts rest))))
 
 -- a visible node stands among the visible nodes, on its line
 pub visible_among : (items : Forest) (left : List PlainSection) (k line j : ℕ) (path : List ℕ) (node : PlainNode)
@@ -133,7 +133,7 @@ visible_among (Forest.cons label inner rest) left k line (suc j) path node there
     ∷ (if label.elided then [] else visible_nodes (row_of label.kind).sections 0 (first + 1) inner)) in
     let own_lines : ℕ = length (lines true 0 left (Forest.cons label inner Forest.nil)) in
     let others = visible_nodes (left_after here) (k + 1) (line + own_lines) rest in
-    let long : height (outline_of (is_some (next_lead here)) own) + 0 ≡ own_lines = plain_length 0 left (Forest.cons label inner Forest.nil) in
+    let long : height (node_layout_of (is_some (next_lead here)) own) + 0 ≡ own_lines = plain_length 0 left (Forest.cons label inner Forest.nil) in
     let next =
     lines_before_next record { slot = label.slot; kind = label.kind; elided = label.elided; led = is_some (next_lead here) }
     (bones_of (row_of label.kind).sections inner) (bones_of (left_after here) rest) j path in
@@ -246,49 +246,49 @@ stop_line items stop k rest way is = at_node (visible_at items (k ∷ rest)) ref
         }
 
 -- where no item is, nothing more is added
-pub lines_before_none : (items : Bones) (k : ℕ) (rest : List ℕ) → slice_get (outlines items) k ≡ None
-    → sum (take k (map height (outlines items))) ≡ lines_before items k rest
+pub lines_before_none : (items : Bones) (k : ℕ) (rest : List ℕ) → slice_get (node_layouts items) k ≡ None
+    → sum (take k (map height (node_layouts items))) ≡ lines_before items k rest
 lines_before_none items k [] none = rw none (omega arith)
 lines_before_none items k (n ∷ rest) none = rw none (omega arith)
 
 -- the end of the path
-pub lines_before_end : (items : Bones) (k : ℕ) (rest : List ℕ) (item : PlainOutline) → slice_get (outlines items) k ≡ Some item → length rest ≡ 0
-    → sum (take k (map height (outlines items))) + one_if item.bone.led ≡ lines_before items k rest
+pub lines_before_end : (items : Bones) (k : ℕ) (rest : List ℕ) (item : PlainNodeLayout) → slice_get (node_layouts items) k ≡ Some item → length rest ≡ 0
+    → sum (take k (map height (node_layouts items))) + one_if item.bone.led ≡ lines_before items k rest
 lines_before_end items k [] item there end = rw there refl
 lines_before_end items k (n ∷ rest) item there end = absurd (omega (arith, end))
 
 -- a step further
-pub lines_before_step : (items : Bones) (k n : ℕ) (path rest : List ℕ) (item : PlainOutline) → slice_get (outlines items) k ≡ Some item → path ≡ n ∷ rest
-    → sum (take k (map height (outlines items))) + one_if item.bone.led + 1 + lines_before item.inner n rest ≡ lines_before items k path
+pub lines_before_step : (items : Bones) (k n : ℕ) (path rest : List ℕ) (item : PlainNodeLayout) → slice_get (node_layouts items) k ≡ Some item → path ≡ n ∷ rest
+    → sum (take k (map height (node_layouts items))) + one_if item.bone.led + 1 + lines_before item.inner n rest ≡ lines_before items k path
 lines_before_step items k n path rest item there way =
     sym (ap (lines_before items k) way ∙ rw there (omega arith))
 
 -- the lines before an item, and four for each node in it
-pub before_le : (items : Bones) (k : ℕ) (item : PlainOutline) → slice_get (outlines items) k ≡ Some item
-    → sum (take k (map height (outlines items))) + 4 * bone_count item.inner + 4 ≤ 4 * bone_count items
+pub before_le : (items : Bones) (k : ℕ) (item : PlainNodeLayout) → slice_get (node_layouts items) k ≡ Some item
+    → sum (take k (map height (node_layouts items))) + 4 * bone_count item.inner + 4 ≤ 4 * bone_count items
 before_le Bones.nil k item there = absurd (cc)
 before_le (Bones.cons bone inner rest) zero item there =
     let same : record { bone = bone; inner = inner } ≡ item = cc in rw (← same) (omega arith)
 before_le (Bones.cons bone inner rest) (suc k) item there =
-    let cons = sum_by-cons (λ n. n) (height_around bone (heights inner)) (take k (map height (outlines rest))) in
+    let cons = sum_by-cons (λ n. n) (height_around bone (heights inner)) (take k (map height (node_layouts rest))) in
     omega (arith, cons, before_le rest k item there, around_le bone (heights inner), heights_le inner)
 
 -- no more than four lines for each node stand before one of them
 pub lines_before_le : (path : List ℕ) (items : Bones) (k : ℕ) → lines_before items k path ≤ 4 * bone_count items
-lines_before_le [] items k = found (slice_get (outlines items) k) refl
+lines_before_le [] items k = found (slice_get (node_layouts items) k) refl
   where
-    found : (o : Option PlainOutline) → slice_get (outlines items) k ≡ o → lines_before items k [] ≤ 4 * bone_count items
+    found : (o : Option PlainNodeLayout) → slice_get (node_layouts items) k ≡ o → lines_before items k [] ≤ 4 * bone_count items
     found None e =
-        let all = sum_by-take-le (λ n. n) (map height (outlines items)) k in
+        let all = sum_by-take-le (λ n. n) (map height (node_layouts items)) k in
         omega (arith, lines_before_none items k [] e, all, heights_sum items, heights_le items)
     found (Some item) e =
         omega (arith, lines_before_end items k [] item e refl, before_le items k item e, one_if_le item.bone.led)
-lines_before_le (n ∷ path) items k = found (slice_get (outlines items) k) refl (λ inner. lines_before_le path inner n)
+lines_before_le (n ∷ path) items k = found (slice_get (node_layouts items) k) refl (λ inner. lines_before_le path inner n)
   where
-    found : (o : Option PlainOutline) → slice_get (outlines items) k ≡ o → ((inner : Bones) → lines_before inner n path ≤ 4 * bone_count inner)
+    found : (o : Option PlainNodeLayout) → slice_get (node_layouts items) k ≡ o → ((inner : Bones) → lines_before inner n path ≤ 4 * bone_count inner)
         → lines_before items k (n ∷ path) ≤ 4 * bone_count items
     found None e law =
-        let all = sum_by-take-le (λ n. n) (map height (outlines items)) k in
+        let all = sum_by-take-le (λ n. n) (map height (node_layouts items)) k in
         omega (arith, lines_before_none items k (n ∷ path) e, all, heights_sum items, heights_le items)
     found (Some item) e law =
         omega (arith, lines_before_step items k n (n ∷ path) path item e refl, before_le items k item e, one_if_le item.bone.led, law item.inner)

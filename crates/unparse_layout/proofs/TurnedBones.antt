@@ -11,43 +11,43 @@ use Rattle.template_tree.specs.Section.{left_for, left_after, next_lead}
 use Rattle.template_tree.specs.Edit.{edit_at, edit_below, give_way}
 use Rattle.template_tree.specs.Elision.{is_comment, turn}
 use Rattle.unparse_layout.specs.Bones.{Bone, Bones, bones_of}
-use Rattle.unparse_layout.specs.Private.PlainOutline.{PlainOutline, bones, bones_outlines, outlines}
+use Rattle.unparse_layout.specs.Private.PlainNodeLayout.{PlainNodeLayout, bones, bones_node_layouts, node_layouts}
 use Rattle.unparse_layout.specs.Private.Height.{bone_count}
-use Rattle.unparse_layout.specs.Private.OutlineLend.{with_elision}
+use Rattle.unparse_layout.specs.Private.NodeLayoutLend.{with_elision}
 
 -- nodes in which the one at the path is elided or not
 abbrev pub set_in : Bones → ℕ → List ℕ → Bool → Bones
 set_in items k path elided =
-    unwrap_or (option_map (λ item. bones (slice_set (outlines items) k (with_elision path elided item))) (slice_get (outlines items) k)) items
+    unwrap_or (option_map (λ item. bones (slice_set (node_layouts items) k (with_elision path elided item))) (slice_get (node_layouts items) k)) items
 
 -- what stands inside a node where one below it is set
-pub inner_set : (outline : PlainOutline) (k : ℕ) (path : List ℕ) (elided : Bool)
-    → (with_elision (k ∷ path) elided outline).inner ≡ set_in outline.inner k path elided
-inner_set outline k path elided = found (slice_get (outlines outline.inner) k)
+pub inner_set : (node_layout : PlainNodeLayout) (k : ℕ) (path : List ℕ) (elided : Bool)
+    → (with_elision (k ∷ path) elided node_layout).inner ≡ set_in node_layout.inner k path elided
+inner_set node_layout k path elided = found (slice_get (node_layouts node_layout.inner) k)
   where
-    found : (o : Option PlainOutline)
-        → (unwrap_or (option_map (λ item. record outline { inner = bones (slice_set (outlines outline.inner) k (with_elision path elided item)) }) o) outline).inner
-        ≡ unwrap_or (option_map (λ item. bones (slice_set (outlines outline.inner) k (with_elision path elided item))) o) outline.inner
+    found : (o : Option PlainNodeLayout)
+        → (unwrap_or (option_map (λ item. record node_layout { inner = bones (slice_set (node_layouts node_layout.inner) k (with_elision path elided item)) }) o) node_layout).inner
+        ≡ unwrap_or (option_map (λ item. bones (slice_set (node_layouts node_layout.inner) k (with_elision path elided item))) o) node_layout.inner
     found None = refl
     found (Some item) = refl
 
 -- the node itself stays as it is
-pub bone_kept : (outline : PlainOutline) (k : ℕ) (path : List ℕ) (elided : Bool) → (with_elision (k ∷ path) elided outline).bone ≡ outline.bone
-bone_kept outline k path elided = found (slice_get (outlines outline.inner) k)
+pub bone_kept : (node_layout : PlainNodeLayout) (k : ℕ) (path : List ℕ) (elided : Bool) → (with_elision (k ∷ path) elided node_layout).bone ≡ node_layout.bone
+bone_kept node_layout k path elided = found (slice_get (node_layouts node_layout.inner) k)
   where
-    found : (o : Option PlainOutline)
-        → (unwrap_or (option_map (λ item. record outline { inner = bones (slice_set (outlines outline.inner) k (with_elision path elided item)) }) o) outline).bone ≡ outline.bone
+    found : (o : Option PlainNodeLayout)
+        → (unwrap_or (option_map (λ item. record node_layout { inner = bones (slice_set (node_layouts node_layout.inner) k (with_elision path elided item)) }) o) node_layout).bone ≡ node_layout.bone
     found None = refl
     found (Some item) = refl
 
 -- setting a node behind the first one
 pub set_next : (bone : Bone) (inner rest : Bones) (k : ℕ) (path : List ℕ) (elided : Bool)
     → set_in (Bones.cons bone inner rest) (suc k) path elided ≡ Bones.cons bone inner (set_in rest k path elided)
-set_next bone inner rest k path elided = found (slice_get (outlines rest) k)
+set_next bone inner rest k path elided = found (slice_get (node_layouts rest) k)
   where
-    found : (o : Option PlainOutline)
-        → unwrap_or (option_map (λ item. Bones.cons bone inner (bones (slice_set (outlines rest) k (with_elision path elided item)))) o) (Bones.cons bone inner rest)
-        ≡ Bones.cons bone inner (unwrap_or (option_map (λ item. bones (slice_set (outlines rest) k (with_elision path elided item))) o) rest)
+    found : (o : Option PlainNodeLayout)
+        → unwrap_or (option_map (λ item. Bones.cons bone inner (bones (slice_set (node_layouts rest) k (with_elision path elided item)))) o) (Bones.cons bone inner rest)
+        ≡ Bones.cons bone inner (unwrap_or (option_map (λ item. bones (slice_set (node_layouts rest) k (with_elision path elided item))) o) rest)
     found None = refl
     found (Some item) = refl
 
@@ -78,15 +78,15 @@ turned_bones (Forest.cons label inner rest) left zero [] elided node there is =
     let e : new.label.elided ≡ elided = ap (λ (n : PlainNode). n.label.elided) same ∙ is in
     ap (λ (n : PlainNode). bones_of left (Forest.cons n.label n.inner rest)) whole
     ∙ (λ i. Bones.cons record { slot = label.slot; kind = label.kind; elided = e i; led = is_some (next_lead here) } (bones_of sections inner)
-    (sym (bones_outlines (bones_of (left_after here) rest)) i))
+    (sym (bones_node_layouts (bones_of (left_after here) rest)) i))
 turned_bones (Forest.cons label inner rest) left zero (n ∷ path) elided node there is =
     let here = left_for (sort_of label.kind) left in
     let sections = (row_of label.kind).sections in
     let bone : Bone = record { slot = label.slot; kind = label.kind; elided = label.elided; led = is_some (next_lead here) } in
-    let outline : PlainOutline = record { bone = bone; inner = bones_of sections inner } in
+    let node_layout : PlainNodeLayout = record { bone = bone; inner = bones_of sections inner } in
     let below_it = turned_bones inner sections n path elided node there is in
-    λ i. Bones.cons (sym (bone_kept outline n path elided) i) ((below_it ∙ sym (inner_set outline n path elided)) i)
-    (sym (bones_outlines (bones_of (left_after here) rest)) i)
+    λ i. Bones.cons (sym (bone_kept node_layout n path elided) i) ((below_it ∙ sym (inner_set node_layout n path elided)) i)
+    (sym (bones_node_layouts (bones_of (left_after here) rest)) i)
 turned_bones (Forest.cons label inner rest) left (suc k) path elided node there is =
     let here = left_for (sort_of label.kind) left in
     let bone : Bone = record { slot = label.slot; kind = label.kind; elided = label.elided; led = is_some (next_lead here) } in
@@ -109,7 +109,7 @@ none_turned (Forest.cons label inner rest) left (suc k) path none =
     ap (Bones.cons bone (bones_of (row_of label.kind).sections inner)) (none_turned rest (left_after here) k path none)
 
 -- the layout of a program after a comment was turned
-pub turned_layout : (items before : Forest) (path : List ℕ) (elided : Bool) (root : PlainOutline) (node : PlainNode)
+pub turned_layout : (items before : Forest) (path : List ℕ) (elided : Bool) (root : PlainNodeLayout) (node : PlainNode)
     → root.inner ≡ bones_of program_sections before → items ≡ edit_at turn path before → node_at items path ≡ Some node
     → node.label.elided ≡ elided → (with_elision path elided root).inner ≡ bones_of program_sections items
 turned_layout items before [] elided root node same turned there is = absurd (cc)
@@ -127,26 +127,26 @@ layout_kept items before (k ∷ path) turned none =
     ∙ ap (bones_of program_sections) (sym turned)
 
 -- as many nodes as before where one gives way to one as large
-pub count_set : (items : Bones) (k : ℕ) (item new : PlainOutline) → slice_get (outlines items) k ≡ Some item
-    → bone_count new.inner ≡ bone_count item.inner → bone_count (bones (slice_set (outlines items) k new)) ≡ bone_count items
+pub count_set : (items : Bones) (k : ℕ) (item new : PlainNodeLayout) → slice_get (node_layouts items) k ≡ Some item
+    → bone_count new.inner ≡ bone_count item.inner → bone_count (bones (slice_set (node_layouts items) k new)) ≡ bone_count items
 count_set Bones.nil k item new there same = absurd (cc)
 count_set (Bones.cons bone inner rest) zero item new there same =
     let own : record { bone = bone; inner = inner } ≡ item = cc in
-    let e : bone_count inner ≡ bone_count item.inner = ap (λ (o : PlainOutline). bone_count o.inner) own in
-    let f : bone_count (bones (outlines rest)) ≡ bone_count rest = ap bone_count (bones_outlines rest) in
+    let e : bone_count inner ≡ bone_count item.inner = ap (λ (o : PlainNodeLayout). bone_count o.inner) own in
+    let f : bone_count (bones (node_layouts rest)) ≡ bone_count rest = ap bone_count (bones_node_layouts rest) in
     omega (arith, same, e, f)
 count_set (Bones.cons bone inner rest) (suc k) item new there same = omega (arith, count_set rest k item new there same)
 
-pub count_elision : (path : List ℕ) (elided : Bool) (outline : PlainOutline) → bone_count (with_elision path elided outline).inner ≡ bone_count outline.inner
-count_elision [] elided outline = refl
-count_elision (k ∷ path) elided outline =
-    ap bone_count (inner_set outline k path elided) ∙ found (slice_get (outlines outline.inner) k) refl (λ item. count_elision path elided item)
+pub count_elision : (path : List ℕ) (elided : Bool) (node_layout : PlainNodeLayout) → bone_count (with_elision path elided node_layout).inner ≡ bone_count node_layout.inner
+count_elision [] elided node_layout = refl
+count_elision (k ∷ path) elided node_layout =
+    ap bone_count (inner_set node_layout k path elided) ∙ found (slice_get (node_layouts node_layout.inner) k) refl (λ item. count_elision path elided item)
   where
-    found : (o : Option PlainOutline) → slice_get (outlines outline.inner) k ≡ o
-        → ((item : PlainOutline) → bone_count (with_elision path elided item).inner ≡ bone_count item.inner)
-        → bone_count (unwrap_or (option_map (λ item. bones (slice_set (outlines outline.inner) k (with_elision path elided item))) o) outline.inner) ≡ bone_count outline.inner
+    found : (o : Option PlainNodeLayout) → slice_get (node_layouts node_layout.inner) k ≡ o
+        → ((item : PlainNodeLayout) → bone_count (with_elision path elided item).inner ≡ bone_count item.inner)
+        → bone_count (unwrap_or (option_map (λ item. bones (slice_set (node_layouts node_layout.inner) k (with_elision path elided item))) o) node_layout.inner) ≡ bone_count node_layout.inner
     found None e law = refl
-    found (Some item) e law = count_set outline.inner k item (with_elision path elided item) e (law item)
+    found (Some item) e law = count_set node_layout.inner k item (with_elision path elided item) e (law item)
 
 -- the numbers with another one in a place fit
 pub set_fits : (numbers : List ℕ) (k number : ℕ) → k < length numbers → sum (slice_set numbers k number) ≤ sum numbers + number

@@ -41,14 +41,14 @@ stretches_of next [] parts = []
 stretches_of next (segment ∷ segments) parts = stretch_of next segment parts ∷ stretches_of (next_after next segment) segments parts
 
 -- a line of a node in which no part stands
-abbrev pub plain_owned : ℕ → LineKind → ℕ → List ℕ → OwnedLine
-plain_owned slot kind level bytes =
+abbrev pub partless_line : ℕ → LineKind → ℕ → List ℕ → OwnedLine
+partless_line slot kind level bytes =
     record { slot = slot; kind = kind; level = level; stretches = record { part = None; bytes = bytes } ∷ [] }
 
 -- a line of the table that is there or not
 abbrev pub table_line : ℕ → LineKind → ℕ → Option (List ℕ) → List OwnedLine
 table_line slot kind level None = []
-table_line slot kind level (Some bytes) = plain_owned slot kind level bytes ∷ []
+table_line slot kind level (Some bytes) = partless_line slot kind level bytes ∷ []
 
 -- the first line of a node
 abbrev pub first_line : ℕ → Label → OwnedLine
@@ -64,7 +64,7 @@ owned_lines owner level left (Forest.cons label inner rest) =
     table_line owner LineKind.Lead (level - 1) (next_lead here)
     ++ (first_line level label
     ∷ ((if label.elided
-    then plain_owned label.slot LineKind.Elision (level + 1) (codes "...") ∷ []
+    then partless_line label.slot LineKind.Elision (level + 1) (codes "...") ∷ []
     else owned_lines label.slot (level + 1) (row_of label.kind).sections inner)
     ++ (table_line label.slot LineKind.Last level (row_of label.kind).last
     ++ owned_lines owner level (left_after here) rest)))

@@ -3,11 +3,11 @@
 pub mod BonesCode
 pub mod Weight
 -- ---- a node of a layout, its lines and how many there are
-pub mod PlainOutline
+pub mod PlainNodeLayout
 pub mod Height
 pub mod ItemLines
-pub mod OutlineView
-pub mod OutlineLend
+pub mod NodeLayoutView
+pub mod NodeLayoutLend
 -- ---- the sections that are left while a layout is made
 pub mod PlainLeft
 -- ---- a line before it is laid, and its cells while they are put

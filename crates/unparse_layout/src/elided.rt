@@ -4,10 +4,10 @@ ghost use Rattle.template_tree.specs.Limit.{most_slots};
 ghost use Rattle.template_tree.specs.Tree.{IsTree};
 ghost use Rattle.unparse_layout.specs.Agreement.{IsLayoutBeforeTurn, IsLayoutOf};
 ghost use Rattle.unparse_layout.specs.Private.Height.{bone_count};
-ghost use Rattle.unparse_layout.specs.Private.OutlineLend.{with_elision};
+ghost use Rattle.unparse_layout.specs.Private.NodeLayoutLend.{with_elision};
 
 use crate::layout::Layout;
-use crate::outline::Outline;
+use crate::node_layout::NodeLayout;
 use plcs_base::Work;
 use template_tree::{Path, Tree};
 
@@ -26,7 +26,7 @@ impl<W: Work> Layout<W> {
     }
 }
 
-impl Outline {
+impl NodeLayout {
     /// Notes whether the refinement of the node at the path is hidden, and how many lines the nodes on the
     /// way have then.
     fn set_elision(&mut self, path: &[u32], elided: bool)

@@ -10,7 +10,7 @@ ghost use Rattle.unparse_layout.specs.LaidLine.{LaidLines};
 
 use crate::lay::lay;
 use crate::line::Line;
-use crate::outline::Outline;
+use crate::node_layout::NodeLayout;
 use plcs_base::{Marked, Work};
 use std::marker::{Model, PhantomData};
 use template_tree::Tree;
@@ -21,7 +21,7 @@ use template_tree::Tree;
 /// Main and the procedures stand inside a node of its own, so that they have a list like every other.
 #[derive(Drop)]
 pub struct Layout<W> {
-    pub(crate) root: Outline,
+    pub(crate) root: NodeLayout,
     pub(crate) of: PhantomData<W>,
 }
 

@@ -1,5 +1,5 @@
 //! The layout of a tree: the lines of the screen, found by number, and the lines of stops.
-#![tactic(auto, using(crate::specs::Private::PlainOutline::outlines_bones))]
+#![tactic(auto, using(crate::specs::Private::PlainNodeLayout::node_layouts_bones))]
 
 mod elided;
 mod law;
@@ -10,7 +10,7 @@ mod layout_tests;
 mod line;
 mod line_of;
 mod new;
-mod outline;
+mod node_layout;
 mod plan;
 mod sections_left;
 

@@ -10,7 +10,7 @@ ghost use Rattle.unparse_layout.specs.Private.Height.{bone_count};
 ghost use Rattle.unparse_layout.specs.Private.ItemLines.{lines_before};
 
 use crate::layout::Layout;
-use crate::outline::Outline;
+use crate::node_layout::NodeLayout;
 use plcs_base::Work;
 use template_tree::{Stop, Tree};
 
@@ -31,7 +31,7 @@ impl<W: Work> Layout<W> {
     }
 }
 
-impl Outline {
+impl NodeLayout {
     /// How many lines stand before the first line of the node at the path below the item of this number
     /// inside it.
     fn lines_before(&self, k: usize, rest: &[u32]) -> u32

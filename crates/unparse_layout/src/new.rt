@@ -4,10 +4,10 @@ ghost use Rattle.template_tree.specs.Limit.{most_slots};
 ghost use Rattle.template_tree.specs.Slots.{count};
 ghost use Rattle.template_tree.specs.Tree.{IsTree};
 ghost use Rattle.unparse_layout.specs.Agreement.{IsLayoutOf};
-ghost use Rattle.unparse_layout.specs.Private.PlainOutline.{outline_of};
+ghost use Rattle.unparse_layout.specs.Private.PlainNodeLayout.{node_layout_of};
 
 use crate::layout::Layout;
-use crate::outline::Outline;
+use crate::node_layout::NodeLayout;
 use crate::sections_left::SectionsLeft;
 use plcs_base::{OutOfMemory, Slot, Work};
 use plcs_grammar::{NodeKind, program_sections};
@@ -21,12 +21,12 @@ impl<W: Work> Layout<W> {
         requires tree { IsTree tree.now }
         ensures { IfOk result (λ layout. IsLayoutOf layout tree.now) }
     {
-        let mut root = Outline::bare(alloc, Slot(0), NodeKind::Main, false, false);
+        let mut root = NodeLayout::bare(alloc, Slot(0), NodeKind::Main, false, false);
         let mut left = SectionsLeft::of(program_sections());
         let mut k = 0;
         while let Some(item) = tree.node(&path_of_item(k)) {
             left = left.at(item.kind().row().sort);
-            root.push(Outline::of(alloc, item, left.lead().is_some())?)?;
+            root.push(NodeLayout::of(alloc, item, left.lead().is_some())?)?;
             left = left.after();
             k += 1;
         }
@@ -46,21 +46,27 @@ pub(crate) fn path_of_item(k: u32) -> Path
     path
 }
 
-impl Outline {
+impl NodeLayout {
     /// What is kept of the node, before which a line of the table stands or doesn't.
-    fn of(alloc: Global, node: &Node, led: bool) -> Result<Outline, OutOfMemory>
+    fn of(alloc: Global, node: &Node, led: bool) -> Result<NodeLayout, OutOfMemory>
         requires few { count node.now.inner < most_slots }
-        ensures { IfOk result (λ outline. outline ≡ outline_of led node.now) }
+        ensures { IfOk result (λ node_layout. node_layout ≡ node_layout_of led node.now) }
     {
-        let mut outline = Outline::bare(alloc, node.slot(), node.kind(), node.is_elided(), led);
+        let mut node_layout = NodeLayout::bare(
+            alloc,
+            node.slot(),
+            node.kind(),
+            node.is_elided(),
+            led,
+        );
         let mut left = SectionsLeft::of(node.kind().row().sections);
         let mut k = 0;
         while let Some(child) = node.child(k) {
             left = left.at(child.kind().row().sort);
-            outline.push(Outline::of(alloc, child, left.lead().is_some())?)?;
+            node_layout.push(NodeLayout::of(alloc, child, left.lead().is_some())?)?;
             left = left.after();
             k += 1;
         }
-        Ok(outline)
+        Ok(node_layout)
     }
 }

@@ -4,16 +4,16 @@ ghost use Rattle.template_tree.specs.Limit.{deepest_path, most_slots};
 ghost use Rattle.template_tree.specs.Slots.{count, depth};
 ghost use Rattle.template_tree.specs.Tree.{IsTree};
 ghost use Rattle.unparse_layout.specs.Agreement.{IsLayoutOf};
-ghost use Rattle.unparse_layout.specs.OwnedLine.{OwnedLines, first_line, plain_owned, table_line};
+ghost use Rattle.unparse_layout.specs.OwnedLine.{OwnedLines, first_line, partless_line, table_line};
 ghost use Rattle.plcs_grammar.specs.Template.{row_of};
 ghost use Rattle.unparse_layout.specs.Private.ItemLines.{lead_at, node_lines};
-ghost use Rattle.unparse_layout.specs.Private.PlainOutline.{outline_of};
+ghost use Rattle.unparse_layout.specs.Private.PlainNodeLayout.{node_layout_of};
 ghost use Rattle.unparse_layout.specs.Private.PlainPlan.{planned};
 ghost use Rattle.template_tree.specs.PlainTree.{PlainTree};
 
 use crate::line::LineKind;
 use crate::new::path_of_item;
-use crate::outline::Outline;
+use crate::node_layout::NodeLayout;
 use crate::sections_left::SectionsLeft;
 use plcs_base::Slot;
 use template_tree::{Node, Tree};
@@ -27,7 +27,7 @@ pub(crate) enum Plan<'a> {
     First(u32, &'a Node),
 }
 
-impl Outline {
+impl NodeLayout {
     /// The line of this number of the tree whose layout is inside it.
     pub(crate) fn plan_of<'a>(&self, tree: &'a Tree, k: u32) -> Option<Plan<'a>>
         requires tree { IsTree tree.now }
@@ -48,7 +48,7 @@ impl Outline {
 
     /// The line of this number of the node; the line before it isn't one of them.
     fn plan<'a>(&self, node: &'a Node, level: u32, at: u32) -> Option<Plan<'a>>
-        requires agrees { self.now ≡ outline_of self.now.bone.led node.now }
+        requires agrees { self.now ≡ node_layout_of self.now.bone.led node.now }
         requires few { count node.now.inner < most_slots }
         requires shallow { level + depth node.now.inner < deepest_path }
         ensures { option_map planned result ≡ slice_get (node_lines level node.now) at }
@@ -84,7 +84,7 @@ impl Outline {
     /// The line of this number behind the first one, where its refinement is elided.
     fn elided_plan<'a>(&self, level: u32, below: u32) -> Option<Plan<'a>>
         requires { level < deepest_path }
-        ensures { option_map planned result ≡ slice_get (plain_owned self.now.bone.slot LineKind.Elision (level + 1) (codes "...") ∷ table_line self.now.bone.slot LineKind.Last level (row_of self.now.bone.kind).last) below }
+        ensures { option_map planned result ≡ slice_get (partless_line self.now.bone.slot LineKind.Elision (level + 1) (codes "...") ∷ table_line self.now.bone.slot LineKind.Last level (row_of self.now.bone.kind).last) below }
     {
         if below == 0 {
             return fixed(self.slot, LineKind::Elision, level + 1, Some(b"..."));

@@ -6,7 +6,7 @@ use base.Stored.{Gv, gnil, gnum, gcons}
 use Rattle.plcs_grammar.specs.declared.node_kind.NodeKind.{NodeKind}
 use Rattle.plcs_grammar.specs.contracts.node_kind.NodeKind as kind_row
 use Rattle.unparse_layout.specs.Bones.{Bone, Bones}
-use Rattle.unparse_layout.specs.Private.PlainOutline.{PlainOutline, PlainOutlines}
+use Rattle.unparse_layout.specs.Private.PlainNodeLayout.{PlainNodeLayout, PlainNodeLayouts}
 
 -- what is kept of a node is told by its fields
 abbrev pub bone_code : Coded Bone
@@ -49,13 +49,13 @@ abbrev pub bones_code : Coded Bones
 bones_code = record { code = bones_code_of; inj = bones_code_of_inj }
 
 -- a node of a layout is told by its fields
-abbrev pub outline_code : Coded PlainOutline
-outline_code =
+abbrev pub node_layout_code : Coded PlainNodeLayout
+node_layout_code =
     code_by (Bone × Bones) (coded× bone_code bones_code) (λ o. (o.bone, o.inner))
     (λ t. record { bone = t.0; inner = t.1 }) (λ _. refl)
 
 -- a list of them by its items and its room
-abbrev pub outlines_code : Coded PlainOutlines
-outlines_code =
-    code_by (List PlainOutline × ℕ) (coded× (coded_list outline_code) coded_ℕ) (λ l. (l.items, l.spare))
+abbrev pub node_layouts_code : Coded PlainNodeLayouts
+node_layouts_code =
+    code_by (List PlainNodeLayout × ℕ) (coded× (coded_list node_layout_code) coded_ℕ) (λ l. (l.items, l.spare))
     (λ t. record { items = t.0; spare = t.1 }) (λ _. refl)

@@ -2,7 +2,7 @@
 use Rattle.std.specs.Prelude.{ℕ, Bool, ◌+◌, if◌then◌else◌, List, Option, Some, None}
 use Rattle.plcs_grammar.specs.Template.{row_of}
 use Rattle.unparse_layout.specs.Bones.{Bone, Bones}
-use Rattle.unparse_layout.specs.Private.PlainOutline.{PlainOutline}
+use Rattle.unparse_layout.specs.Private.PlainNodeLayout.{PlainNodeLayout}
 
 -- how many lines a line of the table is that is there or not
 abbrev pub line_count : Option (List ℕ) → ℕ
@@ -24,8 +24,8 @@ heights Bones.nil = 0
 heights (Bones.cons bone inner rest) = height_around bone (heights inner) + heights rest
 
 -- how many lines a node has
-abbrev pub height : PlainOutline → ℕ
-height outline = height_around outline.bone (heights outline.inner)
+abbrev pub height : PlainNodeLayout → ℕ
+height node_layout = height_around node_layout.bone (heights node_layout.inner)
 
 -- how many nodes there are
 abbrev pub bone_count : Bones → ℕ

@@ -6,15 +6,15 @@ use Rattle.template_tree.specs.Section.{left_for, left_after, next_lead}
 use Rattle.template_tree.specs.PlainTree.{Forest, PlainNode}
 use Rattle.unparse_layout.specs.declared.line.LineKind.{LineKind}
 use Rattle.unparse_layout.specs.Bones.{Bones}
-use Rattle.unparse_layout.specs.OwnedLine.{OwnedLine, first_line, owned_lines, plain_owned, table_line}
-use Rattle.unparse_layout.specs.Private.PlainOutline.{outlines}
+use Rattle.unparse_layout.specs.OwnedLine.{OwnedLine, first_line, owned_lines, partless_line, table_line}
+use Rattle.unparse_layout.specs.Private.PlainNodeLayout.{node_layouts}
 use Rattle.unparse_layout.specs.Private.Height.{height, one_if}
 
 -- the lines of a node behind its first one
 abbrev pub lines_below : ℕ → PlainNode → List OwnedLine
 lines_below level node =
     (if node.label.elided
-    then plain_owned node.label.slot LineKind.Elision (level + 1) (codes "...") ∷ []
+    then partless_line node.label.slot LineKind.Elision (level + 1) (codes "...") ∷ []
     else owned_lines node.label.slot (level + 1) (row_of node.label.kind).sections node.inner)
     ++ table_line node.label.slot LineKind.Last level (row_of node.label.kind).last
 
@@ -30,11 +30,11 @@ item_lines owner level lead node =
 -- how many lines stand before the first line of the node at the path, where the path begins with this number
 abbrev pub lines_before : Bones → (k : ℕ) (rest : List ℕ) → ℕ
 lines_before items k [] =
-    sum (take k (map height (outlines items)))
-    + unwrap_or (option_map (λ item. one_if item.bone.led) (slice_get (outlines items) k)) 0
+    sum (take k (map height (node_layouts items)))
+    + unwrap_or (option_map (λ item. one_if item.bone.led) (slice_get (node_layouts items) k)) 0
 lines_before items k (next ∷ rest) =
-    sum (take k (map height (outlines items)))
-    + unwrap_or (option_map (λ item. one_if item.bone.led + 1 + lines_before item.inner next rest) (slice_get (outlines items) k)) 0
+    sum (take k (map height (node_layouts items)))
+    + unwrap_or (option_map (λ item. one_if item.bone.led + 1 + lines_before item.inner next rest) (slice_get (node_layouts items) k)) 0
 
 -- the line before the node of this number, if one stands there, where these sections are left for the nodes
 abbrev pub lead_at : List PlainSection → Forest → ℕ → Option (List ℕ)

@@ -3,20 +3,20 @@ use Rattle.std.specs.Prelude.{ℕ, suc, ◌+◌, ◌≤◌, List, [], ◌∷◌}
 use Rattle.std.proofs.Common.{arith}
 use denote.Param.Weighed.{most}
 use Rattle.unparse_layout.specs.Bones.{Bones}
-use Rattle.unparse_layout.specs.Private.PlainOutline.{PlainOutline, PlainOutlines, bones}
+use Rattle.unparse_layout.specs.Private.PlainNodeLayout.{PlainNodeLayout, PlainNodeLayouts, bones}
 
 -- two for each node, since a node and its list take turns
 abbrev pub bones_weight : Bones → ℕ
 bones_weight Bones.nil = 0
 bones_weight (Bones.cons bone inner rest) = suc (suc (bones_weight inner + bones_weight rest))
 
-abbrev pub weight : PlainOutline → ℕ
-weight outline = suc (suc (bones_weight outline.inner))
+abbrev pub weight : PlainNodeLayout → ℕ
+weight node_layout = suc (suc (bones_weight node_layout.inner))
 
-abbrev pub list_weight : PlainOutlines → ℕ
+abbrev pub list_weight : PlainNodeLayouts → ℕ
 list_weight list = suc (bones_weight (bones list.items))
 
 -- no item is heavier than its list
-pub most_le_weight : (items : List PlainOutline) → most (λ outline. weight outline + 1) items ≤ bones_weight (bones items) + 1
+pub most_le_weight : (items : List PlainNodeLayout) → most (λ node_layout. weight node_layout + 1) items ≤ bones_weight (bones items) + 1
 most_le_weight [] = omega arith
-most_le_weight (outline ∷ rest) = omega (arith, most_le_weight rest)
+most_le_weight (node_layout ∷ rest) = omega (arith, most_le_weight rest)

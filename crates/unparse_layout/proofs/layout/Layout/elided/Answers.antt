@@ -3,9 +3,9 @@ use Rattle.std.proofs.Common.{arith, ap, sym, ◌∙◌}
 use Rattle.plcs_grammar.specs.Template.{program_sections}
 use Rattle.template_tree.specs.PlainTree.{PlainTree}
 use Rattle.unparse_layout.specs.Bones.{bones_of}
-use Rattle.unparse_layout.specs.Private.PlainOutline.{PlainOutline}
+use Rattle.unparse_layout.specs.Private.PlainNodeLayout.{PlainNodeLayout}
 use Rattle.unparse_layout.specs.Private.Height.{bone_count}
-use Rattle.unparse_layout.specs.Private.OutlineLend.{with_elision}
+use Rattle.unparse_layout.specs.Private.NodeLayoutLend.{with_elision}
 use Rattle.unparse_layout.proofs.Heights.{count_bones}
 use Rattle.unparse_layout.proofs.TurnedBones.{count_elision, layout_kept, turned_layout}
 use Rattle.unparse_layout.proofs.layout.Layout.elided.Goals as goal
@@ -31,7 +31,7 @@ set_elision-requires g c =
 pub returns : goal.returns
 returns g c =
     let before = c.requires.before.before in
-    ap (λ (o : PlainOutline). o.inner) (c.set_elision.ensures
+    ap (λ (o : PlainNodeLayout). o.inner) (c.set_elision.ensures
     ∙ ap (λ p. with_elision p c.is_elided.result c.self.inside.root) c.deref.ensures.0)
     ∙ turned_layout c.args.tree.now.items before.items c.args.path.now.items c.is_elided.result c.self.inside.root c.in-Some.node.now
     (c.self.view_is ∙ c.requires.before.agrees) (ap (λ (t : PlainTree). t.items) c.requires.before.turned)

@@ -6,8 +6,8 @@ use Rattle.template_tree.specs.PlainTree.{nodes}
 use Rattle.template_tree.specs.Section.{left_for, next_lead}
 use Rattle.unparse_layout.specs.Bones.{bones_of}
 use Rattle.unparse_layout.specs.Private.PlainLeft.{plain_left}
-use Rattle.unparse_layout.specs.Private.PlainOutline.{PlainOutline, outline_of}
-use Rattle.unparse_layout.proofs.Heights.{count_bones, nodes_few, outlines_few}
+use Rattle.unparse_layout.specs.Private.PlainNodeLayout.{PlainNodeLayout, node_layout_of}
+use Rattle.unparse_layout.proofs.Heights.{count_bones, nodes_few, node_layouts_few}
 use Rattle.unparse_layout.proofs.MadeBones.{made_all, made_few, made_next, made_none, push_fits, some_mapped}
 use Rattle.unparse_layout.proofs.PlanLines.{at_one, past_where_none}
 use Rattle.unparse_layout.proofs.layout.Layout.new.Goals as goal
@@ -16,7 +16,7 @@ pub loop-item-init : goal.loop-item-init
 loop-item-init g c = record {
   made =
       made_none program_sections c.args.tree.now.items c.bare-root.result.inner (plain_left c.of-left.result)
-      (ap (λ (o : PlainOutline). o.inner) c.bare-root.ensures) (c.of-left.ensures ∙ c.program_sections.ensures);
+      (ap (λ (o : PlainNodeLayout). o.inner) c.bare-root.ensures) (c.of-left.ensures ∙ c.program_sections.ensures);
   within = omega arith;
 }
 
@@ -24,7 +24,7 @@ pub push-requires-clause-few : goal.push-requires-clause-few
 push-requires-clause-few g c =
     let items = c.args.tree.now.items in
     let few = made_few (bones_of program_sections items) c.loop-item.root.inner (plain_left c.loop-item.left) _ c.loop-item.invariant.made in
-    omega (arith, few, count_bones program_sections items, outlines_few c.loop-item.root.inner, c.requires.tree.few)
+    omega (arith, few, count_bones program_sections items, node_layouts_few c.loop-item.root.inner, c.requires.tree.few)
 
 pub push-requires-clause-fits : goal.push-requires-clause-fits
 push-requires-clause-fits g c =
@@ -68,8 +68,8 @@ loop-item-preserved g c =
       made =
           made_next (bones_of program_sections items) c.loop-item.root.inner (plain_left c.loop-item.left)
           (plain_left c.at-left.result) (plain_left c.after-left.result) (nodes items) c.loop-item.k node c.in_ok-of.field-0
-          c.push.new.self.inner there here c.after-left.ensures (c.in_ok-of.ensures ∙ ap (λ b. outline_of b node) led)
-          (ap (λ (o : PlainOutline). o.inner) c.in_ok-push.ensures) c.loop-item.invariant.made;
+          c.push.new.self.inner there here c.after-left.ensures (c.in_ok-of.ensures ∙ ap (λ b. node_layout_of b node) led)
+          (ap (λ (o : PlainNodeLayout). o.inner) c.in_ok-push.ensures) c.loop-item.invariant.made;
       within = omega (arith, within);
     }
 

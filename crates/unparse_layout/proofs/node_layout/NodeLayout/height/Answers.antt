@@ -4,7 +4,7 @@ use Rattle.plcs_grammar.specs.Template.{PlainRow, row_of}
 use Rattle.unparse_layout.specs.Private.Height.{line_count}
 use Rattle.unparse_layout.proofs.Heights.{byte_is_one_if}
 use Rattle.unparse_layout.proofs.Opened.{height_shown}
-use Rattle.unparse_layout.proofs.outline.Outline.height.Goals as goal
+use Rattle.unparse_layout.proofs.node_layout.NodeLayout.height.Goals as goal
 
 pub overflow_add-result-2 : goal.overflow_add-result-2
 overflow_add-result-2 c =

@@ -4,13 +4,13 @@ use Rattle.std.proofs.lemmas.List.{length-map}
 use Rattle.plcs_grammar.specs.Template.{row_of}
 use Rattle.template_tree.specs.PlainTree.{nodes}
 use Rattle.unparse_layout.specs.declared.line.LineKind.{LineKind}
-use Rattle.unparse_layout.specs.OwnedLine.{plain_owned, table_line}
-use Rattle.unparse_layout.specs.Private.PlainOutline.{PlainOutline, outlines, outlines_bones}
+use Rattle.unparse_layout.specs.OwnedLine.{partless_line, table_line}
+use Rattle.unparse_layout.specs.Private.PlainNodeLayout.{PlainNodeLayout, node_layouts, node_layouts_bones}
 use Rattle.unparse_layout.specs.Private.Height.{height, one_if}
 use Rattle.unparse_layout.specs.Private.ItemLines.{lead_at}
 use Rattle.unparse_layout.proofs.Heights.{byte_is_one_if, item_few, nodes_few}
 use Rattle.unparse_layout.proofs.PlanLines.{child_led, child_line, elided_below, item_shallow, last_below, lead_of_child, led_again, number_within, own_of_child, past_where_none, plan_elided, plan_numbers}
-use Rattle.unparse_layout.proofs.outline.Outline.+plan.Goals as goal
+use Rattle.unparse_layout.proofs.node_layout.NodeLayout.+plan.Goals as goal
 
 pub returns-then-self : goal.returns-then-self
 returns-then-self t c =
@@ -18,7 +18,7 @@ returns-then-self t c =
     let level = c.args.level in
     let hidden = plan_elided c.self.inside c.args.self.now node true c.self.view_is c.requires.agrees c.if-self.true in
     c.elided_plan.ensures
-    ∙ ap (λ (s : PlainOutline). slice_get (plain_owned s.bone.slot LineKind.Elision (level + 1) (codes "...") ∷ table_line s.bone.slot LineKind.Last level (row_of s.bone.kind).last) (c.args.at - 1)) c.requires.agrees
+    ∙ ap (λ (s : PlainNodeLayout). slice_get (partless_line s.bone.slot LineKind.Elision (level + 1) (codes "...") ∷ table_line s.bone.slot LineKind.Last level (row_of s.bone.kind).last) (c.args.at - 1)) c.requires.agrees
     ∙ elided_below level node c.args.at hidden (omega arith)
 
 pub returns-in_default : goal.returns-in_default
@@ -28,7 +28,7 @@ returns-in_default t c =
     let shown = plan_elided c.self.inside c.args.self.now node false c.self.view_is c.requires.agrees c.if-self.false in
     let same = plan_numbers c.self.inside c.args.self.now node c.self.view_is c.self.invariant c.requires.agrees in
     c.last_plan.ensures
-    ∙ ap (λ (s : PlainOutline). slice_get (table_line s.bone.slot LineKind.Last level (row_of s.bone.kind).last) (c.args.at - 1 - c.total.result)) c.requires.agrees
+    ∙ ap (λ (s : PlainNodeLayout). slice_get (table_line s.bone.slot LineKind.Last level (row_of s.bone.kind).last) (c.args.at - 1 - c.total.result)) c.requires.agrees
     ∙ last_below level node c.args.at c.total.result c.self.inside.heights.numbers shown (omega arith) same c.total.ensures.total c.in_default.ensures
 
 pub returns-in_default-get : goal.returns-in_default-get
@@ -70,16 +70,16 @@ returns-then-position-lead t c =
     let shown = plan_elided c.self.inside c.args.self.now node false c.self.view_is c.requires.agrees c.if-self.false in
     let same = plan_numbers c.self.inside c.args.self.now node c.self.view_is c.self.invariant c.requires.agrees in
     let there : slice_get (nodes node.inner) i ≡ Some child = sym c.in-Some-child.ensures in
-    let kept : slice_get (outlines c.args.self.now.inner) i ≡ Some c.in-Some-get.item.now =
-    sym (ap (λ (o : PlainOutline). slice_get (outlines o.inner) i) c.self.view_is) ∙ ap (λ xs. slice_get xs i) (outlines_bones c.self.inside.inner.items) ∙ sym c.in-Some-get.ensures in
+    let kept : slice_get (node_layouts c.args.self.now.inner) i ≡ Some c.in-Some-get.item.now =
+    sym (ap (λ (o : PlainNodeLayout). slice_get (node_layouts o.inner) i) c.self.view_is) ∙ ap (λ xs. slice_get xs i) (node_layouts_bones c.self.inside.inner.items) ∙ sym c.in-Some-get.ensures in
     let item = child_led c.args.self.now c.in-Some-get.item.now c.args.self.now.bone.led node child i c.requires.agrees kept there in
     let led : c.from-lead.result ≡ one_if (is_some (lead_at (row_of node.label.kind).sections node.inner i)) =
     c.from-lead.ensures ∙ byte_is_one_if c.item.inside.led
-    ∙ ap one_if (ap (λ (o : PlainOutline). o.bone.led) c.item.view_is ∙ ap (λ (o : PlainOutline). o.bone.led) item) in
+    ∙ ap one_if (ap (λ (o : PlainNodeLayout). o.bone.led) c.item.view_is ∙ ap (λ (o : PlainNodeLayout). o.bone.led) item) in
     let line = child_line level node c.args.at i c.in-Some.position.rest child c.self.inside.heights.numbers shown (omega arith) same there c.in-Some.ensures.0 c.in-Some.ensures.1 c.in-Some.ensures.2 in
     c.fixed.ensures
     ∙ ap (λ lead. slice_get (table_line c.self.inside.slot.0 LineKind.Lead level lead) 0) c.lead_before.ensures
-    ∙ ap (λ (o : PlainOutline). slice_get (table_line o.bone.slot LineKind.Lead level (lead_at (row_of node.label.kind).sections node.inner i)) 0) (c.self.view_is ∙ c.requires.agrees)
+    ∙ ap (λ (o : PlainNodeLayout). slice_get (table_line o.bone.slot LineKind.Lead level (lead_at (row_of node.label.kind).sections node.inner i)) 0) (c.self.view_is ∙ c.requires.agrees)
     ∙ lead_of_child level node c.args.at i c.in-Some.position.rest child line (omega (arith, led, c.if-position-lead.true))
 
 pub plan-requires : goal.plan-requires
@@ -88,8 +88,8 @@ plan-requires t c =
     let child = c.in-Some-child.child.now in
     let i = c.in-Some.position.index in
     let there : slice_get (nodes node.inner) i ≡ Some child = sym c.in-Some-child.ensures in
-    let kept : slice_get (outlines c.args.self.now.inner) i ≡ Some c.in-Some-get.item.now =
-    sym (ap (λ (o : PlainOutline). slice_get (outlines o.inner) i) c.self.view_is) ∙ ap (λ xs. slice_get xs i) (outlines_bones c.self.inside.inner.items) ∙ sym c.in-Some-get.ensures in
+    let kept : slice_get (node_layouts c.args.self.now.inner) i ≡ Some c.in-Some-get.item.now =
+    sym (ap (λ (o : PlainNodeLayout). slice_get (node_layouts o.inner) i) c.self.view_is) ∙ ap (λ xs. slice_get xs i) (node_layouts_bones c.self.inside.inner.items) ∙ sym c.in-Some-get.ensures in
     let item = child_led c.args.self.now c.in-Some-get.item.now c.args.self.now.bone.led node child i c.requires.agrees kept there in
     let few = item_few node.inner i child there in
     let shallow = item_shallow node.inner i child there in (
@@ -109,11 +109,11 @@ returns t c =
     let shown = plan_elided c.self.inside c.args.self.now node false c.self.view_is c.requires.agrees c.if-self.false in
     let same = plan_numbers c.self.inside c.args.self.now node c.self.view_is c.self.invariant c.requires.agrees in
     let there : slice_get (nodes node.inner) i ≡ Some child = sym c.in-Some-child.ensures in
-    let kept : slice_get (outlines c.args.self.now.inner) i ≡ Some c.in-Some-get.item.now =
-    sym (ap (λ (o : PlainOutline). slice_get (outlines o.inner) i) c.self.view_is) ∙ ap (λ xs. slice_get xs i) (outlines_bones c.self.inside.inner.items) ∙ sym c.in-Some-get.ensures in
+    let kept : slice_get (node_layouts c.args.self.now.inner) i ≡ Some c.in-Some-get.item.now =
+    sym (ap (λ (o : PlainNodeLayout). slice_get (node_layouts o.inner) i) c.self.view_is) ∙ ap (λ xs. slice_get xs i) (node_layouts_bones c.self.inside.inner.items) ∙ sym c.in-Some-get.ensures in
     let item = child_led c.args.self.now c.in-Some-get.item.now c.args.self.now.bone.led node child i c.requires.agrees kept there in
     let led : c.from-lead.result ≡ one_if (is_some (lead_at (row_of node.label.kind).sections node.inner i)) =
     c.from-lead.ensures ∙ byte_is_one_if c.item.inside.led
-    ∙ ap one_if (ap (λ (o : PlainOutline). o.bone.led) c.item.view_is ∙ ap (λ (o : PlainOutline). o.bone.led) item) in
+    ∙ ap one_if (ap (λ (o : PlainNodeLayout). o.bone.led) c.item.view_is ∙ ap (λ (o : PlainNodeLayout). o.bone.led) item) in
     let line = child_line level node c.args.at i c.in-Some.position.rest child c.self.inside.heights.numbers shown (omega arith) same there c.in-Some.ensures.0 c.in-Some.ensures.1 c.in-Some.ensures.2 in
     c.plan.ensures ∙ own_of_child level node c.args.at i c.in-Some.position.rest child c.from-lead.result line led c.if-position-lead.false

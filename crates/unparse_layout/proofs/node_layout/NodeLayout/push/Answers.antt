@@ -2,7 +2,7 @@ use Rattle.std.specs.Prelude.{◌≡◌, sum}
 use Rattle.std.proofs.Common.{arith, ap, ◌∙◌}
 use Rattle.unparse_layout.specs.Private.Height.{heights}
 use Rattle.unparse_layout.proofs.Opened.{numbers_length, numbers_sum, sum_with_last}
-use Rattle.unparse_layout.proofs.outline.Outline.push.Goals as goal
+use Rattle.unparse_layout.proofs.node_layout.NodeLayout.push.Goals as goal
 
 pub reserve-requires : goal.reserve-requires
 reserve-requires c =

@@ -1,11 +1,11 @@
 -- What a node of a layout in memory is seen as.
 use Rattle.std.specs.Prelude.{◌≡◌, map}
-use Rattle.unparse_layout.specs.declared.outline.Outline.TheInside.{Inside}
-use Rattle.unparse_layout.specs.Private.PlainOutline.{PlainOutline, bones}
+use Rattle.unparse_layout.specs.declared.node_layout.NodeLayout.TheInside.{Inside}
+use Rattle.unparse_layout.specs.Private.PlainNodeLayout.{PlainNodeLayout, bones}
 use Rattle.unparse_layout.specs.Private.Height.{height}
 
 -- its fields, with what stands inside it as nodes in order
-abbrev pub seen : Inside → PlainOutline
+abbrev pub seen : Inside → PlainNodeLayout
 seen a =
     record {
       bone =

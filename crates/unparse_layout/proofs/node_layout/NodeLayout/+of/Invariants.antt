@@ -5,7 +5,7 @@ use Rattle.template_tree.specs.Slots.{count}
 use Rattle.unparse_layout.specs.Bones.{bones_of}
 use Rattle.unparse_layout.specs.Private.PlainLeft.{plain_left}
 use Rattle.unparse_layout.proofs.MadeBones.{IsMade}
-use Rattle.unparse_layout.proofs.outline.Outline.+of.Given as goal
+use Rattle.unparse_layout.proofs.node_layout.NodeLayout.+of.Given as goal
 
 abbrev pub decreases-of : goal.decreases-of
 decreases-of l = count l.node.now.inner
@@ -16,8 +16,8 @@ decreases-loop-child l = length (nodes l.node.inner) - l.k
 abbrev pub invariant-loop-child : goal.invariant-loop-child
 invariant-loop-child l = record {
   made :
-      IsMade (bones_of (row_of l.node.label.kind).sections l.node.inner) l.outline.inner (plain_left l.left)
+      IsMade (bones_of (row_of l.node.label.kind).sections l.node.inner) l.node_layout.inner (plain_left l.left)
       (drop l.k (nodes l.node.inner));
-  bone : l.outline.bone ≡ l.initial.outline.bone;
+  bone : l.node_layout.bone ≡ l.initial.node_layout.bone;
   within : l.k ≤ length (nodes l.node.inner);
 }

@@ -1,5 +1,5 @@
 use Rattle.template_tree.specs.Slots.{count}
-use Rattle.unparse_layout.proofs.outline.Outline.+plan.Given as goal
+use Rattle.unparse_layout.proofs.node_layout.NodeLayout.+plan.Given as goal
 
 abbrev pub decreases-plan : goal.decreases-plan
 decreases-plan l = count l.node.now.inner

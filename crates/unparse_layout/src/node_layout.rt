@@ -1,12 +1,12 @@
 //! Nodes of a layout, and the lists in which they stand.
 ghost use Rattle.std.specs.Prelude.{◌≡◌, ◌+◌, ◌<◌, ◌^◌, ◌++◌, ◌∷◌, [], OnErr, OnOk, Some, None, length, option_map, slice_get, sum, map, false};
 ghost use Rattle.std.specs.Borrow.{LendsIf, sem};
-ghost use Rattle.unparse_layout.specs.contracts.outline.Outline as outline_row;
-ghost use Rattle.unparse_layout.specs.contracts.outline.Outlines as list_row;
+ghost use Rattle.unparse_layout.specs.contracts.node_layout.NodeLayout as node_layout_row;
+ghost use Rattle.unparse_layout.specs.contracts.node_layout.NodeLayouts as list_row;
 ghost use Rattle.unparse_layout.specs.Bones.{Bones};
 ghost use Rattle.unparse_layout.specs.Private.Height.{height, heights, line_count};
-ghost use Rattle.unparse_layout.specs.Private.OutlineLend.{with_item};
-ghost use Rattle.unparse_layout.specs.Private.PlainOutline.{outlines, with_last};
+ghost use Rattle.unparse_layout.specs.Private.NodeLayoutLend.{with_item};
+ghost use Rattle.unparse_layout.specs.Private.PlainNodeLayout.{node_layouts, with_last};
 
 use plcs_base::{OutOfMemory, Slot};
 use plcs_grammar::NodeKind;
@@ -15,35 +15,35 @@ use std::alloc::Global;
 use std::marker::Model;
 
 /// What a layout keeps of a node, with how many lines each node inside it has.
-#[cycle(outline)]
+#[cycle(node_layout)]
 #[derive(Drop)]
-pub(crate) struct Outline {
+pub(crate) struct NodeLayout {
     pub(crate) slot: Slot,
     pub(crate) kind: NodeKind,
     pub(crate) elided: bool,
     pub(crate) led: bool,
-    pub(crate) inner: Outlines,
+    pub(crate) inner: NodeLayouts,
     pub(crate) heights: PrefixSums,
 }
 
 /// Nodes of a layout in order.
-#[cycle(outline)]
+#[cycle(node_layout)]
 #[derive(Drop)]
-pub(crate) struct Outlines {
-    list: Vec<Outline>,
+pub(crate) struct NodeLayouts {
+    list: Vec<NodeLayout>,
 }
 
-impl Model for Outline {
+impl Model for NodeLayout {
     ghost use Rattle.std.proofs.Common.{arith};
-    ghost use Rattle.unparse_layout.specs.Private.BonesCode.{outline_code};
-    ghost use Rattle.unparse_layout.specs.Private.PlainOutline.{PlainOutline};
+    ghost use Rattle.unparse_layout.specs.Private.BonesCode.{node_layout_code};
+    ghost use Rattle.unparse_layout.specs.Private.PlainNodeLayout.{PlainNodeLayout};
     ghost use Rattle.unparse_layout.specs.Private.Weight.{weight};
 
-    ghost Value = { PlainOutline };
+    ghost Value = { PlainNodeLayout };
 
-    ghost coded = { outline_code };
+    ghost coded = { node_layout_code };
 
-    ghost use Rattle.unparse_layout.specs.Private.OutlineView.{IsRight, seen};
+    ghost use Rattle.unparse_layout.specs.Private.NodeLayoutView.{IsRight, seen};
 
     ghost view = { seen };
 
@@ -54,16 +54,16 @@ impl Model for Outline {
     ghost size_decreases = { λ a h. omega arith };
 }
 
-impl Model for Outlines {
+impl Model for NodeLayouts {
     ghost use Rattle.std.proofs.Common.{arith};
     ghost use Rattle.std.specs.Prelude.{◌-◌, vec_len, vec_capacity};
-    ghost use Rattle.unparse_layout.specs.Private.BonesCode.{outlines_code};
-    ghost use Rattle.unparse_layout.specs.Private.PlainOutline.{PlainOutlines};
+    ghost use Rattle.unparse_layout.specs.Private.BonesCode.{node_layouts_code};
+    ghost use Rattle.unparse_layout.specs.Private.PlainNodeLayout.{PlainNodeLayouts};
     ghost use Rattle.unparse_layout.specs.Private.Weight.{list_weight, most_le_weight};
 
-    ghost Value = { PlainOutlines };
+    ghost Value = { PlainNodeLayouts };
 
-    ghost coded = { outlines_code };
+    ghost coded = { node_layouts_code };
 
     ghost view = { λ a. record { items = a.list.items; spare = vec_capacity a.list - vec_len a.list } };
 
@@ -72,7 +72,7 @@ impl Model for Outlines {
     ghost size_decreases = { λ a h. omega (arith, most_le_weight a.list.items) };
 }
 
-impl Outline {
+impl NodeLayout {
     /// A node with nothing inside. It takes no memory.
     pub(crate) fn bare(
         alloc: Global,
@@ -80,22 +80,22 @@ impl Outline {
         kind: NodeKind,
         elided: bool,
         led: bool,
-    ) -> Outline
+    ) -> NodeLayout
         ensures { result ≡ record { bone = record { slot = slot.0; kind = kind; elided = elided; led = led }; inner = Bones.nil } }
     {
-        Outline {
+        NodeLayout {
             slot,
             kind,
             elided,
             led,
-            inner: Outlines::new(alloc),
+            inner: NodeLayouts::new(alloc),
             heights: PrefixSums::new(alloc),
         }
     }
 
     /// Puts one more behind those inside it.
-    pub(crate) fn push(&mut self, item: Outline) -> Result<(), OutOfMemory>
-        requires few { length (outlines self.old.inner) < 2 ^ 32 }
+    pub(crate) fn push(&mut self, item: NodeLayout) -> Result<(), OutOfMemory>
+        requires few { length (node_layouts self.old.inner) < 2 ^ 32 }
         requires fits { heights self.old.inner + height item < 2 ^ 32 }
         ensures { OnOk result (self.new ≡ with_last self.old item) }
     {
@@ -136,18 +136,18 @@ pub(crate) fn line_count(line: Option<&[u8]>) -> u32
     }
 }
 
-impl Outlines {
+impl NodeLayouts {
     /// None, taking no memory.
-    fn new(alloc: Global) -> Outlines
+    fn new(alloc: Global) -> NodeLayouts
         ensures { result.items ≡ [] }
     {
-        Outlines {
+        NodeLayouts {
             list: Vec::new(alloc),
         }
     }
 
     /// Puts one more behind them.
-    fn push(&mut self, item: Outline) -> Result<(), OutOfMemory>
+    fn push(&mut self, item: NodeLayout) -> Result<(), OutOfMemory>
         ensures put { OnOk result (self.new.items ≡ self.old.items ++ item ∷ []) }
         ensures same { OnErr result (self.new.items ≡ self.old.items) }
     {
@@ -156,16 +156,16 @@ impl Outlines {
     }
 
     /// The one of this number.
-    pub(crate) fn get(&self, k: usize) -> Option<&Outline>
-        ensures { option_map (λ outline. outline.now) result ≡ slice_get self.now.items k }
+    pub(crate) fn get(&self, k: usize) -> Option<&NodeLayout>
+        ensures { option_map (λ node_layout. node_layout.now) result ≡ slice_get self.now.items k }
     {
         self.list.get(k)
     }
 
     /// Lends the one of this number.
-    pub(crate) fn get_mut(&mut self, k: usize) -> Option<&mut Outline>
-        ensures* writes_back { sem 𝓛 (LendsIf list_row.the_row outline_row.the_row self.entry result (with_item self.old k) self.old) }
-        ensures found { option_map (λ outline. outline.now) result ≡ slice_get self.old.items k }
+    pub(crate) fn get_mut(&mut self, k: usize) -> Option<&mut NodeLayout>
+        ensures* writes_back { sem 𝓛 (LendsIf list_row.the_row node_layout_row.the_row self.entry result (with_item self.old k) self.old) }
+        ensures found { option_map (λ node_layout. node_layout.now) result ≡ slice_get self.old.items k }
     {
         self.list.get_mut(k)
     }

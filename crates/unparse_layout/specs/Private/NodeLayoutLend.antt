@@ -1,0 +1,17 @@
+-- Layouts after the elision of a node was set.
+use Rattle.std.specs.Prelude.{ℕ, Bool, List, [], ◌∷◌, option_map, unwrap_or, slice_get, slice_set}
+use Rattle.unparse_layout.specs.Private.PlainNodeLayout.{PlainNodeLayout, PlainNodeLayouts, bones, node_layouts}
+
+-- the list with another item in this place
+abbrev pub with_item : PlainNodeLayouts → ℕ → PlainNodeLayout → PlainNodeLayouts
+with_item list k item = record list { items = slice_set list.items k item }
+
+-- a node in which the one at the path is elided or not
+abbrev pub with_elision : List ℕ → Bool → PlainNodeLayout → PlainNodeLayout
+with_elision [] elided node_layout = record node_layout { bone = record node_layout.bone { elided = elided } }
+with_elision (k ∷ path) elided node_layout =
+    unwrap_or
+    (option_map
+    (λ item. record node_layout { inner = bones (slice_set (node_layouts node_layout.inner) k (with_elision path elided item)) })
+    (slice_get (node_layouts node_layout.inner) k))
+    node_layout
