@@ -27,3 +27,6 @@ pub mod OutputLines
 -- `drawn` of compose: rows drawn one after the other, and the row of the cursor, looked for row by row
 pub mod ComposedRows
 pub mod FoundRows
+-- tests: the mark that they have, and the nodes that they build
+pub mod OneMarks
+pub mod BuiltNodes

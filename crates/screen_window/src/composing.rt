@@ -34,6 +34,8 @@ pub fn compose<W: Work, M: Marked>(grid: &mut Grid, view: &View<'_, W, M>, work:
     requires layout { IsLayoutOf view.now.layout.now view.now.tree.now }
     requires top { view.now.top + grid.old.rows < 2 ^ 32 }
     ensures drawn { grid.new ≡ Screen grid.old.rows grid.old.cols (plain_view M.marks view.now) }
+    ensures rows { grid.new.rows ≡ grid.old.rows }
+    ensures cols { grid.new.cols ≡ grid.old.cols }
     ensures laid { W.laid work.new ≤ W.laid work.old + window_rows grid.old.rows }
     ensures lays { W.laid work.old ≤ W.laid work.new }
     ensures emitted { W.emitted work.new ≡ W.emitted work.old }

@@ -3,6 +3,8 @@
 #![tactic(auto)]
 
 mod composing;
+#[cfg(test)]
+mod composing_tests;
 mod cursor;
 mod grid;
 mod limit;

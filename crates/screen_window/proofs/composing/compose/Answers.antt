@@ -1,4 +1,4 @@
-use Rattle.std.proofs.Common.{◌∙◌}
+use Rattle.std.proofs.Common.{ap, ◌∙◌}
 use Rattle.screen_window.specs.View.{plain_view}
 use Rattle.screen_window.proofs.ComposedRows.{screen_drawn}
 use Rattle.screen_window.proofs.composing.compose.Goals as goal
@@ -9,3 +9,10 @@ returns-clause-drawn g c =
     c.place_cursor.ensures
     ∙ screen_drawn (plain_view g.M.Marked.marks c.args.view.now) c.args.grid.now c.draw_rows-found.new.grid c.rows.result c.cols.result _ _
     c.draw_rows-found.ensures.drawn c.rows.ensures.lines c.rows.ensures.value c.cols.ensures.value c.cursor_place-row.ensures.row c.cursor_place-row.ensures.col
+
+-- the grid keeps its size
+pub returns-clause-rows : goal.returns-clause-rows
+returns-clause-rows g c = ap (λ v. v.rows) c.place_cursor.ensures ∙ c.draw_rows-found.ensures.drawn.rows
+
+pub returns-clause-cols : goal.returns-clause-cols
+returns-clause-cols g c = ap (λ v. v.cols) c.place_cursor.ensures ∙ c.draw_rows-found.ensures.drawn.cols
