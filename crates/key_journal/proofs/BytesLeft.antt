@@ -7,7 +7,7 @@ use Rattle.synth_outside.specs.Source.{GivesBytes, LosesAtMost}
 use Rattle.key_journal.specs.Crash.{LeavesAtLeast, LeavesOneOf, Throughout}
 use Rattle.key_journal.specs.Disk.{DiskState, Newest}
 use Rattle.key_journal.specs.Journal.{left_of_both}
-use Rattle.key_journal.specs.Reading.{Ends, ReadsKey}
+use Rattle.key_journal.specs.JournalRead.{Ends, ReadsKey}
 use Rattle.key_journal.specs.Recovered.{recovered, kept}
 use Rattle.key_journal.proofs.Moments.{newest_after, not_empty, throughout_weaker}
 

@@ -2,10 +2,10 @@
 use Rattle.std.proofs.Common.{◌≡◌, ℕ, ◌⊎◌, inl, inr, List, [], ◌∷◌, drop, refl, sym, ap, ◌∙◌, subst, arith, Ok, Err, Result}
 use Rattle.std.specs.Prelude.{OnOk, OnErr}
 use Rattle.synth_outside.specs.Cause.{HasCause}
-use Rattle.key_journal.specs.Clearing.{Clears, CouldLeave, LeavesNothingOr}
+use Rattle.key_journal.specs.ClearedJournal.{Clears, CouldLeave, LeavesNothingOr}
 use Rattle.key_journal.specs.Crash.{LeavesAtLeast, LeavesOnly, Throughout}
 use Rattle.key_journal.specs.Disk.{DiskState, Leaves, Newest, Syncs, Tears, Torn, Writes, with_range, with_sync, written}
-use Rattle.key_journal.specs.Opening.{OpensDisk}
+use Rattle.key_journal.specs.OpenedJournal.{OpensDisk}
 use Rattle.key_journal.specs.Recovered.{recovered, kept}
 use Rattle.key_journal.specs.declared.disk.DiskFault.{DiskFault}
 use Rattle.key_journal.proofs.Blocks.{shut_recovers, torn_first}

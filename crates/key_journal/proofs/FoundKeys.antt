@@ -5,7 +5,7 @@ use Rattle.std.proofs.lemmas.Grind.{common_steps}
 use Rattle.std.proofs.lemmas.Result.{on_ok_weaker}
 use Rattle.key_journal.specs.Crash.{LeavesOnly, Throughout}
 use Rattle.key_journal.specs.Disk.{DiskState, Newest, bytes_of, written as written_to}
-use Rattle.key_journal.specs.Reading.{Gave}
+use Rattle.key_journal.specs.JournalRead.{Gave}
 use Rattle.key_journal.specs.Recovered.{recovered, kept}
 use Rattle.key_journal.specs.Private.Keeping.{FindsKey, ShutsGate, Replays}
 use Rattle.key_journal.specs.Private.Stages.{Begins, IsAppending, IsCutOff, IsReplaying, IsShut, blocks}

@@ -1,6 +1,6 @@
 -- What a journal's fields keep: no key that was given is lost.
 use Rattle.std.proofs.Common.{◌≡◌, ℕ, ◌+◌, ◌≤◌, ◌⊎◌, inl, inr, List, [], ◌∷◌, ◌++◌, length, sym, ap, ◌∙◌, subst, arith, length-append, Option, Result}
-use Rattle.key_journal.specs.Reading.{ReadsKey}
+use Rattle.key_journal.specs.JournalRead.{ReadsKey}
 use Rattle.key_journal.specs.Crash.{LeavesAtLeast, LeavesOneOf, Throughout}
 use Rattle.key_journal.specs.Disk.{DiskState, Newest}
 use Rattle.key_journal.specs.Recovered.{recovered, kept}

@@ -7,7 +7,7 @@ use Rattle.key_journal.specs.AfterReads.{BreaksAt, CountsEnds, CountsFault, Keep
 use Rattle.key_journal.specs.Crash.{LeavesOnly, LeavesOneOf, Throughout}
 use Rattle.key_journal.specs.Disk.{DiskState, Newest}
 use Rattle.key_journal.specs.Journal.{PlainJournal}
-use Rattle.key_journal.specs.Reading.{Ends, Gave, ReadsKey}
+use Rattle.key_journal.specs.JournalRead.{Ends, Gave, ReadsKey}
 use Rattle.key_journal.specs.Recovered.{recovered, kept}
 use Rattle.key_journal.proofs.BytesLeft.{ends_before, get_below, told_after}
 use Rattle.key_journal.proofs.Moments.{newest_after, throughout_both, throughout_weaker}

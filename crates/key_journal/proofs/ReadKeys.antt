@@ -6,7 +6,7 @@ use Rattle.synth_outside.specs.Source.{LosesAtMost}
 use Rattle.std.proofs.Math.ListN.{drop_of_length-le}
 use Rattle.key_journal.specs.Crash.{LeavesOnly, LeavesOneOf, Throughout}
 use Rattle.key_journal.specs.Disk.{DiskState, Newest, Syncs, with_sync}
-use Rattle.key_journal.specs.Reading.{Answers, Gave, ReadsKey}
+use Rattle.key_journal.specs.JournalRead.{Answers, Gave, ReadsKey}
 use Rattle.key_journal.specs.Recovered.{recovered, kept}
 use Rattle.key_journal.specs.Private.Keeping.{FindsKey, KeepsKey, Replays, ReplaysAt}
 use Rattle.key_journal.specs.Private.Stages.{IsAppending}

@@ -23,7 +23,7 @@ pub record KeepsAll (past past_after : List DiskState) (given : ℕ) (taken : Li
   pub within : Newest (λ _. given ≤ length (kept past ++ taken)) past_after
   pub behind : (taken ≡ []) ⊎ Newest (λ _. given ≡ length (kept past ++ taken)) past_after
 
--- the same once a read wasn't Ok: the last one that was taken may be missing, and wasn't given
+-- what holds over reads of which the last wasn't Ok: the last one that was taken may be missing, and wasn't given
 pub record KeepsAllButLast (past past_after : List DiskState) (given : ℕ) (taken last : List ℕ)
     : Type 0 where
   pub each : Throughout (LeavesBetween (kept past) (kept past ++ taken ++ last)) past past_after
@@ -46,7 +46,7 @@ pub record CountsEnds {S D : Type 0} (left : S → Option (List ℕ)) (past : D 
   pub stays : first.ended ≡ false → IsSome (left first.inner) → past now.disk ≢ [] →
       (ends ≡ 0) ⊎ (now.ended ≡ true)
 
--- the same counts behind a read that wasn't Ok; where both are told, it took no key behind the end
+-- how many answers of reads were the end, behind a read that wasn't Ok; where both are told, it took no key behind the end
 pub record CountsFault {S D : Type 0} (left : S → Option (List ℕ)) (past : D → List DiskState)
     (first now : PlainJournal S D) (last : List ℕ) : Type 0 where
   pub ends : ℕ
@@ -72,7 +72,7 @@ pub record LeadsTo {S D : Type 0} (left : S → Option (List ℕ)) (source_fault
       Newest (LeavesOnly (kept (past first.disk))) (past first.disk) →
       KeepsAll (past first.disk) (past now.disk) now.given taken
 
--- a journal after such reads and then one that wasn't Ok
+-- a journal after some reads that were Ok and then one that wasn't
 pub record BreaksAt {S D : Type 0} (left : S → Option (List ℕ)) (source_faults : S → ℕ)
     (leads_to breaks_at : S → S → Type 0) (past : D → List DiskState) (disk_faults : D → ℕ)
     (first now : PlainJournal S D) : Type 0 where

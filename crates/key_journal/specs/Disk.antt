@@ -50,7 +50,7 @@ abbrev pub with_range : DiskState → ℕ → ℕ → List ℕ → DiskState
 with_range state at count bytes =
     record { bytes = bytes; synced = state.synced; pending = (at, count) ∷ state.pending }
 
--- the state once it is synced
+-- the state of a disk once it is synced
 abbrev pub with_sync : DiskState → DiskState
 with_sync state = record { bytes = state.bytes; synced = state.bytes; pending = [] }
 
@@ -66,7 +66,7 @@ Tears at count [] now = now ≡ []
 Tears at count (state ∷ past) now = (now ≡ state ∷ past) ⊎ ((bytes : List ℕ) ×
     Torn at count state.bytes bytes × (now ≡ with_range state at count bytes ∷ state ∷ past))
 
--- all was synced: there is one more state
+-- a disk was synced: there is one more state
 abbrev pub Syncs : List DiskState → List DiskState → Type 0
 Syncs [] now = now ≡ []
 Syncs (state ∷ past) now = now ≡ with_sync state ∷ state ∷ past
@@ -75,17 +75,17 @@ Syncs (state ∷ past) now = now ≡ with_sync state ∷ state ∷ past
 abbrev pub ReadsAsImage : DiskState → Type 0
 ReadsAsImage state = MayLeave state state.bytes
 
--- a write keeps that so
+-- a write keeps what a disk reads as among the images that a crash may leave
 abbrev pub WritesKeepImages : Type 0
 WritesKeepImages = (state : DiskState) (at : ℕ) (piece : List ℕ) → at ≤ length state.bytes →
     ReadsAsImage state →
     ReadsAsImage (with_range state at (length piece) (written state.bytes at piece))
 
--- so does one that was done in part
+-- a write that was done in part keeps it so, too
 abbrev pub TearsKeepImages : Type 0
 TearsKeepImages = (state : DiskState) (at count : ℕ) (bytes : List ℕ) →
     Torn at count state.bytes bytes → ReadsAsImage state → ReadsAsImage (with_range state at count bytes)
 
--- and a sync makes it so
+-- a sync makes what a disk reads as such an image
 abbrev pub SyncsMakeImages : Type 0
 SyncsMakeImages = (state : DiskState) → ReadsAsImage (with_sync state)

@@ -2,11 +2,11 @@
 use Rattle.synth_outside.specs.declared.faults.SourceFault.{SourceFault}
 use Rattle.key_journal.specs.declared.disk.DiskFault.{DiskFault}
 
--- the same fault, of a source
+-- the fault of a source that stands on a disk with this fault
 abbrev pub source_fault : DiskFault → SourceFault
 source_fault DiskFault.Failed = SourceFault.Failed
 source_fault DiskFault.OutOfMemory = SourceFault.OutOfMemory
 
--- want of memory
+-- the fault of a disk that wants memory
 abbrev pub memory_fault : DiskFault
 memory_fault = DiskFault.OutOfMemory

@@ -6,9 +6,9 @@ pub mod MemDisk
 pub mod Recovered
 pub mod Crash
 pub mod Journal
-pub mod Opening
-pub mod Reading
-pub mod Clearing
+pub mod OpenedJournal
+pub mod JournalRead
+pub mod ClearedJournal
 pub mod AfterReads
 -- ---- what private contracts alone cite
 pub mod Private

@@ -27,7 +27,7 @@ impl From<AllocError> for DiskFault {
 
     ghost from_gives = { λ _ given. given ≡ memory_fault };
 
-    /// Want of memory.
+    /// The fault of a disk that wants memory.
     fn from(_: AllocError) -> Self {
         DiskFault::OutOfMemory
     }

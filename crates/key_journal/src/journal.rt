@@ -2,13 +2,13 @@
 
 ghost use Rattle.std.specs.Prelude.{◌≡◌, ◌<◌, length, IfOk, IfErr, OnErr, Ok, Err};
 ghost use Rattle.plcs_base.specs.Count.{raised};
-ghost use Rattle.key_journal.specs.Clearing.{Clears};
+ghost use Rattle.key_journal.specs.ClearedJournal.{Clears};
 ghost use Rattle.key_journal.specs.AfterReads.{LeadsTo, BreaksAt};
 ghost use Rattle.key_journal.specs.Crash.{LeavesAtLeast};
 ghost use Rattle.key_journal.specs.Disk.{Newest};
 ghost use Rattle.key_journal.specs.Journal.{left_of_both, both_counts};
-ghost use Rattle.key_journal.specs.Opening.{IsNew, OpensDisk};
-ghost use Rattle.key_journal.specs.Reading.{CountsKey, HasEitherCause, ReadsKey, key_read};
+ghost use Rattle.key_journal.specs.OpenedJournal.{IsNew, OpensDisk};
+ghost use Rattle.key_journal.specs.JournalRead.{CountsKey, HasEitherCause, ReadsKey, key_read};
 ghost use Rattle.synth_outside.specs.Cause.{HasCause};
 ghost use Rattle.synth_outside.specs.Source.{GivesBytes};
 

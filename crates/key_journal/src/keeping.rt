@@ -2,7 +2,7 @@
 
 ghost use Rattle.std.specs.Prelude.{◌≡◌, ◌+◌, ◌^◌, ◌≤◌, ◌⊎◌, IfOk, OnOk, OnErr};
 ghost use Rattle.key_journal.specs.Disk.{Newest};
-ghost use Rattle.key_journal.specs.Reading.{HasEitherCause, ReadsKey};
+ghost use Rattle.key_journal.specs.JournalRead.{HasEitherCause, ReadsKey};
 ghost use Rattle.key_journal.specs.Private.Keeping.{GivesByte, KeepsKey, HoldsBehind};
 ghost use Rattle.key_journal.specs.Private.Stages.{HoldsAt, IsAppending};
 ghost use Rattle.synth_outside.specs.Cause.{HasCause};

@@ -25,7 +25,7 @@ impl Model for Piece {
 }
 
 impl Piece {
-    /// The bytes.
+    /// The bytes of the piece that was written.
     pub fn bytes(&self) -> &[u8]
         ensures { result.now ≡ self.now }
     {
@@ -38,7 +38,7 @@ impl Piece {
 pub enum DiskCall {
     /// The piece was written from this byte on, counted from 0.
     Write(u64, Piece),
-    /// All was synced.
+    /// The disk was synced.
     Sync,
 }
 

@@ -34,7 +34,7 @@ pub(crate) fn replay<D: Disk>(
     }
 }
 
-// The same over a disk that is synced.
+// The next kept key behind those that were given, over a disk that is synced.
 fn replay_synced<D: Disk>(
     disk: &mut D,
     stage: &mut Stage,

@@ -11,7 +11,7 @@ pub(crate) enum Stage {
     Appending,
 }
 
-/// What stands at a gate's place.
+/// What stands in a journal at the place of a gate.
 #[derive(Clone, Copy, Debug, PartialEq, Eq)]
 pub(crate) enum Block {
     /// An open gate with its key.

@@ -1,5 +1,7 @@
 -- the value of the greatest number that is kept
 mod Limits
+-- `AreTokens` of `tokens`, and `says` of `parse`: a sign or a built-in function that is found is the one of its name
+mod FoundElements
 -- what `tokens` ensures: the text is cut into its longest tokens
 mod Tokens
 -- `says` and `only` of `parse`: the machine reads the forms of the grammar, and nothing else

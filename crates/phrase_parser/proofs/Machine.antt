@@ -1,5 +1,5 @@
 -- The machine reads exactly the forms of the grammar.
--- `over` and `only` of `parse`: what holds of each item of two lists holds of each of both
+-- `over` and `only` of `parse`: what holds of each element of two lists holds of each of both
 pub mod AllOfLists
 -- `says` of `parse`: a name is a built-in function's or a variable's
 pub mod BuiltinNames
@@ -11,7 +11,7 @@ pub mod PhraseSpelling
 pub mod MachineRuns
 -- `only` of `parse`: an expression's tokens are read as it
 pub mod ExprsRead
--- `only` of `parse`: so are those of a list
+-- `only` of `parse`: the tokens of a list are read as it
 pub mod ListedItems
 -- `only` of `parse`, and `OneReading`: each phrase is read from its tokens, and no other
 pub mod Completeness

@@ -2,11 +2,10 @@
 use Rattle.std.specs.Prelude.{◌≡◌, ◌⊎◌, ℕ, List, Result, Ok, Err}
 use Rattle.plcs_grammar.specs.declared.category.Category.{Category}
 use Rattle.plcs_grammar.specs.declared.phrase.Phrase.{Phrase}
-use Rattle.plcs_grammar.specs.PlainPhrase.{PlainPhrase}
-use Rattle.plcs_grammar.specs.PlainForm.{plain_phrase}
-use Rattle.plcs_grammar.specs.Over.{OverLimit}
+use Rattle.plcs_grammar.specs.PlainPhrase.{PlainPhrase, plain_phrase}
+use Rattle.plcs_grammar.specs.OverLimit.{OverLimit}
 use Rattle.plcs_grammar.specs.Reads.{Outline, Reads, IsOver}
-use Rattle.plcs_grammar.specs.Syntax.{SyntaxAt}
+use Rattle.plcs_grammar.specs.SyntaxPlace.{SyntaxAt}
 use Rattle.phrase_parser.specs.declared.fault.PhraseFault.{PhraseFault}
 use Rattle.phrase_parser.specs.declared.fault.PhraseFault.TheVariants.{Syntax, NumberTooLarge, TooDeep, OutOfMemory}
 
@@ -17,7 +16,7 @@ FaultSays category x (NumberTooLarge place) = IsOver category x (OverLimit.numbe
 FaultSays category x (TooDeep place) = IsOver category x (OverLimit.too_deep place)
 FaultSays category x OutOfMemory = Unit {0}
 
--- what the answer says of the text
+-- what an answer of the parser says of the text
 abbrev pub Answers : Category → List ℕ → Result Phrase PhraseFault → Type 0
 Answers category x (Ok phrase) = Reads category x (plain_phrase phrase)
 Answers category x (Err fault) = FaultSays category x fault

@@ -1,8 +1,10 @@
 -- ---- what each answer says
 pub mod Answers
--- ---- laws on what texts read as
+-- ---- the laws of what texts read as
 pub mod Standing
+pub mod ReadingLaws
+-- ---- parts of lines, and their laws
 pub mod LineParts
-pub mod Laws
+pub mod LinePartLaws
 -- ---- what private contracts alone cite
 pub mod Private

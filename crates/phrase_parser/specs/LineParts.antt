@@ -9,7 +9,7 @@ use Rattle.plcs_grammar.specs.PlainPhrase.{PlainPhrase}
 use Rattle.plcs_grammar.specs.Canon.{Canon, IsWellFormed}
 use Rattle.plcs_grammar.specs.Placeholder.{placeholder}
 
--- two texts of which the first has more in front
+-- two parts of a text, if there are some, with more in front of the first
 abbrev pub with_front : List ℕ → Option (List ℕ × List ℕ) → Option (List ℕ × List ℕ)
 with_front front None = None
 with_front front (Some parts) = Some (front ++ parts.0, parts.1)
@@ -25,7 +25,7 @@ cut_from inside divider (byte ∷ rest) =
     if not inside && starts_with nat_eq (byte ∷ rest) divider then Some ([], drop (length divider) (byte ∷ rest))
     else with_front (byte ∷ []) (cut_from (is_quoted_behind inside byte) divider rest)
 
--- what stands before and behind the first divider outside of quotes
+-- what stands before and behind the first divider outside of quotes, in a text that begins outside of quotes
 abbrev pub cut_at : List ℕ → List ℕ → Option (List ℕ × List ℕ)
 cut_at divider text = cut_from false divider text
 
@@ -48,7 +48,7 @@ abbrev pub IsPart : Category → List ℕ → Type 0
 IsPart category x =
     ((phrase : PlainPhrase) × IsWellFormed category phrase × (x ≡ Canon phrase)) ⊎ (x ≡ placeholder category)
 
--- the text begins with a keyword
+-- the text begins with a keyword, behind which a word ends
 pub record BeginsWithKeyword (x : List ℕ) : Type 0 where
   pub word : List ℕ
   pub behind : List ℕ

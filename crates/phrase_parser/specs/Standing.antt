@@ -2,17 +2,17 @@
 use Rattle.std.specs.Prelude.{ℕ, List}
 use Rattle.plcs_grammar.specs.declared.category.Category.{Category}
 use Rattle.plcs_grammar.specs.PlainPhrase.{PlainPhrase}
-use Rattle.plcs_grammar.specs.Over.{OverLimit}
+use Rattle.plcs_grammar.specs.OverLimit.{OverLimit}
 use Rattle.plcs_grammar.specs.Reads.{Outline, Reads, IsOver}
-use Rattle.plcs_grammar.specs.Syntax.{SyntaxAt}
+use Rattle.plcs_grammar.specs.SyntaxPlace.{SyntaxAt}
 
--- a phrase within the limits, what goes past a limit first, or the place where the text goes wrong
+-- a standing: a phrase within the limits, what goes past a limit first, or the place where the text goes wrong
 pub data Standing : Type 0 where
   phrase : PlainPhrase → Standing
   over : OverLimit → Standing
   wrong_at : ℕ → Standing
 
--- the text is this in the category
+-- the text has this standing in the category
 abbrev pub HasStanding : Category → List ℕ → Standing → Type 0
 HasStanding category x (phrase p) = Reads category x p
 HasStanding category x (over limit) = IsOver category x limit

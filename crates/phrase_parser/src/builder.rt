@@ -1,6 +1,6 @@
 //! The phrase that tokens are, built of them one by one.
 ghost use Rattle.std.specs.Prelude.{◌≡◌, map, All};
-ghost use Rattle.plcs_grammar.specs.PlainForm.{plain_phrase};
+ghost use Rattle.plcs_grammar.specs.PlainPhrase.{plain_phrase};
 ghost use Rattle.phrase_parser.specs.Private.Machine.{start, run, phrase_of_if};
 ghost use Rattle.phrase_parser.specs.Private.TokenIn.{IsPlacedIn, token_in};
 ghost use Rattle.phrase_parser.specs.Private.Gives.{Gives};

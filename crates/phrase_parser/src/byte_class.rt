@@ -28,7 +28,7 @@ pub fn leading(class: ByteClass, text: &[u8]) -> usize
     count
 }
 
-/// Whether the byte is of the class.
+/// Whether a byte is of a class.
 fn is_in(class: ByteClass, byte: u8) -> bool
     ensures { result ≡ is_in class byte }
 {

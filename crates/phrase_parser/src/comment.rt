@@ -1,13 +1,12 @@
 //! A comment's text, which is no tokens.
 ghost use Rattle.std.specs.Prelude.{◌≡◌, ◌<◌, ◌^◌, length, drop};
-ghost use Rattle.plcs_grammar.specs.Comment.{trimmed, comment_syntax, comment_offence};
+ghost use Rattle.plcs_grammar.specs.Comment.{comment_syntax, comment_offence};
 ghost use Rattle.plcs_grammar.specs.declared.category.Category.TheVariants.{CommentText};
 ghost use Rattle.phrase_parser.specs.Answers.{Answers};
 
-use crate::byte_class::{ByteClass, leading};
 use crate::fault::PhraseFault;
 use plcs_base::is_printable;
-use plcs_grammar::{Category, Phrase};
+use plcs_grammar::{Category, Phrase, trimmed};
 use std::alloc::Global;
 
 /// The text of a comment, without the blanks at both its ends.
@@ -48,15 +47,4 @@ fn comment_offence(text: &[u8]) -> Option<usize>
         place += 1;
     }
     None
-}
-
-/// The text without the blanks at both its ends.
-fn trimmed(text: &[u8]) -> &[u8]
-    ensures { result.now ≡ trimmed text.now }
-{
-    let mut rest = &text[leading(ByteClass::Blank, text)..];
-    while rest.ends_with(b" ") {
-        rest = &rest[..rest.len() - 1];
-    }
-    rest
 }

@@ -6,16 +6,16 @@ ghost use Rattle.phrase_parser.specs.Private.Front.{front_of, word_front, number
 
 use crate::byte_class::{ByteClass, leading};
 use crate::constant::{bit_constant, constant_length};
-use crate::token::TokenKind;
+use crate::token::{GREATEST_KEPT, TokenKind};
 use plcs_base::{LONGEST_NAME, Name, is_digit, is_letter};
-use plcs_grammar::Sign;
+use plcs_grammar::{Sign, numeral_value};
 
 /// A token that a text begins with.
 #[derive(Clone, Copy)]
 pub struct Front {
-    /// What it is.
+    /// The kind of the token.
     pub kind: TokenKind,
-    /// How many bytes it has.
+    /// How many bytes the token has.
     pub length: usize,
 }
 
@@ -32,7 +32,8 @@ pub fn front_of(text: &[u8]) -> Option<Front>
     }
 }
 
-/// A name or a keyword, from its first letter on. A longer run of bytes of names is neither.
+/// The name or keyword that a text begins with, where its first byte is a letter. A run of more bytes than a
+/// name may have is neither.
 fn word_front(text: &[u8]) -> Option<Front>
     ensures { result ≡ word_front text.now }
 {
@@ -47,28 +48,23 @@ fn word_front(text: &[u8]) -> Option<Front>
     Some(Front { kind, length })
 }
 
-/// A number, from its first digit on.
+/// The number that a text begins with, where its first byte is a digit.
 fn number_front(text: &[u8]) -> Front
     ensures { result ≡ number_front text.now }
 {
     let length = leading(ByteClass::Digit, text);
-    let kind = TokenKind::Number(capped_value(&text[..length]));
+    let kind = TokenKind::Number(kept_value(&text[..length]));
     Front { kind, length }
 }
 
 /// The number that the digits write, or `GREATEST_KEPT` where it is greater.
-fn capped_value(digits: &[u8]) -> u32
+fn kept_value(digits: &[u8]) -> u32
     ensures { result ≡ min (numeral_value digits.now) greatest_kept }
 {
-    let mut value: u32 = 0;
-    for digit in digits {
-        let ones = u32::from(digit.saturating_sub(b'0'));
-        value = value.saturating_mul(10).saturating_add(ones);
-    }
-    value
+    numeral_value(digits).min(u64::from(GREATEST_KEPT)) as u32
 }
 
-/// A bit constant, or else a character constant, from its opening quote on.
+/// The bit constant, or else the character constant, that a text begins with, where its first byte is a quote.
 fn constant_front(text: &[u8]) -> Option<Front>
     ensures { result ≡ constant_front text.now }
 {
@@ -87,7 +83,7 @@ fn constant_front(text: &[u8]) -> Option<Front>
     }
 }
 
-/// A sign of two bytes, or else of one.
+/// The sign that a text begins with: of its first two bytes, or else of the first.
 fn sign_front(first: u8, rest: &[u8]) -> Option<Front>
     ensures { result ≡ sign_front first rest.now }
 {
@@ -102,7 +98,7 @@ fn sign_front(first: u8, rest: &[u8]) -> Option<Front>
     }
 }
 
-/// A sign with its count of bytes.
+/// The front that a sign of so many bytes is.
 fn sign_kept(sign: Sign, length: usize) -> Front
     ensures { result ≡ sign_kept sign length }
 {

@@ -12,8 +12,8 @@ use std::alloc::{AllocError, Global};
 /// The tokens of a text, with the place where it stops being tokens.
 #[derive(Drop)]
 pub struct TokenList {
-    /// The tokens in their order.
-    pub items: Vec<Placed>,
+    /// The tokens of the text, in their order.
+    pub placed: Vec<Placed>,
     /// The place of the first byte, blanks aside, at which no token can be made. `None` where the whole
     /// text consists of tokens.
     pub stop: Option<usize>,
@@ -22,22 +22,22 @@ pub struct TokenList {
 /// All tokens of the text, up to its end or to the byte where none can be made. The work grows with the
 /// text's length alone: no byte is looked at more than a few times.
 pub fn tokens(alloc: Global, text: &[u8]) -> Result<TokenList, AllocError>
-    ensures { IfOk result (λ tokens. AreTokens tokens.items.items tokens.stop text.now) }
+    ensures { IfOk result (λ tokens. AreTokens tokens.placed.items tokens.stop text.now) }
 {
-    let mut items = Vec::new(alloc);
+    let mut placed = Vec::new(alloc);
     let mut start = behind_blanks(text, 0);
     while start < text.len() {
         let Some(token) = token_at(text, start) else {
             let stop = Some(start);
-            return Ok(TokenList { items, stop });
+            return Ok(TokenList { placed, stop });
         };
-        items.push(token)?;
+        placed.push(token)?;
         start = behind_blanks(text, token.end);
     }
-    Ok(TokenList { items, stop: None })
+    Ok(TokenList { placed, stop: None })
 }
 
-/// The place behind the blanks that stand at this one.
+/// The place behind the blanks that stand at this place of the text.
 fn behind_blanks(text: &[u8], at: usize) -> usize
     requires { at ≤ length text.now }
     ensures { result ≡ at + blanks (drop at text.now) }

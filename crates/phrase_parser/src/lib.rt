@@ -8,10 +8,10 @@ mod comment;
 mod constant;
 mod fault;
 mod front;
-mod law;
 mod lexer;
 #[cfg(test)]
 mod lexer_tests;
+mod line_part_laws;
 mod line_parts;
 #[cfg(test)]
 mod line_parts_tests;
@@ -19,13 +19,17 @@ mod operator;
 mod parser;
 #[cfg(test)]
 mod parser_tests;
+mod reading_laws;
 mod token;
 
 pub use fault::PhraseFault;
-pub use law::{
-    canonical_text_reads, canonical_text_tells, cut_texts_join, divided_parts_tell,
-    no_keyword_begins_part, one_reading, one_standing, over_is_past_limits, part_ends_at_divider,
-    part_has_no_colon, reading_has_category,
+pub use line_part_laws::{
+    cut_texts_join, divided_parts_tell, no_keyword_begins_part, part_ends_at_divider,
+    part_has_no_colon,
 };
 pub use line_parts::cut_at;
 pub use parser::parse;
+pub use reading_laws::{
+    canonical_text_reads, canonical_text_tells, one_reading, one_standing, over_is_past_limits,
+    reading_has_category,
+};

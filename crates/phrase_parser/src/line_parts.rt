@@ -21,7 +21,7 @@ pub fn cut_at<'a>(text: &'a [u8], divider: &[u8]) -> Option<(&'a [u8], &'a [u8])
     None
 }
 
-/// Whether the divider stands here, outside of quotes.
+/// Whether a part of the line ends here: the divider stands here, outside of quotes.
 fn ends_part(inside: bool, here: &[u8], divider: &[u8]) -> bool
     ensures { result ≡ (not inside && starts_with nat_eq here.now divider.now) }
 {

@@ -6,7 +6,7 @@ ghost use Rattle.plcs_grammar.specs.Level.{priority};
 
 use plcs_grammar::{InfixOp, PrefixOp, Sign};
 
-/// The operator that the sign is before an operand.
+/// The prefix operator that a sign is before an operand, or `None` where it is none.
 pub fn prefix_of(sign: Sign) -> Option<PrefixOp>
     ensures { result ≡ prefix_of sign }
 {
@@ -18,7 +18,7 @@ pub fn prefix_of(sign: Sign) -> Option<PrefixOp>
     }
 }
 
-/// The operator that the sign is behind an operand.
+/// The infix operator that a sign is behind an operand, or `None` where it is none.
 pub fn infix_of(sign: Sign) -> Option<InfixOp>
     ensures { result ≡ infix_of sign }
 {

@@ -1,11 +1,10 @@
 //! The phrase that a text reads as.
 ghost use Rattle.std.specs.Prelude.{◌≡◌, ◌<◌, ◌^◌, ℕ, length, map, All, Some, IfOk, IsTrue, is_some};
 ghost use Rattle.plcs_grammar.specs.Canon.{IsWellFormed};
-ghost use Rattle.plcs_grammar.specs.Over.{OverLimit};
-ghost use Rattle.plcs_grammar.specs.PlainForm.{plain_phrase};
-ghost use Rattle.plcs_grammar.specs.PlainPhrase.{PlainPhrase, category_of};
+ghost use Rattle.plcs_grammar.specs.OverLimit.{OverLimit};
+ghost use Rattle.plcs_grammar.specs.PlainPhrase.{PlainPhrase, category_of, plain_phrase};
 ghost use Rattle.plcs_grammar.specs.Reads.{Outline, Reads, IsOver};
-ghost use Rattle.plcs_grammar.specs.Syntax.{SyntaxAt};
+ghost use Rattle.plcs_grammar.specs.SyntaxPlace.{SyntaxAt};
 ghost use Rattle.phrase_parser.specs.declared.fault.PhraseFault.TheVariants.{Syntax};
 ghost use Rattle.phrase_parser.specs.Private.Machine.{start, run, phrase_of_if};
 ghost use Rattle.phrase_parser.specs.Private.Recognizer.{first_shape};
@@ -58,7 +57,7 @@ fn phrase(
     ensures { Answers category text.now result }
 {
     let tokens = tokens(alloc, text)?;
-    let placed = tokens.items.as_slice();
+    let placed = tokens.placed.as_slice();
     match check(alloc, first, text, placed, tokens.stop)? {
         Finding::Fine => match build(alloc, category, text, placed) {
             Ok(phrase) => Ok(phrase),
@@ -70,7 +69,7 @@ fn phrase(
     }
 }
 
-/// The fault of what goes past its limit.
+/// The parser's fault where something goes past its limit.
 fn over_fault(over: Over) -> PhraseFault
     requires { over_place (over_of over) < 2 ^ 32 }
     ensures { result ≡ over_fault (over_of over) }

@@ -4,7 +4,7 @@ use plcs_grammar::Sign;
 /// The greatest number that is kept of a token, where counting its digits ends.
 pub const GREATEST_KEPT: u32 = u32::MAX;
 
-/// What kind of token it is. The bytes of names, keywords and character constants are read from the
+/// The kind of a token. The bytes of names, keywords and character constants are read from the
 /// text again where they are wanted.
 #[derive(Clone, Copy, Debug, PartialEq, Eq)]
 pub enum TokenKind {
@@ -25,10 +25,10 @@ pub enum TokenKind {
 /// A token where it stands in a text.
 #[derive(Clone, Copy, Debug, PartialEq, Eq)]
 pub struct Placed {
-    /// What it is.
+    /// The kind of the token.
     pub kind: TokenKind,
-    /// The place of its first byte, counted from 0.
+    /// The place of the token's first byte, counted from 0.
     pub start: usize,
-    /// The place behind its last byte.
+    /// The place behind the token's last byte.
     pub end: usize,
 }

@@ -1,18 +1,18 @@
 -- Classes of bytes.
 use Rattle.std.specs.Prelude.{ℕ, Bool, ◌&&◌, ◌||◌, ◌==◌, nat_le}
 
--- `a` to `z` or `A` to `Z`
+-- whether the byte is a letter: `a` to `z` or `A` to `Z`
 abbrev pub is_letter : ℕ → Bool
 is_letter byte = (nat_le 97 byte && nat_le byte 122) || (nat_le 65 byte && nat_le byte 90)
 
--- `0` to `9`
+-- whether the byte is a digit: `0` to `9`
 abbrev pub is_digit : ℕ → Bool
 is_digit byte = nat_le 48 byte && nat_le byte 57
 
--- a letter, a digit or `_`
+-- whether the byte may follow in a name: a letter, a digit or `_`
 abbrev pub is_name_byte : ℕ → Bool
 is_name_byte byte = is_letter byte || (is_digit byte || (byte == 95))
 
--- what a phrase may consist of: the blank, and what is seen
+-- whether a phrase may have the byte: the blank, and what is seen
 abbrev pub is_printable : ℕ → Bool
 is_printable byte = nat_le 32 byte && nat_le byte 126

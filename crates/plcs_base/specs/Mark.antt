@@ -5,10 +5,10 @@ use Rattle.std.specs.FinMap.{FinMap}
 use Rattle.plcs_base.specs.declared.place.PhraseAt.{PhraseAt}
 use Rattle.plcs_base.specs.declared.mark.MarkKind.{MarkKind}
 
--- phrases by slot, and within a slot by part
+-- the order of phrases: by slot, and within a slot by part
 abbrev pub phrase_cmp : PhraseAt → PhraseAt → Ordering
 phrase_cmp = then_cmp (on (λ at. at.slot.0) nat_cmp) (on (λ at. at.part) nat_cmp)
 
--- what is wrong with each marked phrase; the others are not in it
+-- the marks: what is wrong with each phrase that has a mark; the others are not in the map
 abbrev pub MarkMap : Type 0
 MarkMap = FinMap phrase_cmp MarkKind

@@ -4,7 +4,7 @@ use Rattle.std.specs.List.{list_all, list_any}
 use Rattle.plcs_base.specs.declared.name.TheConstants.{LONGEST_NAME}
 use Rattle.plcs_base.specs.Byte.{is_letter, is_name_byte}
 
--- the words that are no names
+-- the keywords, which are no names
 abbrev pub keywords : List (List ℕ)
 keywords =
     codes "BIT" ∷ codes "BY" ∷ codes "CALL" ∷ codes "CHARACTER" ∷ codes "DECLARE" ∷ codes "DO" ∷ codes "ELSE"
@@ -16,7 +16,7 @@ keywords =
 unfoldable pub is_keyword : List ℕ → Bool
 is_keyword bytes = list_any (bytes_eq bytes) keywords
 
--- a letter, then letters, digits or `_`
+-- whether the bytes are a word: a letter, then letters, digits or `_`
 abbrev pub is_word : List ℕ → Bool
 is_word [] = false
 is_word (first ∷ rest) = is_letter first && list_all is_name_byte rest
@@ -25,7 +25,7 @@ is_word (first ∷ rest) = is_letter first && list_all is_name_byte rest
 abbrev pub longest_name : ℕ
 longest_name = LONGEST_NAME
 
--- a word, not too long, that is no keyword
+-- whether the bytes are a name: a word, not too long, that is no keyword
 abbrev pub is_name : List ℕ → Bool
 is_name bytes = is_word bytes && (nat_le (length bytes) longest_name && not (is_keyword bytes))
 

@@ -1,4 +1,4 @@
--- What it means to put several bytes.
+-- What it means to put several bytes, and the law that they can be put in turn.
 use Rattle.std.specs.Prelude.{◌↔◌, ℕ, List, [], ◌∷◌, ◌++◌}
 
 -- the value after is reached from the value before by putting the bytes, one after the other

@@ -6,6 +6,6 @@ use Rattle.plcs_base.specs.declared.text.TheConstants.{LONGEST_TEXT}
 abbrev pub longest_text : ℕ
 longest_text = LONGEST_TEXT
 
--- short enough for a value; which bytes a phrase can spell is the grammar's rule
+-- the bytes are few enough for the text of a value; which bytes a phrase can spell is the grammar's rule
 abbrev pub IsTextValue : List ℕ → Type 0
 IsTextValue bytes = length bytes ≤ longest_text

@@ -10,12 +10,12 @@ pub trait ByteOut {
     /// The value before, the byte, and a value that may be there after.
     ghost puts: { Self → ℕ → Self → Type 0 };
 
-    /// Puts one byte.
+    /// Puts one byte behind those that were put before.
     fn put(&mut self, byte: u8)
         ensures { puts self.old byte self.new };
 }
 
-/// Puts the bytes in order.
+/// Puts the bytes, one after the other.
 pub fn put_bytes<O: ByteOut>(bytes: &[u8], out: &mut O)
     ensures { PutsAll O.puts out.old bytes.now out.new }
 {

@@ -5,11 +5,11 @@
 mod byte;
 mod byte_out;
 mod declared;
-mod law;
 mod mark;
 mod memory;
 mod name;
 mod place;
+mod put_laws;
 mod scope;
 #[cfg(test)]
 mod tests;
@@ -20,11 +20,11 @@ mod work;
 pub use byte::{is_digit, is_letter, is_name_byte, is_printable};
 pub use byte_out::{ByteOut, put_bytes};
 pub use declared::{Declared, ItemType};
-pub use law::puts_in_turn;
 pub use mark::{MarkKind, Marked};
 pub use memory::OutOfMemory;
 pub use name::{LONGEST_NAME, Name};
 pub use place::{PhraseAt, Place, Point, Slot};
+pub use put_laws::puts_in_turn;
 pub use scope::Scope;
 pub use text::{LONGEST_TEXT, TextValue};
 pub use value::{Kind, Value};

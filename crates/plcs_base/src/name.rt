@@ -9,7 +9,7 @@ use crate::byte::{is_letter, is_name_byte};
 use arrayvec::ArrayVec;
 use std::marker::Model;
 
-/// The words that are no names.
+/// The keywords, which are no names.
 const KEYWORDS: [&[u8]; 27] = [
     b"BIT",
     b"BY",
@@ -75,7 +75,7 @@ impl Name {
         }
     }
 
-    /// Its bytes, which are a name.
+    /// The bytes of the name.
     pub fn as_bytes(&self) -> &[u8]
         ensures bytes { result.now ≡ self.now }
         ensures name { IsName self.now }
@@ -101,7 +101,7 @@ fn is_word(bytes: &[u8]) -> bool
     }
 }
 
-/// Whether each byte may follow in a name.
+/// Whether each of the bytes may follow in a name.
 fn all_name_bytes(bytes: &[u8]) -> bool
     ensures { result ≡ list_all is_name_byte bytes.now }
 {
@@ -116,7 +116,7 @@ fn is_keyword(bytes: &[u8]) -> bool
     is_one_of(bytes, &KEYWORDS)
 }
 
-/// Whether the bytes are one of the words.
+/// Whether the bytes are one of these words.
 fn is_one_of(bytes: &[u8], words: &[&[u8]]) -> bool
     ensures { result ≡ list_any (λ word. bytes_eq bytes.now word.now) words.now }
 {

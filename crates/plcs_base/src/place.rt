@@ -14,17 +14,17 @@ pub struct Point(pub u16);
 /// A place of a run. For the layers that make code and run it.
 #[derive(Clone, Copy, Debug, PartialEq, Eq, PartialOrd, Ord, Hash)]
 pub struct Place {
-    /// The node.
+    /// The node at which the run stands.
     pub slot: Slot,
-    /// The point in it.
+    /// Which of the points of that node it is.
     pub point: Point,
 }
 
 /// A phrase of a node.
 #[derive(Clone, Copy, Debug, PartialEq, Eq, PartialOrd, Ord, Hash)]
 pub struct PhraseAt {
-    /// The node.
+    /// The node whose part the phrase fills.
     pub slot: Slot,
-    /// Which of its parts, counted from 0 in the order shown.
+    /// Which of the node's parts that is, counted from 0 in the order shown.
     pub part: u8,
 }

@@ -41,7 +41,7 @@ impl TextValue {
         }
     }
 
-    /// Its bytes.
+    /// The bytes of the text, at most 256.
     pub fn as_bytes(&self) -> &[u8]
         ensures bytes { result.now ≡ self.now }
         ensures short { IsTextValue self.now }

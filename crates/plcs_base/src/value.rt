@@ -4,11 +4,11 @@ use crate::text::TextValue;
 /// What kind of value an expression has. For the layers that check and run programs.
 #[derive(Clone, Copy, Debug, PartialEq, Eq)]
 pub enum Kind {
-    /// A whole number.
+    /// The kind of whole numbers.
     Fixed,
-    /// A truth value.
+    /// The kind of truth values.
     Bit,
-    /// A text.
+    /// The kind of texts.
     Text,
 }
 

@@ -5,7 +5,7 @@ use Rattle.plcs_grammar.specs.PlainPhrase.{PlainExpr}
 use Rattle.plcs_grammar.specs.Canon.{canon}
 use Rattle.plcs_grammar.specs.Private.Chain.{leftmost, chain_text, operator_text}
 
--- the leftmost operand comes first, and the rest of the chain behind it
+-- the text of a chain is that of its leftmost operand, and that of the rest of the chain behind it
 pub chain_whole : (t : PlainExpr) (n : ℕ) → canon (leftmost t n) ++ chain_text t n ≡ canon t
 chain_whole (PlainExpr.number z) n = append-nil _
 chain_whole (PlainExpr.text value) n = append-nil _
@@ -19,7 +19,7 @@ chain_whole (PlainExpr.binary op a b) (suc n) =
 chain_whole (PlainExpr.builtin function arguments) n = append-nil _
 chain_whole (PlainExpr.parenthesized a) n = append-nil _
 
--- the operators on the left come first, and the others behind them
+-- the text of a chain's operators is that of those on the left, and that of the others behind it
 pub chain_halves : (t : PlainExpr) (left right : ℕ)
     → chain_text (leftmost t right) left ++ chain_text t right ≡ chain_text t (left + right)
 chain_halves (PlainExpr.number z) left right = refl

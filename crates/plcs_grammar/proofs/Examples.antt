@@ -12,9 +12,9 @@ use Rattle.plcs_grammar.specs.Cuts.{Piece, Cuts}
 use Rattle.plcs_grammar.specs.Level.{Level, in_parentheses}
 use Rattle.plcs_grammar.specs.Comment.{comment_syntax, trimmed}
 use Rattle.plcs_grammar.specs.OpenedLevel.{phrase_opened_levels}
-use Rattle.plcs_grammar.specs.Over.{OverLimit, first_over}
-use Rattle.plcs_grammar.specs.Form.{Form}
-use Rattle.plcs_grammar.specs.Syntax.{GoesWrong, SyntaxAt}
+use Rattle.plcs_grammar.specs.OverLimit.{OverLimit, first_over}
+use Rattle.plcs_grammar.specs.PhraseForm.{Form}
+use Rattle.plcs_grammar.specs.SyntaxPlace.{GoesWrong, SyntaxAt}
 use Rattle.plcs_grammar.specs.Canon.{Canon}
 use Rattle.plcs_grammar.specs.declared.category.Category.TheVariants.{Assignment, Condition, Expression, ExpressionList, VariableList, Variable, CallRef, DeclaredList, ProcedureName, NameList, Length, CommentText}
 
@@ -47,7 +47,7 @@ abbrev equals : List Token
 equals =
     Token.name (codes "a") ∷ Token.sign Sign.Equal ∷ Token.name (codes "b") ∷ Token.sign Sign.Equal ∷ Token.name (codes "c") ∷ []
 
--- they are `( a = b ) = c` in structure
+-- `a = b = c` is `( a = b ) = c` in structure
 left_first : Level (PlainExpr.binary Equal (PlainExpr.binary Equal (var (codes "a")) (var (codes "b"))) (var (codes "c"))) 1 equals
 left_first = (
   lit≤ tt,
@@ -58,7 +58,7 @@ left_first = (
   (tt, refl),
 )
 
--- and not `a = ( b = c )`
+-- `a = b = c` is not `a = ( b = c )` in structure
 not_right_first : (tokens : List Token)
     → ¬ (Level (PlainExpr.binary Equal (var (codes "a")) (PlainExpr.binary Equal (var (codes "b")) (var (codes "c")))) 1 tokens)
 not_right_first tokens (low, left, right, cut, a, (high, rest, more, cut_right, b, c)) = absurd (omega (arith, high))
@@ -68,7 +68,7 @@ abbrev placed : ℕ → List Token → List Piece
 placed place [] = []
 placed place (token ∷ tokens) = record { token = token; start = place; end = suc place } ∷ placed (suc place) tokens
 
--- so many tokens, and so many parentheses round a number
+-- a token, so many times, before other tokens
 abbrev times : ℕ → Token → List Token → List Token
 times zero token behind = behind
 times (suc n) token behind = token ∷ times n token behind
@@ -95,7 +95,7 @@ large_size :
     ≡ Some (OverLimit.number_too_large 2)
 large_size = refl
 
--- texts of comments
+-- `*/` may not stand in the text of a comment: it is refused at its place
 comment_ends : comment_syntax (codes "a*/b") ≡ Some 1
 comment_ends = refl
 
@@ -168,7 +168,7 @@ short_at_less (Token.text value) second third rest behind is = no_text_at_less s
 short_at_less (Token.bit value) second third rest behind is = no_bit_at_less value second third rest is.0
 short_at_less (Token.sign s) second third rest behind is = no_sign_at_less s second third rest is
 
--- so `<=` is taken whole
+-- no token longer than `<=` stands at the front of `<=b`
 less_equal_longest : (token : Token) (front back : List ℕ)
     → codes "<=b" ≡ front ++ back → IsToken token front back → length front ≤ 2
 less_equal_longest token [] back e is = lit≤ tt

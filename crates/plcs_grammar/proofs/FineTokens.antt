@@ -8,7 +8,7 @@ use Rattle.plcs_grammar.specs.Token.{Token, IsToken}
 use Rattle.plcs_grammar.specs.Cuts.{Piece, Cuts, tokens_of}
 use Rattle.plcs_grammar.specs.Level.{in_parentheses}
 
--- a name is a name, and a character constant is printable
+-- the token is fine: the bytes of a name are a name, and those of a character constant are printable
 abbrev pub IsFine : Token → Type 0
 IsFine (Token.name n) = IsName n
 IsFine (Token.keyword word) = Unit {0}
@@ -36,7 +36,7 @@ token_fine (Token.text value) bytes behind is = is.1.1
 token_fine (Token.bit value) bytes behind is = tt
 token_fine (Token.sign s) bytes behind is = tt
 
--- the tokens that a text is cut into
+-- the tokens that a text is cut into are fine
 pub cuts_fine : (pieces : List Piece) (place : ℕ) (x : List ℕ) (stop : Option ℕ) → Cuts pieces place x stop → AllFine (tokens_of pieces)
 cuts_fine [] place x stop cuts = tt
 cuts_fine (piece ∷ pieces) place x stop cuts =

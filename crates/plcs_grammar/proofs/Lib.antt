@@ -3,11 +3,13 @@
 mod Limits
 -- small cases that the definitions give by computing; no clause needs them
 mod Examples
+-- no template or sign is forgotten in its table: `Template::read` and `Sign::read`
+mod WholeTables
 -- ---- plain forms
 -- each variant of an expression: `show`, `copy_phrase`
-mod PlainFormCases
+mod PlainExprCases
 -- plain forms that are equal part by part: `same_phrase`
-mod EqualForms
+mod EqualPlainPhrases
 -- ---- bytes that are put in turn
 -- a text in parentheses behind a name: `show` of calls, subscripts and sizes
 mod ParenthesizedTexts
@@ -20,7 +22,7 @@ mod DoubledQuotes
 -- ---- canonical texts
 -- the text of a value that is known in another way: `show`
 mod EqualShown
--- the text of a list, item by item: `show` of lists and arguments
+-- the text of a list, element by element: `show` of lists and arguments
 mod JoinedTexts
 -- the text of a chain of operators, half by half: `show` of expressions
 mod ChainTexts
@@ -33,8 +35,13 @@ mod FineTokens
 mod ShownPhrases
 -- a trimmed text has no blank at its ends: comments
 mod TrimmedEnds
--- the law itself
+-- the law `canonical_texts_show` itself, from these
 mod ShownTexts
 -- ---- copies
 -- a chain that is taken apart and put together again: `copy_phrase`
 mod LinkedChains
+-- ---- texts of arguments and comments
+-- a blank at a text's end is left out: `trimmed`
+mod TrimmedTexts
+-- one digit more: `numeral_value`
+mod Numerals

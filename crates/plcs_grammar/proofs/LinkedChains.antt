@@ -1,8 +1,7 @@
 -- One operator more in a chain that is taken apart.
 use Rattle.std.proofs.Common.{◌≡◌, List, [], ◌∷◌, ◌++◌, refl, ap}
 use Rattle.plcs_grammar.specs.declared.expr_copy.Link.{Link}
-use Rattle.plcs_grammar.specs.PlainPhrase.{PlainExpr}
-use Rattle.plcs_grammar.specs.PlainForm.{plain_expr}
+use Rattle.plcs_grammar.specs.PlainPhrase.{PlainExpr, plain_expr}
 use Rattle.plcs_grammar.specs.Private.Link.{linked}
 
 pub linked_push : (operand : PlainExpr) (links : List Link) (link : Link)

@@ -4,7 +4,7 @@ use Rattle.plcs_base.specs.Put.{PutsAll, puts_next}
 use Rattle.plcs_base.proofs.Putting.{puts_append, puts_behind}
 use Rattle.plcs_grammar.specs.Canon.{parenthesized_bytes}
 
--- a text in parentheses, behind a name
+-- putting a name, a parenthesis, a text and a parenthesis puts the text in parentheses behind the name
 pub puts_parenthesized : {Out : Type 0} {puts : Out → ℕ → Out → Type 0} {a b c d e : Out} {name inner : List ℕ}
     → PutsAll puts a name b → puts b 40 c → PutsAll puts c inner d → puts d 41 e
     → PutsAll puts a (name ++ parenthesized_bytes inner) e

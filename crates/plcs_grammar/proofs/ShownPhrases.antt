@@ -15,7 +15,8 @@ use Rattle.plcs_grammar.specs.Sign.{sign_bytes, prefix_sign, infix_sign}
 use Rattle.plcs_grammar.specs.Token.{Token}
 use Rattle.plcs_grammar.specs.PlainPhrase.{PlainExpr, PlainExprs, PlainVarRef, PlainPhrase}
 use Rattle.plcs_grammar.specs.Level.{Level, IsNameToken, IsReference, IsExprList, IsMoreExprs, priority, tightest}
-use Rattle.plcs_grammar.specs.Form.{IsSizedName, IsItem, IsMoreOf, IsListOf, IsCall, IsPhrase}
+use Rattle.plcs_grammar.specs.ListForm.{IsMoreOf, IsListOf}
+use Rattle.plcs_grammar.specs.PhraseForm.{IsSizedName, IsItem, IsCall, IsPhrase}
 use Rattle.plcs_grammar.specs.Canon.{Canon, canon, canon_reference, canon_list, canon_behind, canon_sized, canon_item, canon_call, behind_sign, parenthesized_bytes, comma, joined, more_joined}
 use Rattle.plcs_grammar.proofs.SolidTexts.{IsSolid, begins_append, ends_append, printable_append, solid_between, solid_append, solid_edges, name_solid, decimal_solid, quoted_solid}
 use Rattle.plcs_grammar.proofs.FineTokens.{AllFine, fine_parts, fine_inside}
@@ -53,7 +54,7 @@ builtin_solid Length = solid_edges _ _ refl
 builtin_solid Substr = solid_edges _ _ refl
 builtin_solid Index = solid_edges _ _ refl
 
--- texts at both sides of a sign
+-- solid texts at both sides of a sign are a solid text
 solid_beside_sign : (sign : Sign) (a b : List ℕ) → IsSolid a → IsSolid b → IsSolid (a ++ behind_sign sign b)
 solid_beside_sign sign a b one other =
     let back : List ℕ = sign_bytes sign ++ (codes " " ++ b) in record {
@@ -65,7 +66,7 @@ solid_beside_sign sign a b one other =
           (printable_append (sign_bytes sign) (codes " " ++ b) (sign_printable sign) (printable_append (codes " ") b refl other.printable)));
     }
 
--- a text in parentheses behind a name
+-- a solid text in parentheses behind a name is one
 solid_parenthesized : (name inner : List ℕ) → IsSolid name → IsSolid inner → IsSolid (name ++ parenthesized_bytes inner)
 solid_parenthesized name inner one other = record {
   begins = begins_append name (parenthesized_bytes inner) one.begins;
@@ -74,7 +75,7 @@ solid_parenthesized name inner one other = record {
       (printable_append (codes "(") (inner ++ codes ")") refl (printable_append inner (codes ")") other.printable refl));
 }
 
--- a text between parentheses with blanks
+-- a solid text between parentheses with blanks is one
 solid_parens : (inner : List ℕ) → IsSolid inner → IsSolid (codes "( " ++ (inner ++ codes " )"))
 solid_parens inner other = record {
   begins = refl;
@@ -82,7 +83,7 @@ solid_parens inner other = record {
   printable = printable_append (codes "( ") (inner ++ codes " )") refl (printable_append inner (codes " )") other.printable refl);
 }
 
--- one text more behind a comma
+-- a solid text goes on over one text more behind a comma
 comma_more : (x a rest : List ℕ) → IsSolid ((x ++ (comma ++ a)) ++ rest) → IsSolid (x ++ (comma ++ (a ++ rest)))
 comma_more x a rest solid = subst IsSolid (append_assoc x (comma ++ a) rest) solid
 
@@ -128,7 +129,7 @@ mutual
       let next = solid_between x comma (canon a) solid refl (solid_expr a 1 is.0 is.3 parts.0) in
       comma_more x (canon a) (canon_behind rest) (solid_behind rest (x ++ (comma ++ canon a)) is.1 next is.4 parts.1)
 
--- a list of anything, each with a solid text
+-- a list whose elements have solid texts has a solid text
 module _ {X : Type 0} (Is : X → List Token → Type 0) (bytes_of : X → List ℕ)
     (solid_of : (x : X) (tokens : List Token) → Is x tokens → AllFine tokens → IsSolid (bytes_of x)) where
   solid_more : (xs : List X) (front : List ℕ) (tokens : List Token) → IsSolid front → IsMoreOf Is xs tokens → AllFine tokens
@@ -165,7 +166,7 @@ solid_call name (PlainExprs.cons a rest) tokens is fine =
     solid_parenthesized name (canon_list (PlainExprs.cons a rest)) (name_solid name all.0)
     (solid_exprs (PlainExprs.cons a rest) is.0 is.2 (fine_inside is.0 all.1))
 
--- a phrase that the tokens are
+-- a phrase that fine tokens are has a solid text
 pub solid_phrase : (phrase : PlainPhrase) (tokens : List Token) → IsPhrase phrase tokens → AllFine tokens → IsSolid (Canon phrase)
 solid_phrase (PlainPhrase.assignment target value) tokens is fine =
     let parts = fine_parts is.0 (Token.sign Sign.Equal ∷ is.1) (subst AllFine is.2 fine) in

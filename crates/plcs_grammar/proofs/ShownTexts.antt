@@ -14,7 +14,7 @@ use Rattle.plcs_grammar.proofs.FineTokens.{cuts_fine}
 use Rattle.plcs_grammar.proofs.ShownPhrases.{solid_phrase}
 use Rattle.plcs_grammar.proofs.TrimmedEnds.{trimmed_no_first, trimmed_no_last}
 
--- a brace is no byte that a phrase begins with
+-- no placeholder begins as a phrase does, since that begins with no brace
 no_edge : (category : Category) → ¬ (BeginsWithEdge (placeholder category))
 no_edge Assignment h = cc
 no_edge Condition h = cc
@@ -29,7 +29,7 @@ no_edge NameList h = cc
 no_edge Length h = cc
 no_edge CommentText h = cc
 
--- neither is a blank
+-- no text with a blank at its end ends as a phrase does
 ends_blank : (front : List ℕ) → ¬ (EndsWithEdge (front ++ codes " "))
 ends_blank [] h = cc
 ends_blank (byte ∷ []) h = cc
@@ -47,7 +47,7 @@ solid_shown category x solid = record {
   no_placeholder = λ e. no_edge category (subst BeginsWithEdge e solid.begins);
 }
 
--- the text of a comment that is trimmed
+-- the trimmed text of a comment can be shown
 comment_shown : (category : Category) (x : List ℕ) → category ≡ CommentText → IsCommentText x → x ≡ trimmed x → IsShownText category x
 comment_shown category x is text own = record {
   not_empty = λ e. text.not_empty (sym own ∙ e);

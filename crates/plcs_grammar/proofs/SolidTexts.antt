@@ -9,19 +9,22 @@ use Rattle.plcs_base.specs.Byte.{is_letter, is_digit, is_name_byte, is_printable
 use Rattle.plcs_base.specs.Name.{is_word, IsName}
 use Rattle.plcs_grammar.specs.Token.{quote, is_quote, doubled, with_quotes_doubled, quoted}
 
--- what a phrase may begin or end with: no blank, no brace
+-- whether a phrase may begin or end with the byte: no blank, no brace
 abbrev pub is_edge : ℕ → Bool
 is_edge byte = nat_le 33 byte && nat_le byte 122
 
+-- the text begins with a byte that a phrase may begin with
 abbrev pub BeginsWithEdge : List ℕ → Type 0
 BeginsWithEdge [] = ⊥
 BeginsWithEdge (byte ∷ rest) = IsTrue (is_edge byte)
 
+-- the text ends with a byte that a phrase may end with
 abbrev pub EndsWithEdge : List ℕ → Type 0
 EndsWithEdge [] = ⊥
 EndsWithEdge (byte ∷ []) = IsTrue (is_edge byte)
 EndsWithEdge (byte ∷ next ∷ rest) = EndsWithEdge (next ∷ rest)
 
+-- the text is solid: it begins and ends as a phrase may, and is printable
 pub record IsSolid (x : List ℕ) : Type 0 where
   pub begins : BeginsWithEdge x
   pub ends : EndsWithEdge x
@@ -42,7 +45,7 @@ ends_append (byte ∷ a) b h = ends_next byte (a ++ b) (ends_append a b h)
 pub printable_append : (a b : List ℕ) → IsTrue (list_all is_printable a) → IsTrue (list_all is_printable b) → IsTrue (list_all is_printable (a ++ b))
 printable_append a b h k = list_all-append is_printable a b ∙ and_from (list_all is_printable a) (list_all is_printable b) h k
 
--- solid texts, one behind the other, with anything printable between
+-- solid texts, one behind the other, with anything printable between, are a solid text
 pub solid_between : (a m b : List ℕ) → IsSolid a → IsTrue (list_all is_printable m) → IsSolid b → IsSolid (a ++ (m ++ b))
 solid_between a m b one middle other = record {
   begins = begins_append a (m ++ b) one.begins;
@@ -53,7 +56,7 @@ solid_between a m b one middle other = record {
 pub solid_append : (a b : List ℕ) → IsSolid a → IsSolid b → IsSolid (a ++ b)
 solid_append a b one other = solid_between a [] b one refl other
 
--- bytes that are all such
+-- the bytes that phrases begin or end with are printable
 edge_printable : (byte : ℕ) → is_edge byte ≡ true → is_printable byte ≡ true
 edge_printable byte h =
     let parts = and_parts (nat_le 33 byte) (nat_le byte 122) h in
@@ -78,7 +81,7 @@ solid_edges byte x h = record {
   printable = edges_printable (byte ∷ x) h;
 }
 
--- bytes between limits
+-- bytes in a range are ones that a phrase may begin or end with
 edge_between : (low high byte : ℕ) → 33 ≤ low → high ≤ 122 → (nat_le low byte && nat_le byte high) ≡ true → is_edge byte ≡ true
 edge_between low high byte bottom top h =
     let parts = and_parts (nat_le low byte) (nat_le byte high) h in
@@ -107,7 +110,7 @@ name_bytes_edges (byte ∷ x) h =
     let parts = and_parts (is_name_byte byte) (list_all is_name_byte x) h in
     and_from (is_edge byte) (list_all is_edge x) (name_byte_edge byte parts.0) (name_bytes_edges x parts.1)
 
--- a name
+-- a name is a solid text
 pub name_solid : (name : List ℕ) → IsName name → IsSolid name
 name_solid [] h = absurd cc
 name_solid (byte ∷ rest) h =
@@ -115,7 +118,7 @@ name_solid (byte ∷ rest) h =
     let parts = and_parts (is_letter byte) (list_all is_name_byte rest) word in
     solid_edges byte rest (and_from (is_edge byte) (list_all is_edge rest) (letter_edge byte parts.0) (name_bytes_edges rest parts.1))
 
--- the digits of a number, which has one at least
+-- the bytes are a row of digits, one at least
 abbrev IsRow : List ℕ → Type 0
 IsRow [] = ⊥
 IsRow (byte ∷ x) = IsTrue (list_all is_edge (byte ∷ x))
@@ -153,7 +156,7 @@ pub decimal_solid : (n : ℕ) → IsSolid (decimal n)
 unfolding digits
 decimal_solid n = row_solid (digits_onto 64 10 false n []) (row_digits 63 n)
 
--- a text between quotes
+-- a text between quotes is solid: its quotes doubled it stays printable
 doubled_printable : (x : List ℕ) → IsTrue (list_all is_printable x) → IsTrue (list_all is_printable (with_quotes_doubled x))
 doubled_printable [] h = refl
 doubled_printable (byte ∷ x) h =

@@ -6,7 +6,7 @@ use Rattle.std.proofs.lemmas.List.{reverse-append, reverse-reverse, length-rever
 use Rattle.plcs_grammar.specs.Cuts.{is_blank, blanks, unblanked}
 use Rattle.plcs_grammar.specs.Comment.{trimmed}
 
--- no blank is left at the front
+-- no blank is left at the front of a text without its first blanks
 unblanked_first : (z rest : List ℕ) → ¬ (unblanked z ≡ 32 ∷ rest)
 unblanked_first [] rest e = cc
 unblanked_first (byte ∷ z) rest e =

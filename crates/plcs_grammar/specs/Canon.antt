@@ -10,7 +10,7 @@ use Rattle.plcs_grammar.specs.Token.{quoted, bit_bytes}
 use Rattle.plcs_grammar.specs.PlainPhrase.{PlainExpr, PlainExprs, PlainVarRef, PlainPhrase}
 use Rattle.plcs_grammar.specs.Reads.{Reads}
 
--- the bytes in parentheses, with no blank inside
+-- a text in parentheses, with no blank inside
 abbrev pub parenthesized_bytes : List ℕ → List ℕ
 parenthesized_bytes bytes = codes "(" ++ (bytes ++ codes ")")
 
@@ -18,7 +18,7 @@ parenthesized_bytes bytes = codes "(" ++ (bytes ++ codes ")")
 abbrev pub behind_sign : Sign → List ℕ → List ℕ
 behind_sign sign bytes = codes " " ++ (sign_bytes sign ++ (codes " " ++ bytes))
 
--- what stands between the items of a list
+-- what stands between the elements of a list
 abbrev pub comma : List ℕ
 comma = codes ", "
 
@@ -44,23 +44,23 @@ abbrev mutual
   canon_list PlainExprs.nil = []
   canon_list (PlainExprs.cons a rest) = canon a ++ canon_behind rest
 
-  -- the same for those behind the first, each behind its comma
+  -- the canonical texts of the expressions behind the first one of a list, each behind its comma
   pub canon_behind : PlainExprs → List ℕ
   canon_behind PlainExprs.nil = []
   canon_behind (PlainExprs.cons a rest) = comma ++ (canon a ++ canon_behind rest)
 
 module _ {X : Type 0} (bytes_of : X → List ℕ) where
-  -- their texts, each behind a comma and a blank
+  -- the texts of the elements behind the first one of a list, each behind a comma and a blank
   abbrev pub more_joined : List X → List ℕ
   more_joined [] = []
   more_joined (x ∷ xs) = comma ++ (bytes_of x ++ more_joined xs)
 
-  -- their texts, joined by a comma and a blank
+  -- the texts of a list's elements, joined by a comma and a blank
   abbrev pub joined : List X → List ℕ
   joined [] = []
   joined (x ∷ xs) = bytes_of x ++ more_joined xs
 
--- a declared name, with the size of an array or without one
+-- the text of a declared name, with the size of an array or without one
 abbrev pub canon_sized : List ℕ → Option ℕ → List ℕ
 canon_sized name None = name
 canon_sized name (Some size) = name ++ parenthesized_bytes (decimal size)
@@ -69,7 +69,7 @@ canon_sized name (Some size) = name ++ parenthesized_bytes (decimal size)
 abbrev pub canon_item : Item → List ℕ
 canon_item item = canon_sized item.name item.size
 
--- a call without arguments has no parentheses
+-- the text of a call; without arguments it has no parentheses
 abbrev pub canon_call : List ℕ → PlainExprs → List ℕ
 canon_call name PlainExprs.nil = name
 canon_call name (PlainExprs.cons a rest) = name ++ parenthesized_bytes (canon_list (PlainExprs.cons a rest))
@@ -89,7 +89,7 @@ Canon (PlainPhrase.name_list names) = joined (λ name. name) names
 Canon (PlainPhrase.greatest_length n) = decimal n
 Canon (PlainPhrase.comment bytes) = bytes
 
--- the length of a canonical text is told up to this one
+-- the greatest length of a canonical text that is told; a longer one is told as this
 abbrev pub longest_shown : ℕ
 longest_shown = 4294967295
 

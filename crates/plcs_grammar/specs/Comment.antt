@@ -7,7 +7,7 @@ use Rattle.plcs_grammar.specs.declared.category.Category.TheVariants.{CommentTex
 use Rattle.plcs_grammar.specs.Placeholder.{placeholder}
 use Rattle.plcs_grammar.specs.Cuts.{unblanked}
 
--- the text without the blanks at both its ends
+-- a text without the blanks at both its ends
 abbrev pub trimmed : List ℕ → List ℕ
 trimmed x = reverse (unblanked (reverse (unblanked x)))
 

@@ -3,7 +3,7 @@ use Rattle.std.specs.Prelude.{◌≡◌, ◌≢◌, ℕ, ◌+◌, Bool, ◌==◌
 use Rattle.std.specs.List.{prefix_len}
 use Rattle.plcs_grammar.specs.Token.{Token, First, NoToken}
 
--- a token, the place of its first byte, and the place behind its last
+-- a piece of a text: a token, the place of its first byte, and the place behind its last
 pub record Piece : Type 0 where
   pub token : Token
   pub start : ℕ
@@ -21,7 +21,7 @@ is_blank byte = byte == 32
 abbrev pub blanks : List ℕ → ℕ
 blanks x = prefix_len is_blank x
 
--- the text behind them
+-- the text behind the blanks that it begins with
 abbrev pub unblanked : List ℕ → List ℕ
 unblanked x = drop (blanks x) x
 

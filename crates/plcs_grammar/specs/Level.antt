@@ -1,4 +1,4 @@
--- The levels of expressions: which tokens are which expression.
+-- Which tokens are which expression: the levels of priority that operators join.
 use Rattle.std.specs.Prelude.{◌≡◌, ℕ, ◌+◌, ◌≤◌, pos, negsuc, not, List, [], ◌∷◌, ◌++◌, IsTrue}
 use Rattle.plcs_grammar.specs.declared.operator.InfixOp.{InfixOp}
 use Rattle.plcs_grammar.specs.declared.operator.InfixOp.TheVariants.{Or, And, Equal, NotEqual, Less, LessEqual, Greater, GreaterEqual, Join, Plus, Minus, Times, Divide}
@@ -8,7 +8,7 @@ use Rattle.plcs_grammar.specs.Sign.{prefix_sign, infix_sign}
 use Rattle.plcs_grammar.specs.Token.{Token}
 use Rattle.plcs_grammar.specs.PlainPhrase.{PlainExpr, PlainExprs, PlainVarRef}
 
--- the level that an operator joins, the lowest first
+-- the level that an infix operator joins: 1 for the one that joins last
 abbrev pub priority : InfixOp → ℕ
 priority Or = 1
 priority And = 2
@@ -28,7 +28,7 @@ priority Divide = 6
 abbrev pub tightest : ℕ
 tightest = 7
 
--- a built-in name before a parenthesis is a call's, and no variable's
+-- the variable is no call: a built-in name before a parenthesis is a call's, and no variable's
 abbrev pub IsNoCall : PlainVarRef → Type 0
 IsNoCall (PlainVarRef.simple name) = Unit {0}
 IsNoCall (PlainVarRef.subscripted name index) = IsTrue (not (is_builtin_name name))
@@ -37,7 +37,7 @@ IsNoCall (PlainVarRef.subscripted name index) = IsTrue (not (is_builtin_name nam
 abbrev pub IsNameToken : List ℕ → List Token → Type 0
 IsNameToken name tokens = tokens ≡ Token.name name ∷ []
 
--- the tokens in parentheses
+-- some tokens in parentheses
 abbrev pub in_parentheses : List Token → List Token
 in_parentheses tokens = Token.sign Sign.OpenParenthesis ∷ (tokens ++ (Token.sign Sign.CloseParenthesis ∷ []))
 

@@ -1,6 +1,5 @@
--- ---- phrases as plain data
+-- ---- phrases as plain data, and the plain form of the code's
 pub mod PlainPhrase
-pub mod PlainForm
 -- ---- tokens
 pub mod Sign
 pub mod Builtin
@@ -8,15 +7,16 @@ pub mod Token
 pub mod Cuts
 -- ---- which tokens are which phrase
 pub mod Level
-pub mod Form
+pub mod ListForm
+pub mod PhraseForm
 pub mod Comment
 -- ---- limits
 pub mod Limit
 pub mod OpenedLevel
-pub mod Over
+pub mod OverLimit
 -- ---- what a text reads as, and where it goes wrong
 pub mod Reads
-pub mod Syntax
+pub mod SyntaxPlace
 -- ---- what is written
 pub mod Canon
 pub mod Placeholder

@@ -23,22 +23,22 @@ abbrev mutual
   nesting (PlainExpr.builtin function arguments) = deepest arguments + 1
   nesting (PlainExpr.parenthesized a) = nesting a + 1
 
-  -- the same for a variable
+  -- how deep a variable is nested: its subscript is one level in
   pub reference_nesting : PlainVarRef → ℕ
   reference_nesting (PlainVarRef.simple name) = 0
   reference_nesting (PlainVarRef.subscripted name index) = nesting index + 1
 
-  -- how deep the deepest of them is
+  -- how deep the deepest of some expressions is nested
   pub deepest : PlainExprs → ℕ
   deepest PlainExprs.nil = 0
   deepest (PlainExprs.cons a rest) = max (nesting a) (deepest rest)
 
--- how deep the deepest variable is
+-- how deep the deepest of some variables is nested
 abbrev pub deepest_reference : List PlainVarRef → ℕ
 deepest_reference [] = 0
 deepest_reference (reference ∷ rest) = max (reference_nesting reference) (deepest_reference rest)
 
--- the arguments of a call stand one level in, where there are some
+-- how deep a call is nested: its arguments stand one level in, where there are some
 abbrev pub arguments_nesting : PlainExprs → ℕ
 arguments_nesting PlainExprs.nil = 0
 arguments_nesting (PlainExprs.cons a rest) = deepest (PlainExprs.cons a rest) + 1
@@ -70,17 +70,17 @@ abbrev mutual
   numbers (PlainExpr.builtin function arguments) = numbers_of_all arguments
   numbers (PlainExpr.parenthesized a) = numbers a
 
-  -- the numbers in a variable
+  -- the numbers in a variable's subscript, in order
   pub reference_numbers : PlainVarRef → List ℕ
   reference_numbers (PlainVarRef.simple name) = []
   reference_numbers (PlainVarRef.subscripted name index) = numbers index
 
-  -- the numbers in expressions
+  -- the numbers in a list of expressions, in order
   pub numbers_of_all : PlainExprs → List ℕ
   numbers_of_all PlainExprs.nil = []
   numbers_of_all (PlainExprs.cons a rest) = numbers a ++ numbers_of_all rest
 
--- the size of an array, if the item is one
+-- the number in a declared item: the size of an array, if the item is one
 abbrev pub size_numbers : Option ℕ → List ℕ
 size_numbers None = []
 size_numbers (Some size) = size ∷ []

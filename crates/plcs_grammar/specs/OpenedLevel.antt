@@ -16,38 +16,38 @@ abbrev mutual
       0 ∷ (outside + 1) ∷ (opened_levels_of_all arguments (outside + 1) ++ (0 ∷ []))
   opened_levels (PlainExpr.parenthesized a) outside = (outside + 1) ∷ (opened_levels a (outside + 1) ++ (0 ∷ []))
 
-  -- the same for a variable
+  -- for each token of a variable that stands so many levels in, the level that it opens, or 0
   pub reference_opened_levels : PlainVarRef → ℕ → List ℕ
   reference_opened_levels (PlainVarRef.simple name) outside = 0 ∷ []
   reference_opened_levels (PlainVarRef.subscripted name index) outside =
       0 ∷ (outside + 1) ∷ (opened_levels index (outside + 1) ++ (0 ∷ []))
 
-  -- the same for expressions joined by commas
+  -- for each token of expressions joined by commas, the level that it opens, or 0
   pub opened_levels_of_all : PlainExprs → ℕ → List ℕ
   opened_levels_of_all PlainExprs.nil outside = []
   opened_levels_of_all (PlainExprs.cons a rest) outside = opened_levels a outside ++ opened_levels_behind rest outside
 
-  -- the same for expressions, each behind a comma
+  -- for each token of expressions that stand each behind a comma, the level that it opens, or 0
   pub opened_levels_behind : PlainExprs → ℕ → List ℕ
   opened_levels_behind PlainExprs.nil outside = []
   opened_levels_behind (PlainExprs.cons a rest) outside = 0 ∷ (opened_levels a outside ++ opened_levels_behind rest outside)
 
--- the same for variables joined by commas
+-- for each token of variables that stand each behind a comma, the level that it opens, or 0
 abbrev pub opened_levels_of_more_references : List PlainVarRef → List ℕ
 opened_levels_of_more_references [] = []
 opened_levels_of_more_references (reference ∷ rest) = 0 ∷ (reference_opened_levels reference 0 ++ opened_levels_of_more_references rest)
 
--- the same for one or more variables
+-- for each token of one variable or more, joined by commas, the level that it opens, or 0
 abbrev pub opened_levels_of_references : List PlainVarRef → List ℕ
 opened_levels_of_references [] = []
 opened_levels_of_references (reference ∷ rest) = reference_opened_levels reference 0 ++ opened_levels_of_more_references rest
 
--- the same for a call, whose arguments stand one level in
+-- for each token of a call, whose arguments stand one level in, the level that it opens, or 0
 abbrev pub opened_levels_of_call : PlainExprs → List ℕ
 opened_levels_of_call PlainExprs.nil = 0 ∷ []
 opened_levels_of_call (PlainExprs.cons a rest) = 0 ∷ 1 ∷ (opened_levels_of_all (PlainExprs.cons a rest) 1 ++ (0 ∷ []))
 
--- the same for a phrase; tokens that the list doesn't come to open no level
+-- for each token of a phrase, the level that it opens, or 0; tokens that the list doesn't come to open no level
 abbrev pub phrase_opened_levels : PlainPhrase → List ℕ
 phrase_opened_levels (PlainPhrase.assignment target value) = reference_opened_levels target 0 ++ (0 ∷ opened_levels value 0)
 phrase_opened_levels (PlainPhrase.condition e) = opened_levels e 0

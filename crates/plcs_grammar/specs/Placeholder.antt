@@ -18,6 +18,6 @@ placeholder NameList = codes "{parameters}"
 placeholder Length = codes "{length}"
 placeholder CommentText = codes "{comment}"
 
--- its word, without the braces
+-- the word of a category's placeholder, without the braces
 abbrev pub placeholder_word : Category → List ℕ
 placeholder_word category = let whole = placeholder category in take (length whole - 2) (drop 1 whole)

@@ -1,14 +1,19 @@
--- Phrases as plain data: what a text reads as.
-use Rattle.std.specs.Prelude.{ℕ, ℤ, Bool, List}
+-- Phrases as plain data, which is what a text reads as, and the plain form of each phrase of the code: the same data, with
+-- a list for each Vec and the bytes of each name and text.
+use Rattle.std.specs.Prelude.{ℕ, ℤ, Bool, List, [], ◌∷◌, map, Option, Some, None, Box}
+use Rattle.std.specs.declared.alloc.Global.{Global}
 use Rattle.plcs_grammar.specs.declared.operator.PrefixOp.{PrefixOp}
 use Rattle.plcs_grammar.specs.declared.operator.InfixOp.{InfixOp}
 use Rattle.plcs_grammar.specs.declared.builtin.Builtin.{Builtin}
 use Rattle.plcs_grammar.specs.declared.item.Item.{Item}
 use Rattle.plcs_grammar.specs.declared.category.Category.{Category}
-use Rattle.plcs_grammar.specs.declared.category.Category.TheVariants.{Assignment, Condition, Expression, ExpressionList, VariableList, Variable, CallRef, DeclaredList, ProcedureName, NameList, Length, CommentText}
+use Rattle.plcs_grammar.specs.declared.expr.Expr.{Expr, fold-Expr}
+use Rattle.plcs_grammar.specs.declared.expr.Expr.TheOpen.{Expr-F, VarRef-F}
+use Rattle.plcs_grammar.specs.declared.expr.VarRef.{VarRef, fold-VarRef}
+use Rattle.plcs_grammar.specs.declared.phrase.Phrase.{Phrase}
 
 mutual
-  -- an expression; a number in it that a text can have is not negative
+  -- an expression as plain data; a number in it that a text can have is not negative
   pub data PlainExpr : Type 0 where
     number : ℤ → PlainExpr
     text : List ℕ → PlainExpr
@@ -24,12 +29,12 @@ mutual
     simple : List ℕ → PlainVarRef
     subscripted : List ℕ → PlainExpr → PlainVarRef
 
-  -- expressions in order
+  -- a list of expressions
   pub data PlainExprs : Type 0 where
     nil : PlainExprs
     cons : PlainExpr → PlainExprs → PlainExprs
 
--- a phrase; names are their bytes, and a call without arguments has none in its list
+-- a phrase as plain data; names are their bytes, and a call without arguments has none in its list
 pub data PlainPhrase : Type 0 where
   assignment : PlainVarRef → PlainExpr → PlainPhrase
   condition : PlainExpr → PlainPhrase
@@ -46,15 +51,67 @@ pub data PlainPhrase : Type 0 where
 
 -- the category of a phrase
 abbrev pub category_of : PlainPhrase → Category
-category_of (assignment target value) = Assignment
-category_of (condition e) = Condition
-category_of (expression e) = Expression
-category_of (expression_list es) = ExpressionList
-category_of (variable_list targets) = VariableList
-category_of (variable_name name) = Variable
-category_of (call name arguments) = CallRef
-category_of (declared_list items) = DeclaredList
-category_of (procedure_name name) = ProcedureName
-category_of (name_list names) = NameList
-category_of (greatest_length n) = Length
-category_of (comment bytes) = CommentText
+category_of (assignment target value) = Category.Assignment
+category_of (condition e) = Category.Condition
+category_of (expression e) = Category.Expression
+category_of (expression_list es) = Category.ExpressionList
+category_of (variable_list targets) = Category.VariableList
+category_of (variable_name name) = Category.Variable
+category_of (call name arguments) = Category.CallRef
+category_of (declared_list items) = Category.DeclaredList
+category_of (procedure_name name) = Category.ProcedureName
+category_of (name_list names) = Category.NameList
+category_of (greatest_length n) = Category.Length
+category_of (comment bytes) = Category.CommentText
+
+-- the list of expressions that a list of the definitions is
+abbrev pub exprs_from : List PlainExpr → PlainExprs
+exprs_from [] = PlainExprs.nil
+exprs_from (t ∷ ts) = PlainExprs.cons t (exprs_from ts)
+
+-- the variable of a name with the subscript that is there, if one is
+abbrev pub reference_with : List ℕ → Option (Box PlainExpr Global) → PlainVarRef
+reference_with name None = PlainVarRef.simple name
+reference_with name (Some index) = PlainVarRef.subscripted name index.value
+
+-- the plain form of one level of an expression, with what is inside already in plain form
+abbrev pub expr_step : Expr-F PlainExpr PlainVarRef → PlainExpr
+expr_step (Expr-F.Number z) = PlainExpr.number z
+expr_step (Expr-F.Text v) = PlainExpr.text v.value
+expr_step (Expr-F.Bit b) = PlainExpr.bit b
+expr_step (Expr-F.Var r) = PlainExpr.variable r
+expr_step (Expr-F.Prefix op a) = PlainExpr.unary op a.value
+expr_step (Expr-F.Infix op a b) = PlainExpr.binary op a.value b.value
+expr_step (Expr-F.Builtin function arguments) = PlainExpr.builtin function (exprs_from arguments.items)
+expr_step (Expr-F.Paren a) = PlainExpr.parenthesized a.value
+
+-- the plain form of one level of a variable, with its subscript already in plain form
+abbrev pub reference_step : VarRef-F PlainExpr PlainVarRef → PlainVarRef
+reference_step r = reference_with r.name r.index
+
+-- the plain form of an expression
+abbrev pub plain_expr : Expr → PlainExpr
+plain_expr = fold-Expr PlainExpr PlainVarRef expr_step reference_step
+
+-- the plain form of a variable
+abbrev pub plain_var_ref : VarRef → PlainVarRef
+plain_var_ref = fold-VarRef PlainExpr PlainVarRef expr_step reference_step
+
+-- the plain form of a list of expressions
+abbrev pub plain_exprs : List Expr → PlainExprs
+plain_exprs es = exprs_from (map plain_expr es)
+
+-- the plain form of a phrase
+abbrev pub plain_phrase : Phrase → PlainPhrase
+plain_phrase (Phrase.Assignment target value) = PlainPhrase.assignment (plain_var_ref target) (plain_expr value)
+plain_phrase (Phrase.Condition e) = PlainPhrase.condition (plain_expr e)
+plain_phrase (Phrase.Expression e) = PlainPhrase.expression (plain_expr e)
+plain_phrase (Phrase.ExpressionList es) = PlainPhrase.expression_list (plain_exprs es.items)
+plain_phrase (Phrase.VariableList targets) = PlainPhrase.variable_list (map plain_var_ref targets.items)
+plain_phrase (Phrase.Variable name) = PlainPhrase.variable_name name
+plain_phrase (Phrase.CallRef name arguments) = PlainPhrase.call name (plain_exprs arguments.items)
+plain_phrase (Phrase.DeclaredList items) = PlainPhrase.declared_list items.items
+plain_phrase (Phrase.ProcedureName name) = PlainPhrase.procedure_name name
+plain_phrase (Phrase.NameList names) = PlainPhrase.name_list names.items
+plain_phrase (Phrase.Length n) = PlainPhrase.greatest_length n
+plain_phrase (Phrase.CommentText bytes) = PlainPhrase.comment bytes.items

@@ -9,6 +9,7 @@ use Rattle.plcs_grammar.specs.declared.row.Segment.{Segment}
 use Rattle.plcs_grammar.specs.declared.row.Section.{Section}
 use Rattle.plcs_grammar.specs.declared.row.Row.{Row}
 use Rattle.plcs_grammar.specs.declared.template.Template.{Template}
+use Rattle.plcs_grammar.specs.Placeholder.{placeholder}
 
 -- a segment of a line: bytes as they stand, or a part that holds a phrase of the category
 pub data PlainSegment : Type 0 where
@@ -31,50 +32,50 @@ pub record PlainRow : Type 0 where
   pub sections : List PlainSection
   pub last : Option (List ℕ)
 
--- items of a sort
+-- the section of one item of a sort or more
 abbrev pub list_of : Sort → PlainSection
 list_of sort = record { lead = None; sort = sort; amount = Amount.Many }
 
--- one statement
+-- the section of one statement
 abbrev pub body : PlainSection
 body = record { lead = None; sort = Sort.Statement; amount = Amount.One }
 
--- one statement behind a line of its own
+-- the section of one statement behind a line of its own
 abbrev pub body_behind : List ℕ → PlainSection
 body_behind lead = record { lead = Some lead; sort = Sort.Statement; amount = Amount.One }
 
--- what stands inside a procedure
+-- the sections that stand inside a procedure
 abbrev pub block : List PlainSection
 block = list_of Sort.Declaration ∷ list_of Sort.Statement ∷ []
 
--- what ends a template with a list
+-- the last line of each template that encloses a list
 abbrev pub closing : Option (List ℕ)
 closing = Some (codes "END;")
 
--- a hole: its word alone
+-- the row of a hole: its word alone
 abbrev pub hole_row : Sort → List ℕ → PlainRow
 hole_row sort word = record { sort = sort; command = None; line = PlainSegment.words word ∷ []; sections = []; last = None }
 
--- a procedure
+-- the row of a procedure
 abbrev pub procedure_row : List ℕ → List PlainSegment → PlainRow
 procedure_row command line =
     record { sort = Sort.Procedure; command = Some command; line = line; sections = block; last = closing }
 
--- a declaration
+-- the row of a declaration
 abbrev pub declaration_row : List ℕ → List PlainSegment → PlainRow
 declaration_row command line =
     record { sort = Sort.Declaration; command = Some command; line = line; sections = []; last = None }
 
--- a statement with nothing inside
+-- the row of a statement with nothing inside
 abbrev pub simple_row : List ℕ → List PlainSegment → PlainRow
 simple_row command line = record { sort = Sort.Statement; command = Some command; line = line; sections = []; last = None }
 
--- a statement that a body or two follow
+-- the row of a statement that a body or two follow
 abbrev pub choice_row : List ℕ → List PlainSegment → List PlainSection → PlainRow
 choice_row command line sections =
     record { sort = Sort.Statement; command = Some command; line = line; sections = sections; last = None }
 
--- a statement with a list of statements and an end
+-- the row of a statement with a list of statements and an end
 abbrev pub loop_row : List ℕ → List PlainSegment → PlainRow
 loop_row command line =
     record { sort = Sort.Statement; command = Some command; line = line; sections = list_of Sort.Statement ∷ []; last = closing }
@@ -153,10 +154,10 @@ is_command word (Some own) = bytes_eq word own
 unfoldable pub template_of : List ℕ → Option Template
 template_of word = find (λ template. is_command word (template_row template).command) templates
 
--- the table
+-- the table: the row of each kind of node
 abbrev pub row_of : NodeKind → PlainRow
 row_of DeclarationHole = hole_row Sort.Declaration (codes "{declaration}")
-row_of StatementHole = hole_row Sort.Statement (codes "{statement}")
+row_of StatementHole = hole_row Sort.Statement (placeholder Category.Assignment)
 row_of ProcedureHole = hole_row Sort.Procedure (codes "{procedure}")
 row_of Main =
     record {
@@ -192,7 +193,7 @@ abbrev pub plain_section : Section → PlainSection
 plain_section section =
     record { lead = option_map (λ bytes. bytes.now) section.lead; sort = section.sort; amount = section.amount }
 
--- the plain form of a row
+-- the plain form of a row of the code's table
 abbrev pub plain_row : Row → PlainRow
 plain_row row =
     record {

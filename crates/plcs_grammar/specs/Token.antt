@@ -1,4 +1,4 @@
--- Tokens: which bytes make which token, and the longest one at a place.
+-- Which bytes are which token, and which token is the longest at the front of a text.
 use Rattle.std.specs.Prelude.{◌≡◌, ℕ, ◌-◌, ◌≤◌, ◌==◌, Bool, true, false, not, if◌then◌else◌, List, [], ◌∷◌, ◌++◌, map, length, codes, IsTrue}
 use Rattle.std.specs.List.{list_all}
 use Rattle.std.specs.Int.Digits.{number_from_digits}
@@ -8,7 +8,7 @@ use Rattle.plcs_base.specs.Text.{IsTextValue}
 use Rattle.plcs_grammar.specs.declared.sign.Sign.{Sign}
 use Rattle.plcs_grammar.specs.Sign.{sign_bytes}
 
--- a number may be of any size, and a constant is its value
+-- a token; a number may be of any size, and a constant is its value
 pub data Token : Type 0 where
   name : List ℕ → Token
   keyword : List ℕ → Token
@@ -22,7 +22,7 @@ abbrev pub begins_with : (ℕ → Bool) → List ℕ → Bool
 begins_with test [] = false
 begins_with test (byte ∷ rest) = test byte
 
--- the quote
+-- the byte of a quote
 abbrev pub quote : ℕ
 quote = 39
 
@@ -30,16 +30,16 @@ quote = 39
 abbrev pub is_quote : ℕ → Bool
 is_quote byte = byte == quote
 
--- a byte as it is written between quotes: a quote twice
+-- a byte of a text as it is written between quotes: a quote twice
 abbrev pub doubled : ℕ → List ℕ
 doubled byte = if is_quote byte then quote ∷ quote ∷ [] else byte ∷ []
 
--- the bytes with each quote written twice
+-- a text with each quote written twice
 abbrev pub with_quotes_doubled : List ℕ → List ℕ
 with_quotes_doubled [] = []
 with_quotes_doubled (byte ∷ rest) = doubled byte ++ with_quotes_doubled rest
 
--- the bytes between quotes
+-- a text as it is written: between quotes, with each quote in it twice
 abbrev pub quoted : List ℕ → List ℕ
 quoted bytes = quote ∷ (with_quotes_doubled bytes ++ (quote ∷ []))
 
@@ -48,7 +48,7 @@ abbrev pub bit_bytes : Bool → List ℕ
 bit_bytes false = codes "'0'B"
 bit_bytes true = codes "'1'B"
 
--- one digit or more
+-- the bytes are a numeral: one digit or more
 abbrev pub IsNumeral : List ℕ → Type 0
 IsNumeral bytes = (1 ≤ length bytes) × IsTrue (list_all is_digit bytes)
 
@@ -56,7 +56,7 @@ IsNumeral bytes = (1 ≤ length bytes) × IsTrue (list_all is_digit bytes)
 abbrev pub numeral_value : List ℕ → ℕ
 numeral_value digits = number_from_digits 10 (map (λ digit. digit - 48) digits)
 
--- no letter, digit or `_` follows
+-- what stands behind ends a word: no letter, digit or `_` follows
 abbrev pub EndsWord : List ℕ → Type 0
 EndsWord behind = IsTrue (not (begins_with is_name_byte behind))
 
@@ -73,7 +73,7 @@ IsToken (text value) bytes behind = (bytes ≡ quoted value) × IsConstantText v
 IsToken (bit value) bytes behind = (bytes ≡ bit_bytes value) × EndsWord behind
 IsToken (sign s) bytes behind = bytes ≡ sign_bytes s
 
--- x is the token and what stands behind it, and no longer token stands at the front of x
+-- x is the bytes of the token and what stands behind them, and no longer token stands at the front of x
 pub record First (x : List ℕ) (token : Token) (bytes behind : List ℕ) : Type 0 where
   pub whole : x ≡ bytes ++ behind
   pub is_token : IsToken token bytes behind

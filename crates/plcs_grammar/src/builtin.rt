@@ -2,7 +2,7 @@
 ghost use Rattle.std.specs.Prelude.{◌≡◌};
 ghost use Rattle.plcs_grammar.specs.Builtin.{builtin_name, builtin_of};
 
-/// A function that the language has. Its name is reserved.
+/// A built-in function of the language. Its name is reserved.
 #[derive(Clone, Copy, Debug, PartialEq, Eq)]
 pub enum Builtin {
     /// `ABS`
@@ -21,7 +21,7 @@ pub enum Builtin {
     Index,
 }
 
-/// All of them.
+/// All built-in functions.
 const BUILTINS: [Builtin; 7] = [
     Builtin::Abs,
     Builtin::Mod,
@@ -33,7 +33,7 @@ const BUILTINS: [Builtin; 7] = [
 ];
 
 impl Builtin {
-    /// The function that has the name, or `None` where none has.
+    /// The built-in function that has the name, or `None` where none has.
     pub fn read(name: &[u8]) -> Option<Builtin>
         ensures { result ≡ builtin_of name.now }
     {
@@ -43,7 +43,7 @@ impl Builtin {
             .find(|function| name == function.name())
     }
 
-    /// Its name.
+    /// The name of the built-in function, in capitals.
     pub fn name(self) -> &'static [u8]
         ensures { result.now ≡ builtin_name self }
     {

@@ -1,6 +1,9 @@
 //! The categories of phrases, and what stands for a phrase of each that is not there yet.
 ghost use Rattle.std.specs.Prelude.{◌≡◌};
 
+/// What is shown where a statement is still wanted.
+pub(crate) const STATEMENT_HOLE_WORD: &[u8] = b"{statement}";
+
 /// What kind of phrase a part of a template holds.
 #[derive(Clone, Copy, Debug, PartialEq, Eq)]
 pub enum Category {
@@ -33,13 +36,13 @@ pub enum Category {
 impl Category {
     ghost use Rattle.plcs_grammar.specs.Placeholder.{placeholder, placeholder_word};
 
-    /// What is shown in an empty part, braces included; for an assignment, which is never empty, the
+    /// What is shown in an empty part of the category, braces included; for an assignment, which is never empty, the
     /// statement hole in which it is typed.
     pub fn placeholder(self) -> &'static [u8]
         ensures { result.now ≡ placeholder self }
     {
         match self {
-            Category::Assignment => b"{statement}",
+            Category::Assignment => STATEMENT_HOLE_WORD,
             Category::Condition => b"{condition}",
             Category::Expression => b"{expression}",
             Category::ExpressionList => b"{expressions}",
@@ -54,7 +57,7 @@ impl Category {
         }
     }
 
-    /// The placeholder's word, without the braces.
+    /// The word of the category's placeholder, without the braces.
     pub fn placeholder_word(self) -> &'static [u8]
         ensures { result.now ≡ placeholder_word self }
     {

@@ -1,7 +1,7 @@
 //! Chains of operators along their left operands.
 ghost use Rattle.std.specs.Prelude.{◌≡◌, ◌≤◌};
 ghost use Rattle.plcs_grammar.specs.declared.expr.Expr.{size-Expr};
-ghost use Rattle.plcs_grammar.specs.PlainForm.{plain_expr};
+ghost use Rattle.plcs_grammar.specs.PlainPhrase.{plain_expr};
 ghost use Rattle.plcs_grammar.specs.Private.Chain.{leftmost};
 
 use crate::expr::Expr;
@@ -20,7 +20,7 @@ pub(crate) fn count_operators(expr: &Expr) -> u32 {
     count
 }
 
-/// What is reached by going to the left operand so many times, or as far as there is one.
+/// The expression that is reached by going to the left operand so many times, or as far as there is one.
 pub(crate) fn leftmost(expr: &Expr, times: u32) -> &Expr
     ensures plain { plain_expr result.now ≡ leftmost (plain_expr expr.now) times }
     ensures size { size-Expr result.now ≤ size-Expr expr.now }

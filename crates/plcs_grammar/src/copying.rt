@@ -1,6 +1,6 @@
 //! Copies of phrases.
 ghost use Rattle.std.specs.Prelude.{◌≡◌, IfOk, map};
-ghost use Rattle.plcs_grammar.specs.PlainForm.{plain_phrase, plain_var_ref};
+ghost use Rattle.plcs_grammar.specs.PlainPhrase.{plain_phrase, plain_var_ref};
 
 use crate::expr::VarRef;
 use crate::expr_copy::{copy_expr, copy_exprs, copy_name, copy_variable};
@@ -9,7 +9,7 @@ use crate::phrase::Phrase;
 use plcs_base::{Name, OutOfMemory};
 use std::alloc::Global;
 
-/// An equal phrase.
+/// A copy of the phrase, whose plain form is the same.
 ///
 /// It takes memory in proportion to the phrase, and little stack also where a chain of operators is
 /// long.
@@ -40,7 +40,7 @@ pub fn copy_phrase(alloc: Global, phrase: &Phrase) -> Result<Phrase, OutOfMemory
     }
 }
 
-/// Copies of variables.
+/// Copies of variables, in order.
 fn copy_variables(alloc: Global, variables: &[VarRef]) -> Result<Vec<VarRef>, OutOfMemory>
     ensures { IfOk result (λ copies. map plain_var_ref copies.items ≡ map plain_var_ref variables.now) }
 {
@@ -51,7 +51,7 @@ fn copy_variables(alloc: Global, variables: &[VarRef]) -> Result<Vec<VarRef>, Ou
     Ok(copies)
 }
 
-/// A copy of an item.
+/// A copy of a declared item.
 fn copy_item(item: &Item) -> Result<Item, OutOfMemory>
     ensures { IfOk result (λ copy. copy ≡ item.now) }
 {
@@ -62,7 +62,7 @@ fn copy_item(item: &Item) -> Result<Item, OutOfMemory>
     })
 }
 
-/// Copies of items.
+/// Copies of declared items, in order.
 fn copy_items(alloc: Global, items: &[Item]) -> Result<Vec<Item>, OutOfMemory>
     ensures { IfOk result (λ copies. copies.items ≡ items.now) }
 {
@@ -73,7 +73,7 @@ fn copy_items(alloc: Global, items: &[Item]) -> Result<Vec<Item>, OutOfMemory>
     Ok(copies)
 }
 
-/// Copies of names.
+/// Copies of names, in order.
 fn copy_names(alloc: Global, names: &[Name]) -> Result<Vec<Name>, OutOfMemory>
     ensures { IfOk result (λ copies. copies.items ≡ names.now) }
 {

@@ -3,7 +3,7 @@ use crate::builtin::Builtin;
 use crate::operator::{InfixOp, PrefixOp};
 use plcs_base::{Name, TextValue};
 
-/// An expression.
+/// An expression of a phrase.
 ///
 /// A chain of infix operators leans to the left and may be of any length, so it is let go in a loop.
 /// What is nested otherwise is let go level by level.
@@ -31,7 +31,7 @@ pub enum Expr {
 #[cycle(expr)]
 #[derive(Drop)]
 pub struct VarRef {
-    /// Its name.
+    /// The name of the variable.
     pub name: Name,
     /// The subscript of an array's cell, counted from 1.
     pub index: Option<Box<Expr>>,

@@ -1,6 +1,6 @@
 //! Copies of expressions.
 ghost use Rattle.std.specs.Prelude.{◌≡◌, IfOk, map};
-ghost use Rattle.plcs_grammar.specs.PlainForm.{plain_expr, plain_var_ref};
+ghost use Rattle.plcs_grammar.specs.PlainPhrase.{plain_expr, plain_var_ref};
 ghost use Rattle.plcs_grammar.specs.Private.Link.{linked};
 
 use crate::expr::{Expr, VarRef};
@@ -66,7 +66,7 @@ pub(crate) fn copy_variable(alloc: Global, variable: &VarRef) -> Result<VarRef, 
     }
 }
 
-/// Copies of expressions.
+/// Copies of expressions, in order.
 #[cycle(copy_expr)]
 pub(crate) fn copy_exprs(alloc: Global, exprs: &[Expr]) -> Result<Vec<Expr>, OutOfMemory>
     ensures { IfOk result (λ copies. map plain_expr copies.items ≡ map plain_expr exprs.now) }
@@ -109,8 +109,8 @@ fn chained(alloc: Global, operand: Expr, links: Vec<Link>) -> Result<Expr, OutOf
 /// An operator of a chain, with its right operand.
 #[derive(Drop)]
 pub(crate) struct Link {
-    /// The operator.
+    /// The operator between the chain before it and its right operand.
     pub(crate) op: InfixOp,
-    /// Its right operand.
+    /// The right operand of the operator.
     pub(crate) right: Expr,
 }

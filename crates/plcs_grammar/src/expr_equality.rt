@@ -1,10 +1,10 @@
 //! Equality of expressions.
 ghost use Rattle.std.specs.Prelude.{◌≡◌, ◌↔◌, IsTrue};
-ghost use Rattle.plcs_grammar.specs.PlainForm.{plain_expr, plain_exprs, plain_var_ref};
+ghost use Rattle.plcs_grammar.specs.PlainPhrase.{plain_expr, plain_exprs, plain_var_ref};
 
 use crate::expr::{Expr, VarRef};
 
-/// Whether the two have one plain form. A chain of operators is compared in a loop, from its last operator on.
+/// Whether two expressions have one plain form. A chain of operators is compared in a loop, from its last operator on.
 #[cycle(same_expr)]
 pub(crate) fn same_expr(one: &Expr, other: &Expr) -> bool
     ensures { IsTrue result ↔ (plain_expr one.now ≡ plain_expr other.now) }
@@ -34,7 +34,7 @@ pub(crate) fn same_expr(one: &Expr, other: &Expr) -> bool
     }
 }
 
-/// Whether the two have one plain form.
+/// Whether two variables have one plain form.
 #[cycle(same_expr)]
 pub(crate) fn same_variable(one: &VarRef, other: &VarRef) -> bool
     ensures { IsTrue result ↔ (plain_var_ref one.now ≡ plain_var_ref other.now) }
@@ -49,7 +49,7 @@ pub(crate) fn same_variable(one: &VarRef, other: &VarRef) -> bool
     }
 }
 
-/// Whether the two have the same plain forms, one by one.
+/// Whether two lists of expressions have the same plain forms, one by one.
 #[cycle(same_expr)]
 pub(crate) fn same_exprs(all: &[Expr], others: &[Expr]) -> bool
     ensures { IsTrue result ↔ (plain_exprs all.now ≡ plain_exprs others.now) }

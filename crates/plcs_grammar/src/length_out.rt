@@ -1,6 +1,6 @@
 //! The length of what is shown.
 ghost use Rattle.std.specs.Prelude.{◌≡◌, ◌+◌, min, length};
-ghost use Rattle.plcs_grammar.specs.PlainForm.{plain_phrase};
+ghost use Rattle.plcs_grammar.specs.PlainPhrase.{plain_phrase};
 ghost use Rattle.plcs_grammar.specs.Canon.{Canon, longest_shown};
 
 use crate::phrase::Phrase;
@@ -16,7 +16,7 @@ pub fn shown_len(phrase: &Phrase) -> u32
     out.count
 }
 
-/// How many bytes were put; at its last value it stays.
+/// A sink that only counts the bytes that are put; at its last value the count stays.
 #[derive(Drop)]
 struct LengthOut {
     count: u32,

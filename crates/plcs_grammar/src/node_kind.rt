@@ -1,3 +1,4 @@
+//! The kinds of nodes, and the sorts of places where they may stand.
 use crate::template::Template;
 
 /// What a node of a program is.
@@ -17,7 +18,7 @@ pub enum NodeKind {
     Filled(Template),
 }
 
-/// Where a node may stand: where one of the same sort stands.
+/// The sort of a node: a node may stand where one of the same sort stands.
 #[derive(Clone, Copy, Debug, PartialEq, Eq)]
 pub enum Sort {
     /// The main procedure.

@@ -47,7 +47,7 @@ pub enum InfixOp {
 }
 
 impl PrefixOp {
-    /// Its sign.
+    /// The sign that the prefix operator is written as.
     pub fn sign(self) -> Sign
         ensures { result ≡ prefix_sign self }
     {
@@ -60,7 +60,7 @@ impl PrefixOp {
 }
 
 impl InfixOp {
-    /// Its sign.
+    /// The sign that the infix operator is written as.
     pub fn sign(self) -> Sign
         ensures { result ≡ infix_sign self }
     {

@@ -1,7 +1,6 @@
 //! Phrases: what is typed into the parts of templates.
 ghost use Rattle.std.specs.Prelude.{◌≡◌};
-ghost use Rattle.plcs_grammar.specs.PlainPhrase.{category_of};
-ghost use Rattle.plcs_grammar.specs.PlainForm.{plain_phrase};
+ghost use Rattle.plcs_grammar.specs.PlainPhrase.{category_of, plain_phrase};
 
 use crate::category::Category;
 use crate::expr::{Expr, VarRef};
@@ -38,7 +37,7 @@ pub enum Phrase {
 }
 
 impl Phrase {
-    /// Its category.
+    /// The category of the phrase.
     pub fn category(&self) -> Category
         ensures { result ≡ category_of (plain_phrase self.now) }
     {

@@ -1,12 +1,12 @@
 //! Equality of phrases.
 ghost use Rattle.std.specs.Prelude.{◌≡◌, ◌↔◌, IsTrue, map};
-ghost use Rattle.plcs_grammar.specs.PlainForm.{plain_phrase, plain_var_ref};
+ghost use Rattle.plcs_grammar.specs.PlainPhrase.{plain_phrase, plain_var_ref};
 
 use crate::expr::VarRef;
 use crate::expr_equality::{same_expr, same_exprs, same_variable};
 use crate::phrase::Phrase;
 
-/// Whether the two are one phrase.
+/// Whether two phrases have one plain form, so that they are the same phrase.
 ///
 /// It takes no memory, and little stack also where chains of operators are long.
 pub fn same_phrase(one: &Phrase, other: &Phrase) -> bool
@@ -33,7 +33,7 @@ pub fn same_phrase(one: &Phrase, other: &Phrase) -> bool
     }
 }
 
-/// Whether the variables have the same plain forms, one by one.
+/// Whether two lists of variables have the same plain forms, one by one.
 fn same_variables(all: &[VarRef], others: &[VarRef]) -> bool
     ensures { IsTrue result ↔ (map plain_var_ref all.now ≡ map plain_var_ref others.now) }
 {

@@ -4,11 +4,11 @@
 ghost use Rattle.std.specs.Prelude.{◌≡◌, map, option_map};
 ghost use Rattle.plcs_grammar.specs.Template.{is_command, plain_row, plain_section, program_sections, row_of, template_of, template_row};
 
-use crate::category::Category;
+use crate::category::{Category, STATEMENT_HOLE_WORD};
 use crate::node_kind::{NodeKind, Sort};
 use crate::template::Template;
 
-/// A segment of a line.
+/// A segment of a template's first line.
 #[derive(Clone, Copy, Debug)]
 pub enum Segment {
     /// Bytes as they stand.
@@ -20,40 +20,40 @@ pub enum Segment {
 /// How many items a section holds.
 #[derive(Clone, Copy, Debug, PartialEq, Eq)]
 pub enum Amount {
-    /// One.
+    /// Exactly one item.
     One,
-    /// A list of one or more.
+    /// A list of one item or more.
     Many,
 }
 
 /// What stands inside a node in one stretch.
 #[derive(Clone, Copy, Debug)]
 pub struct Section {
-    /// The line before it, at the node's level.
+    /// The line before the section, at the node's level, if there is one.
     pub lead: Option<&'static [u8]>,
-    /// The sort of its items.
+    /// The sort of the section's items.
     pub sort: Sort,
-    /// How many there are.
+    /// How many items the section holds.
     pub amount: Amount,
 }
 
-/// A row of the table.
+/// A row of the table of templates.
 #[derive(Clone, Copy, Debug)]
 pub struct Row {
     /// The sort of the node.
     pub sort: Sort,
     /// The word of the command that fills a hole with it; a point stands before it.
     pub command: Option<&'static [u8]>,
-    /// Its first line. Parts are numbered from 0 in the order of the segments.
+    /// The node's first line. Parts are numbered from 0 in the order of the segments.
     pub line: &'static [Segment],
-    /// What stands inside it, one level deeper.
+    /// What stands inside the node, one level deeper.
     pub sections: &'static [Section],
-    /// Its last line, at its own level.
+    /// The node's last line, at its own level, if it has one.
     pub last: Option<&'static [u8]>,
 }
 
 impl NodeKind {
-    /// Its row of the table.
+    /// The row of the table for a node of this kind.
     pub fn row(self) -> Row
         ensures { plain_row result ≡ row_of self }
     {
@@ -111,7 +111,7 @@ impl Template {
             .find(|template| is_command(word, template.row().command))
     }
 
-    /// Its row of the table.
+    /// The row of the table for a node that is filled with this template.
     fn row(self) -> Row
         ensures { plain_row result ≡ template_row self }
     {
@@ -143,6 +143,7 @@ pub fn program_sections() -> &'static [Section]
     PROGRAM
 }
 
+/// The sections of a program.
 const PROGRAM: &[Section] = &[
     Section {
         lead: None,
@@ -156,38 +157,38 @@ const PROGRAM: &[Section] = &[
     },
 ];
 
-/// Declarations, one or more.
+/// A section of one declaration or more.
 const LIST_OF_DECLARATIONS: Section = Section {
     lead: None,
     sort: Sort::Declaration,
     amount: Amount::Many,
 };
 
-/// Statements, one or more.
+/// A section of one statement or more.
 const LIST_OF_STATEMENTS: Section = Section {
     lead: None,
     sort: Sort::Statement,
     amount: Amount::Many,
 };
 
-/// One statement.
+/// A section of one statement.
 const BODY: Section = Section {
     lead: None,
     sort: Sort::Statement,
     amount: Amount::One,
 };
 
-/// One statement behind ELSE.
+/// A section of one statement behind a line ELSE.
 const ELSE_BODY: Section = Section {
     lead: Some(b"ELSE"),
     sort: Sort::Statement,
     amount: Amount::One,
 };
 
-/// What stands inside a procedure.
+/// The sections that stand inside a procedure.
 const BLOCK: &[Section] = &[LIST_OF_DECLARATIONS, LIST_OF_STATEMENTS];
 
-/// What ends a template with a list.
+/// The last line of each template that encloses a list.
 const CLOSING: Option<&[u8]> = Some(b"END;");
 
 const FIXED: Row = Row {
@@ -393,7 +394,7 @@ const DECLARATION_HOLE: Row = Row {
 const STATEMENT_HOLE: Row = Row {
     sort: Sort::Statement,
     command: None,
-    line: &[Segment::Words(b"{statement}")],
+    line: &[Segment::Words(STATEMENT_HOLE_WORD)],
     sections: &[],
     last: None,
 };

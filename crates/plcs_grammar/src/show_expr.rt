@@ -1,7 +1,7 @@
 //! Expressions as they are shown.
 ghost use Rattle.std.specs.Prelude.{◌≡◌};
 ghost use Rattle.plcs_base.specs.Put.{PutsAll};
-ghost use Rattle.plcs_grammar.specs.PlainForm.{plain_expr, plain_exprs, plain_var_ref};
+ghost use Rattle.plcs_grammar.specs.PlainPhrase.{plain_expr, plain_exprs, plain_var_ref};
 ghost use Rattle.plcs_grammar.specs.Canon.{canon, canon_list, canon_reference};
 ghost use Rattle.plcs_grammar.specs.Private.Chain.{chain_text, operator_text};
 
@@ -46,7 +46,7 @@ pub(crate) fn show_expr<O: ByteOut>(expr: &Expr, out: &mut O)
     }
 }
 
-/// Puts the text of the chain's last operators, so many, with their right operands.
+/// Puts the text of the last so many operators of a chain, each with its right operand.
 ///
 /// The chain is halved, so that a long one needs little stack and no memory.
 #[cycle(show_expr)]

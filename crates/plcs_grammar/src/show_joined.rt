@@ -1,7 +1,7 @@
 //! Lists as they are shown, joined by commas.
 ghost use Rattle.std.specs.Prelude.{List, ℕ};
 ghost use Rattle.plcs_base.specs.Put.{PutsAll};
-ghost use Rattle.plcs_grammar.specs.PlainForm.{plain_var_ref};
+ghost use Rattle.plcs_grammar.specs.PlainPhrase.{plain_var_ref};
 ghost use Rattle.plcs_grammar.specs.Canon.{joined, canon_reference, canon_item};
 
 use crate::constant::put_decimal;
@@ -11,7 +11,7 @@ use crate::separator::put_separator;
 use crate::show_expr::show_variable;
 use plcs_base::{ByteOut, Name, put_bytes};
 
-/// Puts the canonical texts of the items, joined by commas.
+/// Puts the canonical texts of the elements of a list, joined by commas.
 pub(crate) fn show_joined<T: Shown, O: ByteOut>(items: &[T], out: &mut O)
     ensures { PutsAll O.puts out.old (joined T.shown items.now) out.new }
 {
@@ -21,11 +21,11 @@ pub(crate) fn show_joined<T: Shown, O: ByteOut>(items: &[T], out: &mut O)
     }
 }
 
-/// What stands in a list, joined by commas.
+/// An element of a list that is shown, joined by commas.
 pub(crate) trait Shown {
     ghost shown: { Self → List ℕ };
 
-    /// Puts its canonical text.
+    /// Puts the canonical text of the element.
     fn show<O: ByteOut>(&self, out: &mut O)
         ensures { PutsAll O.puts out.old (shown self.now) out.new };
 }

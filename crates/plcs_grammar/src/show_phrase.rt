@@ -1,6 +1,6 @@
 //! Phrases as they are shown.
 ghost use Rattle.plcs_base.specs.Put.{PutsAll};
-ghost use Rattle.plcs_grammar.specs.PlainForm.{plain_phrase, plain_exprs};
+ghost use Rattle.plcs_grammar.specs.PlainPhrase.{plain_phrase, plain_exprs};
 ghost use Rattle.plcs_grammar.specs.Canon.{Canon, canon_call};
 
 use crate::constant::put_decimal;

@@ -41,7 +41,7 @@ pub enum Sign {
     Comma,
 }
 
-/// All of them.
+/// All signs.
 const SIGNS: [Sign; 17] = [
     Sign::Plus,
     Sign::Minus,
@@ -70,7 +70,7 @@ impl Sign {
         SIGNS.iter().copied().find(|sign| bytes == sign.bytes())
     }
 
-    /// How it is written.
+    /// The bytes that the sign is written as, one or two.
     pub fn bytes(self) -> &'static [u8]
         ensures { result.now ≡ sign_bytes self }
     {

@@ -8,7 +8,7 @@ use Rattle.plcs_grammar.specs.Template.{template_of}
 use Rattle.session_words.specs.declared.command_table.CommandRow.{CommandRow}
 use Rattle.session_words.specs.declared.argument_rule.ArgumentRule.{ArgumentRule}
 use Rattle.session_words.specs.CommandTable.{PlainCommandRow, other_commands, argument_rule_in, template_rule, argument_rule_of}
-use Rattle.session_words.specs.Private.PlainForm.{plain_argument_rule}
+use Rattle.session_words.specs.Private.PlainArgumentRule.{plain_argument_rule}
 use Rattle.session_words.specs.Private.PlainCommandRow.{plain_command_row}
 
 -- what a row of the code takes, for the row of a word

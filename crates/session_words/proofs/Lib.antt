@@ -2,9 +2,5 @@
 mod Limits
 -- the name that an argument is
 mod ClipName
--- that a text is trimmed
-mod TrimmedTexts
--- the number that an argument is
-mod Numerals
 -- what the command of a word takes
 mod CommandRows

@@ -42,7 +42,7 @@ number_between least most argument =
     if is_numeral argument && (nat_le least (numeral_value argument) && nat_le (numeral_value argument) most)
     then Some (numeral_value argument) else None
 
--- the same, where no argument is another number
+-- the number of a range that the argument is, if it is one; no argument is the one that is meant where none is given
 abbrev pub number_in : ℕ → ℕ → ℕ → List ℕ → Option ℕ
 number_in least most otherwise [] = Some otherwise
 number_in least most otherwise (byte ∷ rest) = number_between least most (byte ∷ rest)
@@ -70,15 +70,15 @@ abbrev pub file_name_in : List ℕ → Option (List ℕ)
 file_name_in argument = if is_file_name argument then Some argument else None
 
 -- the command that is made of what the argument is, if it is what the command takes
-abbrev pub made : {X : Type 0} → (X → PlainCommand) → Option X → PlainReading
-made make (Some x) = Ok (make x)
-made make None = Err WrongArgument
+abbrev pub command_from : {X : Type 0} → (X → PlainCommand) → Option X → PlainReading
+command_from make (Some x) = Ok (make x)
+command_from make None = Err WrongArgument
 
 -- the command that the argument makes
 abbrev pub command_with : PlainArgumentRule → List ℕ → PlainReading
 command_with (PlainArgumentRule.nothing command) [] = Ok command
 command_with (PlainArgumentRule.nothing command) (byte ∷ rest) = Err WrongArgument
-command_with (PlainArgumentRule.name make) argument = made make (name_in argument)
-command_with (PlainArgumentRule.number least most otherwise make) argument = made make (number_in least most otherwise argument)
-command_with (PlainArgumentRule.text make) argument = made make (text_in argument)
-command_with (PlainArgumentRule.file make) argument = made make (file_name_in argument)
+command_with (PlainArgumentRule.name make) argument = command_from make (name_in argument)
+command_with (PlainArgumentRule.number least most otherwise make) argument = command_from make (number_in least most otherwise argument)
+command_with (PlainArgumentRule.text make) argument = command_from make (text_in argument)
+command_with (PlainArgumentRule.file make) argument = command_from make (file_name_in argument)

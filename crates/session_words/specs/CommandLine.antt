@@ -18,20 +18,20 @@ begins_with_point line = begins_with (λ byte. byte == 46) line
 abbrev pub word_length : List ℕ → ℕ
 word_length line = prefix_len is_letter (drop 1 line)
 
--- the word: these letters
+-- the word of a command line: the letters behind its point
 abbrev pub word_of : List ℕ → List ℕ
 word_of line = take (word_length line) (drop 1 line)
 
--- what stands behind the word
+-- what stands behind the word of a command line
 abbrev pub behind_word : List ℕ → List ℕ
 behind_word line = drop (word_length line) (drop 1 line)
 
--- whether the word ends there: with the line, or with a blank
+-- whether a command's word ends before these bytes: there are none, or they begin with a blank
 abbrev pub is_word_end : List ℕ → Bool
 is_word_end [] = true
 is_word_end (byte ∷ rest) = is_blank byte
 
--- the argument, without blanks at its ends; where nothing is left, there is none
+-- the argument of a command line, without blanks at its ends; where nothing is left, there is none
 abbrev pub argument_of : List ℕ → List ℕ
 argument_of line = trimmed (behind_word line)
 

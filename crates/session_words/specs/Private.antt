@@ -1,3 +1,3 @@
 -- Words that private contracts alone cite: nobody has to believe them.
-pub mod PlainForm
+pub mod PlainArgumentRule
 pub mod PlainCommandRow

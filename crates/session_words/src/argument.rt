@@ -22,7 +22,7 @@ pub fn name_in(argument: &[u8]) -> Option<Name>
     }
 }
 
-/// The name of the clip.
+/// The name of the clip that is meant where none is named, as a name.
 #[tactic(auto, using(crate::proofs::ClipName::clip_name_read))]
 fn default_clip() -> Option<Name>
     ensures { result ≡ Some default_clip }

@@ -2,7 +2,7 @@
 ghost use Rattle.std.specs.Prelude.{◌≡◌};
 ghost use Rattle.session_words.specs.Argument.{PlainArgumentRule, command_with};
 ghost use Rattle.session_words.specs.PlainCommand.{plain_command, plain_reading};
-ghost use Rattle.session_words.specs.Private.PlainForm.{plain_argument_rule, alone_command, named_command, numbered_command, texted_command, filed_command};
+ghost use Rattle.session_words.specs.Private.PlainArgumentRule.{plain_argument_rule, alone_command, named_command, numbered_command, texted_command, filed_command};
 
 use crate::argument::{is_file_name, name_in, number_in};
 use crate::command::{Command, CommandFault};
@@ -118,20 +118,20 @@ impl ArgumentRule {
 }
 
 impl Alone {
-    /// The command, where there is no argument.
+    /// A command that takes no argument, where there is none.
     fn command<'a>(self, argument: &[u8]) -> Result<Command<'a>, CommandFault>
         ensures { plain_reading result ≡
             command_with (PlainArgumentRule.nothing (alone_command self)) argument.now }
     {
         if argument.is_empty() {
-            Ok(self.made())
+            Ok(self.command_of())
         } else {
             Err(CommandFault::WrongArgument)
         }
     }
 
-    /// The command.
-    fn made<'a>(self) -> Command<'a>
+    /// The command that takes no argument.
+    fn command_of<'a>(self) -> Command<'a>
         ensures { plain_command result ≡ alone_command self }
     {
         match self {
@@ -152,19 +152,19 @@ impl Alone {
 }
 
 impl Named {
-    /// The command with the name that the argument is.
+    /// A command that takes a clip's name, with the name that the argument is.
     fn command<'a>(self, argument: &[u8]) -> Result<Command<'a>, CommandFault>
         ensures { plain_reading result ≡
             command_with (PlainArgumentRule.name (named_command self)) argument.now }
     {
         match name_in(argument) {
-            Some(name) => Ok(self.made(name)),
+            Some(name) => Ok(self.command_of(name)),
             None => Err(CommandFault::WrongArgument),
         }
     }
 
-    /// The command with the name.
-    fn made<'a>(self, name: Name) -> Command<'a>
+    /// The command with the clip's name.
+    fn command_of<'a>(self, name: Name) -> Command<'a>
         ensures { plain_command result ≡ named_command self name }
     {
         match self {
@@ -176,19 +176,19 @@ impl Named {
 }
 
 impl Numbered {
-    /// The command with the number that the argument is, if it is one of the range.
+    /// A command that takes a number, with the one of its range that the argument is.
     fn command<'a>(self, range: Range, argument: &[u8]) -> Result<Command<'a>, CommandFault>
         ensures { plain_reading result ≡
             command_with (plain_argument_rule (ArgumentRule.Number range self)) argument.now }
     {
         match number_in(range, argument) {
-            Some(number) => Ok(self.made(number)),
+            Some(number) => Ok(self.command_of(number)),
             None => Err(CommandFault::WrongArgument),
         }
     }
 
-    /// The command with the number.
-    fn made<'a>(self, number: u32) -> Command<'a>
+    /// The command with a number of its range.
+    fn command_of<'a>(self, number: u32) -> Command<'a>
         ensures { plain_command result ≡ numbered_command self number }
     {
         match self {
@@ -200,7 +200,7 @@ impl Numbered {
 }
 
 impl Texted {
-    /// The command with the text that the argument is.
+    /// A command that takes a text, with the text that the argument is.
     fn command<'a>(self, argument: &'a [u8]) -> Result<Command<'a>, CommandFault>
         ensures { plain_reading result ≡
             command_with (PlainArgumentRule.text (texted_command self)) argument.entry.now }
@@ -215,7 +215,7 @@ impl Texted {
 }
 
 impl Filed {
-    /// The command with the file name that the argument is.
+    /// A command that takes a file name, with the one that the argument is.
     fn command<'a>(self, argument: &'a [u8]) -> Result<Command<'a>, CommandFault>
         ensures { plain_reading result ≡
             command_with (PlainArgumentRule.file (filed_command self)) argument.entry.now }

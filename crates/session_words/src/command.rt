@@ -6,9 +6,8 @@ ghost use Rattle.session_words.specs.CommandLine.{begins_with_point, is_word_end
 ghost use Rattle.session_words.specs.PlainCommand.{plain_reading};
 
 use crate::command_table::argument_rule_of;
-use crate::trimmed::trimmed;
 use plcs_base::{Name, is_letter};
-use plcs_grammar::Template;
+use plcs_grammar::{Template, trimmed};
 
 /// What a command line asks for.
 #[derive(Debug, Drop, PartialEq, Eq)]

@@ -2,7 +2,7 @@
 ghost use Rattle.std.specs.Prelude.{◌≡◌, map, find, bytes_eq};
 ghost use Rattle.std.specs.Option.{option_map};
 ghost use Rattle.session_words.specs.CommandTable.{other_commands, argument_rule_in, argument_rule_of};
-ghost use Rattle.session_words.specs.Private.PlainForm.{plain_argument_rule};
+ghost use Rattle.session_words.specs.Private.PlainArgumentRule.{plain_argument_rule};
 ghost use Rattle.session_words.specs.Private.PlainCommandRow.{plain_command_row};
 
 use crate::argument_rule::{Alone, ArgumentRule, Filed, Named, Numbered, Range, Texted};
@@ -132,14 +132,14 @@ pub fn argument_rule_of(word: &[u8]) -> Option<ArgumentRule>
     }
 }
 
-/// The same among the commands that fill in no template.
+/// What the command of the word takes behind it, among the commands that fill in no template.
 fn other_argument_rule_of(word: &[u8]) -> Option<ArgumentRule>
     ensures { option_map plain_argument_rule result ≡ argument_rule_in other_commands word.now }
 {
     argument_rule_among(other_rows(), word)
 }
 
-/// The rows of the table.
+/// The rows of the table of commands that fill in no template.
 fn other_rows() -> &'static [CommandRow]
     ensures { map plain_command_row result.now ≡ other_commands }
 {

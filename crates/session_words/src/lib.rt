@@ -12,7 +12,6 @@ mod message_text;
 mod number;
 #[cfg(test)]
 mod tests;
-mod trimmed;
 
 pub use argument::is_file_name;
 pub use command::{Command, CommandFault, begins_with_point, read_command};

@@ -1,14 +1,11 @@
 //! Numbers in decimal digits.
-ghost use Rattle.std.specs.Prelude.{◌≡◌, ◌≤◌, ◌^◌, min, IfSome};
+ghost use Rattle.std.specs.Prelude.{◌≡◌};
 ghost use Rattle.std.specs.List.{list_all};
 ghost use Rattle.plcs_base.specs.Byte.{is_digit};
-ghost use Rattle.plcs_grammar.specs.Token.{numeral_value};
 ghost use Rattle.session_words.specs.Argument.{number_between};
 
 use plcs_base::is_digit;
-
-/// What stands for every number that is greater than those that an argument can be.
-const TOO_GREAT: u64 = 4_294_967_296;
+use plcs_grammar::numeral_value;
 
 /// The number that the text is, with any count of digits, where it lies between the two bounds, which
 /// are part of the range.
@@ -19,7 +16,7 @@ pub fn number_between(least: u32, most: u32, text: &[u8]) -> Option<u32>
     if text.is_empty() || !all_digits(text) {
         return None;
     }
-    let value = capped_value(text);
+    let value = numeral_value(text);
     if value < u64::from(least) || value > u64::from(most) {
         return None;
     }
@@ -31,16 +28,4 @@ fn all_digits(text: &[u8]) -> bool
     ensures { result ≡ list_all is_digit text.now }
 {
     text.iter().all(|byte| is_digit(*byte))
-}
-
-/// The number that the digits write, or 4294967296 where it is greater.
-fn capped_value(digits: &[u8]) -> u64
-    ensures { result ≡ min (numeral_value digits.now) TOO_GREAT }
-{
-    let mut value: u64 = 0;
-    for digit in digits {
-        let ones = u64::from(digit.saturating_sub(b'0'));
-        value = (10 * value + ones).min(TOO_GREAT);
-    }
-    value
 }

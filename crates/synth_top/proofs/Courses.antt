@@ -3,6 +3,7 @@ use Rattle.std.proofs.Common.{◌≡◌, ◌≤◌, ◌⊎◌, ℕ, ◌+◌, fal
 use Rattle.std.proofs.lemmas.List.{take_all}
 use Rattle.std.proofs.Math.Seq.{take-append-add}
 use Rattle.std.proofs.KnownBytes.{Appends-trans, Consumes-nil}
+use Rattle.std.specs.FinMap.{empty}
 use Rattle.std.specs.Io.KnownBytes.{Appends, Consumes}
 use Rattle.synth_outside.specs.Sink.{AppendsFront}
 use Rattle.synth_outside.specs.Files.{FileMap}
@@ -10,28 +11,30 @@ use Rattle.synth_top.specs.declared.status.Status.TheVariants.{WriteFault, NoMem
 use Rattle.synth_top.specs.Keys.{completed, keys}
 use Rattle.synth_top.specs.Private.Pressing.{Moment, AllShown, UpToLast}
 use Rattle.synth_top.specs.Reply.{NotAsked}
-use Rattle.synth_top.specs.Run.{Told, Loads, HaveMap, NoRescue, IsFront, IsOver, Course, AtLastKey, Ended, ReadsInTurn, keys_pressed, raised_by, first_state, opening, painted_over, written}
+use Rattle.synth_top.specs.Run.{Told, Loads, NoRescue, IsFront, IsOver, Course, AtLastKey, Ended, ReadsInTurn, keys_pressed, raised_by, first_state, opening, painted_over, written}
 use Rattle.synth_top.specs.Screen.{grid}
 use Rattle.synth_top.specs.Session.{new_session}
-use Rattle.synth_top.specs.Turn.{State, PressedKey, Replied, after, ends, grids}
-use Rattle.synth_top.specs.Words.{PlainOptions}
+use Rattle.synth_top.specs.Turn.{State, IsMapOf, PressedKey, Replied, after, ends, grids}
+use Rattle.synth_top.specs.Options.{PlainOptions}
 
 -- no file was loaded
 abbrev pub no_loads : Loads
 no_loads = record { program = NotAsked; input = NotAsked }
 
 -- the state of the opening screen
-abbrev pub unloaded_state : PlainOptions → Option FileMap → State
+abbrev pub unloaded_state : PlainOptions → FileMap → State
 unloaded_state options files = first_state options files no_loads
 
 -- what is told at a moment
 abbrev pub told_at : Option (List ℕ) → ℕ → Moment → Told
-told_at left reads m = record { left = left; reads = reads; taken = m.taken; files = m.state.files; file_faults = m.file_faults }
+told_at left reads m = record { left = left; reads = reads; taken = m.taken; files = m.files; file_faults = m.file_faults }
 
 -- the opening screen was written
 pub record Opened (options : PlainOptions) (before : Told) (m : Moment) : Type 0 where
   pub wrote : Appends before.taken m.taken (opening (new_session options.size))
-  pub state : m.state ≡ unloaded_state options before.files
+  pub map : FileMap
+  pub told : IsMapOf before.files map
+  pub state : m.state ≡ unloaded_state options map
   pub shown : m.shown ≡ grid (new_session options.size)
   pub faults : m.file_faults ≡ before.file_faults
 
@@ -39,10 +42,14 @@ pub record Opened (options : PlainOptions) (before : Told) (m : Moment) : Type 0
 abbrev pub InTurn : List ℕ → List PressedKey → Type 0
 InTurn bytes pressed = (seen : List ℕ) (newest : ℕ) → bytes ≡ seen ++ newest ∷ [] → IsFront (completed seen) (keys_pressed pressed)
 
--- files whose map is this one
-pub have_map : (map now : Option FileMap) → now ≡ map → HaveMap map now
-have_map None now same = tt
-have_map (Some map) now same = same
+-- a map that files have: the one that they tell, or else an empty one
+abbrev pub some_map : Option FileMap → FileMap
+some_map None = empty
+some_map (Some told) = told
+
+pub some_map_told : (files : Option FileMap) → IsMapOf files (some_map files)
+some_map_told None = tt
+some_map_told (Some told) = refl
 
 -- ---- the opening screen was cut short
 
@@ -53,12 +60,14 @@ one_byte (first ∷ rest) newest e = absurd (cc)
 
 module _ (options : PlainOptions) (before now : Told) (read : now.left ≡ before.left) (unread : now.reads ≡ before.reads) (front : AppendsFront before.taken now.taken (opening (new_session options.size)))
     (files : now.files ≡ before.files) (faults : before.file_faults ≤ now.file_faults) where
-  opening_wrote : Appends before.taken now.taken (take front.0 (written (unloaded_state options before.files) []))
+  opening_wrote : Appends before.taken now.taken (take front.0 (written (unloaded_state options (some_map before.files)) []))
   unfolding written
   opening_wrote = subst (λ l. Appends before.taken now.taken (take front.0 l)) (sym (append-nil (opening (new_session options.size)))) front.1
 
   abbrev opening_course : Course options before now
   opening_course = record {
+    map = some_map before.files;
+    told = some_map_told before.files;
     loads = no_loads;
     can_load = record { program = refl; input = refl };
     bytes = [];
@@ -75,7 +84,7 @@ module _ (options : PlainOptions) (before now : Told) (read : now.left ≡ befor
     count = front.0;
     wrote = opening_wrote;
     rescue = NoRescue;
-    files = have_map before.files now.files files;
+    files = subst (λ f. IsMapOf f (some_map before.files)) (sym files) (some_map_told before.files);
     faults = omega (arith, faults);
   }
 
@@ -88,28 +97,30 @@ module _ (options : PlainOptions) (before now : Told) (read : now.left ≡ befor
 module _ (options : PlainOptions) (before : Told) (opened m : Moment) (left : Option (List ℕ)) (now_reads : ℕ) (is_opened : Opened options before opened) where
   -- all that is written, from the opening screen on
   written_is : (ps : List PressedKey)
-      → written (unloaded_state options before.files) ps ≡ opening (new_session options.size) ++ painted_over opened.shown (grids opened.state ps)
+      → written (unloaded_state options is_opened.map) ps ≡ opening (new_session options.size) ++ painted_over opened.shown (grids opened.state ps)
   unfolding written
   written_is ps =
       ap (λ s. opening (new_session options.size) ++ painted_over (grid (new_session options.size)) (grids s ps)) (sym is_opened.state)
       ∙ ap (λ g. opening (new_session options.size) ++ painted_over g (grids opened.state ps)) (sym is_opened.shown)
 
   length_is : (ps : List PressedKey)
-      → length (written (unloaded_state options before.files) ps) ≡ length (opening (new_session options.size)) + length (painted_over opened.shown (grids opened.state ps))
+      → length (written (unloaded_state options is_opened.map) ps) ≡ length (opening (new_session options.size)) + length (painted_over opened.shown (grids opened.state ps))
   length_is ps = ap length (written_is ps) ∙ length-append (opening (new_session options.size)) (painted_over opened.shown (grids opened.state ps))
 
   -- ---- all keys were shown
   module _ (bytes lost : List ℕ) (read : Consumes before.left left (bytes ++ lost)) (one : length lost ≤ 1) (within : length bytes ≤ options.key_limit)
       (reads : ℕ) (made : now_reads ≡ raised_by reads before.reads) (ps : List PressedKey) (all : AllShown opened m ps) (order : IsFront (keys_pressed ps) (keys bytes))
       (complete : IsFront (keys_pressed ps) (completed bytes) ⊎ IsOver options (told_at left now_reads m) bytes reads) where
-    pub all_wrote : Appends before.taken m.taken (take (length (written (unloaded_state options before.files) ps)) (written (unloaded_state options before.files) ps))
+    pub all_wrote : Appends before.taken m.taken (take (length (written (unloaded_state options is_opened.map) ps)) (written (unloaded_state options is_opened.map) ps))
     all_wrote =
         subst (Appends before.taken m.taken)
-        (sym (take_all (length (written (unloaded_state options before.files) ps)) (written (unloaded_state options before.files) ps) (omega arith) ∙ written_is ps))
+        (sym (take_all (length (written (unloaded_state options is_opened.map) ps)) (written (unloaded_state options is_opened.map) ps) (omega arith) ∙ written_is ps))
         (Appends-trans before.taken opened.taken m.taken _ _ is_opened.wrote all.wrote)
 
     abbrev pub all_course : Course options before (told_at left now_reads m)
     all_course = record {
+      map = is_opened.map;
+      told = is_opened.told;
       loads = no_loads;
       can_load = record { program = refl; input = refl };
       bytes = bytes;
@@ -123,15 +134,15 @@ module _ (options : PlainOptions) (before : Told) (opened m : Moment) (left : Op
       can_reply = subst (λ s. Replied s ps) is_opened.state all.can_reply;
       in_order = order;
       complete = complete;
-      count = length (written (unloaded_state options before.files) ps);
+      count = length (written (unloaded_state options is_opened.map) ps);
       wrote = all_wrote;
       rescue = NoRescue;
-      files = have_map (after (unloaded_state options before.files) ps).files m.state.files (ap (λ (s : State). s.files) (all.state ∙ ap (λ s. after s ps) is_opened.state));
+      files = subst (IsMapOf m.files) (ap (λ (s : State). s.files) (all.state ∙ ap (λ s. after s ps) is_opened.state)) m.told;
       faults = omega (arith, is_opened.faults, all.faults);
     }
 
     -- none ended the session
-    pub all_going : ends (unloaded_state options before.files) ps ≡ false
+    pub all_going : ends (unloaded_state options is_opened.map) ps ≡ false
     all_going = subst (λ s. ends s ps ≡ false) is_opened.state all.going
 
   -- ---- keys were shown up to a last one
@@ -140,7 +151,7 @@ module _ (options : PlainOptions) (before : Told) (opened m : Moment) (left : Op
       (order : IsFront (keys_pressed (earlier ++ last ∷ [])) (keys bytes))
       (complete : IsFront (keys_pressed (earlier ++ last ∷ [])) (completed bytes) ⊎ IsOver options (told_at left now_reads m) bytes reads) where
     pub last_wrote : Appends before.taken m.taken
-        (take (length (opening (new_session options.size)) + count) (written (unloaded_state options before.files) (earlier ++ last ∷ [])))
+        (take (length (opening (new_session options.size)) + count) (written (unloaded_state options is_opened.map) (earlier ++ last ∷ [])))
     last_wrote =
         let screens = painted_over opened.shown (grids opened.state (earlier ++ last ∷ [])) in
         let first = opening (new_session options.size) in
@@ -150,6 +161,8 @@ module _ (options : PlainOptions) (before : Told) (opened m : Moment) (left : Op
 
     abbrev pub last_course : Course options before (told_at left now_reads m)
     last_course = record {
+      map = is_opened.map;
+      told = is_opened.told;
       loads = no_loads;
       can_load = record { program = refl; input = refl };
       bytes = bytes;
@@ -166,7 +179,7 @@ module _ (options : PlainOptions) (before : Told) (opened m : Moment) (left : Op
       count = length (opening (new_session options.size)) + count;
       wrote = last_wrote;
       rescue = NoRescue;
-      files = have_map (after (unloaded_state options before.files) (earlier ++ last ∷ [])).files m.state.files (up_to.files ∙ ap (λ (s : State). (after s (earlier ++ last ∷ [])).files) is_opened.state);
+      files = subst (IsMapOf m.files) (up_to.files ∙ ap (λ (s : State). (after s (earlier ++ last ∷ [])).files) is_opened.state) m.told;
       faults = omega (arith, is_opened.faults, up_to.faults);
     }
 
@@ -182,10 +195,10 @@ module _ (options : PlainOptions) (before : Told) (opened m : Moment) (left : Op
     }
 
     -- whether the last one ended the session
-    pub last_ends : ends (unloaded_state options before.files) (earlier ++ last ∷ []) ≡ ends opened.state (earlier ++ last ∷ [])
+    pub last_ends : ends (unloaded_state options is_opened.map) (earlier ++ last ∷ []) ≡ ends opened.state (earlier ++ last ∷ [])
     last_ends = ap (λ s. ends s (earlier ++ last ∷ [])) (sym is_opened.state)
 
     -- all was written
     pub last_all : length (painted_over opened.shown (grids opened.state (earlier ++ last ∷ []))) ≤ count
-        → length (written (unloaded_state options before.files) (earlier ++ last ∷ [])) ≤ length (opening (new_session options.size)) + count
+        → length (written (unloaded_state options is_opened.map) (earlier ++ last ∷ [])) ≤ length (opening (new_session options.size)) + count
     last_all all = omega (arith, length_is (earlier ++ last ∷ []), all)

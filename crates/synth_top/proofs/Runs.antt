@@ -18,7 +18,7 @@ use Rattle.synth_top.specs.Run.{Told, NoRescue, EndRead, LimitTaken, IsFront, Is
 use Rattle.synth_top.specs.Reply.{Reply}
 use Rattle.synth_top.specs.Session.{press}
 use Rattle.synth_top.specs.Turn.{State, PressedKey, ends, grids, turn}
-use Rattle.synth_top.specs.Words.{PlainOptions}
+use Rattle.synth_top.specs.Options.{PlainOptions}
 use Rattle.synth_top.proofs.Courses.{Opened, InTurn, told_at, all_course, all_going, last_course, at_last, one_byte, last_ends, last_all}
 use Rattle.synth_top.proofs.KeysInOrder.{keys_pressed-append, both_shown, then_up_to, front_behind, ends_more, painted_more}
 
@@ -166,14 +166,14 @@ module _ (number : ℕ) (options : PlainOptions) (before : Told) (left : Option 
       at_key = at_last options before so.opened now now_left now_reads so.is_opened bytes nothing_behind within reads made (so.pressed ++ earlier) last _ all_up_to
           (front_trans _ _ _ in_front order) complete_front (in_turn earlier) (reads_in_turn earlier)
 
-      ends_as : (b : _) → ends m.state (earlier ++ last ∷ []) ≡ b → ends (first_state options before.files course.loads) ((so.pressed ++ earlier) ++ last ∷ []) ≡ b
+      ends_as : (b : _) → ends m.state (earlier ++ last ∷ []) ≡ b → ends (first_state options course.map course.loads) ((so.pressed ++ earlier) ++ last ∷ []) ≡ b
       ends_as b e =
           last_ends options before so.opened now now_left now_reads so.is_opened bytes nothing_behind within reads made (so.pressed ++ earlier) last _ all_up_to
           (front_trans _ _ _ in_front order) complete_front
           ∙ ap (ends so.opened.state) (sym joined) ∙ ends_more so.opened m so.pressed so.all (earlier ++ last ∷ []) ∙ e
 
       all_written : length (painted_over m.shown (grids m.state (earlier ++ last ∷ []))) ≤ count
-          → length (written (first_state options before.files course.loads) ((so.pressed ++ earlier) ++ last ∷ [])) ≤ course.count
+          → length (written (first_state options course.map course.loads) ((so.pressed ++ earlier) ++ last ∷ [])) ≤ course.count
       all_written all =
           let first = painted_over so.opened.shown (grids so.opened.state so.pressed) in
           let bytes_are : length (painted_over so.opened.shown (grids so.opened.state ((so.pressed ++ earlier) ++ last ∷ [])))
@@ -273,7 +273,7 @@ module _ (number : ℕ) (options : PlainOptions) (before : Told) (left : Option 
 
   -- ---- a read gave no answer
   pub read_cut : (lost : List ℕ) → number < options.key_limit → length lost ≤ 1 → Consumes left now_left lost → now_reads ≡ raised so_reads → now ≡ m
-      → (course : Course options before (told_at now_left now_reads now)) × (length (written (first_state options before.files course.loads) course.pressed) ≤ course.count) × ReadCut course × (course.rescue ≡ NoRescue)
+      → (course : Course options before (told_at now_left now_reads now)) × (length (written (first_state options course.map course.loads) course.pressed) ≤ course.count) × ReadCut course × (course.rescue ≡ NoRescue)
   read_cut lost below few read one same =
       let all : AllShown so.opened now so.pressed = subst (λ z. AllShown so.opened z so.pressed) (sym same) so.all in
       let done : completed so.bytes ≡ pressed_keys = completed_list so.bytes held pressed_keys so.completed_are so.held_is in
@@ -324,7 +324,7 @@ module _ (number : ℕ) (options : PlainOptions) (before : Told) (left : Option 
 
     -- all was shown
     pub all_pressed : KeysShown (keys held) m now
-        → (course : Course options before (told_at now_left now_reads now)) × (length (written (first_state options before.files course.loads) course.pressed) ≤ course.count)
+        → (course : Course options before (told_at now_left now_reads now)) × (length (written (first_state options course.map course.loads) course.pressed) ≤ course.count)
         × (course.lost ≡ []) × (course.bytes ≡ so.bytes) × (course.reads ≡ reads) × PressedAll course (keys course.bytes) × (course.rescue ≡ NoRescue)
     all_pressed next =
         let ps = so.pressed ++ next.pressed in

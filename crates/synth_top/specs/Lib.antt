@@ -1,7 +1,7 @@
 -- ---- sizes, numbers and the words of the command
 pub mod Extent
 pub mod Number
-pub mod Words
+pub mod Options
 -- ---- keys, the session, and its screen
 pub mod Keys
 pub mod Reply

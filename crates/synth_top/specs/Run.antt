@@ -1,5 +1,5 @@
 -- A whole run: from the bytes of keys to the bytes of screens.
-use Rattle.std.specs.Prelude.{◌≡◌, ◌⊎◌, ℕ, ◌+◌, ◌-◌, ◌^◌, ◌<◌, ◌≤◌, min, max, true, false, List, [], ◌∷◌, ◌++◌, length, map, take, Option, Some, None, codes}
+use Rattle.std.specs.Prelude.{◌≡◌, ◌⊎◌, ℕ, ◌+◌, ◌-◌, ◌^◌, ◌<◌, ◌≤◌, min, max, true, false, List, [], ◌∷◌, ◌++◌, length, map, take, Option, codes}
 use Rattle.std.specs.Io.KnownBytes.{Appends, Consumes, IsAtEnd}
 use Rattle.synth_outside.specs.Files.{FileMap}
 use Rattle.synth_top.specs.declared.key.Key.{Key}
@@ -10,8 +10,8 @@ use Rattle.synth_top.specs.Paint.{paint, control}
 use Rattle.synth_top.specs.Reply.{Reply, NotAsked, failure}
 use Rattle.synth_top.specs.Screen.{PlainGrid, grid, blank}
 use Rattle.synth_top.specs.Session.{PlainSession, new_session}
-use Rattle.synth_top.specs.Turn.{State, PressedKey, Replied, after, ends, failures, grids}
-use Rattle.synth_top.specs.Words.{PlainOptions}
+use Rattle.synth_top.specs.Turn.{State, IsMapOf, PressedKey, Replied, after, ends, failures, grids}
+use Rattle.synth_top.specs.Options.{PlainOptions}
 
 -- ---- what is written
 
@@ -50,12 +50,12 @@ pub record Loads : Type 0 where
   pub input : Reply
 
 -- no words name a file to be loaded yet
-pub record CanLoad (options : PlainOptions) (files : Option FileMap) (loads : Loads) : Type 0 where
+pub record CanLoad (options : PlainOptions) (files : FileMap) (loads : Loads) : Type 0 where
   pub program : loads.program ≡ NotAsked
   pub input : loads.input ≡ NotAsked
 
 -- the state of the opening screen
-abbrev pub first_state : PlainOptions → Option FileMap → Loads → State
+abbrev pub first_state : PlainOptions → FileMap → Loads → State
 first_state options files loads = record { session = new_session options.size; files = files }
 
 -- ---- what a run has done
@@ -98,11 +98,6 @@ ReadsInTurn options now bytes reads pressed =
     (reads ≡ length bytes)
     ⊎ (EndRead options now bytes reads × IsFront (completed bytes) (keys_pressed pressed))
 
--- files that told a map before have this one now
-abbrev pub HaveMap : Option FileMap → Option FileMap → Type 0
-HaveMap None now = Unit {0}
-HaveMap (Some map) now = now ≡ Some map
-
 -- what was saved at the end of a run
 pub data Rescue : Type 0 where
   NoRescue : Rescue
@@ -112,14 +107,17 @@ abbrev pub IsRescue : Status → Rescue → Type 0
 IsRescue status rescue = rescue ≡ NoRescue
 
 -- the map of the files with what was saved
-abbrev pub map_with : Rescue → Option FileMap → Option FileMap
+abbrev pub map_with : Rescue → FileMap → FileMap
 map_with NoRescue files = files
 
 -- what a run with these options has done between two moments
 pub record Course (options : PlainOptions) (before now : Told) : Type 0 where
+  -- the map of the files: the one that they tell, or some map where they tell none
+  pub map : FileMap
+  pub told : IsMapOf before.files map
   -- the loads
   pub loads : Loads
-  pub can_load : CanLoad options before.files loads
+  pub can_load : CanLoad options map loads
   -- the bytes of keys, each taken once and in order, and at most one that a failed read lost
   pub bytes : List ℕ
   pub lost : List ℕ
@@ -132,18 +130,18 @@ pub record Course (options : PlainOptions) (before now : Told) : Type 0 where
   -- the keys pressed, each with what the files did in it; what isn't complete is pressed only where
   -- no byte comes any more
   pub pressed : List PressedKey
-  pub can_reply : Replied (first_state options before.files loads) pressed
+  pub can_reply : Replied (first_state options map loads) pressed
   pub in_order : IsFront (keys_pressed pressed) (keys bytes)
   pub complete : IsFront (keys_pressed pressed) (completed bytes) ⊎ IsOver options now bytes reads
   -- how many bytes of all that is written the sink took
   pub count : ℕ
   pub wrote : Appends before.taken now.taken
-      (take count (written (first_state options before.files loads) pressed))
+      (take count (written (first_state options map loads) pressed))
   -- the map of the files as the turns and what was saved make it, and at least as many faults of
   -- theirs as failures
   pub rescue : Rescue
-  pub files : HaveMap
-      (map_with rescue (after (first_state options before.files loads) pressed).files) now.files
+  pub files : IsMapOf now.files
+      (map_with rescue (after (first_state options map loads) pressed).files)
   pub faults : RoseBy (failure loads.program + failure loads.input + failures pressed)
       before.file_faults now.file_faults
 
@@ -152,7 +150,7 @@ pub record Course (options : PlainOptions) (before now : Told) : Type 0 where
 module _ {options : PlainOptions} {before now : Told} (course : Course options before now) where
   -- the state of the run's opening screen
   abbrev pub state_at_first : State
-  state_at_first = first_state options before.files course.loads
+  state_at_first = first_state options course.map course.loads
 
   -- the sink took all that is written
   abbrev pub AllWritten : Type 0

@@ -1,15 +1,20 @@
 -- The turns of keys: what each makes of the session and the files, and the screens that it shows.
-use Rattle.std.specs.Prelude.{◌≡◌, ℕ, ◌+◌, Bool, false, ◌||◌, List, [], ◌∷◌, ◌++◌, Option, if◌then◌else◌}
+use Rattle.std.specs.Prelude.{◌≡◌, ℕ, ◌+◌, Bool, false, ◌||◌, List, [], ◌∷◌, ◌++◌, Option, Some, None, if◌then◌else◌}
 use Rattle.synth_outside.specs.Files.{FileMap}
 use Rattle.synth_top.specs.declared.key.Key.{Key}
 use Rattle.synth_top.specs.Reply.{Reply, NotAsked, failure}
 use Rattle.synth_top.specs.Session.{PlainSession, Outcome, press, is_quit}
 use Rattle.synth_top.specs.Screen.{PlainGrid, grid}
 
--- what a key's turn begins with: the session, and the map of the files where they tell it
+-- what a key's turn begins with: the session, and the map of the files
 pub record State : Type 0 where
   pub session : PlainSession
-  pub files : Option FileMap
+  pub files : FileMap
+
+-- the map is the one that files tell; of files that tell none it may be any
+abbrev pub IsMapOf : Option FileMap → FileMap → Type 0
+IsMapOf None map = Unit {0}
+IsMapOf (Some told) map = map ≡ told
 
 -- a key that is pressed, and what the files did in it
 pub record PressedKey : Type 0 where

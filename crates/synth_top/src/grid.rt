@@ -3,13 +3,15 @@
 ghost use Rattle.std.specs.Prelude.{◌≡◌, ◌+◌, ◌-◌, ◌≤◌, ◌<◌, [], ◌++◌, length, replicate, slice_index_or, IfOk};
 ghost use Rattle.arrayvec.specs.ArrayVec.{array_vec_len};
 ghost use Rattle.synth_top.specs.Screen.{cursor_col, cursor_row, grid, blank, input_text, part_text, prompt, row_text, shown, statement_line, window_text};
+ghost use Rattle.synth_top.specs.Extent.{most_cols};
 ghost use Rattle.synth_top.specs.Private.PlainForms.{plain_session, plain_grid};
 ghost use Rattle.synth_top.specs.Session.{message_text};
 ghost use Rattle.synth_top.specs.Private.Sized.{IsSized};
 
+use crate::bound::MOST_COLS;
 use crate::session::{Refusal, Session, Statement};
 use crate::size::ScreenSize;
-use crate::text::put;
+use crate::row_text::append;
 use arrayvec::ArrayVec;
 use plcs_grammar::Category;
 use std::alloc::{AllocError, Global};
@@ -20,8 +22,11 @@ const BLANK: u16 = 32;
 /// The rows that don't show the program: dashes, three rows of output, the message and the input.
 const OTHER_ROWS: usize = 6;
 
+/// How many bytes the text of a row has at most.
+const LONGEST_ROW: usize = MOST_COLS as usize;
+
 /// The text of one row, which is at most as long as the widest screen.
-type RowText = ArrayVec<u8, 160>;
+type RowText = ArrayVec<u8, LONGEST_ROW>;
 
 /// What a screen shows: its rows of cells from the top, and the cursor's row and column, which
 /// count from 1. A cell is its byte, plus 256 where it is in negative image.
@@ -121,13 +126,13 @@ fn put_window(text: &mut RowText, session: &Session, row: usize)
     requires { text.old.items ≡ [] }
     ensures { text.new.items ≡ window_text (plain_session session.now) row }
 {
-    put(text, b"  ");
+    append(text, b"  ");
     match row {
-        0 => put(text, b"main: PROCEDURE OPTIONS ( MAIN );"),
-        1 => put(text, b"  {declaration}"),
+        0 => append(text, b"main: PROCEDURE OPTIONS ( MAIN );"),
+        1 => append(text, b"  {declaration}"),
         2 => put_statement(text, session.statement()),
-        3 => put(text, b"END;"),
-        4 => put(text, b"{procedure}"),
+        3 => append(text, b"END;"),
+        4 => append(text, b"{procedure}"),
         _ => {}
     }
 }
@@ -138,11 +143,11 @@ fn put_statement(text: &mut RowText, statement: Statement)
     ensures { text.new.items ≡ text.old.items ++ statement_line statement }
 {
     match statement {
-        Statement::Hole => put(text, b"  {statement}"),
+        Statement::Hole => append(text, b"  {statement}"),
         Statement::Put(part) => {
-            put(text, b"  PUT LIST ( ");
+            append(text, b"  PUT LIST ( ");
             put_part(text, part);
-            put(text, b" );");
+            append(text, b" );");
         }
     }
 }
@@ -154,15 +159,15 @@ fn put_part(text: &mut RowText, part: Option<u32>)
     ensures short { array_vec_len text.new ≤ 60 }
 {
     match part {
-        None => put(text, Category::ExpressionList.placeholder()),
-        Some(number) => put(text, itoa::Buffer::new().format(number).as_bytes()),
+        None => append(text, Category::ExpressionList.placeholder()),
+        Some(number) => append(text, itoa::Buffer::new().format(number).as_bytes()),
     }
 }
 
 /// The row between the window and the output.
 fn put_dashes(text: &mut RowText, count: u16)
     requires empty { text.old.items ≡ [] }
-    requires room { count ≤ 160 }
+    requires room { count ≤ most_cols }
     ensures { text.new.items ≡ replicate count 45 }
 {
     for _ in 0..count {
@@ -177,9 +182,9 @@ fn put_message(text: &mut RowText, message: Option<Refusal>)
 {
     match message {
         None => {}
-        Some(Refusal::NotHere) => put(text, b"NOT HERE"),
-        Some(Refusal::PhraseFull) => put(text, b"PHRASE FULL"),
-        Some(Refusal::NotBuilt) => put(text, b"NOT BUILT"),
+        Some(Refusal::NotHere) => append(text, b"NOT HERE"),
+        Some(Refusal::PhraseFull) => append(text, b"PHRASE FULL"),
+        Some(Refusal::NotBuilt) => append(text, b"NOT BUILT"),
     }
 }
 
@@ -190,10 +195,10 @@ fn put_prompt(text: &mut RowText, statement: Statement)
     ensures short { array_vec_len text.new ≤ 20 }
 {
     match statement {
-        Statement::Hole => put(text, b"statement"),
-        Statement::Put(_) => put(text, Category::ExpressionList.placeholder_word()),
+        Statement::Hole => append(text, b"statement"),
+        Statement::Put(_) => append(text, Category::ExpressionList.placeholder_word()),
     }
-    put(text, b"> ");
+    append(text, b"> ");
 }
 
 /// The prompt and the end of the typed line.
@@ -206,7 +211,7 @@ fn put_input(text: &mut RowText, session: &Session)
     put_prompt(text, session.statement());
     let room = usize::from(session.size().cols()) - 2 - text.len();
     let typed = session.typed();
-    put(text, &typed[typed.len().saturating_sub(room)..]);
+    append(text, &typed[typed.len().saturating_sub(room)..]);
 }
 
 /// The row of the cursor, counted from 1.

@@ -5,26 +5,27 @@ ghost use Rattle.std.specs.Prelude.{◌≡◌, map, IfSome, string_bytes};
 ghost use Rattle.synth_top.specs.Private.PlainForms.{plain_options};
 ghost use Rattle.synth_top.specs.Run.{Ended};
 ghost use Rattle.synth_top.specs.Status.{CausedBy, LeftAs};
-ghost use Rattle.synth_top.specs.Words.{options_of};
+ghost use Rattle.synth_top.specs.Options.{options_of};
 
+mod bound;
 mod grid;
 mod key;
 mod number;
+mod options;
 mod paint;
+mod row_text;
 mod run;
 mod session;
 mod size;
 mod status;
-mod text;
-mod words;
 
 pub use key::{Key, KeyReader, Keys};
+use options::Options;
 use plcs_base::Work;
 use run::Editor;
 pub use status::Status;
 use std::alloc::Global;
 use synth_outside::{Files, Sink, Source};
-use words::Options;
 
 /// Edits a program: reads the words that follow the program's name, and then writes the opening
 /// screen and one screen after each key to the screen's sink, until a key ends the session or the
@@ -77,7 +78,7 @@ pub fn synth<S: Source, K: Sink, F: Files, W: Work>(
     ensures files { files.new ≡ files.old }
     ensures work { _work.new ≡ _work.old }
 {
-    match words::options_of(words) {
+    match options::options_of(words) {
         Some(options) => edit(alloc, options, keys, screen, files),
         None => Status::BadWords,
     }

@@ -2,6 +2,7 @@
 
 ghost use Rattle.std.specs.Prelude.{◌≡◌, ◌+◌, ◌≤◌, [], ◌++◌, false, decimal, length, take};
 ghost use Rattle.arrayvec.specs.ArrayVec.{array_vec_len};
+ghost use Rattle.synth_top.specs.Extent.{most_cols};
 ghost use Rattle.synth_top.specs.Paint.{go_to, image_change, paint, row_piece, row_paint, rows_paint, spelled, visible};
 ghost use Rattle.synth_top.specs.Private.Sized.{IsSized};
 ghost use Rattle.synth_top.specs.Private.PlainForms.{plain_grid};
@@ -9,7 +10,7 @@ ghost use Rattle.synth_top.specs.Private.Writes.{Writes};
 
 use crate::grid::Grid;
 use crate::size::ScreenSize;
-use crate::text::put;
+use crate::row_text::append;
 use arrayvec::ArrayVec;
 use synth_outside::{Sink, SinkFault};
 
@@ -56,7 +57,7 @@ fn paint_rows<K: Sink>(
 
 /// Paints one row, whose number counts from 1, where it differs.
 fn paint_row<K: Sink>(number: u16, old: &[u16], new: &[u16], sink: &mut K) -> Result<(), SinkFault>
-    requires { length new.now ≤ 160 }
+    requires { length new.now ≤ most_cols }
     ensures { Writes (row_paint number old.now new.now) result
         (K.taken sink.old) (K.taken sink.new) (K.faults sink.old) (K.faults sink.new) }
 {
@@ -82,18 +83,18 @@ fn paint_cursor<K: Sink>(grid: &Grid, sink: &mut K) -> Result<(), SinkFault>
 #[tactic(auto, unfolding(crate::specs::Paint::row_piece), using(std::proofs::Common::append_assoc))]
 fn put_row_piece(piece: &mut Piece, number: u16, cells: &[u16])
     requires empty { piece.old.items ≡ [] }
-    requires short { length cells.now ≤ 160 }
+    requires short { length cells.now ≤ most_cols }
     ensures { piece.new.items ≡ row_piece number cells.now }
 {
     put_go_to(piece, number, 1);
     put_cells(piece, &cells[..visible_len(cells)]);
-    put(piece, b"\x1b[K");
+    append(piece, b"\x1b[K");
 }
 
 /// Appends cells, each in its image.
 fn put_cells(piece: &mut Piece, cells: &[u16])
     requires room { array_vec_len piece.old ≤ 100 }
-    requires short { length cells.now ≤ 160 }
+    requires short { length cells.now ≤ most_cols }
     ensures cells { piece.new.items ≡ piece.old.items ++ spelled false cells.now }
     ensures fits { array_vec_len piece.new ≤ 1000 }
 {
@@ -101,7 +102,7 @@ fn put_cells(piece: &mut Piece, cells: &[u16])
     for cell in cells {
         let negative = *cell >= 256;
         put_image_change(piece, image, negative);
-        put(piece, &[(*cell % 256) as u8]);
+        append(piece, &[(*cell % 256) as u8]);
         image = negative;
     }
     put_image_change(piece, image, false);
@@ -114,8 +115,8 @@ fn put_image_change(piece: &mut Piece, image: bool, negative: bool)
     ensures short { array_vec_len piece.new ≤ array_vec_len piece.old + 4 }
 {
     match (image, negative) {
-        (true, false) => put(piece, b"\x1b[0m"),
-        (false, true) => put(piece, b"\x1b[7m"),
+        (true, false) => append(piece, b"\x1b[0m"),
+        (false, true) => append(piece, b"\x1b[7m"),
         _ => {}
     }
 }
@@ -127,11 +128,11 @@ fn put_go_to(piece: &mut Piece, row: u16, col: u16)
     ensures place { piece.new.items ≡ go_to row col }
     ensures short { array_vec_len piece.new ≤ 100 }
 {
-    put(piece, b"\x1b[");
+    append(piece, b"\x1b[");
     put_number(piece, row);
-    put(piece, b";");
+    append(piece, b";");
     put_number(piece, col);
-    put(piece, b"H");
+    append(piece, b"H");
 }
 
 /// Appends a number in decimal.
@@ -140,7 +141,7 @@ fn put_number(piece: &mut Piece, number: u16)
     ensures number { piece.new.items ≡ piece.old.items ++ decimal number }
     ensures short { array_vec_len piece.new ≤ array_vec_len piece.old + 40 }
 {
-    put(piece, itoa::Buffer::new().format(number).as_bytes());
+    append(piece, itoa::Buffer::new().format(number).as_bytes());
 }
 
 /// How many cells there are up to the last that isn't a blank in default image.

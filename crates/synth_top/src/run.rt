@@ -7,7 +7,7 @@ ghost use Rattle.synth_outside.specs.Source.{LosesAtMost};
 ghost use Rattle.synth_top.specs.Keys.{keys, listed};
 ghost use Rattle.synth_top.specs.Paint.{paint};
 ghost use Rattle.synth_top.specs.Private.PlainForms.{plain_grid, plain_session};
-ghost use Rattle.synth_top.specs.Private.Pressing.{IsNew, IsReady, PressesKeys, ReadsByte, ended_as, moment_of};
+ghost use Rattle.synth_top.specs.Private.Pressing.{IsNew, IsReady, PressesKeys, ReadsByte, ended_as, snapshot_of};
 ghost use Rattle.synth_top.specs.Run.{Ended, opening};
 ghost use Rattle.synth_top.specs.Screen.{grid};
 ghost use Rattle.synth_top.specs.Status.{CausedBy, LeftAs};
@@ -140,8 +140,8 @@ impl Editor {
     fn finish<K: Sink, F: Files>(&mut self, screen: &mut K, files: &mut F) -> Going
         requires { IsReady self.old }
         ensures presses { PressesKeys result (keys self.old.reader)
-            (moment_of self.old (K.taken screen.old) (F.stored files.old) (F.faults files.old))
-            (moment_of self.new (K.taken screen.new) (F.stored files.new) (F.faults files.new))
+            (snapshot_of self.old (K.taken screen.old) (F.stored files.old) (F.faults files.old))
+            (snapshot_of self.new (K.taken screen.new) (F.stored files.new) (F.faults files.new))
             (K.faults screen.old) (K.faults screen.new) self.new }
         ensures files { files.new ≡ files.old }
     {
@@ -153,8 +153,8 @@ impl Editor {
     fn press_keys<K: Sink, F: Files>(&mut self, keys: Keys, screen: &mut K, files: &mut F) -> Going
         requires { IsReady self.old }
         ensures presses { PressesKeys result (listed keys)
-            (moment_of self.old (K.taken screen.old) (F.stored files.old) (F.faults files.old))
-            (moment_of self.new (K.taken screen.new) (F.stored files.new) (F.faults files.new))
+            (snapshot_of self.old (K.taken screen.old) (F.stored files.old) (F.faults files.old))
+            (snapshot_of self.new (K.taken screen.new) (F.stored files.new) (F.faults files.new))
             (K.faults screen.old) (K.faults screen.new) self.new }
         ensures reader { self.new.reader ≡ self.old.reader }
         ensures files { files.new ≡ files.old }
@@ -174,8 +174,8 @@ impl Editor {
     ) -> Going
         requires { IsReady self.old }
         ensures presses { PressesKeys result (option_to_list key)
-            (moment_of self.old (K.taken screen.old) (F.stored files.old) (F.faults files.old))
-            (moment_of self.new (K.taken screen.new) (F.stored files.new) (F.faults files.new))
+            (snapshot_of self.old (K.taken screen.old) (F.stored files.old) (F.faults files.old))
+            (snapshot_of self.new (K.taken screen.new) (F.stored files.new) (F.faults files.new))
             (K.faults screen.old) (K.faults screen.new) self.new }
         ensures reader { self.new.reader ≡ self.old.reader }
         ensures files { files.new ≡ files.old }
@@ -190,8 +190,8 @@ impl Editor {
     fn press<K: Sink, F: Files>(&mut self, key: Key, screen: &mut K, files: &mut F) -> Going
         requires { IsReady self.old }
         ensures presses { PressesKeys result (key ∷ [])
-            (moment_of self.old (K.taken screen.old) (F.stored files.old) (F.faults files.old))
-            (moment_of self.new (K.taken screen.new) (F.stored files.new) (F.faults files.new))
+            (snapshot_of self.old (K.taken screen.old) (F.stored files.old) (F.faults files.old))
+            (snapshot_of self.new (K.taken screen.new) (F.stored files.new) (F.faults files.new))
             (K.faults screen.old) (K.faults screen.new) self.new }
         ensures reader { self.new.reader ≡ self.old.reader }
         ensures files { files.new ≡ files.old }

@@ -2,7 +2,7 @@
 
 ghost use Rattle.std.specs.Prelude.{◌≡◌};
 ghost use Rattle.synth_top.specs.Private.PlainForms.{plain_session};
-ghost use Rattle.synth_top.specs.Private.Pressing.{IsPressed};
+ghost use Rattle.synth_top.specs.Private.Pressing.{IsPressedWithAnyMap};
 ghost use Rattle.synth_top.specs.Reply.{NotAsked};
 ghost use Rattle.synth_top.specs.Session.{new_session, refused, done, char_typed, put_filled, phrase_entered, line_entered, press};
 
@@ -102,9 +102,9 @@ impl Session {
 
     /// Does what a key asks for.
     pub fn press<F: Files>(&mut self, key: Key, _files: &mut F) -> Answer
-        ensures pressed { IsPressed key result
-            (record { session = plain_session self.old; files = F.stored _files.old })
-            (record { session = plain_session self.new; files = F.stored _files.new })
+        ensures pressed { IsPressedWithAnyMap key result
+            (plain_session self.old) (plain_session self.new)
+            (F.stored _files.old) (F.stored _files.new)
             (F.faults _files.old) (F.faults _files.new) }
         ensures size { self.new.size ≡ self.old.size }
         ensures files { _files.new ≡ _files.old }

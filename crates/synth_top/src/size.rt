@@ -1,10 +1,11 @@
 //! The size of a screen.
 
 ghost use Rattle.std.specs.Prelude.{◌≡◌, ◌≤◌};
+ghost use Rattle.synth_top.specs.Extent.{IsScreenSize, least_cols, least_rows, most_cols, most_rows};
 
 use std::marker::Model;
 
-/// The size of a screen: 12 to 100 rows and 40 to 160 columns.
+/// The size of a screen, within its bounds.
 #[derive(Clone, Copy, Debug)]
 pub struct ScreenSize {
     rows: u16,
@@ -12,15 +13,13 @@ pub struct ScreenSize {
 }
 
 impl Model for ScreenSize {
-    ghost use Rattle.std.specs.Prelude.{◌≤◌};
-    ghost use Rattle.synth_top.specs.Extent.{Extent};
+    ghost use Rattle.synth_top.specs.Extent.{Extent, IsScreenSize};
 
     ghost Value = { Extent };
 
     ghost view = { λ size. record { rows = size.rows; cols = size.cols } };
 
-    ghost invariant = { λ size. (12 ≤ size.rows) × (size.rows ≤ 100) ×
-        (40 ≤ size.cols) × (size.cols ≤ 160) };
+    ghost invariant = { λ size. IsScreenSize (record { rows = size.rows; cols = size.cols }) };
 
     ghost inverse = { λ extent. record { rows = extent.rows; cols = extent.cols } };
 }
@@ -28,10 +27,7 @@ impl Model for ScreenSize {
 impl ScreenSize {
     /// The size with that many rows and columns.
     pub fn new(rows: u16, cols: u16) -> Self
-        requires least_rows { 12 ≤ rows }
-        requires most_rows { rows ≤ 100 }
-        requires least_cols { 40 ≤ cols }
-        requires most_cols { cols ≤ 160 }
+        requires { IsScreenSize (record { rows = rows; cols = cols }) }
         ensures { result ≡ record { rows = rows; cols = cols } }
     {
         ScreenSize { rows, cols }
@@ -40,8 +36,8 @@ impl ScreenSize {
     /// The number of rows.
     pub fn rows(self) -> u16
         ensures value { result ≡ self.rows }
-        ensures least { 12 ≤ result }
-        ensures most { result ≤ 100 }
+        ensures least { least_rows ≤ result }
+        ensures most { result ≤ most_rows }
     {
         self.rows
     }
@@ -49,8 +45,8 @@ impl ScreenSize {
     /// The number of columns.
     pub fn cols(self) -> u16
         ensures value { result ≡ self.cols }
-        ensures least { 40 ≤ result }
-        ensures most { result ≤ 160 }
+        ensures least { least_cols ≤ result }
+        ensures most { result ≤ most_cols }
     {
         self.cols
     }

@@ -1,7 +1,6 @@
 -- The plain form of what stands in a part.
 use Rattle.std.specs.Prelude.{Option, Some, None}
-use Rattle.plcs_grammar.specs.PlainPhrase.{PlainPhrase}
-use Rattle.plcs_grammar.specs.PlainForm.{plain_phrase}
+use Rattle.plcs_grammar.specs.PlainPhrase.{PlainPhrase, plain_phrase}
 use Rattle.template_tree.specs.declared.phrase_place.PhrasePlace.{PhrasePlace}
 use Rattle.template_tree.specs.declared.phrase_place.PhrasePlace.TheVariants.{Empty, Filled}
 

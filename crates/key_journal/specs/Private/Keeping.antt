@@ -4,7 +4,7 @@ use Rattle.std.specs.Io.KnownBytes.{Consumes, IsAtEnd}
 use Rattle.synth_outside.specs.Source.{LosesAtMost}
 use Rattle.key_journal.specs.Crash.{LeavesOnly, LeavesOneOf, Throughout}
 use Rattle.key_journal.specs.Disk.{DiskState, Newest}
-use Rattle.key_journal.specs.Reading.{Gave}
+use Rattle.key_journal.specs.JournalRead.{Gave}
 use Rattle.key_journal.specs.Recovered.{kept}
 use Rattle.key_journal.specs.Private.Stages.{HoldsAt, IsAppending, IsReplaying}
 use Rattle.key_journal.specs.declared.stage.Stage.{Stage}
@@ -46,7 +46,7 @@ abbrev pub stage_behind : Option ℕ → Stage
 stage_behind (Some key) = Replaying
 stage_behind None = Appending
 
--- the same from any stage, and how far the journal has come then
+-- a kept key is looked for from any stage, and how far the journal has come then
 pub record ReplaysAt {E : Type 0} (stage : Stage) (given : ℕ) (past past_after : List DiskState)
     (result : Result (Option ℕ) E) : Type 0 where
   pub replays : Replays given past past_after result

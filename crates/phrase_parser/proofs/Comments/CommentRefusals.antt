@@ -87,7 +87,7 @@ comment_allowed x e =
       no_end = no_end_if x k;
     })) e
 
--- and a comment's text isn't refused
+-- a comment's text isn't refused
 pub comment_free : (x : List ℕ) → IsCommentText x → comment_syntax x ≡ None
 comment_free x h =
     cond-false (bytes_eq (trimmed x) []) (Some (length x)) (cond (bytes_eq (trimmed x) comment_placeholder) (Some 0) (comment_offence 0 x))

@@ -1,8 +1,7 @@
 -- Trimmed texts: what stays of a text, that nothing more is trimmed, and that a comment's is a comment's text.
 use Rattle.std.proofs.Common.{◌≡◌, ℕ, ◌+◌, Bool, true, false, List, [], ◌∷◌, ◌++◌, take, drop, reverse, refl, sym, ap, ◌∙◌, append_assoc}
 use Rattle.std.specs.List.{list_all, prefix_len}
-use Rattle.std.proofs.lemmas.Bool.{and_parts, cond-false, cond_both, false_from_ne_true}
-use Rattle.std.proofs.lemmas.Bool.Decides.{Decides-eqb}
+use Rattle.std.proofs.lemmas.Bool.{and_parts, cond-false, cond_both}
 use Rattle.std.proofs.lemmas.List.{reverse-append, reverse-reverse, take-append-drop}
 use Rattle.std.proofs.lemmas.List.Folds.{list_all-append}
 use Rattle.plcs_base.specs.Byte.{is_printable}
@@ -55,23 +54,6 @@ surrounded x =
     let first = trimmed_first x in
     (take (blanks x) x, first.0, sym (take-append-drop (blanks x) x) ∙ ap (λ z. take (blanks x) x ++ z) first.1)
 
--- a blank at the end is left out
-pub trim_last : (front : List ℕ) → reverse (unblanked (reverse (front ++ (32 ∷ [])))) ≡ reverse (unblanked (reverse front))
-trim_last front =
-    ap (λ z. reverse (unblanked z)) (reverse-append front (32 ∷ []))
-    ∙ ap reverse (drop_one_more 32 (reverse front) (prefix_len is_blank (reverse front)))
-
--- and nothing else
-trim_done_if : (rest back : List ℕ) → reverse rest ≡ back → ((front : List ℕ) → rest ≡ front ++ (32 ∷ []) → ⊥) → unblanked back ≡ back
-trim_done_if rest [] e free = refl
-trim_done_if rest (b ∷ back) e free =
-    let turned : rest ≡ reverse back ++ (b ∷ []) = sym (reverse-reverse rest) ∙ ap reverse e ∙ reverse-append (b ∷ []) back in
-    let other = false_from_ne_true (is_blank b) (λ t. free (reverse back) (turned ∙ ap (λ z. reverse back ++ (z ∷ [])) ((Decides-eqb b 32).0 t))) in
-    ap (λ k. drop k (b ∷ back)) (cond-false (is_blank b) (1 + prefix_len is_blank back) 0 other)
-
-pub trim_done : (rest : List ℕ) → ((front : List ℕ) → rest ≡ front ++ (32 ∷ []) → ⊥) → reverse (unblanked (reverse rest)) ≡ rest
-trim_done rest free = ap reverse (trim_done_if rest (reverse rest) refl free) ∙ reverse-reverse rest
-
 -- where a text begins with no byte of a class, so does each front of it
 front_begins : (test : ℕ → Bool) (front behind : List ℕ) → begins_with test (front ++ behind) ≡ false → begins_with test front ≡ false
 front_begins test [] behind h = refl
@@ -95,7 +77,7 @@ trimmed_again x =
     ∙ ap (λ (z : List ℕ). reverse (unblanked z)) (reverse-reverse back)
     ∙ ap (λ (z : List ℕ). reverse z) (unblanked_same back (run_ends is_blank (reverse (unblanked x))))
 
--- its bytes are bytes of the text
+-- the bytes of a trimmed text are bytes of the text
 trimmed_all : (test : ℕ → Bool) (x : List ℕ) → list_all test x ≡ true → list_all test (trimmed x) ≡ true
 trimmed_all test x h =
     let first = trimmed_first x in

@@ -3,8 +3,7 @@ use Rattle.std.proofs.Common.{◌≡◌, ℕ, ◌≤◌, List, map, length, Opti
 use Rattle.std.proofs.lemmas.Option.{same_Some, none-some}
 use Rattle.plcs_grammar.specs.declared.category.Category.{Category}
 use Rattle.plcs_grammar.specs.declared.phrase.Phrase.{Phrase}
-use Rattle.plcs_grammar.specs.PlainPhrase.{PlainPhrase}
-use Rattle.plcs_grammar.specs.PlainForm.{plain_phrase}
+use Rattle.plcs_grammar.specs.PlainPhrase.{PlainPhrase, plain_phrase}
 use Rattle.plcs_grammar.specs.Cuts.{Piece, Cuts}
 use Rattle.plcs_grammar.specs.Reads.{Reads}
 use Rattle.phrase_parser.specs.declared.check.finding.Finding.{Finding}
@@ -22,24 +21,24 @@ use Rattle.phrase_parser.proofs.Findings.PlacedTokens.{cut_seen, cut_lies, cut_f
 use Rattle.phrase_parser.proofs.Findings.FindingPlaces.{FindingWithin, places_within}
 use Rattle.phrase_parser.proofs.Findings.FindingsOfText.{SaysOfText, finding_says}
 
-pub tokens_lie : (items : List Placed) (stop : Option ℕ) (x : List ℕ) → AreTokens items stop x → All (LiesIn x) items
-tokens_lie items stop x h = subst (λ z. All (LiesIn x) z) (sym h.2) (cut_lies x h.0 stop h.1)
+pub tokens_lie : (tokens : List Placed) (stop : Option ℕ) (x : List ℕ) → AreTokens tokens stop x → All (LiesIn x) tokens
+tokens_lie tokens stop x h = subst (λ z. All (LiesIn x) z) (sym h.2) (cut_lies x h.0 stop h.1)
 
-pub tokens_few : (items : List Placed) (stop : Option ℕ) (x : List ℕ) → AreTokens items stop x → length items ≤ length x
-tokens_few items stop x h = subst (λ z. length z ≤ length x) (sym h.2) (cut_few x h.0 stop h.1)
+pub tokens_few : (tokens : List Placed) (stop : Option ℕ) (x : List ℕ) → AreTokens tokens stop x → length tokens ≤ length x
+tokens_few tokens stop x h = subst (λ z. length z ≤ length x) (sym h.2) (cut_few x h.0 stop h.1)
 
 -- tokens that are a phrase within the limits, which the text reads as
-pub record IsRead (c : Category) (x : List ℕ) (items : List Placed) : Type 0 where
+pub record IsRead (c : Category) (x : List ℕ) (tokens : List Placed) : Type 0 where
   pub phrase : PlainPhrase
-  pub built : phrase_of_if (run (map (token_in x) items) (start c)) ≡ Some phrase
+  pub built : phrase_of_if (run (map (token_in x) tokens) (start c)) ≡ Some phrase
   pub reads : Reads c x phrase
-  pub placed : All (IsPlacedIn x) items
+  pub placed : All (IsPlacedIn x) tokens
 
 -- what an answer of the check says
 abbrev pub CheckSays : Category → List ℕ → List Placed → Finding → Type 0
-CheckSays c x items Fine = IsRead c x items
-CheckSays c x items (SyntaxAt place) = (place ≤ length x) × FaultSays c x (fault.Syntax place)
-CheckSays c x items (Over over) = (over_place (over_of over) ≤ length x) × FaultSays c x (over_fault (over_of over))
+CheckSays c x tokens Fine = IsRead c x tokens
+CheckSays c x tokens (SyntaxAt place) = (place ≤ length x) × FaultSays c x (fault.Syntax place)
+CheckSays c x tokens (Over over) = (over_place (over_of over) ≤ length x) × FaultSays c x (over_fault (over_of over))
 
 told_if : (c : Category) (x : List ℕ) (pieces : List Piece) (stop : Option ℕ) (found : Finding) → Cuts pieces 0 x stop
     → SaysOfText c x pieces (as_found found) → FindingWithin (length x) (as_found found) → CheckSays c x (map kept pieces) found
@@ -53,9 +52,9 @@ told_if c x pieces stop Fine cut h w =
 told_if c x pieces stop (SyntaxAt place) cut h w = (w, h)
 told_if c x pieces stop (Over over) cut h w = (w, h)
 
-pub told : (c : Category) (x : List ℕ) (items : List Placed) (stop : Option ℕ) (shape : Shape) (found : Finding) → first_shape c ≡ Some shape
-    → AreTokens items stop x → as_found found ≡ findings (map (seen_in x) items) stop (length x) shape None → CheckSays c x items found
-told c x items stop shape found e (pieces, cut, same) f =
+pub told : (c : Category) (x : List ℕ) (tokens : List Placed) (stop : Option ℕ) (shape : Shape) (found : Finding) → first_shape c ≡ Some shape
+    → AreTokens tokens stop x → as_found found ≡ findings (map (seen_in x) tokens) stop (length x) shape None → CheckSays c x tokens found
+told c x tokens stop shape found e (pieces, cut, same) f =
     let g : findings (map seen_of pieces) stop (length x) shape None ≡ as_found found =
     ap (λ z. findings z stop (length x) shape None) (sym (cut_seen x pieces stop cut))
     ∙ ap (λ z. findings (map (seen_in x) z) stop (length x) shape None) (sym same) ∙ sym f in
@@ -64,20 +63,20 @@ told c x items stop shape found e (pieces, cut, same) f =
     (subst (FindingWithin (length x)) g (places_within x pieces stop shape cut)))
 
 -- the phrase that is built is what the text reads as
-pub built_reads : (c : Category) (x : List ℕ) (items : List Placed) (phrase : Phrase) → IsRead c x items
-    → phrase_of_if (run (map (token_in x) items) (start c)) ≡ Some (plain_phrase phrase) → Reads c x (plain_phrase phrase)
-built_reads c x items phrase read built =
+pub built_reads : (c : Category) (x : List ℕ) (tokens : List Placed) (phrase : Phrase) → IsRead c x tokens
+    → phrase_of_if (run (map (token_in x) tokens) (start c)) ≡ Some (plain_phrase phrase) → Reads c x (plain_phrase phrase)
+built_reads c x tokens phrase read built =
     let same : read.phrase ≡ plain_phrase phrase = same_Some read.phrase (plain_phrase phrase) (sym read.built ∙ built) in
     subst (Reads c x) same read.reads
 
--- and one is built
-pub not_refused : (c : Category) (x : List ℕ) (items : List Placed) → IsRead c x items
-    → phrase_of_if (run (map (token_in x) items) (start c)) ≡ None → ⊥
-not_refused c x items read refused = none-some read.phrase (sym refused ∙ read.built)
+-- a phrase is built of tokens that are one: the builder refuses none
+pub not_refused : (c : Category) (x : List ℕ) (tokens : List Placed) → IsRead c x tokens
+    → phrase_of_if (run (map (token_in x) tokens) (start c)) ≡ None → ⊥
+not_refused c x tokens read refused = none-some read.phrase (sym refused ∙ read.built)
 
 -- what an answer of the check says, of the tokens as they were lent to it
-pub told_known : (c : Category) (x : List ℕ) (stop : Option ℕ) {items lent : List Placed} {shape : Shape} {found known : Finding}
-    → lent ≡ items → first_shape c ≡ Some shape → AreTokens items stop x
+pub told_known : (c : Category) (x : List ℕ) (stop : Option ℕ) {tokens lent : List Placed} {shape : Shape} {found known : Finding}
+    → lent ≡ tokens → first_shape c ≡ Some shape → AreTokens tokens stop x
     → as_found found ≡ findings (map (seen_in x) lent) stop (length x) shape None → found ≡ known → CheckSays c x lent known
 told_known c x stop {lent = lent} {shape = shape} {found = found} same first are answered known_is =
     subst (CheckSays c x lent) known_is

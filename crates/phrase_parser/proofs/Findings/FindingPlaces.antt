@@ -5,7 +5,7 @@ use Rattle.std.specs.List.{AllByRecursion}
 use Rattle.std.proofs.lemmas.Bool.{cond_both}
 use Rattle.plcs_grammar.specs.Cuts.{Piece, Cuts}
 use Rattle.plcs_grammar.specs.Limit.{greatest_nesting}
-use Rattle.plcs_grammar.specs.Over.{OverLimit}
+use Rattle.plcs_grammar.specs.OverLimit.{OverLimit}
 use Rattle.phrase_parser.specs.Private.Recognizer.{Shape, next, may_end, level_of}
 use Rattle.phrase_parser.specs.Private.Findings.{Finding, finding_of, found_at, found_at_end, Seen, seen_of, is_large, seen_over, findings}
 use Rattle.phrase_parser.specs.Private.Shapes.{over_place}
@@ -16,7 +16,7 @@ module _ (limit : ℕ) where
   abbrev pub OverWithin : OverLimit → Type 0
   OverWithin over = over_place over ≤ limit
 
-  -- the same, if something does
+  -- what goes past a limit, if something does, does so within the text
   abbrev pub OverIf : Option OverLimit → Type 0
   OverIf None = Unit {0}
   OverIf (Some over) = OverWithin over

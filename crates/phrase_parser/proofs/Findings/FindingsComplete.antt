@@ -5,11 +5,11 @@ use Rattle.std.proofs.lemmas.Bool.{cond-true, cond-false, false_from_ne_true}
 use Rattle.plcs_grammar.specs.declared.category.Category.{Category}
 use Rattle.plcs_grammar.specs.Cuts.{Piece, tokens_of}
 use Rattle.plcs_grammar.specs.PlainPhrase.{PlainPhrase}
-use Rattle.plcs_grammar.specs.Form.{Form}
-use Rattle.plcs_grammar.specs.Syntax.{GoesWrong}
+use Rattle.plcs_grammar.specs.PhraseForm.{Form}
+use Rattle.plcs_grammar.specs.SyntaxPlace.{GoesWrong}
 use Rattle.plcs_grammar.specs.Limit.{IsWithinLimits}
 use Rattle.plcs_grammar.specs.OpenedLevel.{phrase_opened_levels}
-use Rattle.plcs_grammar.specs.Over.{OverLimit, first_over, over_at}
+use Rattle.plcs_grammar.specs.OverLimit.{OverLimit, first_over, over_at}
 use Rattle.phrase_parser.specs.Private.Recognizer.{Shape, class_of, next, next_if, first_shape, may_end, level_of}
 use Rattle.phrase_parser.specs.Private.Findings.{Finding, finding_of, found_at, found_at_end, seen_of, seen_over, findings}
 use Rattle.phrase_parser.proofs.Machine.Limits.{within}

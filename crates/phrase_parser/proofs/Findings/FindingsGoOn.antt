@@ -3,7 +3,7 @@ use Rattle.std.proofs.Common.{◌≡◌, refl, ℕ, suc, ◌+◌, ◌<◌, lengt
 use Rattle.std.specs.Prelude.{get_or}
 use Rattle.std.specs.Option.{option_or}
 use Rattle.std.proofs.Math.Seq.{drop-cons}
-use Rattle.plcs_grammar.specs.Over.{OverLimit}
+use Rattle.plcs_grammar.specs.OverLimit.{OverLimit}
 use Rattle.phrase_parser.specs.declared.check.finding.Over.{Over}
 use Rattle.phrase_parser.specs.declared.token.Placed.{Placed}
 use Rattle.phrase_parser.specs.declared.check.token_class.TokenClass.{TokenClass}

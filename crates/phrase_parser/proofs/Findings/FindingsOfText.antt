@@ -3,11 +3,11 @@ use Rattle.std.proofs.Common.{◌≡◌, inl, inr, refl, ℕ, List, map, Option,
 use Rattle.plcs_grammar.specs.declared.category.Category.{Category}
 use Rattle.plcs_grammar.specs.PlainPhrase.{PlainPhrase}
 use Rattle.plcs_grammar.specs.Cuts.{Piece, Cuts, tokens_of}
-use Rattle.plcs_grammar.specs.Form.{Form}
+use Rattle.plcs_grammar.specs.PhraseForm.{Form}
 use Rattle.plcs_grammar.specs.OpenedLevel.{phrase_opened_levels}
-use Rattle.plcs_grammar.specs.Over.{OverLimit, first_over}
+use Rattle.plcs_grammar.specs.OverLimit.{OverLimit, first_over}
 use Rattle.plcs_grammar.specs.Reads.{Outline, Reads, IsOver}
-use Rattle.plcs_grammar.specs.Syntax.{GoesWrong}
+use Rattle.plcs_grammar.specs.SyntaxPlace.{GoesWrong}
 use Rattle.phrase_parser.specs.declared.fault.PhraseFault.TheVariants.{Syntax}
 use Rattle.phrase_parser.specs.Private.Machine.{run, start, phrase_of_if}
 use Rattle.phrase_parser.specs.Private.Recognizer.{Shape, first_shape}

@@ -6,11 +6,11 @@ use Rattle.plcs_grammar.specs.declared.category.Category.{Category}
 use Rattle.plcs_grammar.specs.Token.{Token}
 use Rattle.plcs_grammar.specs.Cuts.{Piece, tokens_of}
 use Rattle.plcs_grammar.specs.PlainPhrase.{PlainPhrase}
-use Rattle.plcs_grammar.specs.Form.{Form, Begins}
-use Rattle.plcs_grammar.specs.Syntax.{GoesWrong}
+use Rattle.plcs_grammar.specs.PhraseForm.{Form, Begins}
+use Rattle.plcs_grammar.specs.SyntaxPlace.{GoesWrong}
 use Rattle.plcs_grammar.specs.Limit.{greatest_number, greatest_nesting, IsWithinLimits}
 use Rattle.plcs_grammar.specs.OpenedLevel.{phrase_opened_levels}
-use Rattle.plcs_grammar.specs.Over.{OverLimit, is_too_large, first_over, over_at}
+use Rattle.plcs_grammar.specs.OverLimit.{OverLimit, is_too_large, first_over, over_at}
 use Rattle.phrase_parser.specs.Private.Recognizer.{Shape, class_of, next, next_if, follow, first_shape, may_end, level_of, follow_levels}
 use Rattle.phrase_parser.specs.Private.Findings.{Finding, finding_of, found_at, found_at_end, seen_of, is_large, seen_over, findings}
 use Rattle.phrase_parser.proofs.Findings.KeptNumbers.{kept_above}
@@ -25,13 +25,13 @@ follow_pieces pieces shape = follow (classes_of (tokens_of pieces)) shape
 abbrev pub over_pieces : List Piece → Option Shape → Option OverLimit
 over_pieces pieces shape = first_over pieces (follow_levels (classes_of (tokens_of pieces)) shape)
 
--- one more piece
+-- the shape behind one more piece
 pub follow_last : (front : List Piece) (piece : Piece) (s : Option Shape)
     → follow_pieces (front ++ (piece ∷ [])) s ≡ next_if (follow_pieces front s) (class_of piece.token)
 follow_last [] piece s = refl
 follow_last (x ∷ xs) piece s = follow_last xs piece (next_if s (class_of x.token))
 
--- the first of three
+-- which of three limits is past first doesn't depend on which two are looked at together
 pub option_or_assoc : (a b c : Option OverLimit) → option_or (option_or a b) c ≡ option_or a (option_or b c)
 option_or_assoc None b c = refl
 option_or_assoc (Some o) b c = refl

@@ -3,6 +3,6 @@ use Rattle.std.proofs.Common.{◌≡◌, List, [], ◌∷◌, ◌++◌, reverse}
 use Rattle.std.proofs.lemmas.List.{reverse-append}
 use Rattle.phrase_parser.specs.declared.check.nesting.Bracket.{Bracket}
 
--- the last one is the first of those turned round
+-- the last of the open parentheses is the first of those turned round
 pub brackets_push : (brackets : List Bracket) (bracket : Bracket) → reverse (brackets ++ (bracket ∷ [])) ≡ bracket ∷ reverse brackets
 brackets_push brackets bracket = reverse-append brackets (bracket ∷ [])

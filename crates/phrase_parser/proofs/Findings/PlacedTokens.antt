@@ -9,7 +9,7 @@ use Rattle.plcs_base.specs.Name.{IsName}
 use Rattle.plcs_grammar.specs.Token.{Token, IsToken}
 use Rattle.plcs_grammar.specs.PlainPhrase.{PlainPhrase}
 use Rattle.plcs_grammar.specs.Cuts.{Piece, Cuts, tokens_of}
-use Rattle.plcs_grammar.specs.Form.{Form}
+use Rattle.plcs_grammar.specs.PhraseForm.{Form}
 use Rattle.plcs_grammar.specs.Limit.{IsWithinLimits, greatest_number}
 use Rattle.plcs_grammar.specs.OpenedLevel.{phrase_opened_levels}
 use Rattle.phrase_parser.specs.Private.Kept.{kept_kind, kept, greatest_kept}

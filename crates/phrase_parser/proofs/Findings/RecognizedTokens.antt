@@ -6,9 +6,9 @@ use Rattle.plcs_grammar.specs.declared.sign.Sign.{Sign}
 use Rattle.plcs_grammar.specs.Token.{Token}
 use Rattle.plcs_grammar.specs.Cuts.{Piece, tokens_of}
 use Rattle.plcs_grammar.specs.PlainPhrase.{PlainExpr, PlainVarRef, PlainPhrase}
-use Rattle.plcs_grammar.specs.Form.{Form, Begins}
+use Rattle.plcs_grammar.specs.PhraseForm.{Form, Begins}
 use Rattle.plcs_grammar.specs.OpenedLevel.{phrase_opened_levels}
-use Rattle.plcs_grammar.specs.Over.{first_over}
+use Rattle.plcs_grammar.specs.OverLimit.{first_over}
 use Rattle.phrase_parser.specs.Private.Machine
 use Rattle.phrase_parser.specs.Private.Machine.{Stack, Role, State, step, run, start, phrase_of_if}
 use Rattle.phrase_parser.specs.Private.Trace.{opens, opens_by_role, opens_before, opens_behind, trace, depth}
@@ -22,30 +22,30 @@ use Rattle.phrase_parser.proofs.Machine.Soundness.TakenTokens.{AfterIf}
 use Rattle.phrase_parser.proofs.Machine.Soundness.ReadTokens.{step_after, has_read, IsFreshIf, start_fresh}
 use Rattle.phrase_parser.proofs.Machine.Soundness.ReadPhrases.{sound}
 use Rattle.phrase_parser.proofs.Machine.ViablePrefixes.{viable, stopped, no_form}
-use Rattle.phrase_parser.proofs.Findings.Simulation.{use_of, last_of, shape_of, shape_if, simulates, ends_as}
+use Rattle.phrase_parser.proofs.Findings.Simulation.{use_of, last_of, state_shape, state_shape_if, simulates, ends_as}
 
 -- what is looked at of each token
 abbrev pub classes_of : List Token → List TokenClass
 classes_of ks = map class_of ks
 
--- what stopped stays so
+-- the machine without trees that stopped stays so
 pub follow_none : (classes : List TokenClass) → follow classes None ≡ None
 follow_none [] = refl
 follow_none (class ∷ classes) = follow_none classes
 
 follows_if : (s : State) (k : Token) (ks : List Token) (z : Option State) → AfterIf s k z
-    → ((r : State) → Sound r → follow (classes_of ks) (Some (shape_of r)) ≡ shape_if (run ks (Some r)))
-    → follow (classes_of ks) (shape_if z) ≡ shape_if (run ks z)
-follows_if s k ks None a f = follow_none (classes_of ks) ∙ sym (ap shape_if (run_none ks))
+    → ((r : State) → Sound r → follow (classes_of ks) (Some (state_shape r)) ≡ state_shape_if (run ks (Some r)))
+    → follow (classes_of ks) (state_shape_if z) ≡ state_shape_if (run ks z)
+follows_if s k ks None a f = follow_none (classes_of ks) ∙ sym (ap state_shape_if (run_none ks))
 follows_if s k ks (Some r) a f = f r a.sound
 
 -- tokens do to the shape what they do to the state
-pub follows : (ks : List Token) (s : State) → Sound s → follow (classes_of ks) (Some (shape_of s)) ≡ shape_if (run ks (Some s))
+pub follows : (ks : List Token) (s : State) → Sound s → follow (classes_of ks) (Some (state_shape s)) ≡ state_shape_if (run ks (Some s))
 follows [] s h = refl
 follows (k ∷ ks) s h =
     ap (follow (classes_of ks)) (simulates s k h) ∙ follows_if s k ks (step s k) (step_after s k h) (λ r g. follows ks r g)
 
-first_as : (c : Category) → first_shape c ≡ shape_if (start c)
+first_as : (c : Category) → first_shape c ≡ state_shape_if (start c)
 first_as Assignment = refl
 first_as Condition = refl
 first_as Expression = refl
@@ -60,12 +60,12 @@ first_as Length = refl
 first_as CommentText = refl
 
 follows_first : (c : Category) (first : Option State) (ks : List Token) → IsFreshIf c first
-    → follow (classes_of ks) (shape_if first) ≡ shape_if (run ks first)
-follows_first c None ks f = follow_none (classes_of ks) ∙ sym (ap shape_if (run_none ks))
+    → follow (classes_of ks) (state_shape_if first) ≡ state_shape_if (run ks first)
+follows_first c None ks f = follow_none (classes_of ks) ∙ sym (ap state_shape_if (run_none ks))
 follows_first c (Some s) ks f = follows ks s f.sound
 
--- from the start of a category too
-pub follows_start : (c : Category) (ks : List Token) → follow (classes_of ks) (first_shape c) ≡ shape_if (run ks (start c))
+-- tokens do to the first shape of a category what they do to its first state
+pub follows_start : (c : Category) (ks : List Token) → follow (classes_of ks) (first_shape c) ≡ state_shape_if (run ks (start c))
 follows_start c ks = ap (follow (classes_of ks)) (first_as c) ∙ follows_first c (start c) ks (start_fresh c)
 
 role_sign_level : (role : Role) (sign : Sign) → Recognizer.sign_level (Shape.name_had (use_of role)) sign ≡ opens_by_role role (Token.sign sign)
@@ -90,12 +90,12 @@ behind_level s (PlainExpr.variable (PlainVarRef.simple name)) z e = refl
 behind_level s t z e = absurd (cc)
 
 had_level : (s : Stack) (t : PlainExpr) (sign : Sign) (z : State) → step (State.had s t) (Token.sign sign) ≡ Some z
-    → Recognizer.sign_level (shape_of (State.had s t)) sign ≡ opens (State.had s t) (Token.sign sign)
+    → Recognizer.sign_level (state_shape (State.had s t)) sign ≡ opens (State.had s t) (Token.sign sign)
 had_level s t Sign.OpenParenthesis z e = behind_level s t z e
 had_level s t sign z e = refl
 
 sign_levels : (s : State) (sign : Sign) (z : State) → step s (Token.sign sign) ≡ Some z
-    → Recognizer.sign_level (shape_of s) sign ≡ opens s (Token.sign sign)
+    → Recognizer.sign_level (state_shape s) sign ≡ opens s (Token.sign sign)
 sign_levels (State.had s t) sign z e = had_level s t sign z e
 sign_levels (State.name_had role name) sign z e = role_sign_level role sign
 sign_levels s sign z e = refl
@@ -129,7 +129,7 @@ plain_opens (State.name_had role name) k h = role_plain role k h
 plain_opens s k h = refl
 
 -- a token that is taken opens the same level
-pub opens_as : (s : State) (k : Token) (z : State) → step s k ≡ Some z → level_of (shape_of s) (class_of k) ≡ opens s k
+pub opens_as : (s : State) (k : Token) (z : State) → step s k ≡ Some z → level_of (state_shape s) (class_of k) ≡ opens s k
 opens_as s (Token.name name) z e = plain_opens s (Token.name name) tt
 opens_as s (Token.keyword word) z e = plain_opens s (Token.keyword word) tt
 opens_as s (Token.number n) z e = plain_opens s (Token.number n) tt
@@ -139,33 +139,33 @@ opens_as s (Token.sign sign) z e = sign_levels s sign z e
 
 levels_if : (s : State) (k : Token) (ks : List Token) (z : State) (found : Option State) → Sound s → step s k ≡ found
     → AfterIf s k found → run ks found ≡ Some z
-    → ((r : State) → Sound r → run ks (Some r) ≡ Some z → follow_levels (classes_of ks) (Some (shape_of r)) ≡ trace ks (Some r))
-    → follow_levels (classes_of (k ∷ ks)) (Some (shape_of s)) ≡ trace (k ∷ ks) (Some s)
+    → ((r : State) → Sound r → run ks (Some r) ≡ Some z → follow_levels (classes_of ks) (Some (state_shape r)) ≡ trace ks (Some r))
+    → follow_levels (classes_of (k ∷ ks)) (Some (state_shape s)) ≡ trace (k ∷ ks) (Some s)
 levels_if s k ks z None h e a f go = let n = run_none ks in absurd (cc)
 levels_if s k ks z (Some r) h e a f go =
-    ap (λ n. n ∷ follow_levels (classes_of ks) (next (shape_of s) (class_of k))) (opens_as s k r e)
-    ∙ ap (λ o. opens s k ∷ follow_levels (classes_of ks) o) (simulates s k h ∙ ap shape_if e)
+    ap (λ n. n ∷ follow_levels (classes_of ks) (next (state_shape s) (class_of k))) (opens_as s k r e)
+    ∙ ap (λ o. opens s k ∷ follow_levels (classes_of ks) o) (simulates s k h ∙ ap state_shape_if e)
     ∙ ap (λ l. opens s k ∷ l) (go r a.sound f)
     ∙ sym (ap (λ o. opens s k ∷ trace ks o) e)
 
 -- tokens that are taken open the same levels
 pub follows_levels : (ks : List Token) (s z : State) → Sound s → run ks (Some s) ≡ Some z
-    → follow_levels (classes_of ks) (Some (shape_of s)) ≡ trace ks (Some s)
+    → follow_levels (classes_of ks) (Some (state_shape s)) ≡ trace ks (Some s)
 follows_levels [] s z h e = refl
 follows_levels (k ∷ ks) s z h e =
     levels_if s k ks z (step s k) h refl (step_after s k h) e (λ r g f. follows_levels ks r z g f)
 
 first_levels : (c : Category) (first : Option State) (ks : List Token) (z : State) → IsFreshIf c first → run ks first ≡ Some z
-    → follow_levels (classes_of ks) (shape_if first) ≡ trace ks first
+    → follow_levels (classes_of ks) (state_shape_if first) ≡ trace ks first
 first_levels c None ks z f e = let n = run_none ks in absurd (cc)
 first_levels c (Some s) ks z f e = follows_levels ks s z f.sound e
 
-state_behind : (found : Option State) (shape : Shape) → shape_if found ≡ Some shape
-    → (s : State) × (found ≡ Some s) × (shape_of s ≡ shape)
+state_behind : (found : Option State) (shape : Shape) → state_shape_if found ≡ Some shape
+    → (s : State) × (found ≡ Some s) × (state_shape s ≡ shape)
 state_behind None shape e = absurd (cc)
 state_behind (Some s) shape e = (s, refl, cc)
 
-no_state : (found : Option State) → shape_if found ≡ None → found ≡ None
+no_state : (found : Option State) → state_shape_if found ≡ None → found ≡ None
 no_state None e = refl
 no_state (Some s) e = absurd (cc)
 
@@ -187,7 +187,7 @@ taken_begins c ks shape e =
     let r = state_behind (run ks (start c)) shape (sym (follows_start c ks) ∙ e) in
     viable c ks r.0 r.1
 
--- tokens that are not taken begin none
+-- tokens that are not taken begin no phrase
 pub refused_begins : (c : Category) (ks : List Token) → follow (classes_of ks) (first_shape c) ≡ None → Begins c ks → ⊥
 refused_begins c ks e h = stopped c ks (no_state (run ks (start c)) (sym (follows_start c ks) ∙ e)) h
 
@@ -205,7 +205,7 @@ whole_form c ks shape e m =
     let r = some_phrase (phrase_of_if (run ks (start c))) (sym (ended_as c ks shape e) ∙ m) in
     (r.0, sound c ks r.0 r.1)
 
--- where they may not end they are none
+-- where tokens may not end they are no phrase
 pub part_form : (c : Category) (ks : List Token) (shape : Shape) → follow (classes_of ks) (first_shape c) ≡ Some shape
     → may_end shape ≡ false → (p : PlainPhrase) → Form c ks p → ⊥
 part_form c ks shape e m p h =
@@ -224,12 +224,12 @@ levels_over c pieces p h =
 -- tokens that begin a phrase are taken
 pub begins_taken : (c : Category) (ks : List Token) → Begins c ks
     → (shape : Shape) × (follow (classes_of ks) (first_shape c) ≡ Some shape)
-begins_taken c ks h = let r = alive c ks h in (shape_of r.0, follows_start c ks ∙ ap shape_if r.1)
+begins_taken c ks h = let r = alive c ks h in (state_shape r.0, follows_start c ks ∙ ap state_shape_if r.1)
 
 -- a phrase is taken, and may end
 pub form_taken : (c : Category) (ks : List Token) (p : PlainPhrase) → Form c ks p
     → (shape : Shape) × (follow (classes_of ks) (first_shape c) ≡ Some shape) × (may_end shape ≡ true)
 form_taken c ks p h =
     let r = state_ended (run ks (start c)) p (complete c ks p h) in
-    let e : follow (classes_of ks) (first_shape c) ≡ Some (shape_of r.0) = follows_start c ks ∙ ap shape_if r.1 in
-    (shape_of r.0, e, ended_as c ks (shape_of r.0) e ∙ ap is_some (complete c ks p h))
+    let e : follow (classes_of ks) (first_shape c) ≡ Some (state_shape r.0) = follows_start c ks ∙ ap state_shape_if r.1 in
+    (state_shape r.0, e, ended_as c ks (state_shape r.0) e ∙ ap is_some (complete c ks p h))

@@ -13,7 +13,7 @@ use Rattle.phrase_parser.specs.declared.check.purpose.Purpose.{Purpose}
 use Rattle.phrase_parser.specs.Private.Recognizer.{Shape, inside, next_name, next_constant, next_number, next_open_behind, next_open_name, next_open, next_close_in, next_close, next_comma_in, next_comma_name, next_comma, next_equal_name, next_equal, next_prefix, next_infix, next_operator, next_sign, next}
 use Rattle.phrase_parser.specs.Private.Shapes.{LastWithin, NestingWithin, Within}
 
--- the same of a shape that may be missing
+-- the levels of a shape that may be missing are not over a limit
 abbrev pub WithinIf : ℕ → Option Shape → Type 0
 WithinIf limit None = Unit {0}
 WithinIf limit (Some shape) = Within limit shape
@@ -158,6 +158,6 @@ next_within n s (TokenClass.Number k) h = if_more n (next_number s k) (next_numb
 next_within n s TokenClass.Constant h = if_more n (next_constant s) (next_constant_within n s h)
 next_within n s (TokenClass.Sign sign) h = next_sign_within n s sign h
 
--- so the levels are no more than the tokens
+-- one more token puts the levels of a shape within one more than they were
 pub still_within : (n : ℕ) (shape behind : Shape) (class : TokenClass) → next shape class ≡ Some behind → Within n shape → Within (n + 1) behind
 still_within n shape behind class e h = subst (WithinIf (n + 1)) e (next_within n shape class h)

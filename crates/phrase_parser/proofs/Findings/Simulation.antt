@@ -71,24 +71,24 @@ use_of Role.variable = Purpose.Single
 use_of Role.procedure = Purpose.Single
 
 -- the shape of a state: what is left of it without trees
-abbrev pub shape_of : State → Shape
-shape_of (State.wanted s) = Shape.wanted (ground_of s) (brackets_of s) (depth s)
-shape_of (State.had s t) = Shape.had (last_of (depth s) t) (ground_of s) (brackets_of s)
-shape_of (State.name_wanted role) = Shape.name_wanted (use_of role)
-shape_of (State.name_had role name) = Shape.name_had (use_of role)
-shape_of (State.target_had reference) = Shape.target_had
-shape_of (State.variable_had done) = Shape.variable_had
-shape_of (State.call_had name passed) = Shape.call_had
-shape_of (State.size_wanted done name) = Shape.size_wanted
-shape_of (State.size_had done name n) = Shape.size_had
-shape_of (State.item_had done) = Shape.item_had
-shape_of State.length_wanted = Shape.length_wanted
-shape_of (State.length_had n) = Shape.length_had
+abbrev pub state_shape : State → Shape
+state_shape (State.wanted s) = Shape.wanted (ground_of s) (brackets_of s) (depth s)
+state_shape (State.had s t) = Shape.had (last_of (depth s) t) (ground_of s) (brackets_of s)
+state_shape (State.name_wanted role) = Shape.name_wanted (use_of role)
+state_shape (State.name_had role name) = Shape.name_had (use_of role)
+state_shape (State.target_had reference) = Shape.target_had
+state_shape (State.variable_had done) = Shape.variable_had
+state_shape (State.call_had name passed) = Shape.call_had
+state_shape (State.size_wanted done name) = Shape.size_wanted
+state_shape (State.size_had done name n) = Shape.size_had
+state_shape (State.item_had done) = Shape.item_had
+state_shape State.length_wanted = Shape.length_wanted
+state_shape (State.length_had n) = Shape.length_had
 
--- the same, where the machine has not stopped
-abbrev pub shape_if : Option State → Option Shape
-shape_if None = None
-shape_if (Some s) = Some (shape_of s)
+-- the shape of a state, where the machine has not stopped
+abbrev pub state_shape_if : Option State → Option Shape
+state_shape_if None = None
+state_shape_if (Some s) = Some (state_shape s)
 
 -- a place is as many levels in as its parentheses say, where no prefix operator is open
 base_level : (b : Base) → base_depth b ≡ ground_level (ground_of_base b)
@@ -125,9 +125,9 @@ same_place level (Stack.arguments function done s) t = (refl, refl)
 joins_at : (level : ℕ) (s : Stack) (t : PlainExpr) → Sound (State.had s t) → 1 ≤ level → Joins level s t (reduced s level t)
 joins_at level s t h le = reduced_joins level s t h.0 (h.1 (hole s)) (h.1 level) le
 
--- behind an operator
+-- the shape behind an infix operator is that of the state behind it
 sim_infix : (op : InfixOp) (s : Stack) (t : PlainExpr) → Sound (State.had s t)
-    → Shape.wanted (ground_of s) (brackets_of s) (inside (ground_of s) (brackets_of s)) ≡ shape_of (behind_infix op (reduced s (priority op) t))
+    → Shape.wanted (ground_of s) (brackets_of s) (inside (ground_of s) (brackets_of s)) ≡ state_shape (behind_infix op (reduced s (priority op) t))
 sim_infix op s t h =
     let o = reduced s (priority op) t in
     let j = joins_at (priority op) s t h (above_none op) in
@@ -138,18 +138,18 @@ sim_infix op s t h =
 
 sim_open_name : (name : List ℕ) (found : Option Builtin) (s : Stack) → builtin_of name ≡ found
     → Some (Recognizer.bracketed (is_builtin_name name) (ground_of s) (brackets_of s) (depth s))
-    ≡ Some (shape_of (State.wanted (Machine.open_frame name found s)))
+    ≡ Some (state_shape (State.wanted (Machine.open_frame name found s)))
 sim_open_name name None s e =
     ap (λ b. Some (Recognizer.bracketed b (ground_of s) (brackets_of s) (depth s))) (not-true _ (builtin_missing name e))
 sim_open_name name (Some function) s e =
     ap (λ b. Some (Recognizer.bracketed b (ground_of s) (brackets_of s) (depth s))) (builtin_known name function e)
 
 sim_open_behind : (s : Stack) (t : PlainExpr)
-    → Recognizer.next_open_behind (last_of (depth s) t) (ground_of s) (brackets_of s) ≡ shape_if (Machine.step_open_behind s t)
+    → Recognizer.next_open_behind (last_of (depth s) t) (ground_of s) (brackets_of s) ≡ state_shape_if (Machine.step_open_behind s t)
 sim_open_behind s (PlainExpr.variable (PlainVarRef.simple name)) = sim_open_name name (builtin_of name) s refl
 sim_open_behind s t = refl
 
-sim_open_role : (role : Role) (name : List ℕ) → Recognizer.next_open_name (use_of role) ≡ shape_if (Machine.step_open_role role name)
+sim_open_role : (role : Role) (name : List ℕ) → Recognizer.next_open_name (use_of role) ≡ state_shape_if (Machine.step_open_role role name)
 sim_open_role Role.target name = refl
 sim_open_role (Role.variables done) name = refl
 sim_open_role Role.callee name = refl
@@ -158,12 +158,12 @@ sim_open_role (Role.names done) name = refl
 sim_open_role Role.variable name = refl
 sim_open_role Role.procedure name = refl
 
-sim_open : (s : State) → Recognizer.next_open (shape_of s) ≡ shape_if (Machine.step_open s)
+sim_open : (s : State) → Recognizer.next_open (state_shape s) ≡ state_shape_if (Machine.step_open s)
 sim_open (State.had s t) = sim_open_behind s t
 sim_open (State.name_had role name) = sim_open_role role name
 sim_open s = refl
 
-sim_close_base : (b : Base) (t : PlainExpr) → Recognizer.next_close_ground (ground_of_base b) ≡ shape_if (Machine.step_close_base b t)
+sim_close_base : (b : Base) (t : PlainExpr) → Recognizer.next_close_ground (ground_of_base b) ≡ state_shape_if (Machine.step_close_base b t)
 sim_close_base Base.condition t = refl
 sim_close_base Base.expression t = refl
 sim_close_base (Base.expressions done) t = refl
@@ -173,7 +173,7 @@ sim_close_base (Base.variable_subscript done name) t = refl
 sim_close_base (Base.call_arguments name done) t = refl
 
 sim_close_at : (s : Stack) (t : PlainExpr) → hole s ≤ 1
-    → next_close_in (ground_of s) (brackets_of s) ≡ shape_if (Machine.step_close_stack s t)
+    → next_close_in (ground_of s) (brackets_of s) ≡ state_shape_if (Machine.step_close_stack s t)
 sim_close_at (Stack.base b) t le = sim_close_base b t
 sim_close_at (Stack.prefix op s) t le = absurd (omega arith)
 sim_close_at (Stack.left a op s) t le = absurd (omega (arith, above_none op))
@@ -181,7 +181,7 @@ sim_close_at (Stack.parenthesis s) t le = refl
 sim_close_at (Stack.subscript name s) t le = refl
 sim_close_at (Stack.arguments function done s) t le = refl
 
-sim_close : (s : State) → Sound s → Recognizer.next_close (shape_of s) ≡ shape_if (Machine.step_close s)
+sim_close : (s : State) → Sound s → Recognizer.next_close (state_shape s) ≡ state_shape_if (Machine.step_close s)
 sim_close (State.had s t) h =
     let o = reduced s 1 t in
     let p = same_place 1 s t in
@@ -189,7 +189,7 @@ sim_close (State.had s t) h =
 sim_close (State.name_had role name) h = refl
 sim_close s h = refl
 
-sim_comma_base : (b : Base) (t : PlainExpr) → Recognizer.next_comma_ground (ground_of_base b) ≡ shape_if (Machine.step_comma_base b t)
+sim_comma_base : (b : Base) (t : PlainExpr) → Recognizer.next_comma_ground (ground_of_base b) ≡ state_shape_if (Machine.step_comma_base b t)
 sim_comma_base Base.condition t = refl
 sim_comma_base Base.expression t = refl
 sim_comma_base (Base.expressions done) t = refl
@@ -199,7 +199,7 @@ sim_comma_base (Base.variable_subscript done name) t = refl
 sim_comma_base (Base.call_arguments name done) t = refl
 
 sim_comma_at : (s : Stack) (t : PlainExpr) → hole s ≤ 1
-    → next_comma_in (ground_of s) (brackets_of s) ≡ shape_if (Machine.step_comma_stack s t)
+    → next_comma_in (ground_of s) (brackets_of s) ≡ state_shape_if (Machine.step_comma_stack s t)
 sim_comma_at (Stack.base b) t le = sim_comma_base b t
 sim_comma_at (Stack.prefix op s) t le = absurd (omega arith)
 sim_comma_at (Stack.left a op s) t le = absurd (omega (arith, above_none op))
@@ -207,7 +207,7 @@ sim_comma_at (Stack.parenthesis s) t le = refl
 sim_comma_at (Stack.subscript name s) t le = refl
 sim_comma_at (Stack.arguments function done s) t le = refl
 
-sim_comma_role : (role : Role) (name : List ℕ) → Recognizer.next_comma_name (use_of role) ≡ shape_if (Machine.step_comma_role role name)
+sim_comma_role : (role : Role) (name : List ℕ) → Recognizer.next_comma_name (use_of role) ≡ state_shape_if (Machine.step_comma_role role name)
 sim_comma_role Role.target name = refl
 sim_comma_role (Role.variables done) name = refl
 sim_comma_role Role.callee name = refl
@@ -216,7 +216,7 @@ sim_comma_role (Role.names done) name = refl
 sim_comma_role Role.variable name = refl
 sim_comma_role Role.procedure name = refl
 
-sim_comma : (s : State) → Sound s → Recognizer.next_comma (shape_of s) ≡ shape_if (Machine.step_comma s)
+sim_comma : (s : State) → Sound s → Recognizer.next_comma (state_shape s) ≡ state_shape_if (Machine.step_comma s)
 sim_comma (State.had s t) h =
     let o = reduced s 1 t in
     let p = same_place 1 s t in
@@ -224,7 +224,7 @@ sim_comma (State.had s t) h =
 sim_comma (State.name_had role name) h = sim_comma_role role name
 sim_comma s h = refl
 
-sim_equal_role : (role : Role) (name : List ℕ) → Recognizer.next_equal_name (use_of role) ≡ shape_if (Machine.step_equal_role role name)
+sim_equal_role : (role : Role) (name : List ℕ) → Recognizer.next_equal_name (use_of role) ≡ state_shape_if (Machine.step_equal_role role name)
 sim_equal_role Role.target name = refl
 sim_equal_role (Role.variables done) name = refl
 sim_equal_role Role.callee name = refl
@@ -233,43 +233,43 @@ sim_equal_role (Role.names done) name = refl
 sim_equal_role Role.variable name = refl
 sim_equal_role Role.procedure name = refl
 
-sim_equal : (s : State) → Sound s → Recognizer.next_equal (shape_of s) ≡ shape_if (Machine.step_equal s)
+sim_equal : (s : State) → Sound s → Recognizer.next_equal (state_shape s) ≡ state_shape_if (Machine.step_equal s)
 sim_equal (State.had s t) h = ap Some (sim_infix between.Equal s t h)
 sim_equal (State.name_had role name) h = sim_equal_role role name
 sim_equal s h = refl
 
 sim_with_prefix : (s : Stack) (found : Option PrefixOp)
-    → Recognizer.next_prefix (ground_of s) (brackets_of s) (depth s) found ≡ shape_if (Machine.step_prefix s found)
+    → Recognizer.next_prefix (ground_of s) (brackets_of s) (depth s) found ≡ state_shape_if (Machine.step_prefix s found)
 sim_with_prefix s None = refl
 sim_with_prefix s (Some op) = refl
 
 sim_with_infix : (s : Stack) (t : PlainExpr) (found : Option InfixOp) → Sound (State.had s t)
-    → Recognizer.next_infix (ground_of s) (brackets_of s) found ≡ shape_if (Machine.step_infix s t found)
+    → Recognizer.next_infix (ground_of s) (brackets_of s) found ≡ state_shape_if (Machine.step_infix s t found)
 sim_with_infix s t None h = refl
 sim_with_infix s t (Some op) h = ap Some (sim_infix op s t h)
 
-sim_operator : (s : State) (sign : Sign) → Sound s → Recognizer.next_operator (shape_of s) sign ≡ shape_if (Machine.step_operator s sign)
+sim_operator : (s : State) (sign : Sign) → Sound s → Recognizer.next_operator (state_shape s) sign ≡ state_shape_if (Machine.step_operator s sign)
 sim_operator (State.wanted s) sign h = sim_with_prefix s (prefix_of sign)
 sim_operator (State.had s t) sign h = sim_with_infix s t (infix_of sign) h
 sim_operator s sign h = refl
 
-sim_sign : (s : State) (sign : Sign) → Sound s → Recognizer.next_sign (shape_of s) sign ≡ shape_if (Machine.step_sign s sign)
+sim_sign : (s : State) (sign : Sign) → Sound s → Recognizer.next_sign (state_shape s) sign ≡ state_shape_if (Machine.step_sign s sign)
 sim_sign s Sign.OpenParenthesis h = sim_open s
 sim_sign s Sign.CloseParenthesis h = sim_close s h
 sim_sign s Sign.Comma h = sim_comma s h
 sim_sign s Sign.Equal h = sim_equal s h
 sim_sign s sign h = sim_operator s sign h
 
-sim_name : (s : State) (name : List ℕ) → Recognizer.next_name (shape_of s) (is_builtin_name name) ≡ shape_if (Machine.step_name s name)
+sim_name : (s : State) (name : List ℕ) → Recognizer.next_name (state_shape s) (is_builtin_name name) ≡ state_shape_if (Machine.step_name s name)
 sim_name (State.wanted s) name = refl
 sim_name (State.name_wanted role) name = refl
 sim_name s name = refl
 
-if_shape : (a b : Bool) (s : State) → a ≡ b → cond a (Some (shape_of s)) None ≡ shape_if (cond b (Some s) None)
-if_shape a true s e = ap (λ z. cond z (Some (shape_of s)) None) e
-if_shape a false s e = ap (λ z. cond z (Some (shape_of s)) None) e
+if_shape : (a b : Bool) (s : State) → a ≡ b → cond a (Some (state_shape s)) None ≡ state_shape_if (cond b (Some s) None)
+if_shape a true s e = ap (λ z. cond z (Some (state_shape s)) None) e
+if_shape a false s e = ap (λ z. cond z (Some (state_shape s)) None) e
 
-sim_number : (s : State) (n : ℕ) → Recognizer.next_number (shape_of s) (min n greatest_kept) ≡ shape_if (Machine.step_number s n)
+sim_number : (s : State) (n : ℕ) → Recognizer.next_number (state_shape s) (min n greatest_kept) ≡ state_shape_if (Machine.step_number s n)
 sim_number (State.size_wanted done name) n =
     if_shape (leb 1 (min n greatest_kept)) (leb 1 n) (State.size_had done name n) (kept_from n 1 (lit≤ tt))
 sim_number State.length_wanted n =
@@ -278,12 +278,12 @@ sim_number State.length_wanted n =
 sim_number s n = refl
 
 sim_constant : (s : State) (t : PlainExpr) → last_of 0 t ≡ Last.Operand → ((d : ℕ) → last_of d t ≡ Last.Operand)
-    → Recognizer.next_constant (shape_of s) ≡ shape_if (Machine.step_operand s t)
+    → Recognizer.next_constant (state_shape s) ≡ state_shape_if (Machine.step_operand s t)
 sim_constant (State.wanted s) t z e = ap (λ l. Some (Shape.had l (ground_of s) (brackets_of s))) (sym (e (depth s)))
 sim_constant s t z e = refl
 
 -- a token does to the shape what it does to the state
-pub simulates : (s : State) (k : Token) → Sound s → next (shape_of s) (class_of k) ≡ shape_if (step s k)
+pub simulates : (s : State) (k : Token) → Sound s → next (state_shape s) (class_of k) ≡ state_shape_if (step s k)
 simulates s (Token.name name) h = sim_name s name
 simulates s (Token.keyword word) h = refl
 simulates s (Token.number n) h = sim_number s n
@@ -325,7 +325,7 @@ ends_role Role.variable name = refl
 ends_role Role.procedure name = refl
 
 -- the tokens may be a whole phrase exactly where they are read as one
-pub ends_as : (s : State) → Sound s → may_end (shape_of s) ≡ is_some (phrase_of s)
+pub ends_as : (s : State) → Sound s → may_end (state_shape s) ≡ is_some (phrase_of s)
 ends_as (State.had s t) h =
     let o = reduced s 1 t in
     let p = same_place 1 s t in

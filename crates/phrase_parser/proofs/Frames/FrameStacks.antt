@@ -3,20 +3,19 @@ use Rattle.std.proofs.Common.{◌≡◌, refl, ap, ◌∙◌, List, [], ◌∷�
 use Rattle.std.proofs.lemmas.List.{map-append}
 use Rattle.plcs_grammar.specs.declared.expr.Expr.{Expr}
 use Rattle.plcs_grammar.specs.declared.expr.VarRef.{VarRef}
-use Rattle.plcs_grammar.specs.PlainPhrase.{PlainExpr, PlainExprs}
-use Rattle.plcs_grammar.specs.PlainForm.{plain_expr, plain_exprs, exprs_from, plain_var_ref}
+use Rattle.plcs_grammar.specs.PlainPhrase.{PlainExpr, PlainExprs, plain_expr, plain_exprs, exprs_from, plain_var_ref}
 use Rattle.phrase_parser.specs.Private.Machine as machine
 use Rattle.phrase_parser.specs.Private.Machine.{expr_push, phrase_of_stack}
 use Rattle.phrase_parser.specs.declared.builder.stack.Frame.{Frame}
 use Rattle.phrase_parser.specs.declared.builder.stack.Frame.TheVariants as frame
 use Rattle.phrase_parser.specs.Private.Views.{pushed, stack_on}
 
--- the last frame stands on top
+-- the last frame of a list stands on top of the stack
 pub stack_on_push : (s : machine.Stack) (fs : List Frame) (f : Frame) → stack_on s (fs ++ (f ∷ [])) ≡ pushed f (stack_on s fs)
 stack_on_push s [] f = refl
 stack_on_push s (g ∷ gs) f = stack_on_push (pushed g s) gs f
 
--- the expressions with one more
+-- the plain form of a list of expressions with one more
 exprs_from_push : (ts : List PlainExpr) (t : PlainExpr) → exprs_from (ts ++ (t ∷ [])) ≡ expr_push (exprs_from ts) t
 exprs_from_push [] t = refl
 exprs_from_push (x ∷ xs) t = ap (λ (rest : PlainExprs). PlainExprs.cons x rest) (exprs_from_push xs t)
@@ -24,12 +23,12 @@ exprs_from_push (x ∷ xs) t = ap (λ (rest : PlainExprs). PlainExprs.cons x res
 pub exprs_of_push : (es : List Expr) (e : Expr) → plain_exprs (es ++ (e ∷ [])) ≡ expr_push (plain_exprs es) (plain_expr e)
 exprs_of_push es e = ap exprs_from (map-append plain_expr es (e ∷ [])) ∙ exprs_from_push (map plain_expr es) (plain_expr e)
 
--- the variables with one more
+-- the plain forms of a list of variables with one more
 pub references_of_push : (vs : List VarRef) (v : VarRef)
     → map plain_var_ref (vs ++ (v ∷ [])) ≡ map plain_var_ref vs ++ (plain_var_ref v ∷ [])
 references_of_push vs v = map-append plain_var_ref vs (v ∷ [])
 
--- nothing ends where a frame is open
+-- no phrase ends where a frame is open
 pub ended_at_open : (f : Frame) (s : machine.Stack) (t : PlainExpr) → phrase_of_stack (pushed f s) t ≡ None
 ended_at_open (frame.Prefix op) s t = refl
 ended_at_open (frame.Left a op) s t = refl

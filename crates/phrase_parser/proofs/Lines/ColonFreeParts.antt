@@ -37,7 +37,7 @@ placeholder_clear category.NameList y = clear_solid 58 [] (placeholder category.
 placeholder_clear category.Length y = clear_solid 58 [] (placeholder category.Length) y refl
 placeholder_clear category.CommentText y = clear_solid 58 [] (placeholder category.CommentText) y refl
 
--- nor has a well-formed phrase that is no comment
+-- the canonical text of a well-formed phrase that is no comment has no colon
 phrase_colon_free : (c : Category) (p : PlainPhrase) → c ≢ CommentText → IsWellFormed c p → (y : List ℕ) → Ends y
     → Clear (codes ":") (Canon p) y
 phrase_colon_free c p no_comment (inl (pieces, cut), limits) y ends =

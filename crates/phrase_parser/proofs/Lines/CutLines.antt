@@ -11,11 +11,11 @@ pub record IsUncut (divider text : List ℕ) (inside : Bool) (place : ℕ) : Typ
   pub within : place ≤ length text
   pub passes : Passes divider false (take place text) inside (drop place text)
 
--- the first byte behind the place
+-- the first byte of a line behind the place
 byte_there : (text : List ℕ) (place : ℕ) → place < length text → drop place text ≡ get_or text place 0 ∷ drop (suc place) text
 byte_there text place h = drop-cons text place 0 h
 
--- one byte more
+-- a line has been searched for one byte more
 pub uncut_more : (divider text : List ℕ) (inside : Bool) (place : ℕ) (still : Bool) → IsUncut divider text inside place → place < length text
     → not inside && begins_here divider (drop place text) ≡ false → still ≡ is_quoted_behind inside (get_or text place 0)
     → IsUncut divider text still (place + 1)

@@ -23,7 +23,7 @@ module _ (first : ℕ) (rest : List ℕ) (apart : IsApart first) (fronts : Holds
       → Fresh (first ∷ rest) (canon t ++ behind)
   expr_fresh t level fits writable behind ends = expr_front (Fresh (first ∷ rest)) fronts t level fits writable behind ends
 
-  -- it doesn't begin there either with more behind the text
+  -- the divider doesn't begin at a blank before an expression with more behind it
   fresh_more : (x y behind : List ℕ) → Fresh (first ∷ rest) (x ++ (y ++ behind)) → Fresh (first ∷ rest) ((x ++ y) ++ behind)
   fresh_more x y behind h = front_more (Fresh (first ∷ rest)) fronts x y behind h
 
@@ -31,11 +31,11 @@ module _ (first : ℕ) (rest : List ℕ) (apart : IsApart first) (fronts : Holds
   abbrev divider : List ℕ
   divider = first ∷ rest
 
-  -- one text and then another
+  -- the divider begins nowhere in one text and then another, where it begins in neither
   pub clear_append : (x z y : List ℕ) → Clear divider x (z ++ y) → Clear divider z y → Clear divider (x ++ z) y
   clear_append x z y h k = passes_append divider false false false x z y h k
 
-  -- a text in parentheses, behind a name
+  -- the divider begins nowhere in a text in parentheses behind a name
   pub clear_called : (name x behind : List ℕ) → IsName name → Clear divider x (41 ∷ behind)
       → Clear divider (name ++ parenthesized_bytes x) behind
   clear_called name x behind named inner =
@@ -43,11 +43,11 @@ module _ (first : ℕ) (rest : List ℕ) (apart : IsApart first) (fronts : Holds
       (clear_append (40 ∷ []) (x ++ (41 ∷ [])) behind (clear_sign first rest apart Sign.OpenParenthesis ((x ++ (41 ∷ [])) ++ behind))
       (clear_append x (41 ∷ []) behind inner (clear_sign first rest apart Sign.CloseParenthesis behind)))
 
-  -- a text behind a blank
+  -- the divider begins nowhere in a text behind a blank
   pub clear_behind_blank : (x behind : List ℕ) → Fresh (first ∷ rest) (x ++ behind) → Clear divider x behind → Clear divider (32 ∷ x) behind
   clear_behind_blank x behind fresh inner = clear_append (32 ∷ []) x behind (clear_blank first rest (x ++ behind) fresh) inner
 
-  -- a text behind a sign between blanks
+  -- the divider begins nowhere in a text behind a sign between blanks
   pub clear_behind_sign : (sign : Sign) (x behind : List ℕ) → Fresh (first ∷ rest) (x ++ behind) → Clear divider x behind
       → Clear divider (32 ∷ (sign_bytes sign ++ (32 ∷ x))) behind
   clear_behind_sign sign x behind fresh inner =
@@ -93,7 +93,7 @@ module _ (first : ℕ) (rest : List ℕ) (apart : IsApart first) (fronts : Holds
         (clear_behind_blank (41 ∷ []) behind (fronts.at_sign Sign.CloseParenthesis behind)
         (clear_sign first rest apart Sign.CloseParenthesis behind))))
 
-    -- nor in a variable
+    -- the divider begins nowhere in a variable
     pub reference_clear : (reference : PlainVarRef) → FitsReference reference → AllWritable (spell_reference reference) → (behind : List ℕ)
         → Ends behind → Clear divider (canon_reference reference) behind
     reference_clear (PlainVarRef.simple name) fits writable behind ends = clear_name first rest apart name behind writable.0.0
@@ -101,7 +101,7 @@ module _ (first : ℕ) (rest : List ℕ) (apart : IsApart first) (fronts : Holds
         clear_called name (canon index) behind writable.0.0
         (expr_clear index 1 fits (inner_writable (spell index) writable.1) (41 ∷ behind) refl)
 
-    -- nor in expressions joined by commas
+    -- the divider begins nowhere in expressions joined by commas
     pub list_clear : (ts : PlainExprs) → FitsAll ts → AllWritable (spell_all ts) → (behind : List ℕ) → Ends behind
         → Clear divider (canon_list ts) behind
     list_clear PlainExprs.nil fits writable behind ends = absurd fits
@@ -111,7 +111,7 @@ module _ (first : ℕ) (rest : List ℕ) (apart : IsApart first) (fronts : Holds
         (expr_clear a 1 fits.0 parts.0 (canon_behind more ++ behind) (behind_ends more behind ends))
         (behind_clear more fits.1 parts.1 behind ends)
 
-    -- nor in those that stand behind a comma each
+    -- the divider begins nowhere in expressions that stand behind a comma each
     behind_clear : (ts : PlainExprs) → FitsBehind ts → AllWritable (spell_behind ts) → (behind : List ℕ) → Ends behind
         → Clear divider (canon_behind ts) behind
     behind_clear PlainExprs.nil fits writable behind ends = passes_nothing divider false behind

@@ -18,19 +18,19 @@ module _ (first : ℕ) (rest : List ℕ) (apart : IsApart first) (fronts : Holds
   abbrev divider : List ℕ
   divider = first ∷ rest
 
-  -- one text and then another
+  -- the divider begins nowhere in one text and then another, where it begins in neither
   append : (x z y : List ℕ) → Clear divider x (z ++ y) → Clear divider z y → Clear divider (x ++ z) y
   append x z y h k = clear_append first rest apart fronts x z y h k
 
   module _ {X : Type 0} (bytes_of : X → List ℕ) (f : X → List Token) (Fit : X → Type 0)
       (fresh : (x : X) → Fit x → AllWritable (f x) → (behind : List ℕ) → Ends behind → Fresh divider (bytes_of x ++ behind))
       (each : (x : X) → Fit x → AllWritable (f x) → (behind : List ℕ) → Ends behind → Clear divider (bytes_of x) behind) where
-    -- behind an item stands a comma, or what stands behind all of them
+    -- behind an element of a list stands a comma, or what stands behind all of them
     more_ends : (xs : List X) (behind : List ℕ) → Ends behind → Ends (more_joined bytes_of xs ++ behind)
     more_ends [] behind ends = ends
     more_ends (x ∷ xs) behind ends = refl
 
-    -- texts, each behind a comma
+    -- the divider begins nowhere in the texts of a list's elements, each behind a comma
     more_clear : (xs : List X) → EachFits Fit xs → AllWritable (spell_more f xs) → (behind : List ℕ) → Ends behind
         → Clear divider (more_joined bytes_of xs) behind
     more_clear [] fits writable behind ends = passes_nothing divider false behind
@@ -45,7 +45,7 @@ module _ (first : ℕ) (rest : List ℕ) (apart : IsApart first) (fronts : Holds
         (append (bytes_of x) (more_joined bytes_of xs) behind (each x fits.0 parts.0 (more_joined bytes_of xs ++ behind) follows)
         (more_clear xs fits.1 parts.1 behind ends)))
 
-    -- texts joined by commas
+    -- the divider begins nowhere in the texts of a list's elements, joined by commas
     joined_clear : (xs : List X) → FitsListed Fit xs → AllWritable (spell_listed f xs) → (behind : List ℕ) → Ends behind
         → Clear divider (joined bytes_of xs) behind
     joined_clear [] fits writable behind ends = absurd fits
@@ -55,7 +55,7 @@ module _ (first : ℕ) (rest : List ℕ) (apart : IsApart first) (fronts : Holds
         (each x fits.0 parts.0 (more_joined bytes_of xs ++ behind) (more_ends xs behind ends))
         (more_clear xs fits.1 parts.1 behind ends)
 
-  -- a declared name
+  -- the divider begins nowhere in a declared name
   sized_clear : (name : List ℕ) (size : Option ℕ) → AllWritable (spell_sized name size) → (behind : List ℕ)
       → Clear divider (canon_sized name size) behind
   sized_clear name None writable behind = clear_name first rest apart name behind writable.0.0
@@ -64,7 +64,7 @@ module _ (first : ℕ) (rest : List ℕ) (apart : IsApart first) (fronts : Holds
       clear_called first rest apart fronts name (decimal size) behind writable.0.0
       (clear_number first rest apart size (41 ∷ behind) (small_number size inner.0.1))
 
-  -- a call
+  -- the divider begins nowhere in a call
   call_clear : (name : List ℕ) (passed : PlainExprs) → FitsCall passed → AllWritable (spell_call name passed) → (behind : List ℕ)
       → Clear divider (canon_call name passed) behind
   call_clear name PlainExprs.nil fits writable behind = clear_name first rest apart name behind writable.0.0
@@ -73,7 +73,7 @@ module _ (first : ℕ) (rest : List ℕ) (apart : IsApart first) (fronts : Holds
       clear_called first rest apart fronts name (canon_list passed) behind writable.0.0
       (list_clear first rest apart fronts passed fits (inner_writable (spell_all passed) writable.1) (41 ∷ behind) refl)
 
-  -- a phrase that is tokens
+  -- the divider begins nowhere in a phrase that is tokens
   phrase_parts_clear : (p : PlainPhrase) → FitsPhrase p → AllWritable (spell_phrase p) → (behind : List ℕ) → Ends behind
       → Clear divider (Canon p) behind
   phrase_parts_clear (PlainPhrase.assignment target value) fits writable behind ends =
@@ -106,6 +106,6 @@ module _ (first : ℕ) (rest : List ℕ) (apart : IsApart first) (fronts : Holds
       clear_number first rest apart n behind (small_number n writable.0.1)
   phrase_parts_clear (PlainPhrase.comment bytes) fits writable behind ends = absurd fits
 
-  -- a phrase that can be written
+  -- the divider begins nowhere in a phrase that can be written
   pub writable_clear : (p : PlainPhrase) → IsWritable p → (behind : List ℕ) → Ends behind → Clear divider (Canon p) behind
   writable_clear p writable behind ends = phrase_parts_clear p writable.fits writable.tokens behind ends

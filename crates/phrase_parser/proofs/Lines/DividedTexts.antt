@@ -21,7 +21,7 @@ begins_here divider x = starts_with nat_eq x divider
 abbrev pub Passes : List ℕ → Bool → List ℕ → Bool → List ℕ → Type 0
 Passes divider inside x still y = cut_from inside divider (x ++ y) ≡ with_front x (cut_from still divider y)
 
--- the same where x begins and ends outside
+-- before y the divider begins nowhere in x outside of quotes, and x begins and ends outside of quotes
 abbrev pub Clear : List ℕ → List ℕ → List ℕ → Type 0
 Clear divider x y = Passes divider false x false y
 
@@ -33,17 +33,17 @@ front_none : (o : Option (List ℕ × List ℕ)) → o ≡ with_front [] o
 front_none None = refl
 front_none (Some parts) = refl
 
--- nothing
+-- the divider begins nowhere in the empty text
 pub passes_nothing : (divider : List ℕ) (inside : Bool) (y : List ℕ) → Passes divider inside [] inside y
 passes_nothing divider inside y = front_none (cut_from inside divider y)
 
--- one text and then another
+-- the divider begins nowhere in one text and then another, where it begins in neither
 pub passes_append : (divider : List ℕ) (a b c : Bool) (x z y : List ℕ) → Passes divider a x b (z ++ y) → Passes divider b z c y
     → Passes divider a (x ++ z) c y
 passes_append divider a b c x z y h k =
     ap (cut_from a divider) (append_assoc x z y) ∙ h ∙ ap (with_front x) k ∙ front_twice x z (cut_from c divider y)
 
--- one byte
+-- the divider begins nowhere in a text of one byte, where it doesn't begin at that
 pub passes_byte : (divider : List ℕ) (inside : Bool) (byte : ℕ) (y : List ℕ)
     → not inside && begins_here divider (byte ∷ y) ≡ false → Passes divider inside (byte ∷ []) (is_quoted_behind inside byte) y
 passes_byte divider inside byte y h = cond-false (not inside && begins_here divider (byte ∷ y)) _ _ h
@@ -75,7 +75,7 @@ module _ (first : ℕ) (rest : List ℕ) where
   other_byte : (byte : ℕ) (y : List ℕ) → nat_eq first byte ≡ false → begins_here (first ∷ rest) (byte ∷ y) ≡ false
   other_byte byte y h = ap (λ (b : Bool). b && begins_here rest y) h
 
-  -- one such byte
+  -- the divider begins nowhere in one byte that a test tells from its first
   solid_byte : (byte : ℕ) (y : List ℕ) → is_solid first byte ≡ true → Clear (first ∷ rest) (byte ∷ []) y
   solid_byte byte y h =
       let parts = and_parts (not (nat_eq first byte)) (not (is_quote byte)) h in
@@ -83,7 +83,7 @@ module _ (first : ℕ) (rest : List ℕ) where
       (cond-false (is_quote byte) true false (not-true (is_quote byte) parts.1))
       (passes_byte (first ∷ rest) false byte y (other_byte byte y (not-true (nat_eq first byte) parts.0)))
 
-  -- a text of such bytes
+  -- the divider begins nowhere in a text of bytes that a test tells from its first
   pub clear_solid : (x y : List ℕ) → list_all (is_solid first) x ≡ true → Clear (first ∷ rest) x y
   clear_solid [] y h = passes_nothing (first ∷ rest) false y
   clear_solid (byte ∷ x) y h =
@@ -105,53 +105,53 @@ module _ (first : ℕ) (rest : List ℕ) where
   closing_quote y = passes_byte (first ∷ rest) true 39 y refl
 
   module _ (apart : IsApart first) where
-    -- a quote outside of quotes
+    -- the divider doesn't begin at a quote outside of quotes
     opening_quote : (y : List ℕ) → Passes (first ∷ rest) false (39 ∷ []) true y
     opening_quote y = passes_byte (first ∷ rest) false 39 y (other_byte 39 y apart.quotes)
 
-    -- a byte of a value, as it is written
+    -- the divider begins nowhere in a byte of a value, as it is written between quotes
     inside_doubled : (byte : ℕ) (y : List ℕ) → Passes (first ∷ rest) true (doubled byte) true y
     inside_doubled byte y =
         cond_both (is_quote byte) (39 ∷ 39 ∷ []) (byte ∷ []) (λ (x : List ℕ). Passes (first ∷ rest) true x true y)
         (λ is. passes_append (first ∷ rest) true false true (39 ∷ []) (39 ∷ []) y (closing_quote (39 ∷ y)) (opening_quote y))
         (λ not. inside_byte byte y not)
 
-    -- a value, as it is written
+    -- the divider begins nowhere in a value, as it is written between quotes
     inside_value : (value y : List ℕ) → Passes (first ∷ rest) true (with_quotes_doubled value) true y
     inside_value [] y = passes_nothing (first ∷ rest) true y
     inside_value (byte ∷ value) y =
         passes_append (first ∷ rest) true true true (doubled byte) (with_quotes_doubled value) y
         (inside_doubled byte (with_quotes_doubled value ++ y)) (inside_value value y)
 
-    -- a character constant
+    -- the divider begins nowhere in a character constant
     pub clear_text : (value y : List ℕ) → Clear (first ∷ rest) (quoted value) y
     clear_text value y =
         passes_append (first ∷ rest) false true false (39 ∷ []) (with_quotes_doubled value ++ (39 ∷ [])) y
         (opening_quote ((with_quotes_doubled value ++ (39 ∷ [])) ++ y))
         (passes_append (first ∷ rest) true true false (with_quotes_doubled value) (39 ∷ []) y (inside_value value (39 ∷ y)) (closing_quote y))
 
-    -- a byte of a name
+    -- the divider doesn't begin at a byte of a name
     clear_name_byte : (byte : ℕ) (y : List ℕ) → is_name_byte byte ≡ true → Clear (first ∷ rest) (byte ∷ []) y
     clear_name_byte byte y h = solid_byte byte y (apart.names byte h)
 
-    -- a bit constant
+    -- the divider begins nowhere in a bit constant
     pub clear_bit : (bit : Bool) (y : List ℕ) → Clear (first ∷ rest) (bit_bytes bit) y
     clear_bit false y =
         passes_append (first ∷ rest) false false false (quoted (48 ∷ [])) (66 ∷ []) y (clear_text (48 ∷ []) (66 ∷ y)) (clear_name_byte 66 y refl)
     clear_bit true y =
         passes_append (first ∷ rest) false false false (quoted (49 ∷ [])) (66 ∷ []) y (clear_text (49 ∷ []) (66 ∷ y)) (clear_name_byte 66 y refl)
 
-    -- a name
+    -- the divider begins nowhere in a name
     pub clear_name : (name y : List ℕ) → IsName name → Clear (first ∷ rest) name y
     clear_name name y named =
         clear_solid name y (all_solid first is_name_byte apart.names name (word_bytes name (name_word name named)))
 
-    -- a number in decimal
+    -- the divider begins nowhere in a number in decimal
     pub clear_number : (n : ℕ) (y : List ℕ) → n < 2 ^ 64 → Clear (first ∷ rest) (decimal n) y
     clear_number n y small =
         clear_solid (decimal n) y
         (all_solid first is_digit (λ byte h. apart.names byte (digit_is_name_byte byte h)) (decimal n) (decimal_numeral n small).0.1)
 
-    -- a sign
+    -- the divider begins nowhere in a sign
     pub clear_sign : (sign : Sign) (y : List ℕ) → Clear (first ∷ rest) (sign_bytes sign) y
     clear_sign sign y = clear_solid (sign_bytes sign) y (apart.signs sign)

@@ -19,7 +19,7 @@ use Rattle.phrase_parser.proofs.Lines.DividedExprs.{Fresh}
 blank_not_in_name : (byte : ℕ) → is_name_byte byte ≡ true → is_solid 32 byte ≡ true
 blank_not_in_name byte h = grind (arith, nat_tests)
 
--- nor is a colon
+-- a colon is no byte of a name
 colon_not_in_name : (byte : ℕ) → is_name_byte byte ≡ true → is_solid 58 byte ≡ true
 colon_not_in_name byte h = grind (arith, nat_tests)
 
@@ -28,7 +28,7 @@ blank_not_in_sign : (sign : Sign) → list_all (is_solid 32) (sign_bytes sign) �
 blank_not_in_sign Sign.Plus = refl
 blank_not_in_sign _ = refl
 
--- nor a colon
+-- no sign has a colon
 colon_not_in_sign : (sign : Sign) → list_all (is_solid 58) (sign_bytes sign) ≡ true
 colon_not_in_sign Sign.Plus = refl
 colon_not_in_sign _ = refl
@@ -37,7 +37,7 @@ colon_not_in_sign _ = refl
 pub blank_apart : IsApart 32
 blank_apart = record { names = blank_not_in_name; quotes = refl; signs = blank_not_in_sign }
 
--- nor does what begins with a colon
+-- what begins with a colon begins in no token outside of quotes
 pub colon_apart : IsApart 58
 colon_apart = record { names = colon_not_in_name; quotes = refl; signs = colon_not_in_sign }
 
@@ -111,7 +111,7 @@ to_apart = record {
   at_sign = to_before_sign;
 }
 
--- nor does ` BY `
+-- ` BY ` begins at no blank in an expression
 pub by_apart : HoldsAtTokens (Fresh (32 ∷ 66 ∷ 89 ∷ 32 ∷ []))
 by_apart = record {
   at_name = λ name behind named ends. keyword_apart 66 89 name behind refl by_is_keyword named ends;

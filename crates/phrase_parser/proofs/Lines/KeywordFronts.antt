@@ -24,7 +24,7 @@ use Rattle.phrase_parser.proofs.Tokens.LongestFront.{name_found, keyword_found}
 use Rattle.phrase_parser.proofs.Readings.CanonicalText.{cut_writable}
 use Rattle.phrase_parser.proofs.Lines.TextFronts.{Ends, HoldsAtTokens, phrase_front}
 
--- no keyword stands in front
+-- no keyword stands in front of a text
 abbrev NoKeyword : List ℕ → Type 0
 NoKeyword x = BeginsWithKeyword x → ⊥
 
@@ -39,7 +39,7 @@ name_no_keyword name behind named ends front =
     let kinds : kind.Name ≡ kind.Keyword = ap (λ (f : Front). f.kind) same in
     absurd (cc)
 
--- nor where the first byte is no letter
+-- no keyword stands where the first byte is no letter
 letter_needed : (x word behind : List ℕ) → begins_with is_letter x ≡ false → is_word word ≡ true → x ≡ word ++ behind → ⊥
 letter_needed x [] behind other word e = false≢true word
 letter_needed x (letter ∷ rest) behind other word e =
@@ -66,7 +66,7 @@ no_keyword_at_tokens = record {
   at_sign = λ sign y. no_letter_no_keyword (sign_bytes sign ++ y) (sign_no_letter sign y);
 }
 
--- nor where a well-formed phrase does that is no comment
+-- no keyword stands where a well-formed phrase does that is no comment
 phrase_no_keyword : (c : Category) (p : PlainPhrase) → c ≢ CommentText → IsWellFormed c p → (behind : List ℕ) → Ends behind
     → NoKeyword (Canon p ++ behind)
 phrase_no_keyword c p no_comment (inl (pieces, cut), limits) behind ends =
@@ -89,7 +89,7 @@ placeholder_no_letter category.NameList behind = refl
 placeholder_no_letter category.Length behind = refl
 placeholder_no_letter category.CommentText behind = refl
 
--- nor where a placeholder does
+-- no keyword stands where a part of a line begins that is no comment's
 pub no_keyword_begins : (c : Category) (x behind : List ℕ) → c ≢ CommentText → IsPart c x → EndsWord behind
     → ¬ (BeginsWithKeyword (x ++ behind))
 no_keyword_begins c x behind no_comment (inl (p, formed, is)) ends =

@@ -26,7 +26,7 @@ module _ (rest : List ℕ) where
   abbrev behind_names : List ℕ
   behind_names = 32 ∷ 41 ∷ rest
 
-  -- one text and then another
+  -- the divider begins nowhere in one text and then another, where it begins in neither
   clear_append : (x z y : List ℕ) → Clear behind_names x (z ++ y) → Clear behind_names z y → Clear behind_names (x ++ z) y
   clear_append x z y h k = passes_append behind_names false false false x z y h k
 
@@ -50,7 +50,7 @@ module _ (rest : List ℕ) where
       subst (λ (x : List ℕ). begins_here (41 ∷ rest) x ≡ false) (sym (append_assoc name (parenthesized_bytes (decimal size)) behind))
       (parenthesis_before_name rest name (parenthesized_bytes (decimal size) ++ behind) writable.0.0)
 
-  -- items, each behind a comma
+  -- the divider begins nowhere in declared items, each behind a comma
   more_clear : (items : List Item) → AllWritable (spell_more spell_item items) → (behind : List ℕ)
       → Clear behind_names (more_joined canon_item items) behind
   more_clear [] writable behind = passes_nothing behind_names false behind
@@ -66,7 +66,7 @@ module _ (rest : List ℕ) where
       (sized_clear item.name item.size parts.0 (more_joined canon_item items ++ behind))
       (more_clear items parts.1 behind)))
 
-  -- items joined by commas
+  -- the divider begins nowhere in declared items joined by commas
   items_clear : (items : List Item) → AllWritable (spell_listed spell_item items) → (behind : List ℕ)
       → Clear behind_names (joined canon_item items) behind
   items_clear [] writable behind = passes_nothing behind_names false behind
@@ -126,7 +126,7 @@ placeholder_cut _ _ Divides.varying y = refl
 placeholder_cut _ _ Divides.procedure y = refl
 placeholder_cut _ _ Divides.parameters y = refl
 
--- comments have no dividers
+-- no divider stands behind a comment's text
 comment_undivided : (c : Category) (divider : List ℕ) → Divides c divider → c ≡ CommentText → ⊥
 comment_undivided _ _ Divides.first_value e = absurd (cc)
 comment_undivided _ _ Divides.limit e = absurd (cc)
@@ -155,7 +155,7 @@ part_cut c divider x y d (inl (p, formed, is)) =
 part_cut c divider x y d (inr is) =
     subst (λ (z : List ℕ). cut_at divider (z ++ (divider ++ y)) ≡ Some (z, y)) (sym is) (placeholder_cut c divider d y)
 
--- so what stands before a divider and behind it are told by the whole
+-- what stands before a divider and behind it are told by the whole text
 pub parts_tell : (c : Category) (divider x y z w : List ℕ) → Divides c divider → IsPart c x → IsPart c z
     → x ++ (divider ++ y) ≡ z ++ (divider ++ w) → (x ≡ z) × (y ≡ w)
 parts_tell c divider x y z w d a b same =

@@ -17,7 +17,7 @@ use Rattle.phrase_parser.proofs.Machine.PhraseSpelling.{spell_more, spell_listed
 use Rattle.phrase_parser.proofs.Tokens.Numerals.{decimal_numeral}
 use Rattle.phrase_parser.proofs.Readings.CanonicalTokens.{AllWritable, writable_split, small_number}
 
--- no byte of a name follows
+-- what stands behind doesn't begin with a byte of a name
 abbrev pub Ends : List ℕ → Type 0
 Ends behind = begins_with is_name_byte behind ≡ false
 
@@ -38,16 +38,16 @@ module _ (P : List ℕ → Type 0) (holds : HoldsAtTokens P) where
   bit_front false behind = holds.at_quote (48 ∷ 39 ∷ 66 ∷ behind)
   bit_front true behind = holds.at_quote (49 ∷ 39 ∷ 66 ∷ behind)
 
-  -- it holds of a text with more behind it
+  -- the predicate holds of a text with more behind it
   pub front_more : (x y behind : List ℕ) → P (x ++ (y ++ behind)) → P ((x ++ y) ++ behind)
   front_more x y behind h = subst P (sym (append_assoc x y behind)) h
 
-  -- a name with more behind it
+  -- the predicate holds of a name with more behind it
   named_front : (name x behind : List ℕ) → IsName name → Ends (x ++ behind) → P ((name ++ x) ++ behind)
   named_front name x behind named ends = front_more name x behind (holds.at_name name (x ++ behind) named ends)
 
   mutual
-    -- an expression
+    -- the predicate holds of an expression's text
     pub expr_front : (t : PlainExpr) (level : ℕ) → Fits t level → AllWritable (spell t) → (behind : List ℕ) → Ends behind
         → P (canon t ++ behind)
     expr_front (PlainExpr.number (pos n)) level fits writable behind ends =
@@ -66,7 +66,7 @@ module _ (P : List ℕ → Type 0) (holds : HoldsAtTokens P) where
         named_front (builtin_name function) (parenthesized_bytes (canon_list arguments)) behind writable.0.0 refl
     expr_front (PlainExpr.parenthesized a) level fits writable behind ends = holds.at_sign Sign.OpenParenthesis _
 
-    -- a variable
+    -- the predicate holds of a variable's text
     pub reference_front : (reference : PlainVarRef) → AllWritable (spell_reference reference) → (behind : List ℕ) → Ends behind
         → P (canon_reference reference ++ behind)
     reference_front (PlainVarRef.simple name) writable behind ends = holds.at_name name behind writable.0.0 ends
@@ -78,14 +78,14 @@ module _ (P : List ℕ → Type 0) (holds : HoldsAtTokens P) where
   behind_ends PlainExprs.nil behind ends = ends
   behind_ends (PlainExprs.cons a rest) behind ends = refl
 
-  -- expressions joined by commas
+  -- the predicate holds of the text of expressions joined by commas
   list_front : (ts : PlainExprs) → FitsAll ts → AllWritable (spell_all ts) → (behind : List ℕ) → Ends behind → P (canon_list ts ++ behind)
   list_front PlainExprs.nil fits writable behind ends = absurd fits
   list_front (PlainExprs.cons a rest) fits writable behind ends =
       front_more (canon a) (canon_behind rest) behind
       (expr_front a 1 fits.0 (writable_split (spell a) (spell_behind rest) writable).0 (canon_behind rest ++ behind) (behind_ends rest behind ends))
 
-  -- a declared name
+  -- the predicate holds of a declared name's text
   pub sized_front : (name : List ℕ) (size : Option ℕ) → AllWritable (spell_sized name size) → (behind : List ℕ) → Ends behind
       → P (canon_sized name size ++ behind)
   sized_front name None writable behind ends = holds.at_name name behind writable.0.0 ends
@@ -93,19 +93,19 @@ module _ (P : List ℕ → Type 0) (holds : HoldsAtTokens P) where
 
   module _ {X : Type 0} (bytes_of : X → List ℕ) (f : X → List Token)
       (each : (x : X) → AllWritable (f x) → (behind : List ℕ) → Ends behind → P (bytes_of x ++ behind)) where
-    -- behind an item stands a comma, or what stands behind all of them
+    -- behind an element of a list stands a comma, or what stands behind all of them
     more_ends : (xs : List X) (behind : List ℕ) → Ends behind → Ends (more_joined bytes_of xs ++ behind)
     more_ends [] behind ends = ends
     more_ends (x ∷ xs) behind ends = refl
 
-    -- items joined by commas
+    -- the predicate holds of the text of a list's elements joined by commas
     joined_front : (x : X) (xs : List X) → AllWritable (spell_listed f (x ∷ xs)) → (behind : List ℕ) → Ends behind
         → P (joined bytes_of (x ∷ xs) ++ behind)
     joined_front x xs writable behind ends =
         front_more (bytes_of x) (more_joined bytes_of xs) behind
         (each x (writable_split (f x) (spell_more f xs) writable).0 (more_joined bytes_of xs ++ behind) (more_ends xs behind ends))
 
-  -- a phrase that is tokens
+  -- the predicate holds of the text of a phrase that is tokens
   pub phrase_front : (p : PlainPhrase) → FitsPhrase p → AllWritable (spell_phrase p) → (behind : List ℕ) → Ends behind
       → P (Canon p ++ behind)
   phrase_front (PlainPhrase.assignment target value) fits writable behind ends =

@@ -1,9 +1,10 @@
 -- The built-in function of a name.
-use Rattle.std.proofs.Common.{◌≡◌, refl, Bool, true, false, true≢false, not, cond, ℕ, List, [], ◌∷◌, Option, Some, None, ap, sym, ◌∙◌, bytes_eq, find, is_some, IsTrue}
+use Rattle.std.proofs.Common.{◌≡◌, refl, true, true≢false, not, ℕ, List, Option, Some, None, ap, sym, bytes_eq, is_some, IsTrue}
 use Rattle.std.proofs.lemmas.Slice.Eq.{bytes_eq-Decides}
 use Rattle.plcs_grammar.specs.declared.builtin.Builtin.{Builtin}
 use Rattle.plcs_grammar.specs.declared.builtin.Builtin.TheVariants.{Abs, Mod, Min, Max, Length, Substr, Index}
 use Rattle.plcs_grammar.specs.Builtin.{builtin_name, builtins, builtin_of, is_builtin_name}
+use Rattle.phrase_parser.proofs.FoundElements.{found_passes}
 
 -- each built-in function is found by its name
 pub builtin_of_name : (function : Builtin) → builtin_of (builtin_name function) ≡ Some function
@@ -34,17 +35,7 @@ pub builtin_known : (name : List ℕ) (function : Builtin) → builtin_of name �
 unfolding is_builtin_name
 builtin_known name function h = ap (λ (found : Option Builtin). is_some found) h
 
--- what is found passes the test
-module _ {X : Type 0} (test : X → Bool) where
-  found_if : (x y : X) (b : Bool) (r : Option X) → test x ≡ b → cond b (Some x) r ≡ Some y → (r ≡ Some y → test y ≡ true) → test y ≡ true
-  found_if x y true r t e h = let same : x ≡ y = cc in ap test (sym same) ∙ t
-  found_if x y false r t e h = h e
-
-  found_by : (xs : List X) (y : X) → find test xs ≡ Some y → test y ≡ true
-  found_by [] y e = cc
-  found_by (x ∷ xs) y e = found_if x y (test x) (find test xs) refl e (λ h. found_by xs y h)
-
 -- a name that finds a built-in function is its name
 pub builtin_found : (name : List ℕ) (function : Builtin) → builtin_of name ≡ Some function → name ≡ builtin_name function
 builtin_found name function h =
-    (bytes_eq-Decides name (builtin_name function)).0 (found_by (λ f. bytes_eq name (builtin_name f)) builtins function h)
+    (bytes_eq-Decides name (builtin_name function)).0 (found_passes (λ f. bytes_eq name (builtin_name f)) builtins function h)

@@ -10,9 +10,9 @@ use Rattle.plcs_grammar.specs.declared.sign.Sign.{Sign}
 use Rattle.plcs_grammar.specs.Token.{Token}
 use Rattle.plcs_grammar.specs.Cuts.{Piece, tokens_of}
 use Rattle.plcs_grammar.specs.PlainPhrase.{PlainExpr, PlainExprs, PlainVarRef, PlainPhrase, category_of}
-use Rattle.plcs_grammar.specs.Form.{Form, Begins}
+use Rattle.plcs_grammar.specs.PhraseForm.{Form, Begins}
 use Rattle.plcs_grammar.specs.OpenedLevel.{opened_levels as levels, reference_opened_levels as reference_levels, opened_levels_of_all as levels_of_all, opened_levels_of_more_references, phrase_opened_levels}
-use Rattle.plcs_grammar.specs.Over.{first_over, over_at}
+use Rattle.plcs_grammar.specs.OverLimit.{first_over, over_at}
 use Rattle.phrase_parser.specs.Private.Machine.{Base, Stack, State, Role, Operand, step, run, start, step_close_stack, phrase_of_stack, phrase_of, phrase_of_if}
 use Rattle.phrase_parser.specs.Private.Trace.{depth, opens, trace}
 use Rattle.phrase_parser.proofs.Machine.AllOfLists.{all_append}
@@ -22,7 +22,7 @@ use Rattle.phrase_parser.proofs.Machine.MachineRuns.{Goes, there, by, joins, goe
 use Rattle.phrase_parser.proofs.Machine.ListedItems.{Listing, levels_more, levels_listed, reads_listed}
 use Rattle.phrase_parser.proofs.Machine.ExprsRead.{Holds, arrives, arrives_all}
 
--- each is 0
+-- each number of a list is 0
 abbrev pub NoLevels : List ℕ → Type 0
 NoLevels levels = AllByRecursion (λ level. level ≡ 0) levels
 
@@ -104,7 +104,7 @@ variable_ends : (done : List PlainVarRef) (reference : PlainVarRef)
 variable_ends done (PlainVarRef.simple name) = refl
 variable_ends done (PlainVarRef.subscripted name index) = refl
 
--- variables as a list
+-- variables are read as a list
 abbrev variables_listing : Listing PlainVarRef spell_reference variable_levels FitsReference
 variables_listing = record {
   wants = λ done. State.name_wanted (Role.variables done);
@@ -123,16 +123,16 @@ abbrev item_has_sized : List Item → List ℕ → Option ℕ → State
 item_has_sized done name None = State.name_had (Role.items done) name
 item_has_sized done name (Some size) = State.item_had (done ++ (record { name = name; size = Some size } ∷ []))
 
--- the state behind an item
+-- the state behind a declared name, with a size or without one
 abbrev item_has : List Item → Item → State
 item_has done item = item_has_sized done item.name item.size
 
--- the levels that an item opens: none
+-- the levels that a declared name opens, with a size or without one: none
 abbrev sized_levels : Option ℕ → List ℕ
 sized_levels None = 0 ∷ []
 sized_levels (Some size) = 0 ∷ 0 ∷ 0 ∷ 0 ∷ []
 
--- the same for the whole item
+-- the levels that a declared item opens: none
 abbrev item_levels : Item → List ℕ
 item_levels item = sized_levels item.size
 
@@ -158,7 +158,7 @@ sized_ends : (done : List Item) (name : List ℕ) (size : Option ℕ)
 sized_ends done name None = refl
 sized_ends done name (Some size) = refl
 
--- items as a list
+-- declared items are read as a list
 abbrev items_listing : Listing Item spell_item item_levels FitsItem
 items_listing = record {
   wants = λ done. State.name_wanted (Role.items done);
@@ -176,7 +176,7 @@ sized_none (Some size) = (refl, (refl, (refl, (refl, tt))))
 abbrev name_levels : List ℕ → List ℕ
 name_levels name = 0 ∷ []
 
--- names as a list
+-- names are read as a list
 abbrev names_listing : Listing (List ℕ) spell_name name_levels AnyName
 names_listing = record {
   wants = λ done. State.name_wanted (Role.names done);

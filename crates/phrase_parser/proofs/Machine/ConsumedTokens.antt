@@ -13,7 +13,7 @@ use Rattle.phrase_parser.specs.Private.Machine.{Base, Stack, Role, State, expr_p
 use Rattle.phrase_parser.proofs.Machine.ExprSpelling.{spell, spell_reference, spell_all, spell_behind, Fits, FitsReference, FitsAll, FitsBehind}
 use Rattle.phrase_parser.proofs.Machine.PhraseSpelling.{spell_name, spell_item, spell_call, spell_more, spell_listed, EachFits, FitsListed, FitsItem, FitsCall, AnyName}
 
--- expressions, each with the comma behind it
+-- the tokens of expressions, each with the comma behind it
 abbrev pub spell_before : PlainExprs → List Token
 spell_before PlainExprs.nil = []
 spell_before (PlainExprs.cons a rest) = spell a ++ (Token.sign Sign.Comma ∷ spell_before rest)
@@ -24,14 +24,14 @@ behind_push (PlainExprs.cons a rest) t =
     ap (λ z. Token.sign Sign.Comma ∷ (spell a ++ z)) (behind_push rest t)
     ∙ ap (λ z. Token.sign Sign.Comma ∷ z) (sym (append_assoc (spell a) (Token.sign Sign.Comma ∷ spell_before rest) (spell t)))
 
--- one more at the end stands behind the comma of the others
+-- the tokens of expressions with one more at the end are those of the others, each with its comma, and its own
 pub all_push : (done : PlainExprs) (t : PlainExpr) → spell_all (expr_push done t) ≡ spell_before done ++ spell t
 all_push PlainExprs.nil t = append-nil (spell t)
 all_push (PlainExprs.cons a rest) t =
     ap (λ z. spell a ++ z) (behind_push rest t)
     ∙ sym (append_assoc (spell a) (Token.sign Sign.Comma ∷ spell_before rest) (spell t))
 
--- and with a comma behind it, it is one of them
+-- one expression more, with a comma behind it, is one of those that have each their comma
 pub before_push : (done : PlainExprs) (t : PlainExpr)
     → spell_before (expr_push done t) ≡ spell_before done ++ (spell t ++ (Token.sign Sign.Comma ∷ []))
 before_push PlainExprs.nil t = refl
@@ -39,18 +39,18 @@ before_push (PlainExprs.cons a rest) t =
     ap (λ z. spell a ++ (Token.sign Sign.Comma ∷ z)) (before_push rest t)
     ∙ sym (append_assoc (spell a) (Token.sign Sign.Comma ∷ spell_before rest) (spell t ++ (Token.sign Sign.Comma ∷ [])))
 
--- a call with an argument has its parentheses
+-- a call with an argument has its parentheses, in its tokens
 pub call_push : (name : List ℕ) (done : PlainExprs) (t : PlainExpr)
     → spell_call name (expr_push done t) ≡ Token.name name ∷ in_parentheses (spell_all (expr_push done t))
 call_push name PlainExprs.nil t = refl
 call_push name (PlainExprs.cons a rest) t = refl
 
--- each of them keeps its levels with one more that does
+-- expressions that keep their levels do so with one more that does
 pub behind_fits : (done : PlainExprs) (t : PlainExpr) → FitsBehind done → Fits t 1 → FitsBehind (expr_push done t)
 behind_fits PlainExprs.nil t h f = (f, tt)
 behind_fits (PlainExprs.cons a rest) t h f = (h.0, behind_fits rest t h.1 f)
 
--- and there is one
+-- expressions that keep their levels, with one more that does, are a list of one or more
 pub all_fit : (done : PlainExprs) (t : PlainExpr) → FitsBehind done → Fits t 1 → FitsAll (expr_push done t)
 all_fit PlainExprs.nil t h f = (f, tt)
 all_fit (PlainExprs.cons a rest) t h f = (h.0, behind_fits rest t h.1 f)
@@ -61,7 +61,7 @@ call_fits PlainExprs.nil h = absurd h
 call_fits (PlainExprs.cons a rest) h = h
 
 module _ {X : Type 0} (f : X → List Token) where
-  -- items, each with the comma behind it
+  -- the tokens of elements, each with the comma behind it
   abbrev pub spell_each : List X → List Token
   spell_each [] = []
   spell_each (x ∷ xs) = f x ++ (Token.sign Sign.Comma ∷ spell_each xs)
@@ -72,14 +72,14 @@ module _ {X : Type 0} (f : X → List Token) where
       ap (λ z. Token.sign Sign.Comma ∷ (f y ++ z)) (more_last ys x)
       ∙ ap (λ z. Token.sign Sign.Comma ∷ z) (sym (append_assoc (f y) (Token.sign Sign.Comma ∷ spell_each ys) (f x)))
 
-  -- one more at the end stands behind the comma of the others
+  -- the tokens of elements with one more at the end are those of the others, each with its comma, and its own
   pub listed_last : (xs : List X) (x : X) → spell_listed f (xs ++ (x ∷ [])) ≡ spell_each xs ++ f x
   listed_last [] x = append-nil (f x)
   listed_last (y ∷ ys) x =
       ap (λ z. f y ++ z) (more_last ys x)
       ∙ sym (append_assoc (f y) (Token.sign Sign.Comma ∷ spell_each ys) (f x))
 
-  -- and with a comma behind it, it is one of them
+  -- one element more, with a comma behind it, is one of those that have each their comma
   pub each_last : (xs : List X) (x : X) → spell_each (xs ++ (x ∷ [])) ≡ spell_each xs ++ (f x ++ (Token.sign Sign.Comma ∷ []))
   each_last [] x = refl
   each_last (y ∷ ys) x =
@@ -92,7 +92,7 @@ module _ {X : Type 0} (f : X → List Token) where
       ap (λ z. Token.sign Sign.Comma ∷ (f y ++ z)) (more_comma ys)
       ∙ ap (λ z. Token.sign Sign.Comma ∷ z) (sym (append_assoc (f y) (spell_more f ys) (Token.sign Sign.Comma ∷ [])))
 
-  -- a comma behind all items
+  -- the tokens of a list with a comma behind it are those of its elements, each with its comma
   pub listed_comma : (Fit : X → Type 0) (xs : List X) → FitsListed Fit xs
       → spell_each xs ≡ spell_listed f xs ++ (Token.sign Sign.Comma ∷ [])
   listed_comma Fit [] h = absurd h
@@ -100,22 +100,22 @@ module _ {X : Type 0} (f : X → List Token) where
       ap (λ z. f x ++ z) (more_comma xs) ∙ sym (append_assoc (f x) (spell_more f xs) (Token.sign Sign.Comma ∷ []))
 
 module _ {X : Type 0} (Fit : X → Type 0) where
-  -- each of them keeps what it has to with one more that does
+  -- elements that keep what they have to do so with one more that does
   pub each_fits : (xs : List X) (x : X) → EachFits Fit xs → Fit x → EachFits Fit (xs ++ (x ∷ []))
   each_fits [] x h f = (f, tt)
   each_fits (y ∷ ys) x h f = (h.0, each_fits ys x h.1 f)
 
-  -- and there is one
+  -- elements that keep what they have to, with one more that does, are a list of one or more
   pub listed_fits : (xs : List X) (x : X) → EachFits Fit xs → Fit x → FitsListed Fit (xs ++ (x ∷ []))
   listed_fits [] x h f = (f, tt)
   listed_fits (y ∷ ys) x h f = (h.0, each_fits ys x h.1 f)
 
-  -- each of some that are there keeps what it has to
+  -- each element of a list of one or more keeps what it has to
   pub listed_each : (xs : List X) → FitsListed Fit xs → EachFits Fit xs
   listed_each [] h = absurd h
   listed_each (x ∷ xs) h = h
 
--- the tokens that were read
+-- the tokens that were read before an expression that stands in no other
 abbrev pub flat_base : Base → List Token
 flat_base Base.condition = []
 flat_base Base.expression = []
@@ -171,7 +171,7 @@ hole (Stack.parenthesis s) = 1
 hole (Stack.subscript name s) = 1
 hole (Stack.arguments function done s) = 1
 
--- what was read keeps its levels
+-- what was read before an expression that stands in no other keeps its levels
 abbrev pub SoundBase : Base → Type 0
 SoundBase Base.condition = Unit {0}
 SoundBase Base.expression = Unit {0}
@@ -181,7 +181,7 @@ SoundBase (Base.target_subscript name) = Unit {0}
 SoundBase (Base.variable_subscript done name) = EachFits FitsReference done
 SoundBase (Base.call_arguments name done) = FitsBehind done
 
--- what is open keeps its levels
+-- what is open on a stack keeps its levels
 abbrev pub SoundStack : Stack → Type 0
 SoundStack (Stack.base b) = SoundBase b
 SoundStack (Stack.prefix op s) = SoundStack s
@@ -215,7 +215,7 @@ Sound (State.item_had done) = FitsListed FitsItem done
 Sound State.length_wanted = Unit {0}
 Sound (State.length_had n) = (1 ≤ n) × (n ≤ longest_text)
 
--- the category of the phrase that is read
+-- the category of the phrase that is read, by what an expression that stands in no other is for
 abbrev pub base_category : Base → Category
 base_category Base.condition = Condition
 base_category Base.expression = Expression
@@ -225,7 +225,7 @@ base_category (Base.target_subscript name) = Assignment
 base_category (Base.variable_subscript done name) = VariableList
 base_category (Base.call_arguments name done) = CallRef
 
--- the same for a stack
+-- the category of the phrase that is read, by the stack
 abbrev pub stack_category : Stack → Category
 stack_category (Stack.base b) = base_category b
 stack_category (Stack.prefix op s) = stack_category s
@@ -234,7 +234,7 @@ stack_category (Stack.parenthesis s) = stack_category s
 stack_category (Stack.subscript name s) = stack_category s
 stack_category (Stack.arguments function done s) = stack_category s
 
--- the same for a name that stands in no expression
+-- the category of the phrase that is read, by what a name that stands in no expression is for
 abbrev pub role_category : Role → Category
 role_category Role.target = Assignment
 role_category (Role.variables done) = VariableList
@@ -244,7 +244,7 @@ role_category (Role.names done) = NameList
 role_category Role.variable = Variable
 role_category Role.procedure = ProcedureName
 
--- the same for a state
+-- the category of the phrase that is read, by the state
 abbrev pub state_category : State → Category
 state_category (State.wanted s) = stack_category s
 state_category (State.had s t) = stack_category s

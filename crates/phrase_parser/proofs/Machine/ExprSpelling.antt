@@ -47,17 +47,17 @@ abbrev mutual
   Fits (PlainExpr.builtin function arguments) level = FitsAll arguments
   Fits (PlainExpr.parenthesized a) level = Fits a 1
 
-  -- the same for a variable
+  -- the operators of a variable's subscript keep their levels
   pub FitsReference : PlainVarRef → Type 0
   FitsReference (PlainVarRef.simple name) = Unit {0}
   FitsReference (PlainVarRef.subscripted name index) = Fits index 1
 
-  -- the same for expressions joined by commas, one or more
+  -- the operators of expressions joined by commas, one or more, keep their levels
   pub FitsAll : PlainExprs → Type 0
   FitsAll PlainExprs.nil = ⊥
   FitsAll (PlainExprs.cons a rest) = Fits a 1 × FitsBehind rest
 
-  -- the same for expressions, each behind a comma
+  -- the operators of expressions, each behind a comma, keep their levels
   pub FitsBehind : PlainExprs → Type 0
   FitsBehind PlainExprs.nil = Unit {0}
   FitsBehind (PlainExprs.cons a rest) = Fits a 1 × FitsBehind rest
@@ -86,7 +86,7 @@ mutual
       let r = spelled a 1 h.0 h.2 in
       (r.0, h.1 ∙ ap in_parentheses r.1)
 
-  -- the same for a variable
+  -- tokens that are a variable are its tokens, and it keeps its levels
   pub spelled_reference : (reference : PlainVarRef) (ks : List Token) → IsReference reference ks
       → FitsReference reference × (ks ≡ spell_reference reference)
   spelled_reference (PlainVarRef.simple name) ks h = (tt, h)
@@ -94,7 +94,7 @@ mutual
       let r = spelled index 1 h.0 h.2 in
       (r.0, h.1 ∙ ap (λ z. Token.name name ∷ in_parentheses z) r.1)
 
-  -- the same for expressions joined by commas
+  -- tokens that are expressions joined by commas are their tokens, and they keep their levels
   pub spelled_all : (ts : PlainExprs) (ks : List Token) → IsExprList ts ks → FitsAll ts × (ks ≡ spell_all ts)
   spelled_all PlainExprs.nil ks h = absurd h
   spelled_all (PlainExprs.cons a rest) ks h =
@@ -102,7 +102,7 @@ mutual
       let q = spelled_behind rest h.1 h.4 in
       ((p.0, q.0), h.2 ∙ ap₂ (λ x y. x ++ y) p.1 q.1)
 
-  -- the same for expressions, each behind a comma
+  -- tokens that are expressions, each behind a comma, are their tokens, and they keep their levels
   pub spelled_behind : (ts : PlainExprs) (ks : List Token) → IsMoreExprs ts ks → FitsBehind ts × (ks ≡ spell_behind ts)
   spelled_behind PlainExprs.nil ks h = (tt, h)
   spelled_behind (PlainExprs.cons a rest) ks h =
@@ -124,18 +124,18 @@ mutual
   levelled (PlainExpr.builtin function arguments) level f = (spell_all arguments, refl, levelled_all arguments f)
   levelled (PlainExpr.parenthesized a) level f = (spell a, refl, levelled a 1 f)
 
-  -- the same for a variable
+  -- the tokens of a variable that keeps its levels are the variable
   pub levelled_reference : (reference : PlainVarRef) → FitsReference reference
       → IsReference reference (spell_reference reference)
   levelled_reference (PlainVarRef.simple name) f = refl
   levelled_reference (PlainVarRef.subscripted name index) f = (spell index, refl, levelled index 1 f)
 
-  -- the same for expressions joined by commas
+  -- the tokens of expressions that keep their levels, joined by commas, are the expressions
   pub levelled_all : (ts : PlainExprs) → FitsAll ts → IsExprList ts (spell_all ts)
   levelled_all PlainExprs.nil f = absurd f
   levelled_all (PlainExprs.cons a rest) f = (spell a, spell_behind rest, refl, levelled a 1 f.0, levelled_behind rest f.1)
 
-  -- the same for expressions, each behind a comma
+  -- the tokens of expressions that keep their levels, each behind a comma, are the expressions
   pub levelled_behind : (ts : PlainExprs) → FitsBehind ts → IsMoreExprs ts (spell_behind ts)
   levelled_behind PlainExprs.nil f = refl
   levelled_behind (PlainExprs.cons a rest) f = (spell a, spell_behind rest, refl, levelled a 1 f.0, levelled_behind rest f.1)

@@ -43,7 +43,7 @@ below_tightest Minus = lit≤ tt
 below_tightest Times = lit≤ tt
 below_tightest Divide = lit≤ tt
 
--- and of no level below the lowest
+-- an infix operator is of no level below the lowest
 pub above_none : (op : InfixOp) → 1 ≤ priority op
 above_none Or = lit≤ tt
 above_none And = lit≤ tt
@@ -59,7 +59,7 @@ above_none Minus = lit≤ tt
 above_none Times = lit≤ tt
 above_none Divide = lit≤ tt
 
--- an infix operator behind an operand
+-- an infix operator behind an operand is read
 pub steps_infix : (op : InfixOp) (s : Stack) (t : PlainExpr)
     → step (State.had s t) (Token.sign (infix_sign op)) ≡ Some (behind_infix op (reduced s (priority op) t))
 steps_infix Or s t = refl
@@ -76,7 +76,7 @@ steps_infix Minus s t = refl
 steps_infix Times s t = refl
 steps_infix Divide s t = refl
 
--- which opens no level
+-- an infix operator behind an operand opens no level
 opens_infix : (op : InfixOp) (s : Stack) (t : PlainExpr) → opens (State.had s t) (Token.sign (infix_sign op)) ≡ 0
 opens_infix Or s t = refl
 opens_infix And s t = refl
@@ -92,7 +92,7 @@ opens_infix Minus s t = refl
 opens_infix Times s t = refl
 opens_infix Divide s t = refl
 
--- a prefix operator before an operand
+-- a prefix operator before an operand is read
 pub steps_prefix : (op : PrefixOp) (s : Stack)
     → step (State.wanted s) (Token.sign (prefix_sign op)) ≡ Some (State.wanted (Stack.prefix op s))
 steps_prefix before.Plus s = refl
@@ -123,17 +123,17 @@ pub joins_left : (m : ℕ) (op : InfixOp) (a b : PlainExpr) (s : Stack) → m �
     → reduced (Stack.left a op s) m b ≡ reduced s m (PlainExpr.binary op a b)
 joins_left m op a b s le = cond-true (leb m (priority op)) _ _ (le-leb m (priority op) le)
 
--- the expressions behind those that are done
+-- the expressions that are done, and the rest behind them
 abbrev pub exprs_append : PlainExprs → PlainExprs → PlainExprs
 exprs_append PlainExprs.nil ts = ts
 exprs_append (PlainExprs.cons a rest) ts = PlainExprs.cons a (exprs_append rest ts)
 
--- one more at the end of those that are done is the first of the rest
+-- one expression more at the end of those that are done is the first of the rest
 pub push_append : (done : PlainExprs) (t : PlainExpr) (ts : PlainExprs) → exprs_append (expr_push done t) ts ≡ exprs_append done (PlainExprs.cons t ts)
 push_append PlainExprs.nil t ts = refl
 push_append (PlainExprs.cons a rest) t ts = ap (PlainExprs.cons a) (push_append rest t ts)
 
--- one more at the end is a rest of one
+-- one expression more at the end is a rest of one
 pub push_as_append : (done : PlainExprs) (t : PlainExpr) → expr_push done t ≡ exprs_append done (PlainExprs.cons t PlainExprs.nil)
 push_as_append PlainExprs.nil t = refl
 push_as_append (PlainExprs.cons a rest) t = ap (PlainExprs.cons a) (push_as_append rest t)
@@ -162,11 +162,11 @@ pub record ArrivesAll (h : PlainExprs → Stack) (outside : ℕ) (done ts : Plai
   pub same : reduced stack 1 top ≡ (h front, last)
   pub whole : expr_push front last ≡ exprs_append done ts
 
--- the arguments of a built-in call stand in such a place
+-- the arguments of a built-in call stand in a place where expressions are joined by commas
 holds_arguments : (s : Stack) (function : _) → Holds (λ done. Stack.arguments function done s) (depth s + 1)
 holds_arguments s function = record { ends = λ done t. refl; comma = λ done t. refl; blocks = λ done. tt; deep = λ done. refl }
 
--- a comma behind an expression in such a place
+-- a comma behind an expression in a place where expressions are joined by commas
 comma_step : (h : PlainExprs → Stack) (outside : ℕ) → Holds h outside → (done : PlainExprs) (stack : Stack) (top t : PlainExpr)
     → reduced stack 1 top ≡ (h done, t)
     → step (State.had stack top) (Token.sign Sign.Comma) ≡ Some (State.wanted (h (expr_push done t)))
@@ -222,7 +222,7 @@ mutual
         same = λ m k. refl;
       }
 
-  -- the same for a variable
+  -- the tokens of a variable lead to it
   arrives_reference : (reference : PlainVarRef) (l : ℕ) (s : Stack) → IsNoCall reference → FitsReference reference → Arrives s (PlainExpr.variable reference) l
   arrives_reference (PlainVarRef.simple name) l s free f =
       record { stack = s; top = PlainExpr.variable (PlainVarRef.simple name); goes = by refl refl there; same = λ m k. refl }
@@ -253,7 +253,7 @@ mutual
         whole = q.whole;
       }
 
-  -- more of them, each behind a comma
+  -- the tokens of more expressions, each behind a comma, lead to them
   arrives_behind : (ts : PlainExprs) (h : PlainExprs → Stack) (outside : ℕ) → Holds h outside → (done : PlainExprs) (t : PlainExpr) (stack : Stack) (top : PlainExpr)
       → reduced stack 1 top ≡ (h done, t) → FitsBehind ts
       → ArrivesAll h outside done (PlainExprs.cons t ts) (spell_behind ts) (levels_behind ts outside) (State.had stack top)

@@ -9,10 +9,10 @@ use Rattle.plcs_grammar.specs.declared.sign.Sign.{Sign}
 use Rattle.plcs_grammar.specs.Token.{Token}
 use Rattle.plcs_grammar.specs.Cuts.{Piece, tokens_of}
 use Rattle.plcs_grammar.specs.PlainPhrase.{PlainExpr, PlainExprs, PlainVarRef, PlainPhrase}
-use Rattle.plcs_grammar.specs.Form.{Form}
+use Rattle.plcs_grammar.specs.PhraseForm.{Form}
 use Rattle.plcs_grammar.specs.Limit.{greatest_number, greatest_nesting, nesting, reference_nesting, deepest, deepest_reference, arguments_nesting, phrase_nesting, numbers, reference_numbers, numbers_of_all, size_numbers, phrase_numbers, IsWithinLimits}
 use Rattle.plcs_grammar.specs.OpenedLevel.{opened_levels, reference_opened_levels, opened_levels_of_all, opened_levels_behind, opened_levels_of_more_references, opened_levels_of_references, opened_levels_of_call, phrase_opened_levels}
-use Rattle.plcs_grammar.specs.Over.{OverLimit, is_too_large, over_at, first_over}
+use Rattle.plcs_grammar.specs.OverLimit.{OverLimit, is_too_large, over_at, first_over}
 use Rattle.phrase_parser.proofs.Machine.AllOfLists.{all_append, append_all}
 use Rattle.phrase_parser.proofs.Machine.ExprSpelling.{spell, spell_reference, spell_all, spell_behind}
 use Rattle.phrase_parser.proofs.Machine.PhraseSpelling.{spell_name, spell_item, spell_sized, spell_call, spell_more, spell_listed, spell_phrase, form_spelled}
@@ -71,7 +71,7 @@ both_none (Some o) b none = absurd (cc)
 none_both : (a b : Option OverLimit) → a ≡ None → b ≡ None → option_or a b ≡ None
 none_both a b a_none b_none = ap (λ z. option_or z b) a_none ∙ b_none
 
--- none is over a limit where all are fine
+-- no piece is over a limit where all tokens go past none
 pub fine_none : (pieces : List Piece) (levels : List ℕ) → AllFine (tokens_of pieces) levels → first_over pieces levels ≡ None
 fine_none [] levels fine = refl
 fine_none (piece ∷ pieces) [] fine =
@@ -79,7 +79,7 @@ fine_none (piece ∷ pieces) [] fine =
 fine_none (piece ∷ pieces) (level ∷ levels) fine =
     none_both (over_at piece level) (first_over pieces levels) (none_at piece level fine.0 fine.1) (fine_none pieces levels fine.2)
 
--- where none is over a limit all are fine
+-- where no piece is over a limit all tokens go past none
 pub none_fine : (pieces : List Piece) (levels : List ℕ) → first_over pieces levels ≡ None → AllFine (tokens_of pieces) levels
 none_fine [] levels none = tt
 none_fine (piece ∷ pieces) [] none =
@@ -90,7 +90,7 @@ none_fine (piece ∷ pieces) (level ∷ levels) none =
     let first_fine = at_none piece level each_none.0 in
     (first_fine.0, first_fine.1, none_fine pieces levels each_none.1)
 
--- a level for each token
+-- there is a level for each token
 pub data Even : List Token → List ℕ → Type 0 where
   done : Even [] []
   more : {k : Token} {ks : List Token} {l : ℕ} {ls : List ℕ} → Even ks ls → Even (k ∷ ks) (l ∷ ls)
@@ -178,14 +178,14 @@ mutual
   expr_fine (PlainExpr.parenthesized a) d small shallow =
       (tt, omega arith, fine_append _ _ (even_expr a (d + 1)) (expr_fine a (d + 1) small (omega arith)) fine_close)
 
-  -- the same for a variable
+  -- a variable within the limits, so many levels in, has no token that goes past one
   pub reference_fine : (reference : PlainVarRef) (d : ℕ) → Small (reference_numbers reference)
       → reference_nesting reference + d ≤ greatest_nesting → AllFine (spell_reference reference) (reference_opened_levels reference d)
   reference_fine (PlainVarRef.simple name) d small shallow = (tt, zero-le, tt)
   reference_fine (PlainVarRef.subscripted name index) d small shallow =
       (tt, zero-le, (tt, omega arith, fine_append _ _ (even_expr index (d + 1)) (expr_fine index (d + 1) small (omega arith)) fine_close))
 
-  -- the same for expressions joined by commas
+  -- expressions joined by commas, within the limits and so many levels in, have no token that goes past one
   pub all_fine : (ts : PlainExprs) (d : ℕ) → Small (numbers_of_all ts) → deepest ts + d ≤ greatest_nesting
       → AllFine (spell_all ts) (opened_levels_of_all ts d)
   all_fine PlainExprs.nil d small shallow = tt
@@ -225,7 +225,7 @@ mutual
       let last_keeps = fine_expr a (d + 1) fine.1 each_fine.0 in
       (last_keeps.0, omega (arith, last_keeps.1))
 
-  -- the same for a variable
+  -- a variable none of whose tokens goes past a limit is within the limits
   pub fine_reference : (reference : PlainVarRef) (d : ℕ) → d ≤ greatest_nesting
       → AllFine (spell_reference reference) (reference_opened_levels reference d)
       → Small (reference_numbers reference) × (reference_nesting reference + d ≤ greatest_nesting)
@@ -235,7 +235,7 @@ mutual
       let last_keeps = fine_expr index (d + 1) fine.2.1 each_fine.0 in
       (last_keeps.0, omega (arith, last_keeps.1))
 
-  -- the same for expressions joined by commas
+  -- expressions joined by commas none of whose tokens goes past a limit are within the limits
   pub fine_all : (ts : PlainExprs) (d : ℕ) → d ≤ greatest_nesting → AllFine (spell_all ts) (opened_levels_of_all ts d)
       → Small (numbers_of_all ts) × (deepest ts + d ≤ greatest_nesting)
   fine_all PlainExprs.nil d d_within fine = (tt, omega arith)

@@ -1,4 +1,4 @@
--- Lists that stand in no expression are read item by item.
+-- Lists that stand in no expression are read element by element.
 use Rattle.std.proofs.Common.{◌≡◌, refl, ℕ, List, [], ◌∷◌, ◌++◌, Some, ◌∙◌, append_assoc}
 use Rattle.plcs_grammar.specs.declared.sign.Sign.{Sign}
 use Rattle.plcs_grammar.specs.Token.{Token}
@@ -8,17 +8,17 @@ use Rattle.phrase_parser.proofs.Machine.MachineRuns.{Goes, there, by, joins}
 use Rattle.phrase_parser.proofs.Machine.PhraseSpelling.{spell_more, spell_listed, EachFits, FitsListed}
 
 module _ {X : Type 0} (g : X → List ℕ) where
-  -- the levels that each opens, behind a comma
+  -- the levels that the tokens of a list's elements open, each behind a comma
   abbrev pub levels_more : List X → List ℕ
   levels_more [] = []
   levels_more (x ∷ xs) = 0 ∷ (g x ++ levels_more xs)
 
-  -- the levels that each opens, joined by commas
+  -- the levels that the tokens of a list's elements open, joined by commas
   abbrev pub levels_listed : List X → List ℕ
   levels_listed [] = []
   levels_listed (x ∷ xs) = g x ++ levels_more xs
 
--- how the machine reads items that are joined by commas: the state where one is wanted, and behind one
+-- how the machine reads elements that are joined by commas: the state where one is wanted, and behind one
 pub record Listing (X : Type 0) (f : X → List Token) (g : X → List ℕ) (Fit : X → Type 0) : Type 0 where
   pub wants : List X → State
   pub has : List X → X → State
@@ -27,7 +27,7 @@ pub record Listing (X : Type 0) (f : X → List Token) (g : X → List ℕ) (Fit
   pub none : (done : List X) (x : X) → opens (has done x) (Token.sign Sign.Comma) ≡ 0
 
 module _ {X : Type 0} (f : X → List Token) (g : X → List ℕ) (Fit : X → Type 0) (m : Listing X f g Fit) where
-  -- the tokens lead behind the last of all items
+  -- the tokens of a list lead behind the last of all its elements
   pub record ReadsAll (from : State) (all : List X) (ks : List Token) (ls : List ℕ) : Type 0 where
     pub front : List X
     pub last : X
@@ -46,7 +46,7 @@ module _ {X : Type 0} (f : X → List Token) (g : X → List ℕ) (Fit : X → T
         whole = r.whole ∙ append_assoc done (x ∷ []) (y ∷ ys);
       }
 
-  -- all items are read
+  -- all elements of a list are read
   pub reads_listed : (xs : List X) → FitsListed Fit xs → ReadsAll (m.wants []) xs (spell_listed f xs) (levels_listed g xs)
   reads_listed [] h = absurd h
   reads_listed (x ∷ xs) h =

@@ -7,27 +7,28 @@ use Rattle.plcs_grammar.specs.declared.sign.Sign.{Sign}
 use Rattle.plcs_grammar.specs.Token.{Token}
 use Rattle.plcs_grammar.specs.PlainPhrase.{PlainExprs, PlainPhrase, category_of}
 use Rattle.plcs_grammar.specs.Level.{in_parentheses, IsReference, IsNameToken}
-use Rattle.plcs_grammar.specs.Form.{Form, IsPhrase, IsCall, IsItem, IsSizedName, IsListOf, IsMoreOf}
+use Rattle.plcs_grammar.specs.ListForm.{IsListOf, IsMoreOf}
+use Rattle.plcs_grammar.specs.PhraseForm.{Form, IsPhrase, IsCall, IsItem, IsSizedName}
 use Rattle.phrase_parser.proofs.Machine.ExprSpelling.{spell, spell_reference, spell_all, Fits, FitsReference, FitsAll, spelled, spelled_reference, spelled_all, levelled, levelled_reference, levelled_all}
 
 module _ {X : Type 0} (f : X → List Token) where
-  -- the tokens of each, behind a comma
+  -- the tokens of a list's elements, each behind a comma
   abbrev pub spell_more : List X → List Token
   spell_more [] = []
   spell_more (x ∷ xs) = Token.sign Sign.Comma ∷ (f x ++ spell_more xs)
 
-  -- the tokens of each, joined by commas
+  -- the tokens of a list's elements, joined by commas
   abbrev pub spell_listed : List X → List Token
   spell_listed [] = []
   spell_listed (x ∷ xs) = f x ++ spell_more xs
 
 module _ {X : Type 0} (Fit : X → Type 0) where
-  -- each of them keeps what it has to
+  -- each element of a list keeps what it has to
   abbrev pub EachFits : List X → Type 0
   EachFits [] = Unit {0}
   EachFits (x ∷ xs) = Fit x × EachFits xs
 
-  -- and there is one
+  -- each element of a list keeps what it has to, and there is one
   abbrev pub FitsListed : List X → Type 0
   FitsListed [] = ⊥
   FitsListed (x ∷ xs) = Fit x × EachFits xs
@@ -41,7 +42,7 @@ module _ {X : Type 0} (Is : X → List Token → Type 0) (f : X → List Token) 
       let q = spelled_more xs h.1 h.4 in
       ((p.0, q.0), h.2 ∙ ap₂ (λ a b. Token.sign Sign.Comma ∷ (a ++ b)) p.1 q.1)
 
-  -- what is joined by commas is those tokens
+  -- tokens that are a list are those of its elements, joined by commas
   pub spelled_listed : (xs : List X) (ks : List Token) → IsListOf Is xs ks → FitsListed Fit xs × (ks ≡ spell_listed f xs)
   spelled_listed [] ks h = absurd h
   spelled_listed (x ∷ xs) ks h =
@@ -55,7 +56,7 @@ module _ {X : Type 0} (Is : X → List Token → Type 0) (f : X → List Token) 
   more_is [] h = refl
   more_is (x ∷ xs) h = (f x, spell_more f xs, refl, makes x h.0, more_is xs h.1)
 
-  -- those tokens are joined by commas
+  -- the tokens of a list's elements, joined by commas, are the list
   pub listed_is : (xs : List X) → FitsListed Fit xs → IsListOf Is xs (spell_listed f xs)
   listed_is [] h = absurd h
   listed_is (x ∷ xs) h = (f x, spell_more f xs, refl, makes x h.0, more_is xs h.1)
@@ -73,16 +74,16 @@ abbrev pub spell_sized : List ℕ → Option ℕ → List Token
 spell_sized name None = spell_name name
 spell_sized name (Some size) = Token.name name ∷ in_parentheses (Token.number size ∷ [])
 
--- the tokens of an item
+-- the tokens of a declared item
 abbrev pub spell_item : Item → List Token
 spell_item item = spell_sized item.name item.size
 
--- a size is at least 1
+-- the size of an array, if there is one, is at least 1
 abbrev pub FitsSize : Option ℕ → Type 0
 FitsSize None = Unit {0}
 FitsSize (Some size) = 1 ≤ size
 
--- the size of an item is at least 1
+-- the size of a declared item, if it has one, is at least 1
 abbrev pub FitsItem : Item → Type 0
 FitsItem item = FitsSize item.size
 

@@ -7,7 +7,7 @@ use Rattle.plcs_grammar.specs.Sign.{prefix_sign, infix_sign}
 use Rattle.plcs_grammar.specs.Token.{Token}
 use Rattle.plcs_grammar.specs.PlainPhrase.{PlainExpr, PlainExprs, PlainVarRef, PlainPhrase, category_of}
 use Rattle.plcs_grammar.specs.Builtin.{builtin_name}
-use Rattle.plcs_grammar.specs.Form.{Form, Begins}
+use Rattle.plcs_grammar.specs.PhraseForm.{Form, Begins}
 use Rattle.phrase_parser.specs.Private.Machine.{Base, Stack, Role, State, expr_push, run, start, phrase_of_if}
 use Rattle.phrase_parser.proofs.Machine.ExprSpelling.{spell, spell_reference, Fits, FitsReference}
 use Rattle.phrase_parser.proofs.Machine.PhraseSpelling.{spell_name, spell_item, spell_call, spell_listed, spell_phrase, FitsPhrase, FitsItem, AnyName, form_from}
@@ -17,7 +17,7 @@ use Rattle.phrase_parser.proofs.Machine.Soundness.TakenTokens.{close, open_, reg
 use Rattle.phrase_parser.proofs.Machine.Soundness.ClosedParentheses.{arguments_tokens}
 use Rattle.phrase_parser.proofs.Machine.Soundness.ReadTokens.{has_read}
 
--- the sign of an assignment
+-- the token that is the sign of an assignment
 abbrev equal : Token
 equal = Token.sign Sign.Equal
 
@@ -40,7 +40,7 @@ begins_as c xs ys e h = subst (Begins c) e h
 begins_whole : (c : Category) (p : PlainPhrase) (ks : List Token) → category_of p ≡ c → FitsPhrase p → ks ≡ spell_phrase p → Begins c ks
 begins_whole c p ks e f s = begins_by c p ks [] e f (append-nil ks ∙ s)
 
--- an operand at the phrase's own expression
+-- a sound operand at the phrase's own expression begins a phrase
 plug_base : (b : Base) (t : PlainExpr) → SoundBase b → Fits t 1 → Begins (base_category b) (flat_base b ++ spell t)
 plug_base Base.condition t h f = begins_whole _ (PlainPhrase.condition t) (spell t) refl f refl
 plug_base Base.expression t h f = begins_whole _ (PlainPhrase.expression t) (spell t) refl f refl
@@ -64,7 +64,7 @@ plug_base (Base.call_arguments name done) t h f =
     (call_fits (expr_push done t) (all_fit done t h f))
     (sym (call_push name done t ∙ arguments_tokens [] (Token.name name) done t))
 
--- an operand on the stack, with all that is open closed behind it
+-- a sound operand on a stack begins a phrase: all that is open is closed behind it
 pub plug : (s : Stack) (t : PlainExpr) → SoundStack s → Fits t (hole s) → Begins (stack_category s) (flat_stack s ++ spell t)
 plug (Stack.base b) t h f = plug_base b t h f
 plug (Stack.prefix op s) t h f =
@@ -142,6 +142,6 @@ viable c ks s e =
 pub stopped : (c : Category) (ks : List Token) → run ks (start c) ≡ None → Begins c ks → ⊥
 stopped c ks e h = let r = alive c ks h in let a = r.1 in absurd (cc)
 
--- where the machine reads no phrase the tokens are none
+-- where the machine reads no phrase the tokens are no phrase
 pub no_form : (c : Category) (ks : List Token) → phrase_of_if (run ks (start c)) ≡ None → (p : PlainPhrase) → Form c ks p → ⊥
 no_form c ks e p h = let a = complete c ks p h in absurd (cc)

@@ -5,8 +5,7 @@ use Rattle.plcs_grammar.specs.declared.category.Category.{Category}
 use Rattle.plcs_grammar.specs.declared.sign.Sign.{Sign}
 use Rattle.plcs_grammar.specs.Token.{Token}
 use Rattle.plcs_grammar.specs.declared.phrase.Phrase.{Phrase}
-use Rattle.plcs_grammar.specs.PlainPhrase.{PlainExprs, PlainPhrase}
-use Rattle.plcs_grammar.specs.PlainForm.{plain_phrase}
+use Rattle.plcs_grammar.specs.PlainPhrase.{PlainExprs, PlainPhrase, plain_phrase}
 use Rattle.plcs_grammar.specs.Cuts.{Piece, tokens_of}
 use Rattle.plcs_grammar.specs.Limit.{IsWithinLimits}
 use Rattle.plcs_grammar.specs.OpenedLevel.{phrase_opened_levels}
@@ -30,12 +29,12 @@ pub record IsWritable (phrase : PlainPhrase) : Type 0 where
 
 module _ {X : Type 0} (bytes_of : X → List ℕ) (f : X → List Token) (Fit : X → Type 0)
     (each : (x : X) → Fit x → AllWritable (f x) → (behind : List ℕ) → Safe behind → Lexed (bytes_of x) (f x) behind) where
-  -- behind an item stands a comma, or what stands behind all of them
+  -- behind an element of a list stands a comma, or what stands behind all of them
   more_safe : (xs : List X) (behind : List ℕ) → Safe behind → Safe (more_joined bytes_of xs ++ behind)
   more_safe [] behind safe = safe
   more_safe (x ∷ xs) behind safe = refl
 
-  -- texts, each behind a comma
+  -- texts of elements, each behind a comma, are cut into their tokens
   more_lexed : (xs : List X) → EachFits Fit xs → AllWritable (spell_more f xs) → (behind : List ℕ) → Safe behind
       → Lexed (more_joined bytes_of xs) (spell_more f xs) behind
   more_lexed [] fits writable behind safe = lexed_empty behind
@@ -46,7 +45,7 @@ module _ {X : Type 0} (bytes_of : X → List ℕ) (f : X → List Token) (Fit : 
       (each x fits.0 parts.0 (more_joined bytes_of xs ++ behind) (more_safe xs behind safe))
       (more_lexed xs fits.1 parts.1 behind safe))
 
-  -- texts joined by commas
+  -- texts of elements, joined by commas, are cut into their tokens
   pub joined_lexed : (xs : List X) → FitsListed Fit xs → AllWritable (spell_listed f xs) → (behind : List ℕ) → Safe behind
       → Lexed (joined bytes_of xs) (spell_listed f xs) behind
   joined_lexed [] fits writable behind safe = absurd fits
@@ -56,7 +55,7 @@ module _ {X : Type 0} (bytes_of : X → List ℕ) (f : X → List Token) (Fit : 
       (each x fits.0 parts.0 (more_joined bytes_of xs ++ behind) (more_safe xs behind safe))
       (more_lexed xs fits.1 parts.1 behind safe)
 
--- the canonical text of a declared name
+-- the canonical text of a declared name is cut into its tokens
 sized_lexed : (name : List ℕ) (size : Option ℕ) → AllWritable (spell_sized name size) → (behind : List ℕ) → Safe behind
     → Lexed (canon_sized name size) (spell_sized name size) behind
 sized_lexed name None writable behind safe = lexed_name name behind writable.0.0 safe
@@ -65,7 +64,7 @@ sized_lexed name (Some size) writable behind safe =
     lexed_called name (decimal size) (Token.number size ∷ []) behind writable.0.0 (number_ends_sign size (41 ∷ behind) inner.0.1)
     (lexed_number size (41 ∷ behind) (small_number size inner.0.1) refl) safe
 
--- that of a call
+-- the canonical text of a call is cut into its tokens
 call_lexed : (name : List ℕ) (passed : PlainExprs) → FitsCall passed → AllWritable (spell_call name passed) → (behind : List ℕ) → Safe behind
     → Lexed (canon_call name passed) (spell_call name passed) behind
 call_lexed name PlainExprs.nil fits writable behind safe = lexed_name name behind writable.0.0 safe
@@ -99,7 +98,7 @@ phrase_lexed (PlainPhrase.name_list names) fits writable behind safe =
 phrase_lexed (PlainPhrase.greatest_length n) fits writable behind safe = lexed_number n behind (small_number n writable.0.1) safe
 phrase_lexed (PlainPhrase.comment bytes) fits writable behind safe = absurd fits
 
--- so it is for each phrase that can be written
+-- the canonical text of each phrase that can be written is cut into its tokens
 pub writable_lexed : (p : PlainPhrase) → IsWritable p → (behind : List ℕ) → Safe behind → Lexed (Canon p) (spell_phrase p) behind
 writable_lexed p writable behind safe = phrase_lexed p writable.fits writable.tokens behind safe
 

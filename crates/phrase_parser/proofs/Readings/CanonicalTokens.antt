@@ -29,7 +29,7 @@ use Rattle.phrase_parser.proofs.Machine.AllOfLists.{append_all}
 abbrev pub CanBeWritten : Token → Type 0
 CanBeWritten token = IsSound token × NumberFits token
 
--- each token of a list is so
+-- each token of a list can be written
 abbrev pub AllWritable : List Token → Type 0
 AllWritable tokens = AllByRecursion CanBeWritten tokens
 
@@ -45,7 +45,7 @@ small_number n h = omega arith
 letter_no_sign : (byte : ℕ) → is_letter byte ≡ true → is_second byte ≡ false
 letter_no_sign byte h = grind (arith, nat_tests)
 
--- no digit is one
+-- no digit is the second byte of a sign
 digit_no_sign : (byte : ℕ) → is_digit byte ≡ true → is_second byte ≡ false
 digit_no_sign byte h = grind (arith, nat_tests)
 
@@ -54,21 +54,21 @@ pub name_ends_sign : (name behind : List ℕ) → is_word name ≡ true → Ends
 name_ends_sign [] behind word = absurd (false≢true word)
 name_ends_sign (first ∷ rest) behind word = letter_no_sign first (and_parts (is_letter first) (list_all is_name_byte rest) word).0
 
--- so do digits
+-- digits end a sign in front of them
 numeral_ends_sign : (digits behind : List ℕ) → IsNumeral digits → EndsSign (digits ++ behind)
 numeral_ends_sign [] behind numeral = absurd (omega (arith, numeral.0))
 numeral_ends_sign (first ∷ rest) behind numeral = digit_no_sign first (and_parts (is_digit first) (list_all is_digit rest) numeral.1).0
 
--- so does a number in decimal
+-- a number in decimal ends a sign in front of it
 pub number_ends_sign : (n : ℕ) (behind : List ℕ) → n ≤ greatest_number → EndsSign (decimal n ++ behind)
 number_ends_sign n behind h = numeral_ends_sign (decimal n) behind (decimal_numeral n (small_number n h)).0
 
--- so does a bit constant
+-- a bit constant ends a sign in front of it
 bit_ends_sign : (bit : Bool) (behind : List ℕ) → EndsSign (bit_bytes bit ++ behind)
 bit_ends_sign false behind = refl
 bit_ends_sign true behind = refl
 
--- so does a sign before an operand
+-- a sign before an operand ends a sign in front of it
 prefix_ends_sign : (op : PrefixOp) (behind : List ℕ) → EndsSign (sign_bytes (prefix_sign op) ++ behind)
 prefix_ends_sign before.Plus behind = refl
 prefix_ends_sign before.Minus behind = refl
@@ -97,7 +97,7 @@ mutual
       (name_ends_sign (builtin_name function) (parenthesized_bytes (canon_list arguments) ++ behind) (name_word (builtin_name function) writable.0.0))
   canon_ends_sign (PlainExpr.parenthesized a) level fits writable behind = refl
 
-  -- and so does a variable's
+  -- a variable's canonical text ends a sign in front of it
   pub reference_ends_sign : (reference : PlainVarRef) → AllWritable (spell_reference reference) → (behind : List ℕ)
       → EndsSign (canon_reference reference ++ behind)
   reference_ends_sign (PlainVarRef.simple name) writable behind = name_ends_sign name behind (name_word name writable.0.0)
@@ -105,7 +105,7 @@ mutual
       ends_sign_more name (parenthesized_bytes (canon index)) behind
       (name_ends_sign name (parenthesized_bytes (canon index) ++ behind) (name_word name writable.0.0))
 
--- and so do those of expressions joined by commas
+-- the canonical texts of expressions joined by commas end a sign in front of them
 pub list_ends_sign : (ts : PlainExprs) → FitsAll ts → AllWritable (spell_all ts) → (behind : List ℕ) → EndsSign (canon_list ts ++ behind)
 list_ends_sign PlainExprs.nil fits writable behind = absurd fits
 list_ends_sign (PlainExprs.cons a rest) fits writable behind =

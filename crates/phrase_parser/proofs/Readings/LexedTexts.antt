@@ -28,7 +28,7 @@ pub record Lexed (x : List ℕ) (tokens : List Token) (y : List ℕ) : Type 0 wh
   pub cuts : (place : ℕ) (rest : List Piece) (stop : Option ℕ) → Cuts rest (place + length x) y stop
       → Cuts (pieces place ++ rest) place (x ++ y) stop
 
--- nothing is cut into nothing
+-- the empty text is cut into no tokens
 pub lexed_empty : (y : List ℕ) → Lexed [] [] y
 lexed_empty y = record {
   pieces = λ place. [];
@@ -36,7 +36,7 @@ lexed_empty y = record {
   cuts = λ place rest stop h. subst (λ (n : ℕ). Cuts rest n y stop) (let e : place + 0 ≡ place = omega arith in e) h;
 }
 
--- one text and then another
+-- one text and then another are cut into the tokens of the one and then of the other
 pub lexed_append : (x z : List ℕ) (tokens more : List Token) (y : List ℕ) → Lexed x tokens (z ++ y) → Lexed z more y
     → Lexed (x ++ z) (tokens ++ more) y
 lexed_append x z tokens more y a b = record {
@@ -74,7 +74,7 @@ cuts_blank (piece ∷ pieces) place x stop (bytes, behind, first, start, end, re
   rest,
 )
 
--- a blank in front
+-- a text with a blank in front is cut into the same tokens
 pub lexed_blank : (x : List ℕ) (tokens : List Token) (y : List ℕ) → Lexed x tokens y → Lexed (32 ∷ x) tokens y
 lexed_blank x tokens y a = record {
   pieces = λ place. a.pieces (place + 1);
@@ -132,7 +132,7 @@ token_not_blank (Token.text value) bytes behind is = ap (λ (b : List ℕ). begi
 token_not_blank (Token.bit bit) bytes behind is = ap (λ (b : List ℕ). begins_with is_blank (b ++ behind)) is.0 ∙ bit_not_blank bit behind
 token_not_blank (Token.sign s) bytes behind is = ap (λ (b : List ℕ). begins_with is_blank (b ++ behind)) is ∙ sign_not_blank s behind
 
--- the longest token of a text, alone
+-- a text that is its longest token is cut into it alone
 pub lexed_first : (token : Token) (bytes behind : List ℕ) → First (bytes ++ behind) token bytes behind
     → Lexed bytes (token ∷ []) behind
 lexed_first token bytes behind first =

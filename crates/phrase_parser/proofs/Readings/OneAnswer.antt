@@ -4,15 +4,14 @@ use Rattle.plcs_grammar.specs.declared.category.Category.{Category}
 use Rattle.plcs_grammar.specs.declared.category.Category.TheVariants.{Assignment, Condition, Expression, ExpressionList, VariableList, Variable, CallRef, DeclaredList, ProcedureName, NameList, Length, CommentText}
 use Rattle.plcs_grammar.specs.declared.phrase.Phrase.{Phrase}
 use Rattle.plcs_grammar.specs.Token.{Token}
-use Rattle.plcs_grammar.specs.PlainPhrase.{PlainPhrase}
-use Rattle.plcs_grammar.specs.PlainForm.{plain_phrase}
+use Rattle.plcs_grammar.specs.PlainPhrase.{PlainPhrase, plain_phrase}
 use Rattle.plcs_grammar.specs.Cuts.{Piece, tokens_of}
-use Rattle.plcs_grammar.specs.Form.{Form, Begins}
+use Rattle.plcs_grammar.specs.PhraseForm.{Form, Begins}
 use Rattle.plcs_grammar.specs.Limit.{IsWithinLimits}
 use Rattle.plcs_grammar.specs.OpenedLevel.{phrase_opened_levels}
-use Rattle.plcs_grammar.specs.Over.{OverLimit, first_over}
+use Rattle.plcs_grammar.specs.OverLimit.{OverLimit, first_over}
 use Rattle.plcs_grammar.specs.Reads.{IsCutAs, HasReading, Outline, Reads, IsOver}
-use Rattle.plcs_grammar.specs.Syntax.{GoesWrong, SyntaxAt}
+use Rattle.plcs_grammar.specs.SyntaxPlace.{GoesWrong, SyntaxAt}
 use Rattle.phrase_parser.specs.declared.fault.PhraseFault.{PhraseFault}
 use Rattle.phrase_parser.specs.declared.fault.PhraseFault.TheVariants.{Syntax, NumberTooLarge, TooDeep, OutOfMemory}
 use Rattle.phrase_parser.specs.Private.Machine.{run, start, phrase_of_if}
@@ -114,7 +113,7 @@ one_wrong c x a b (inl (ps, s, cut, g)) (inr k) = absurd (comment_not_wrong c ps
 one_wrong c x a b (inr k) (inl (qs, t, other, h)) = absurd (comment_not_wrong c qs (length x) t b k.0 h)
 one_wrong c x a b (inr j) (inr k) = let e = sym j.1 ∙ k.1 in cc
 
--- so each fact forces its answer
+-- each fact about a text forces its answer
 pub only : (c : Category) (x : List ℕ) (answer : Result Phrase PhraseFault) (p : PlainPhrase) → Answers c x answer → Reads c x p → Only answer p
 only c x (Ok phrase) p says h = one_reading c x (plain_phrase phrase) p says h
 only c x (Err (Syntax at)) p says h = absurd (says.0 (reads_outline c x p h))

@@ -6,13 +6,12 @@ use Rattle.std.proofs.lemmas.List.Elements.{All-from_recursion}
 use Rattle.plcs_grammar.specs.declared.category.Category.{Category}
 use Rattle.plcs_grammar.specs.declared.category.Category.TheVariants.{CommentText}
 use Rattle.plcs_grammar.specs.declared.phrase.Phrase.{Phrase}
-use Rattle.plcs_grammar.specs.PlainForm.{plain_phrase}
-use Rattle.plcs_grammar.specs.PlainPhrase.{PlainPhrase, category_of}
+use Rattle.plcs_grammar.specs.PlainPhrase.{PlainPhrase, category_of, plain_phrase}
 use Rattle.plcs_grammar.specs.Cuts.{Piece}
 use Rattle.plcs_grammar.specs.Comment.{comment_syntax, trimmed}
 use Rattle.plcs_grammar.specs.Limit.{IsWithinLimits}
 use Rattle.plcs_grammar.specs.OpenedLevel.{phrase_opened_levels}
-use Rattle.plcs_grammar.specs.Over.{OverLimit, first_over}
+use Rattle.plcs_grammar.specs.OverLimit.{OverLimit, first_over}
 use Rattle.plcs_grammar.specs.Reads.{IsCutAs, HasReading, IsOver}
 use Rattle.phrase_parser.specs.declared.fault.PhraseFault.{PhraseFault}
 use Rattle.phrase_parser.specs.Answers.{Answers}
@@ -30,7 +29,7 @@ pub reading_category : (c : Category) (x : List ℕ) (p : PlainPhrase) → HasRe
 reading_category c x p (inl (pieces, cut)) = cut.form.0
 reading_category c x p (inr comment) = ap category_of comment.phrase_is ∙ sym comment.category_is
 
--- so is a phrase that is answered
+-- a phrase that is answered is of the category
 pub answer_category : (c : Category) (x : List ℕ) (answer : Result Phrase PhraseFault) → Answers c x answer
     → IfOk answer (λ phrase. category_of (plain_phrase phrase) ≡ c)
 answer_category c x (Ok phrase) says = reading_category c x (plain_phrase phrase) says.0
@@ -41,7 +40,7 @@ comment_or_shape : (c : Category) → (c ≡ CommentText) ⊎ ((shape : Shape) �
 comment_or_shape CommentText = inl refl
 comment_or_shape _ = inr (_, refl)
 
--- what a text is
+-- a text has a standing
 abbrev Stands : Category → List ℕ → Type 0
 Stands c x = (standing : Standing) × HasStanding c x standing
 
@@ -57,7 +56,7 @@ comment_stands : (x : List ℕ) (offence : Option ℕ) → comment_syntax x ≡ 
 comment_stands x None h = (Standing.phrase (PlainPhrase.comment (trimmed x)), comment_reads x (trimmed x) h refl)
 comment_stands x (Some place) h = (Standing.wrong_at place, comment_refused x place h)
 
--- every text is something
+-- every text has a standing
 stands : (c : Category) (x : List ℕ) → Stands c x
 stands c x =
     elim (comment_or_shape c) [
@@ -67,7 +66,7 @@ stands c x =
           finding_stands c x pieces (findings (map seen_of pieces) stop (length x) shape None) (finding_says c x pieces stop shape first cut)
     ]
 
--- nothing is two things
+-- no text has two standings
 stands_alone : (c : Category) (x : List ℕ) (a b : Standing) → HasStanding c x a → HasStanding c x b → b ≡ a
 stands_alone c x (Standing.phrase p) (Standing.phrase q) h k = ap Standing.phrase (one_reading c x q p k h)
 stands_alone c x (Standing.phrase p) (Standing.over o) h k = absurd (reads_not_over c x p o h k)

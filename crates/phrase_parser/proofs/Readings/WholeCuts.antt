@@ -9,27 +9,27 @@ use Rattle.phrase_parser.proofs.Tokens.CutSoFar.{CutSoFar, nothing_cut, start_wi
 
 -- the text is cut into some pieces
 abbrev pub IsCut : List ℕ → Type 0
-IsCut x = (items : List Placed) × (stop : Option ℕ) × AreTokens items stop x
+IsCut x = (placed : List Placed) × (stop : Option ℕ) × AreTokens placed stop x
 
 -- the text is cut from here on, where it is from behind the token that is found
-cut_at_token : (x : List ℕ) (items : List Placed) (start : ℕ) (found : Option Placed) → CutSoFar x items start → start < length x
+cut_at_token : (x : List ℕ) (placed : List Placed) (start : ℕ) (found : Option Placed) → CutSoFar x placed start → start < length x
     → placed_at start (front_of (drop start x)) ≡ found
     → ((more : List Placed) (next : ℕ) → CutSoFar x more next → start < next → IsCut x) → IsCut x
-cut_at_token x items start None so_far before h further = (items, Some start, cut_stops x items start so_far before h)
-cut_at_token x items start (Some token) so_far before h further =
+cut_at_token x placed start None so_far before h further = (placed, Some start, cut_stops x placed start so_far before h)
+cut_at_token x placed start (Some token) so_far before h further =
     let within = token_within x start token (start_within x so_far.place start so_far.within so_far.at_start) h in
     let next = token.end + blanks (drop token.end x) in
-    further (items ++ (token ∷ [])) next (one_more_cut x items start token next so_far h refl) (omega (arith, within.0))
+    further (placed ++ (token ∷ [])) next (one_more_cut x placed start token next so_far h refl) (omega (arith, within.0))
 
 -- the text is cut from here on, where no more than so many bytes are left
-cut_on : (left : ℕ) (x : List ℕ) (items : List Placed) (start : ℕ) → CutSoFar x items start → length x ≤ start + left → IsCut x
-cut_on zero x items start so_far h = (items, None, all_cut x items start so_far (omega (arith, h)))
-cut_on (suc left) x items start so_far h =
+cut_on : (left : ℕ) (x : List ℕ) (placed : List Placed) (start : ℕ) → CutSoFar x placed start → length x ≤ start + left → IsCut x
+cut_on zero x placed start so_far h = (placed, None, all_cut x placed start so_far (omega (arith, h)))
+cut_on (suc left) x placed start so_far h =
     elim (cases_lt start (length x)) [
       | inl before ↦
-          cut_at_token x items start (placed_at start (front_of (drop start x))) so_far before refl
+          cut_at_token x placed start (placed_at start (front_of (drop start x))) so_far before refl
           (λ more next cut further. cut_on left x more next cut (omega (arith, h, further)))
-      | inr past ↦ (items, None, all_cut x items start so_far past)
+      | inr past ↦ (placed, None, all_cut x placed start so_far past)
     ]
 
 -- every text is cut

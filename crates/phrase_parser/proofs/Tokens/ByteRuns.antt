@@ -4,11 +4,11 @@ use Rattle.std.specs.List.{list_all, prefix_len}
 use Rattle.std.proofs.lemmas.Bool.{and_parts, and_from, cond-true, cond-false, cond_both}
 use Rattle.plcs_grammar.specs.Token.{begins_with}
 
--- one byte more is taken
+-- taking one byte more of a list takes its first
 take_one_more : (x : ℕ) (xs : List ℕ) (n : ℕ) → take (1 + n) (x ∷ xs) ≡ x ∷ take n xs
 take_one_more x xs n = let e : 1 + n ≡ suc n = omega arith in ap (λ (k : ℕ). take k (x ∷ xs)) e
 
--- one byte more is dropped
+-- dropping one byte more of a list drops its first
 pub drop_one_more : (x : ℕ) (xs : List ℕ) (n : ℕ) → drop (1 + n) (x ∷ xs) ≡ drop n xs
 drop_one_more x xs n = let e : 1 + n ≡ suc n = omega arith in ap (λ (k : ℕ). drop k (x ∷ xs)) e
 
@@ -20,7 +20,7 @@ run_append p (x ∷ xs) ys h =
     let first = cond-true (p x) (1 + prefix_len p (xs ++ ys)) 0 parts.0 in
     omega (arith, first, run_append p xs ys parts.1)
 
--- and stops before a byte that isn't
+-- a run stops before a byte that isn't of its class
 pub run_none : (p : ℕ → Bool) (ys : List ℕ) → begins_with p ys ≡ false → prefix_len p ys ≡ 0
 run_none p [] h = refl
 run_none p (y ∷ ys) h = cond-false (p y) (1 + prefix_len p ys) 0 h

@@ -34,12 +34,12 @@ between_quotes_quoted value =
 pub undoubled_between : (value : List ℕ) → undoubled (between_quotes (quoted value)) ≡ value
 undoubled_between value = ap undoubled (between_quotes_quoted value) ∙ undoubled_doubled value
 
--- the value fits
+-- the value of a character constant fits a text
 pub constant_short : (bytes : List ℕ) → IsConstant bytes → IsTextValue (undoubled (between_quotes bytes))
 constant_short bytes c =
     subst (λ (b : List ℕ). IsTextValue (undoubled (between_quotes b))) (sym c.whole)
     (subst (λ (v : List ℕ). length v ≤ longest_text) (sym (undoubled_between c.value)) c.content.0)
 
--- there are two quotes
+-- a character constant has two quotes
 pub constant_long : (bytes : List ℕ) → IsConstant bytes → 2 ≤ length bytes
 constant_long bytes c = omega (arith, ap length c.whole, length-append (with_quotes_doubled c.value) (39 ∷ []))

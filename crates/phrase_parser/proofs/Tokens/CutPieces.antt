@@ -22,7 +22,7 @@ IsSound (Token.sign s) = Unit {0}
 abbrev pub AllSound : List Token → Type 0
 AllSound tokens = AllByRecursion IsSound tokens
 
--- what bytes make is sound
+-- a token that bytes make is sound
 pub token_sound : (token : Token) (bytes behind : List ℕ) → IsToken token bytes behind → IsSound token
 token_sound (Token.name n) bytes behind is = is.1
 token_sound (Token.keyword word) bytes behind is = is.1
@@ -81,7 +81,7 @@ StandIn text [] = Unit {0}
 StandIn text (piece ∷ pieces) =
     IsToken piece.token (slice_range text piece.start piece.end) (drop piece.end text) × StandIn text pieces
 
--- so it is for the pieces of a text
+-- the bytes of a text between the places of its pieces are their tokens
 pub cut_stands : (text : List ℕ) (pieces : List Piece) (place : ℕ) (x : List ℕ) (stop : Option ℕ) → x ≡ drop place text
     → Cuts pieces place x stop → StandIn text pieces
 cut_stands text [] place x stop at cuts = tt

@@ -13,13 +13,13 @@ use Rattle.phrase_parser.proofs.Tokens.FrontTokens.{found_tells}
 use Rattle.phrase_parser.proofs.Tokens.OneCut.{found_first, none_found, token_not_empty}
 
 -- the text is cut into the pieces that are kept, and goes on behind blanks at the place start
-pub record CutSoFar (x : List ℕ) (items : List Placed) (start : ℕ) : Type 0 where
+pub record CutSoFar (x : List ℕ) (placed : List Placed) (start : ℕ) : Type 0 where
   pub pieces : List Piece
-  -- behind the last piece
+  -- the place behind the last piece
   pub place : ℕ
   pub within : place ≤ length x
   pub at_start : start ≡ place + blanks (drop place x)
-  pub same : items ≡ map kept pieces
+  pub same : placed ≡ map kept pieces
   pub goes_on : (rest : List Piece) (stop : Option ℕ) → Cuts rest place (drop place x) stop → Cuts (pieces ++ rest) 0 x stop
 
 -- at first nothing is cut
@@ -37,7 +37,7 @@ nothing_cut x start h = record {
 pub start_within : (x : List ℕ) (place start : ℕ) → place ≤ length x → start ≡ place + blanks (drop place x) → start ≤ length x
 start_within x place start within h = omega (arith, h, prefix_len-le-length is_blank (drop place x), length-drop place x)
 
--- what is found is within the text, and not empty
+-- a token that is found is within the text, and not empty
 pub front_within : (x : List ℕ) (front : Front) → front_of x ≡ Some front → (1 ≤ front.length) × (front.length ≤ length x)
 front_within x front found =
     let told = found_tells x front found in (
@@ -74,10 +74,10 @@ same_placed token front start end placed kind_is end_is same =
     ∙ ap (λ (k : _). record { kind = k; start = start; end = end }) (sym kind_is)
 
 -- one more token is cut
-pub one_more_cut : (x : List ℕ) (items : List Placed) (start : ℕ) (token : Placed) (next : ℕ) → CutSoFar x items start
+pub one_more_cut : (x : List ℕ) (placed : List Placed) (start : ℕ) (token : Placed) (next : ℕ) → CutSoFar x placed start
     → placed_at start (front_of (drop start x)) ≡ Some token → next ≡ token.end + blanks (drop token.end x)
-    → CutSoFar x (items ++ (token ∷ [])) next
-one_more_cut x items start token next so_far h after =
+    → CutSoFar x (placed ++ (token ∷ [])) next
+one_more_cut x placed start token next so_far h after =
     let (front, found, same) = placed_parts start (front_of (drop start x)) token h in
     let told = found_tells (drop start x) front found in
     let bounds = token_within x start token (start_within x so_far.place start so_far.within so_far.at_start) h in
@@ -106,9 +106,9 @@ one_more_cut x items start token next so_far h after =
     }
 
 -- behind the last token stands nothing but blanks
-pub all_cut : (x : List ℕ) (items : List Placed) (start : ℕ) → CutSoFar x items start → length x ≤ start
-    → AreTokens items None x
-all_cut x items start so_far past =
+pub all_cut : (x : List ℕ) (placed : List Placed) (start : ℕ) → CutSoFar x placed start → length x ≤ start
+    → AreTokens placed None x
+all_cut x placed start so_far past =
     let here : unblanked (drop so_far.place x) ≡ drop start x =
     drop-drop (blanks (drop so_far.place x)) so_far.place x ∙ ap (λ (n : ℕ). drop n x) (sym so_far.at_start) in (
       so_far.pieces ++ [],
@@ -117,9 +117,9 @@ all_cut x items start so_far past =
     )
 
 -- behind the last token no further one can be made
-pub cut_stops : (x : List ℕ) (items : List Placed) (start : ℕ) → CutSoFar x items start → start < length x
-    → placed_at start (front_of (drop start x)) ≡ None → AreTokens items (Some start) x
-cut_stops x items start so_far before h =
+pub cut_stops : (x : List ℕ) (placed : List Placed) (start : ℕ) → CutSoFar x placed start → start < length x
+    → placed_at start (front_of (drop start x)) ≡ None → AreTokens placed (Some start) x
+cut_stops x placed start so_far before h =
     let here : unblanked (drop so_far.place x) ≡ drop start x =
     drop-drop (blanks (drop so_far.place x)) so_far.place x ∙ ap (λ (n : ℕ). drop n x) (sym so_far.at_start) in
     let none = none_found (drop start x) (placed_none start (front_of (drop start x)) h) in

@@ -1,6 +1,6 @@
 -- What the model of the code finds at the front of a text is a token there.
 use Rattle.std.proofs.Common.{◌≡◌, ℕ, ◌≤◌, Bool, true, false, not, ◌&&◌, cond, eqb, List, [], ◌∷◌, ◌++◌, length, take, drop, refl, sym, ap, ◌∙◌, subst, inl, inr, arith, Option, Some, None}
-use Rattle.std.specs.Prelude.{nat_le, bytes_eq, find}
+use Rattle.std.specs.Prelude.{nat_le, bytes_eq}
 use Rattle.std.specs.List.{list_all, prefix_len}
 use Rattle.std.proofs.lemmas.Bool.{and_parts, and_from, cond-true, cond-false, cond_both, eqb-true, cases_Bool, not-true, not_from_false}
 use Rattle.std.proofs.lemmas.Option.{none-some, same_Some, cond_some}
@@ -16,6 +16,7 @@ use Rattle.phrase_parser.specs.declared.front.Front.{Front}
 use Rattle.phrase_parser.specs.declared.token.TokenKind.TheVariants as kind
 use Rattle.phrase_parser.specs.Private.Kept.{kept_kind}
 use Rattle.phrase_parser.specs.Private.Front.{front_of, word_front, number_front, constant_of, constant_front, bit_constant, bit_value, constant_end, longer_sign, sign_kept, sign_front, double_at, ends_word}
+use Rattle.phrase_parser.proofs.FoundElements.{found_passes}
 use Rattle.phrase_parser.proofs.Tokens.ByteRuns.{run_all, run_ends, run_begins, run_first}
 use Rattle.phrase_parser.proofs.Tokens.QuotedTexts.{constant_end_tells, quoted_append, length_quoted}
 use Rattle.phrase_parser.proofs.Tokens.Words.{letter_is_name_byte, word_no_name}
@@ -30,7 +31,7 @@ pub record Tells (x : List ℕ) (front : Front) : Type 0 where
   pub same_kind : kept_kind token ≡ front.kind
   pub same_length : length bytes ≡ front.length
 
--- words
+-- ---- words
 
 word_tells : (w behind : List ℕ) (front : Front) → is_word w ≡ true → nat_le (length w) longest_name ≡ true
     → begins_with is_name_byte behind ≡ false
@@ -77,7 +78,7 @@ word_front_tells first rest front letter h =
     (word_tells w (drop n x) front word (ap (λ (k : ℕ). nat_le k longest_name) size ∙ found.0) (run_ends is_name_byte x)
     (sym (ap (λ (f : Front). f.kind) found.1)) (sym (ap (λ (f : Front). f.length) found.1) ∙ sym size))
 
--- numbers
+-- ---- numbers
 
 number_front_tells : (first : ℕ) (rest : List ℕ) (front : Front) → is_digit first ≡ true → number_front (first ∷ rest) ≡ front
     → Tells (first ∷ rest) front
@@ -96,9 +97,9 @@ number_front_tells first rest front digit h =
       same_length = size ∙ ap (λ (f : Front). f.length) h;
     }
 
--- constants
+-- ---- constants
 
--- the digit of a bit
+-- the byte of the digit of a bit
 abbrev bit_byte : Bool → ℕ
 bit_byte false = 48
 bit_byte true = 49
@@ -150,7 +151,7 @@ bit_tells (a ∷ digit ∷ c ∷ d ∷ behind) bit h =
       ends = not-true (begins_with is_name_byte behind) three.1;
     }
 
--- what stands between its quotes is a constant of three bytes
+-- a bit constant without its `B` is a character constant of three bytes
 pub bit_read : (bit : Bool) (behind : List ℕ) → constant_end 1 0 (drop 1 (bit_bytes bit ++ behind)) ≡ Some 3
 bit_read false behind = refl
 bit_read true behind = refl
@@ -183,16 +184,7 @@ constant_tells rest front None (Some end) is_bit read h =
     }
 constant_tells rest front None None is_bit read h = absurd (none-some front h)
 
--- signs
-
--- what is found passes the test
-found_passes : (test : Sign → Bool) (among : List Sign) (sign : Sign) → find test among ≡ Some sign → test sign ≡ true
-found_passes test [] sign h = absurd (none-some sign h)
-found_passes test (s ∷ others) sign h =
-    cond_both (test s) (Some s) (find test others) (λ (o : Option Sign). o ≡ Some sign → test sign ≡ true)
-    (λ passes e. subst (λ (x : Sign). test x ≡ true) (same_Some s sign e) passes)
-    (λ _ e. found_passes test others sign e)
-    h
+-- ---- signs
 
 -- the bytes are those of the sign that they are found as
 found_spelt : (bytes : List ℕ) (sign : Sign) → sign_of bytes ≡ Some sign → bytes ≡ sign_bytes sign
@@ -220,7 +212,7 @@ sign_tells first rest front None (Some s) is_double is_single h =
     tells_sign (first ∷ []) rest s 1 front (found_spelt (first ∷ []) s is_single) refl (same_Some (sign_kept s 1) front h)
 sign_tells first rest front None None is_double is_single h = absurd (none-some front h)
 
--- what is found begins the text
+-- the front that is found tells a token that begins the text
 pub found_tells : (x : List ℕ) (front : Front) → front_of x ≡ Some front → Tells x front
 found_tells [] front h = absurd (none-some front h)
 found_tells (first ∷ rest) front h =

@@ -21,16 +21,16 @@ use Rattle.phrase_parser.proofs.Tokens.QuotedTexts.{quoted_read, quoted_append}
 use Rattle.phrase_parser.proofs.Tokens.FrontTokens.{BeginsBit, bit_tells, bit_read}
 use Rattle.phrase_parser.proofs.Tokens.Words.{word_bytes, keyword_word, keyword_short, name_word, name_short}
 
--- what is found is longer, or as long and of the same kind
+-- the front that is found is longer than a token, or as long and of the same kind
 abbrev pub Covers : TokenKind → ℕ → Option Front → Type 0
 Covers k n None = ⊥
 Covers k n (Some front) = (n < front.length) ⊎ ((n ≡ front.length) × (k ≡ front.kind))
 
--- a token of the kind and of so many bytes
+-- the front of a token of the kind and of so many bytes
 abbrev front_with : TokenKind → ℕ → Front
 front_with k n = record { kind = k; length = n }
 
--- exactly this is found
+-- where exactly this front is found, it is as long as the token and of the same kind
 abbrev pub Finds : List ℕ → TokenKind → ℕ → Type 0
 Finds x k n = front_of x ≡ Some (record { kind = k; length = n })
 
@@ -62,7 +62,7 @@ at_digit first rest digit =
     (digit_not_letter first digit)
     ∙ cond-true (is_digit first) (Some (number_front (first ∷ rest))) (sign_front first rest) digit
 
--- words
+-- ---- words
 
 -- a short word is found, where no word goes on behind it
 pub word_found : (w behind : List ℕ) → is_word w ≡ true → length w ≤ longest_name → begins_with is_name_byte behind ≡ false
@@ -90,14 +90,14 @@ keyword_no_name w h =
     and_right (is_word w) (nat_le (length w) longest_name && not (is_keyword w))
     (and_right (nat_le (length w) longest_name) (not (is_keyword w)) (not_from_true (is_keyword w) h))
 
--- and so is a keyword
+-- a keyword is found, where no word goes on behind it
 pub keyword_found : (w behind : List ℕ) → IsTrue (is_keyword w) → begins_with is_name_byte behind ≡ false
     → Finds (w ++ behind) kind.Keyword (length w)
 keyword_found w behind listed ends =
     word_found w behind (keyword_word w listed) (keyword_short w listed) ends
     ∙ ap (λ (k : TokenKind). Some (front_with k (length w))) (cond-false (is_name w) kind.Name kind.Keyword (keyword_no_name w listed))
 
--- numbers
+-- ---- numbers
 
 -- a number is found, where no digit follows
 pub number_found : (w behind : List ℕ) → IsNumeral w → begins_with is_digit behind ≡ false
@@ -129,7 +129,7 @@ number_covered (first ∷ rest) behind numeral =
       | inr ends ↦ covers_found (w ++ behind) k (length w) (number_found w behind numeral ends)
     ]
 
--- constants
+-- ---- constants
 
 at_constant : (value behind : List ℕ) → IsConstantText value → begins_with is_quote behind ≡ false
     → front_of (quoted value ++ behind) ≡ constant_of (bit_constant (quoted value ++ behind)) (Some (length (quoted value)))
@@ -192,7 +192,7 @@ bit_found false behind ends =
 bit_found true behind ends =
     ap (λ (b : Option Bool). constant_of b (constant_end 1 0 (49 ∷ 39 ∷ 66 ∷ behind))) (cond-true (ends_word behind) (Some true) None (not_from_false _ ends))
 
--- signs
+-- ---- signs
 
 covered_single : (double : Option Sign) (sign : Sign) → Covers (kind.Sign sign) 1 (longer_sign double (Some sign))
 covered_single (Some other) sign = inl (lit≤ tt)
@@ -247,7 +247,7 @@ other_sign Sign.OpenParenthesis first second equal bar = and_right (eqb first 40
 other_sign Sign.CloseParenthesis first second equal bar = and_right (eqb first 41) false refl
 other_sign Sign.Comma first second equal bar = and_right (eqb first 44) false refl
 
--- nothing is found, where none passes the test
+-- no sign is found among others, where none passes the test
 none_found : (test : Sign → Bool) → ((s : Sign) → test s ≡ false) → (among : List Sign) → find test among ≡ None
 none_found test fails [] = refl
 none_found test fails (s ∷ others) = cond-false (test s) (Some s) (find test others) (fails s) ∙ none_found test fails others

@@ -1,12 +1,12 @@
 -- The number that digits write, digit after digit.
-use Rattle.std.proofs.Common.{◌≡◌, ℕ, ◌+◌, ◌-◌, ◌*◌, ◌/◌, ◌%◌, ◌^◌, ◌<◌, ◌≤◌, true, List, [], ◌∷◌, ◌++◌, length, map, take, get_or, refl, sym, ap, ◌∙◌, arith}
+use Rattle.std.proofs.Common.{◌≡◌, ℕ, ◌+◌, ◌-◌, ◌*◌, ◌/◌, ◌%◌, ◌^◌, ◌<◌, ◌≤◌, true, List, [], ◌∷◌, ◌++◌, map, refl, ap, ◌∙◌, arith}
 use Rattle.std.specs.Prelude.{decimal, nat_le}
 use Rattle.std.specs.List.{list_all}
 use Rattle.std.specs.Int.Digits.{number_from_digits}
 use Rattle.std.proofs.lemmas.Bool.{and_from, le-leb}
 use Rattle.std.proofs.lemmas.Fmt.{decimal_by_steps}
-use Rattle.std.proofs.lemmas.Int.Digits.{number_more, number_push}
-use Rattle.std.proofs.lemmas.List.{take-map, get_or-map, length-map, length-append, map-append}
+use Rattle.std.proofs.lemmas.Int.Digits.{number_push}
+use Rattle.std.proofs.lemmas.List.{length-append, map-append}
 use Rattle.std.proofs.lemmas.List.Folds.{list_all-append}
 use Rattle.plcs_base.specs.Byte.{is_digit}
 use Rattle.plcs_grammar.specs.Token.{numeral_value, IsNumeral}
@@ -15,17 +15,7 @@ use Rattle.plcs_grammar.specs.Token.{numeral_value, IsNumeral}
 abbrev value_of_digit : ℕ → ℕ
 value_of_digit digit = digit - 48
 
--- one digit more
-pub numeral_more : (xs : List ℕ) (i : ℕ) → i < length xs
-    → numeral_value (take (i + 1) xs) ≡ numeral_value (take i xs) * 10 + (get_or xs i 0 - 48)
-numeral_more xs i h =
-    let digits = map value_of_digit xs in
-    let within : i < length digits = omega (arith, h, length-map xs value_of_digit) in
-    sym (ap (λ (ds : List ℕ). number_from_digits 10 ds) (take-map value_of_digit (i + 1) xs)) ∙ number_more 10 digits i within
-    ∙ ap (λ (ds : List ℕ). number_from_digits 10 ds * 10 + get_or digits i 0) (take-map value_of_digit i xs)
-    ∙ ap (λ (d : ℕ). numeral_value (take i xs) * 10 + d) (get_or-map value_of_digit xs i 0 0 h)
-
--- one digit more at the end
+-- the number that one digit more at the end writes
 pub numeral_push : (digits : List ℕ) (digit : ℕ)
     → numeral_value (digits ++ (digit ∷ [])) ≡ numeral_value digits * 10 + (digit - 48)
 numeral_push digits digit =
@@ -36,7 +26,7 @@ digit_byte : (k : ℕ) → k < 10 → is_digit (48 + k) ≡ true
 digit_byte k h =
     and_from (nat_le 48 (48 + k)) (nat_le (48 + k) 57) (le-leb 48 (48 + k) (omega arith)) (le-leb (48 + k) 57 (omega arith))
 
--- the digits write the number
+-- the decimal digits of a number write the number
 abbrev Writes : ℕ → List ℕ → Type 0
 Writes n digits = IsNumeral digits × (numeral_value digits ≡ n)
 

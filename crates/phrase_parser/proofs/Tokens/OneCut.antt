@@ -26,7 +26,7 @@ covered_at : (x : List ℕ) (o : Option Front) → front_of x ≡ o → (token :
 covered_at x o found token bytes behind whole is =
     subst (λ (p : Option Front). Covers (kept_kind token) (length bytes) p) (ap front_of (sym whole) ∙ found) (token_covered token bytes behind is)
 
--- what is found is the longest token
+-- the front that is found is that of the longest token
 pub found_first : (x : List ℕ) (front : Front) → front_of x ≡ Some front → (t : Tells x front) → First x t.token t.bytes t.behind
 found_first x front found t = record {
   whole = t.whole;
@@ -37,7 +37,7 @@ found_first x front found t = record {
       omega (arith, at_most, t.same_length);
 }
 
--- where nothing is found, no token can be made
+-- where no front is found, no token can be made
 pub none_found : (x : List ℕ) → front_of x ≡ None → NoToken x
 none_found x found token bytes behind whole is = covered_at x None found token bytes behind whole is
 
@@ -110,7 +110,7 @@ found_is x token bytes behind (Some front) found first =
     (omega (arith, at_most, t.same_length)) in
     ap (λ (f : Front). Some f) (same_front (kept_kind token) (length bytes) front same.0 same.1)
 
--- the longest token is what is found
+-- the longest token has the front that is found
 pub first_found : (x : List ℕ) (token : Token) (bytes behind : List ℕ) → First x token bytes behind
     → front_of x ≡ Some (record { kind = kept_kind token; length = length bytes })
 first_found x token bytes behind first = found_is x token bytes behind (front_of x) refl first

@@ -20,7 +20,7 @@ pub record ClosesAt (read content : ℕ) (x : List ℕ) (end : ℕ) : Type 0 whe
   pub printable : list_all is_printable value ≡ true
   pub closed : begins_with is_quote behind ≡ false
 
--- one byte before that, which isn't a quote
+-- a constant goes on over one byte more that isn't a quote
 closes_byte : (read content byte : ℕ) (x : List ℕ) (end : ℕ) → is_quote byte ≡ false → is_printable byte ≡ true
     → ClosesAt (read + 1) (content + 1) x end → ClosesAt read content (byte ∷ x) end
 closes_byte read content byte x end plain printable c =
@@ -37,7 +37,7 @@ closes_byte read content byte x end plain printable c =
       closed = c.closed;
     }
 
--- a doubled quote before that
+-- a constant goes on over a doubled quote
 closes_quotes : (read content : ℕ) (x : List ℕ) (end : ℕ)
     → ClosesAt (read + 2) (content + 1) x end → ClosesAt read content (39 ∷ 39 ∷ x) end
 closes_quotes read content x end c = record {
@@ -50,7 +50,7 @@ closes_quotes read content x end c = record {
   closed = c.closed;
 }
 
--- the closing quote
+-- a constant ends at its closing quote
 closes_here : (read content : ℕ) (x : List ℕ) (end : ℕ) → begins_with is_quote x ≡ false
     → end_if_short (read + 1) content ≡ Some end → ClosesAt read content (39 ∷ x) end
 closes_here read content x end behind h =
@@ -113,7 +113,7 @@ value_read (byte ∷ value) behind read content end total printable at sum =
     ∙ value_read value behind (read + 1) (content + 1) end total parts.1 (omega (arith, far)) (omega (arith, sum)))
     at
 
--- and ends there, where no further quote follows
+-- a value of printable bytes ends at its closing quote, where no further quote follows
 pub quote_closes : (read content : ℕ) (behind : List ℕ) → content ≤ longest_text → begins_with is_quote behind ≡ false
     → constant_end_at_quote read content behind ≡ Some (read + 1)
 quote_closes read content [] short closed = cond-true (nat_le content longest_text) (Some (read + 1)) None (le-leb content longest_text short)
@@ -129,7 +129,7 @@ quoted_append value behind = ap (λ (rest : List ℕ). 39 ∷ rest) (append_asso
 pub length_quoted : (value : List ℕ) → length (quoted value) ≡ length (with_quotes_doubled value) + 2
 length_quoted value = omega (arith, length-append (with_quotes_doubled value) (39 ∷ []))
 
--- so a constant is read to its end
+-- a character constant is read to its end
 pub quoted_read : (value behind : List ℕ) → length value ≤ longest_text → list_all is_printable value ≡ true
     → begins_with is_quote behind ≡ false → constant_end 1 0 (with_quotes_doubled value ++ (39 ∷ behind)) ≡ Some (length (quoted value))
 quoted_read value behind short printable closed =

@@ -3,11 +3,11 @@ use Rattle.std.specs.Prelude.{ℕ, Bool, false, nat_lt, if◌then◌else◌, Lis
 use Rattle.std.specs.Option.{option_or}
 use Rattle.plcs_grammar.specs.Cuts.{Piece}
 use Rattle.plcs_grammar.specs.Limit.{greatest_number, greatest_nesting}
-use Rattle.plcs_grammar.specs.Over.{OverLimit}
+use Rattle.plcs_grammar.specs.OverLimit.{OverLimit}
 use Rattle.phrase_parser.specs.declared.check.token_class.TokenClass.{TokenClass}
 use Rattle.phrase_parser.specs.Private.Recognizer.{Shape, class_of, next, may_end, level_of}
 
--- nothing, the place where the text goes wrong, or what goes past a limit first
+-- a finding: nothing, the place where the text goes wrong, or what goes past a limit first
 pub data Finding : Type 0 where
   fine : Finding
   syntax_at : ℕ → Finding
@@ -28,7 +28,7 @@ abbrev pub found_at : Option Shape → ℕ → (Shape → Finding) → Finding
 found_at None place behind = syntax_at place
 found_at (Some shape) place behind = behind shape
 
--- a token where it stands
+-- a token as the check sees it: its class and the place where it stands
 pub record Seen : Type 0 where
   pub class : TokenClass
   pub start : ℕ
@@ -37,7 +37,7 @@ pub record Seen : Type 0 where
 abbrev pub seen_of : Piece → Seen
 seen_of piece = record { class = class_of piece.token; start = piece.start }
 
--- whether it is a number above the greatest
+-- whether a token is a number above the greatest, by its class
 abbrev pub is_large : TokenClass → Bool
 is_large (TokenClass.Number n) = nat_lt greatest_number n
 is_large (TokenClass.Name is_builtin) = false
@@ -45,7 +45,7 @@ is_large TokenClass.Keyword = false
 is_large TokenClass.Constant = false
 is_large (TokenClass.Sign s) = false
 
--- whether the token, which opens the level, goes past a limit
+-- the limit that a token goes past, if it does one; the level is the one that it opens, or 0
 abbrev pub seen_over : Seen → ℕ → Option OverLimit
 seen_over seen level =
     if is_large seen.class then Some (OverLimit.number_too_large seen.start)

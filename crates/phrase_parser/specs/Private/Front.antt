@@ -15,35 +15,35 @@ use Rattle.phrase_parser.specs.declared.front.Front.{Front}
 use Rattle.phrase_parser.specs.declared.token.Placed.{Placed}
 use Rattle.phrase_parser.specs.declared.token.TokenKind.TheVariants as kind
 
--- whether the byte is of the class
+-- whether a byte is of a class
 abbrev pub is_in : ByteClass → ℕ → Bool
 is_in class.Blank = is_blank
 is_in class.Digit = is_digit
 is_in class.NameByte = is_name_byte
 
--- whether no letter, digit or `_` follows
+-- whether what stands behind ends a word: no letter, digit or `_` follows
 abbrev pub ends_word : List ℕ → Bool
 ends_word behind = not (begins_with is_name_byte behind)
 
--- a name or a keyword of so many bytes
+-- the name or keyword that the first so many bytes of a text are
 abbrev pub word_of : ℕ → List ℕ → Option Front
 word_of length x =
     if nat_le length longest_name then Some (record { kind = if is_name (take length x) then kind.Name else kind.Keyword; length = length })
     else None
 
--- a name or a keyword: the letters, digits and `_` that the text begins with
+-- the name or keyword at the front of a text: the letters, digits and `_` that it begins with
 abbrev pub word_front : List ℕ → Option Front
 word_front x = word_of (prefix_len is_name_byte x) x
 
--- a number of so many digits, as it is kept
+-- the number that the first so many digits of a text write, as it is kept
 abbrev pub number_kept : ℕ → List ℕ → Front
 number_kept length x = record { kind = kind.Number (min (numeral_value (take length x)) greatest_kept); length = length }
 
--- a number: the digits that the text begins with
+-- the number at the front of a text: the digits that it begins with
 abbrev pub number_front : List ℕ → Front
 number_front x = number_kept (prefix_len is_digit x) x
 
--- the bit that the digit stands for
+-- the bit that a digit of a bit constant stands for
 abbrev pub bit_value : ℕ → Option Bool
 bit_value digit = if digit == 48 then Some false else if digit == 49 then Some true else None
 
@@ -56,12 +56,12 @@ bit_constant (a ∷ digit ∷ []) = None
 bit_constant (a ∷ []) = None
 bit_constant [] = None
 
--- where the constant ends, if its value has so few bytes
+-- where a character constant ends, if its value has so few bytes that it is one
 abbrev pub end_if_short : ℕ → ℕ → Option ℕ
 end_if_short end content = if nat_le content longest_text then Some end else None
 
 abbrev mutual
-  -- how many bytes a constant has, where so many are read, with so many of its value, and x is left
+  -- how many bytes a character constant has, where so many are read, with so many of its value, and x is left
   pub constant_end : ℕ → ℕ → List ℕ → Option ℕ
   constant_end read content [] = None
   constant_end read content (byte ∷ rest) =
@@ -69,19 +69,19 @@ abbrev mutual
       else if is_printable byte then constant_end (read + 1) (content + 1) rest
       else None
 
-  -- behind a quote
+  -- how many bytes a character constant has, where a quote of it was read and x is left
   pub constant_end_at_quote : ℕ → ℕ → List ℕ → Option ℕ
   constant_end_at_quote read content [] = end_if_short (read + 1) content
   constant_end_at_quote read content (byte ∷ rest) =
       if is_quote byte then constant_end (read + 2) (content + 1) rest else end_if_short (read + 1) content
 
--- a bit constant, or else a character constant of so many bytes
+-- the front that a bit constant is, or else a character constant of so many bytes
 abbrev pub constant_of : Option Bool → Option ℕ → Option Front
 constant_of (Some bit) length = Some (record { kind = kind.Bit bit; length = 4 })
 constant_of None (Some length) = Some (record { kind = kind.Text; length = length })
 constant_of None None = None
 
--- a bit constant, or else a character constant, where the first byte is a quote
+-- the constant at the front of a text whose first byte is a quote: a bit constant, or else a character constant
 abbrev pub constant_front : List ℕ → Option Front
 constant_front x = constant_of (bit_constant x) (constant_end 1 0 (drop 1 x))
 
@@ -90,21 +90,21 @@ abbrev pub double_at : ℕ → List ℕ → Option Sign
 double_at first [] = None
 double_at first (second ∷ rest) = sign_of (first ∷ second ∷ [])
 
--- a sign of so many bytes
+-- the front that a sign of so many bytes is
 abbrev pub sign_kept : Sign → ℕ → Front
 sign_kept s length = record { kind = kind.Sign s; length = length }
 
--- the sign of two bytes, or else the one of one byte
+-- the front that a sign of two bytes is, or else one of one byte
 abbrev pub longer_sign : Option Sign → Option Sign → Option Front
 longer_sign (Some double) single = Some (sign_kept double 2)
 longer_sign None (Some single) = Some (sign_kept single 1)
 longer_sign None None = None
 
--- a sign of two bytes, or else of one
+-- the sign at the front of a text: of its first two bytes, or else of the first
 abbrev pub sign_front : ℕ → List ℕ → Option Front
 sign_front first rest = longer_sign (double_at first rest) (sign_of (first ∷ []))
 
--- what the text begins with
+-- the token that the text begins with
 abbrev pub front_of : List ℕ → Option Front
 front_of [] = None
 front_of (first ∷ rest) =
@@ -113,7 +113,7 @@ front_of (first ∷ rest) =
     else if is_digit first then Some (number_front (first ∷ rest))
     else sign_front first rest
 
--- with its place, where the text stands at this place
+-- the token with its places, where the text that it begins stands at this place
 abbrev pub placed_at : ℕ → Option Front → Option Placed
 placed_at start None = None
 placed_at start (Some front) = Some (record { kind = front.kind; start = start; end = start + front.length })

@@ -3,7 +3,7 @@ use Rattle.std.specs.Prelude.{◌≡◌, Option, Some, None, Result, Ok, Err}
 use Rattle.phrase_parser.specs.declared.builder.fault.BuildError.{BuildError}
 use Rattle.phrase_parser.specs.declared.builder.fault.BuildError.TheVariants.{OutOfMemory, Refused}
 
--- nothing is known where memory ran out
+-- what a step's failure says of what it should give: nothing where memory ran out, and else that there is nothing
 abbrev pub Fails : {Y : Type 0} → BuildError → Option Y → Type 0
 Fails OutOfMemory wanted = Unit {0}
 Fails Refused wanted = wanted ≡ None

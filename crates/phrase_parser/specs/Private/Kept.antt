@@ -7,7 +7,7 @@ use Rattle.phrase_parser.specs.declared.token.TokenKind.{TokenKind}
 use Rattle.phrase_parser.specs.declared.token.TokenKind.TheVariants as kind
 use Rattle.phrase_parser.specs.declared.token.Placed.{Placed}
 
--- a number is kept up to this one
+-- the greatest number that is kept of a token
 abbrev pub greatest_kept : ℕ
 greatest_kept = GREATEST_KEPT
 
@@ -20,10 +20,10 @@ kept_kind (Token.text value) = kind.Text
 kept_kind (Token.bit value) = kind.Bit value
 kept_kind (Token.sign s) = kind.Sign s
 
--- a token's kind with its place
+-- what is kept of a piece: its token's kind, with its places
 abbrev pub kept : Piece → Placed
 kept piece = record { kind = kept_kind piece.token; start = piece.start; end = piece.end }
 
--- these are what is kept of the pieces into which the whole text is cut, up to the place where it stops being tokens
+-- the tokens are what is kept of the pieces into which the whole text is cut, up to the place where it stops being tokens
 abbrev pub AreTokens : List Placed → Option ℕ → List ℕ → Type 0
-AreTokens items stop text = (pieces : List Piece) × Cuts pieces 0 text stop × (items ≡ map kept pieces)
+AreTokens placed stop text = (pieces : List Piece) × Cuts pieces 0 text stop × (placed ≡ map kept pieces)

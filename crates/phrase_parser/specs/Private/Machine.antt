@@ -45,7 +45,7 @@ pub data Role : Type 0 where
   variable : Role
   procedure : Role
 
--- what was read last, and what is wanted
+-- a state of the machine: what was read last, and what is wanted
 pub data State : Type 0 where
   -- an operand is wanted
   wanted : Stack → State
@@ -70,7 +70,7 @@ pub data State : Type 0 where
 abbrev pub Operand : Type 0
 Operand = Stack × PlainExpr
 
--- the expressions with one more at the end
+-- a list of expressions with one more at the end
 abbrev pub expr_push : PlainExprs → PlainExpr → PlainExprs
 expr_push PlainExprs.nil t = PlainExprs.cons t PlainExprs.nil
 expr_push (PlainExprs.cons a rest) t = PlainExprs.cons a (expr_push rest t)
@@ -99,7 +99,7 @@ infix_of Sign.Times = Some between.Times
 infix_of Sign.Divide = Some between.Divide
 infix_of sign = None
 
--- the operand, joined with each open operator of the level or a higher one
+-- an operand, joined with each operator of the level or a higher one that is open on the stack
 abbrev pub reduced : Stack → ℕ → PlainExpr → Operand
 reduced (base b) level t = (base b, t)
 reduced (prefix op s) level t = reduced s level (PlainExpr.unary op t)
@@ -108,39 +108,39 @@ reduced (parenthesis s) level t = (parenthesis s, t)
 reduced (subscript name s) level t = (subscript name s, t)
 reduced (arguments function done s) level t = (arguments function done s, t)
 
--- behind an operator that joins what stands before it
+-- the state behind an infix operator, whose left operand is read
 abbrev pub behind_infix : InfixOp → Operand → State
 behind_infix op o = wanted (left o.1 op o.0)
 
--- a whole operand is read
+-- the state behind a whole operand
 abbrev pub step_operand : State → PlainExpr → Option State
 step_operand (wanted s) t = Some (had s t)
 step_operand state t = None
 
--- a name is read
+-- the state behind a name
 abbrev pub step_name : State → List ℕ → Option State
 step_name (wanted s) name = Some (had s (PlainExpr.variable (PlainVarRef.simple name)))
 step_name (name_wanted role) name = Some (name_had role name)
 step_name state name = None
 
--- a number is read
+-- the state behind a number
 abbrev pub step_number : State → ℕ → Option State
 step_number (wanted s) n = Some (had s (PlainExpr.number (pos n)))
 step_number (size_wanted done name) n = if nat_le 1 n then Some (size_had done name n) else None
 step_number length_wanted n = if nat_le 1 n && nat_le n longest_text then Some (length_had n) else None
 step_number state n = None
 
--- a parenthesis is opened behind a name in an expression
+-- the stack on which a parenthesis is opened behind a name in an expression
 abbrev pub open_frame : List ℕ → Option Builtin → Stack → Stack
 open_frame name None s = subscript name s
 open_frame name (Some function) s = arguments function PlainExprs.nil s
 
--- a parenthesis is opened behind an operand, which a name alone takes
+-- the state behind a parenthesis that is opened behind an operand, which a name alone takes
 abbrev pub step_open_behind : Stack → PlainExpr → Option State
 step_open_behind s (PlainExpr.variable (PlainVarRef.simple name)) = Some (wanted (open_frame name (builtin_of name) s))
 step_open_behind s t = None
 
--- a parenthesis is opened behind a name that stands in no expression
+-- the state behind a parenthesis that is opened behind a name that stands in no expression
 abbrev pub step_open_role : Role → List ℕ → Option State
 step_open_role target name = Some (wanted (base (target_subscript name)))
 step_open_role (variables done) name = Some (wanted (base (variable_subscript done name)))
@@ -148,21 +148,21 @@ step_open_role callee name = Some (wanted (base (call_arguments name PlainExprs.
 step_open_role (items done) name = Some (size_wanted done name)
 step_open_role role name = None
 
--- a parenthesis is opened
+-- the state behind an opening parenthesis
 abbrev pub step_open : State → Option State
 step_open (wanted s) = Some (wanted (parenthesis s))
 step_open (had s t) = step_open_behind s t
 step_open (name_had role name) = step_open_role role name
 step_open state = None
 
--- the parenthesis in which the phrase's own expression stands is closed
+-- the state behind the closing parenthesis of a subscript or call in which the phrase's own expression stands
 abbrev pub step_close_base : Base → PlainExpr → Option State
 step_close_base (target_subscript name) t = Some (target_had (PlainVarRef.subscripted name t))
 step_close_base (variable_subscript done name) t = Some (variable_had (done ++ (PlainVarRef.subscripted name t ∷ [])))
 step_close_base (call_arguments name done) t = Some (call_had name (expr_push done t))
 step_close_base b t = None
 
--- a parenthesis is closed behind an expression, the innermost that is open
+-- the state behind the closing parenthesis of the innermost that is open on the stack
 abbrev pub step_close_stack : Stack → PlainExpr → Option State
 step_close_stack (base b) t = step_close_base b t
 step_close_stack (prefix op s) t = None
@@ -171,32 +171,32 @@ step_close_stack (parenthesis s) t = Some (had s (PlainExpr.parenthesized t))
 step_close_stack (subscript name s) t = Some (had s (PlainExpr.variable (PlainVarRef.subscripted name t)))
 step_close_stack (arguments function done s) t = Some (had s (PlainExpr.builtin function (expr_push done t)))
 
--- a parenthesis is closed
+-- the state behind a closing parenthesis
 abbrev pub step_close : State → Option State
 step_close (had s t) = let o = reduced s 1 t in step_close_stack o.0 o.1
 step_close (size_had done name n) = Some (item_had (done ++ (record { name = name; size = Some n } ∷ [])))
 step_close state = None
 
--- a comma stands behind an expression
+-- the state behind a comma that follows the phrase's own expression
 abbrev pub step_comma_base : Base → PlainExpr → Option State
 step_comma_base (expressions done) t = Some (wanted (base (expressions (expr_push done t))))
 step_comma_base (call_arguments name done) t = Some (wanted (base (call_arguments name (expr_push done t))))
 step_comma_base b t = None
 
--- a comma stands behind an expression, in the innermost parenthesis that is open
+-- the state behind a comma in the innermost parenthesis that is open on the stack
 abbrev pub step_comma_stack : Stack → PlainExpr → Option State
 step_comma_stack (base b) t = step_comma_base b t
 step_comma_stack (arguments function done s) t = Some (wanted (arguments function (expr_push done t) s))
 step_comma_stack s t = None
 
--- a comma stands behind a name
+-- the state behind a comma that follows a name that stands in no expression
 abbrev pub step_comma_role : Role → List ℕ → Option State
 step_comma_role (variables done) name = Some (name_wanted (variables (done ++ (PlainVarRef.simple name ∷ []))))
 step_comma_role (items done) name = Some (name_wanted (items (done ++ (record { name = name; size = None } ∷ []))))
 step_comma_role (names done) name = Some (name_wanted (names (done ++ (name ∷ []))))
 step_comma_role role name = None
 
--- a comma is read
+-- the state behind a comma
 abbrev pub step_comma : State → Option State
 step_comma (had s t) = let o = reduced s 1 t in step_comma_stack o.0 o.1
 step_comma (name_had role name) = step_comma_role role name
@@ -204,35 +204,35 @@ step_comma (variable_had done) = Some (name_wanted (variables done))
 step_comma (item_had done) = Some (name_wanted (items done))
 step_comma state = None
 
--- `=` behind a name that stands in no expression
+-- the state behind `=` that follows a name that stands in no expression
 abbrev pub step_equal_role : Role → List ℕ → Option State
 step_equal_role target name = Some (wanted (base (assigned (PlainVarRef.simple name))))
 step_equal_role role name = None
 
--- `=` is read: it assigns to the target of an assignment, and elsewhere it compares
+-- the state behind `=`: it assigns to the target of an assignment, and elsewhere it compares
 abbrev pub step_equal : State → Option State
 step_equal (had s t) = Some (behind_infix between.Equal (reduced s (priority between.Equal) t))
 step_equal (name_had role name) = step_equal_role role name
 step_equal (target_had reference) = Some (wanted (base (assigned reference)))
 step_equal state = None
 
--- a sign stands where an operand is wanted, with the operator that it is there
+-- the state behind a sign where an operand is wanted, with the prefix operator that it is there
 abbrev pub step_prefix : Stack → Option PrefixOp → Option State
 step_prefix s None = None
 step_prefix s (Some op) = Some (wanted (prefix op s))
 
--- a sign stands behind an operand, with the operator that it is there
+-- the state behind a sign that follows an operand, with the infix operator that it is there
 abbrev pub step_infix : Stack → PlainExpr → Option InfixOp → Option State
 step_infix s t None = None
 step_infix s t (Some op) = Some (behind_infix op (reduced s (priority op) t))
 
--- a sign is read that is an operator wherever it stands
+-- the state behind a sign that is an operator wherever it stands
 abbrev pub step_operator : State → Sign → Option State
 step_operator (wanted s) sign = step_prefix s (prefix_of sign)
 step_operator (had s t) sign = step_infix s t (infix_of sign)
 step_operator state sign = None
 
--- a sign is read
+-- the state behind a sign
 abbrev pub step_sign : State → Sign → Option State
 step_sign state Sign.OpenParenthesis = step_open state
 step_sign state Sign.CloseParenthesis = step_close state
@@ -249,7 +249,7 @@ step state (Token.text value) = step_operand state (PlainExpr.text value)
 step state (Token.bit value) = step_operand state (PlainExpr.bit value)
 step state (Token.sign sign) = step_sign state sign
 
--- the same, where the machine has not stopped
+-- the state behind one more token, if the machine has not stopped and the token can stand there
 abbrev pub step_if : Option State → Token → Option State
 step_if None token = None
 step_if (Some state) token = step state token
@@ -274,7 +274,7 @@ start NameList = Some (name_wanted (names []))
 start Length = Some length_wanted
 start CommentText = None
 
--- the phrase, if an expression is its last part
+-- the phrase that ends with the phrase's own expression, if it may
 abbrev pub phrase_of_base : Base → PlainExpr → Option PlainPhrase
 phrase_of_base condition t = Some (PlainPhrase.condition t)
 phrase_of_base expression t = Some (PlainPhrase.expression t)
@@ -282,12 +282,12 @@ phrase_of_base (expressions done) t = Some (PlainPhrase.expression_list (expr_pu
 phrase_of_base (assigned reference) t = Some (PlainPhrase.assignment reference t)
 phrase_of_base b t = None
 
--- the phrase, if nothing is open around its last expression
+-- the phrase that ends with an expression, if nothing is open around it
 abbrev pub phrase_of_stack : Stack → PlainExpr → Option PlainPhrase
 phrase_of_stack (base b) t = phrase_of_base b t
 phrase_of_stack s t = None
 
--- the phrase, if a name is its last part
+-- the phrase that ends with a name that stands in no expression, if it may
 abbrev pub phrase_of_role : Role → List ℕ → Option PlainPhrase
 phrase_of_role target name = None
 phrase_of_role (variables done) name = Some (PlainPhrase.variable_list (done ++ (PlainVarRef.simple name ∷ [])))
@@ -297,7 +297,7 @@ phrase_of_role (names done) name = Some (PlainPhrase.name_list (done ++ (name �
 phrase_of_role variable name = Some (PlainPhrase.variable_name name)
 phrase_of_role procedure name = Some (PlainPhrase.procedure_name name)
 
--- the phrase, if the tokens are all of it
+-- the phrase that a state ends as, if the tokens that were read are all of it
 abbrev pub phrase_of : State → Option PlainPhrase
 phrase_of (had s t) = let o = reduced s 1 t in phrase_of_stack o.0 o.1
 phrase_of (name_had role name) = phrase_of_role role name
@@ -307,7 +307,7 @@ phrase_of (item_had done) = Some (PlainPhrase.declared_list done)
 phrase_of (length_had n) = Some (PlainPhrase.greatest_length n)
 phrase_of state = None
 
--- the same, where the machine has not stopped
+-- the phrase that the machine ends as, if it has not stopped and the tokens are all of it
 abbrev pub phrase_of_if : Option State → Option PlainPhrase
 phrase_of_if None = None
 phrase_of_if (Some state) = phrase_of state

@@ -2,7 +2,7 @@
 use Rattle.std.specs.Prelude.{ℕ, ◌≤◌, List, reverse, Option, Some, None}
 use Rattle.std.specs.List.{AllByRecursion}
 use Rattle.plcs_grammar.specs.Builtin.{is_builtin_name}
-use Rattle.plcs_grammar.specs.Over.{OverLimit}
+use Rattle.plcs_grammar.specs.OverLimit.{OverLimit}
 use Rattle.phrase_parser.specs.declared.check.token_class.TokenClass.{TokenClass}
 use Rattle.phrase_parser.specs.declared.check.ground.Ground.{Ground}
 use Rattle.phrase_parser.specs.declared.check.nesting.Bracket.{Bracket}
@@ -22,7 +22,7 @@ use Rattle.phrase_parser.specs.declared.check.finding.Finding.TheVariants as fou
 use Rattle.phrase_parser.specs.Private.Findings as findings
 use Rattle.phrase_parser.specs.Private.Findings.{Seen}
 
--- what was read last, and what is wanted; the model has the innermost parenthesis first
+-- the shape of the model that the check's shape stands for; the model has the innermost parenthesis first
 abbrev pub shape_of : Shape → model.Shape
 shape_of (Wanted nesting level) = model.Shape.wanted nesting.place (reverse nesting.brackets.items) level
 shape_of (Had last nesting) = model.Shape.had last nesting.place (reverse nesting.brackets.items)
@@ -37,12 +37,12 @@ shape_of ItemHad = model.Shape.item_had
 shape_of LengthWanted = model.Shape.length_wanted
 shape_of LengthHad = model.Shape.length_had
 
--- the same, if there is one
+-- the shape of the model that the check's shape stands for, if there is one
 abbrev pub shape_if : Option Shape → Option model.Shape
 shape_if None = None
 shape_if (Some shape) = Some (shape_of shape)
 
--- what is looked at of a token whose bytes are these
+-- the class of a token of the kind whose bytes are these
 abbrev pub class_from : TokenKind → List ℕ → TokenClass
 class_from token.Name bytes = TokenClass.Name (is_builtin_name bytes)
 class_from token.Keyword bytes = TokenClass.Keyword
@@ -51,7 +51,7 @@ class_from token.Text bytes = TokenClass.Constant
 class_from (token.Bit value) bytes = TokenClass.Constant
 class_from (token.Sign sign) bytes = TokenClass.Sign sign
 
--- what is looked at of a token that stands in the text
+-- what the check sees of a token that stands in the text
 abbrev pub seen_in : List ℕ → Placed → Seen
 seen_in text placed = record { class = class_from placed.kind (bytes_in text placed); start = placed.start }
 
@@ -59,16 +59,16 @@ seen_in text placed = record { class = class_from placed.kind (bytes_in text pla
 abbrev pub deepest_level : ℕ
 deepest_level = 4294967294
 
--- no level is over the limit
+-- the level of the last name is not over the limit
 abbrev pub LastWithin : ℕ → Last → Type 0
 LastWithin limit Last.Operand = Unit {0}
 LastWithin limit (Last.Named is_builtin level) = level ≤ limit
 
--- the same for the open parentheses of an expression
+-- the levels of the open parentheses of an expression are not over the limit
 abbrev pub NestingWithin : ℕ → Ground → List Bracket → Type 0
 NestingWithin limit at brackets = (model.ground_level at ≤ limit) × AllByRecursion (λ bracket. bracket.level ≤ limit) brackets
 
--- the same for all that is open in a shape
+-- the levels of all that is open in a shape are not over the limit
 abbrev pub Within : ℕ → model.Shape → Type 0
 Within limit (model.Shape.wanted at brackets level) = (level ≤ limit) × NestingWithin limit at brackets
 Within limit (model.Shape.had last at brackets) = LastWithin limit last × NestingWithin limit at brackets
@@ -83,7 +83,7 @@ Within limit model.Shape.item_had = Unit {0}
 Within limit model.Shape.length_wanted = Unit {0}
 Within limit model.Shape.length_had = Unit {0}
 
--- what goes past a limit
+-- what goes past a limit, as the definitions of the grammar have it
 abbrev pub over_of : Over → OverLimit
 over_of (NumberTooLarge place) = OverLimit.number_too_large place
 over_of (TooDeep place) = OverLimit.too_deep place
@@ -93,12 +93,12 @@ abbrev pub over_place : OverLimit → ℕ
 over_place (OverLimit.number_too_large place) = place
 over_place (OverLimit.too_deep place) = place
 
--- what goes past a limit, if something does
+-- what goes past a limit, if something does, as the definitions of the grammar have it
 abbrev pub over_if : Option Over → Option OverLimit
 over_if None = None
 over_if (Some over) = Some (over_of over)
 
--- what is found in the tokens of a text
+-- the finding of the model that the check's finding stands for
 abbrev pub as_found : Finding → findings.Finding
 as_found Fine = findings.Finding.fine
 as_found (SyntaxAt place) = findings.Finding.syntax_at place

@@ -8,7 +8,7 @@ use Rattle.phrase_parser.specs.declared.token.TokenKind.{TokenKind}
 use Rattle.phrase_parser.specs.declared.token.TokenKind.TheVariants as kind
 use Rattle.phrase_parser.specs.declared.token.Placed.{Placed}
 
--- what stands between the first byte and the last
+-- the bytes between the quotes of a character constant
 abbrev pub between_quotes : List ℕ → List ℕ
 between_quotes bytes = slice_range bytes 1 (length bytes - 1)
 
@@ -21,11 +21,11 @@ token_from kind.Text bytes = Token.text (undoubled (between_quotes bytes))
 token_from (kind.Bit value) bytes = Token.bit value
 token_from (kind.Sign s) bytes = Token.sign s
 
--- the bytes of the token
+-- the bytes of a token that stands in the text
 abbrev pub bytes_in : List ℕ → Placed → List ℕ
 bytes_in text placed = slice_range text placed.start placed.end
 
--- the token that stands there
+-- the token that a token with its place is in the text
 abbrev pub token_in : List ℕ → Placed → Token
 token_in text placed = token_from placed.kind (bytes_in text placed)
 

@@ -14,7 +14,7 @@ base_depth (Base.target_subscript name) = 1
 base_depth (Base.variable_subscript done name) = 1
 base_depth (Base.call_arguments name done) = 1
 
--- how many levels are open
+-- how many levels are open at the operand on a stack
 abbrev pub depth : Stack → ℕ
 depth (Stack.base b) = base_depth b
 depth (Stack.prefix op s) = depth s + 1
@@ -38,19 +38,19 @@ abbrev pub opens_by_role : Role → Token → ℕ
 opens_by_role (Role.items done) token = 0
 opens_by_role role token = opens_behind 0 token
 
--- the level that the token opens, or 0
+-- the level that a token opens in a state, or 0
 abbrev pub opens : State → Token → ℕ
 opens (State.wanted s) token = opens_before (depth s) token
 opens (State.had s t) token = opens_behind (depth s) token
 opens (State.name_had role name) token = opens_by_role role token
 opens state token = 0
 
--- the same, where the machine has not stopped
+-- the level that a token opens, or 0, also where the machine has stopped
 abbrev pub opens_if : Option State → Token → ℕ
 opens_if None token = 0
 opens_if (Some state) token = opens state token
 
--- for each token the level that it opens, or 0
+-- for each token that follows a state the level that it opens, or 0
 abbrev pub trace : List Token → Option State → List ℕ
 trace [] state = []
 trace (token ∷ tokens) state = opens_if state token ∷ trace tokens (step_if state token)

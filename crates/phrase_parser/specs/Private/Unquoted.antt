@@ -8,7 +8,7 @@ abbrev mutual
   undoubled [] = []
   undoubled (byte ∷ rest) = byte ∷ (if is_quote byte then undoubled_behind rest else undoubled rest)
 
-  -- behind the first quote of two
+  -- the bytes with one quote for each two, behind the first quote of two
   pub undoubled_behind : List ℕ → List ℕ
   undoubled_behind [] = []
   undoubled_behind (byte ∷ rest) = undoubled rest

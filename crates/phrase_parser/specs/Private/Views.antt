@@ -1,8 +1,7 @@
 -- What the builder's stacks and states stand for.
 use Rattle.std.specs.Prelude.{List, [], ◌∷◌, map}
 use Rattle.plcs_grammar.specs.declared.expr.Expr.{Expr}
-use Rattle.plcs_grammar.specs.PlainPhrase.{PlainExpr, PlainVarRef}
-use Rattle.plcs_grammar.specs.PlainForm.{plain_expr, plain_exprs, plain_var_ref}
+use Rattle.plcs_grammar.specs.PlainPhrase.{PlainExpr, PlainVarRef, plain_expr, plain_exprs, plain_var_ref}
 use Rattle.phrase_parser.specs.Private.Machine as machine
 use Rattle.phrase_parser.specs.declared.builder.base.Base.{Base}
 use Rattle.phrase_parser.specs.declared.builder.base.Base.TheVariants as base
@@ -16,7 +15,7 @@ use Rattle.phrase_parser.specs.declared.builder.role.Role.TheVariants as role
 use Rattle.phrase_parser.specs.declared.builder.state.State.{State}
 use Rattle.phrase_parser.specs.declared.builder.state.State.TheVariants as state
 
--- what an expression that stands in no other is for
+-- the machine's base that the builder's stands for: what an expression that stands in no other is for
 abbrev pub base_of : Base → machine.Base
 base_of base.Condition = machine.Base.condition
 base_of base.Expression = machine.Base.expression
@@ -26,7 +25,7 @@ base_of (base.TargetSubscript name) = machine.Base.target_subscript name
 base_of (base.VariableSubscript done name) = machine.Base.variable_subscript (map plain_var_ref done.items) name
 base_of (base.CallArguments name done) = machine.Base.call_arguments name (plain_exprs done.items)
 
--- the stack with one frame more
+-- the machine's stack with one frame of the builder more
 abbrev pub pushed : Frame → machine.Stack → machine.Stack
 pushed (frame.Prefix op) s = machine.Stack.prefix op s
 pushed (frame.Left a op) s = machine.Stack.left (plain_expr a) op s
@@ -34,16 +33,16 @@ pushed frame.Parenthesis s = machine.Stack.parenthesis s
 pushed (frame.Subscript name) s = machine.Stack.subscript name s
 pushed (frame.Arguments function done) s = machine.Stack.arguments function (plain_exprs done.items) s
 
--- the frames on a stack, the innermost last
+-- the machine's stack with the frames of the builder on it, the innermost last
 abbrev pub stack_on : machine.Stack → List Frame → machine.Stack
 stack_on s [] = s
 stack_on s (f ∷ fs) = stack_on (pushed f s) fs
 
--- all that stands open around an operand
+-- the machine's stack that the builder's stands for: all that stands open around an operand
 abbrev pub stack_of : Stack → machine.Stack
 stack_of s = stack_on (machine.Stack.base (base_of s.base)) s.frames.items
 
--- an operand that is no operator with operands of its own
+-- the expression that a primary is: an operand that is no operator with operands of its own
 abbrev pub primary_of : Primary → PlainExpr
 primary_of (primary.Number z) = PlainExpr.number z
 primary_of (primary.Text value) = PlainExpr.text value.value
@@ -53,7 +52,7 @@ primary_of (primary.Subscripted name index) = PlainExpr.variable (PlainVarRef.su
 primary_of (primary.Call function passed) = PlainExpr.builtin function (plain_exprs passed.items)
 primary_of (primary.Parenthesized t) = PlainExpr.parenthesized (plain_expr t.value)
 
--- what a name that stands in no expression is for
+-- the machine's role that the builder's stands for: what a name that stands in no expression is for
 abbrev pub role_of : Role → machine.Role
 role_of role.Target = machine.Role.target
 role_of (role.Variables done) = machine.Role.variables (map plain_var_ref done.items)
@@ -63,7 +62,7 @@ role_of (role.Names done) = machine.Role.names done.items
 role_of role.Variable = machine.Role.variable
 role_of role.Procedure = machine.Role.procedure
 
--- what was read last, and what is wanted
+-- the machine's state that the builder's stands for: what was read last, and what is wanted
 abbrev pub state_of : State → machine.State
 state_of (state.Wanted s) = machine.State.wanted (stack_of s)
 state_of (state.Had s t) = machine.State.had (stack_of s) (primary_of t)
@@ -78,6 +77,6 @@ state_of (state.ItemHad done) = machine.State.item_had done.items
 state_of state.LengthWanted = machine.State.length_wanted
 state_of (state.LengthHad n) = machine.State.length_had n
 
--- a stack and the operand on it
+-- the machine's stack and operand that the builder's stand for
 abbrev pub pair_of : Stack × Expr → machine.Operand
 pair_of o = (stack_of o.0, plain_expr o.1)

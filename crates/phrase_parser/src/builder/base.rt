@@ -4,7 +4,7 @@ ghost use Rattle.std.specs.Prelude.{◌≡◌};
 ghost use Rattle.phrase_parser.specs.Private.Machine.{Stack as OpenStack, State as MachineState, step_close_base, step_close, step_comma_base, phrase_of_base};
 ghost use Rattle.phrase_parser.specs.Private.Gives.{Gives};
 ghost use Rattle.phrase_parser.specs.Private.Views.{base_of, state_of};
-ghost use Rattle.plcs_grammar.specs.PlainForm.{plain_expr, plain_phrase};
+ghost use Rattle.plcs_grammar.specs.PlainPhrase.{plain_expr, plain_phrase};
 
 use crate::builder::expr::subscripted;
 use crate::builder::fault::BuildError;
@@ -35,7 +35,7 @@ pub enum Base {
     CallArguments(Name, Vec<Expr>),
 }
 
-/// An operand is wanted, and nothing but the base is open.
+/// The state in which an operand is wanted and nothing but the base is open.
 pub fn wanted_on(alloc: Global, base: Base) -> State
     ensures { state_of result ≡ MachineState.wanted (OpenStack.base (base_of base)) }
 {
@@ -43,7 +43,8 @@ pub fn wanted_on(alloc: Global, base: Base) -> State
     State::Wanted(Stack { base, frames })
 }
 
-/// The parenthesis in which the phrase's own expression stands is closed.
+/// The state behind the closing parenthesis of a subscript or call in which the phrase's own expression stands,
+/// if it stands in one.
 pub fn step_close_base(alloc: Global, base: Base, expr: Expr) -> Result<State, BuildError>
     ensures { Gives state_of result (step_close_base (base_of base) (plain_expr expr)) }
 {
@@ -60,7 +61,7 @@ pub fn step_close_base(alloc: Global, base: Base, expr: Expr) -> Result<State, B
     }
 }
 
-/// A comma stands behind an expression that stands in no other.
+/// The state behind a comma that follows an expression that stands in no other, if one can stand there.
 pub fn step_comma_base(alloc: Global, base: Base, expr: Expr) -> Result<State, BuildError>
     ensures { Gives state_of result (step_comma_base (base_of base) (plain_expr expr)) }
 {
@@ -81,7 +82,7 @@ pub fn step_comma_base(alloc: Global, base: Base, expr: Expr) -> Result<State, B
     }
 }
 
-/// The phrase whose last part is the expression.
+/// The phrase that ends with the expression, which stands in no other, if it may end so.
 pub fn phrase_of_base(base: Base, expr: Expr) -> Result<Phrase, BuildError>
     ensures { Gives plain_phrase result (phrase_of_base (base_of base) (plain_expr expr)) }
 {

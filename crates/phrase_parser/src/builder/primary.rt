@@ -2,8 +2,7 @@
 
 ghost use Rattle.std.specs.Prelude.{◌≡◌, ◌≤◌, IfOk, pos};
 ghost use Rattle.plcs_grammar.specs.Limit.{greatest_number};
-ghost use Rattle.plcs_grammar.specs.PlainPhrase.{PlainExpr, PlainVarRef};
-ghost use Rattle.plcs_grammar.specs.PlainForm.{plain_expr};
+ghost use Rattle.plcs_grammar.specs.PlainPhrase.{PlainExpr, PlainVarRef, plain_expr};
 ghost use Rattle.phrase_parser.specs.Private.Views.{primary_of};
 
 use crate::builder::expr::{boxed_subscript, simple, variable};

@@ -3,7 +3,7 @@
 ghost use Rattle.phrase_parser.specs.Private.Machine.{step_open_role, step_open, step_comma_role, step_equal_role, phrase_of_role};
 ghost use Rattle.phrase_parser.specs.Private.Gives.{Gives};
 ghost use Rattle.phrase_parser.specs.Private.Views.{role_of, state_of};
-ghost use Rattle.plcs_grammar.specs.PlainForm.{plain_phrase};
+ghost use Rattle.plcs_grammar.specs.PlainPhrase.{plain_phrase};
 
 use crate::builder::base::{Base, wanted_on};
 use crate::builder::expr::simple;
@@ -34,7 +34,7 @@ pub enum Role {
     Procedure,
 }
 
-/// A parenthesis is opened behind a name that stands in no expression.
+/// The state behind a parenthesis that is opened behind a name that stands in no expression, if one can stand there.
 pub fn step_open_role(alloc: Global, role: Role, name: Name) -> Result<State, BuildError>
     ensures { Gives state_of result (step_open_role (role_of role) name) }
 {
@@ -47,7 +47,7 @@ pub fn step_open_role(alloc: Global, role: Role, name: Name) -> Result<State, Bu
     }
 }
 
-/// A comma stands behind a name.
+/// The state behind a comma that follows a name that stands in no expression, if one can stand there.
 pub fn step_comma_role(role: Role, name: Name) -> Result<State, BuildError>
     ensures { Gives state_of result (step_comma_role (role_of role) name) }
 {
@@ -68,7 +68,7 @@ pub fn step_comma_role(role: Role, name: Name) -> Result<State, BuildError>
     }
 }
 
-/// `=` behind a name that stands in no expression.
+/// The state behind `=` that follows a name that stands in no expression, if it can stand there.
 pub fn step_equal_role(alloc: Global, role: Role, name: Name) -> Result<State, BuildError>
     ensures { Gives state_of result (step_equal_role (role_of role) name) }
 {
@@ -83,7 +83,7 @@ pub fn step_equal_role(alloc: Global, role: Role, name: Name) -> Result<State, B
     }
 }
 
-/// The phrase whose last part is the name.
+/// The phrase that ends with the name, which stands in no expression, if it may end so.
 pub fn phrase_of_role(alloc: Global, role: Role, name: Name) -> Result<Phrase, BuildError>
     ensures { Gives plain_phrase result (phrase_of_role (role_of role) name) }
 {

@@ -4,7 +4,7 @@ ghost use Rattle.std.specs.Prelude.{◌≡◌, IfOk};
 ghost use Rattle.phrase_parser.specs.Private.Machine.{open_frame, step_open_behind, step_open, Stack as OpenStack, step_close_base, step_close_stack, step_close, step_comma_base, step_comma_stack, behind_infix, step_prefix, step_infix, phrase_of_base, phrase_of_stack, reduced};
 ghost use Rattle.phrase_parser.specs.Private.Gives.{Gives};
 ghost use Rattle.phrase_parser.specs.Private.Views.{stack_of, primary_of, state_of, pushed, pair_of};
-ghost use Rattle.plcs_grammar.specs.PlainForm.{plain_expr, plain_phrase};
+ghost use Rattle.plcs_grammar.specs.PlainPhrase.{plain_expr, plain_phrase};
 ghost use Rattle.plcs_grammar.specs.Level.{priority};
 ghost use Rattle.phrase_parser.specs.Private.Reduction.{rest_of};
 
@@ -28,7 +28,7 @@ pub struct Stack {
     pub frames: Vec<Frame>,
 }
 
-/// What stands open around an operand.
+/// A frame of the stack: one thing that stands open around an operand.
 #[derive(Drop)]
 pub enum Frame {
     /// An operator that waits for its operand.
@@ -43,7 +43,7 @@ pub enum Frame {
     Arguments(Builtin, Vec<Expr>),
 }
 
-/// A parenthesis is opened behind an operand: only a name can stand before it.
+/// The state behind a parenthesis that is opened behind an operand: only a name can stand before it.
 pub fn step_open_behind(alloc: Global, stack: Stack, primary: Primary) -> Result<State, BuildError>
     ensures { Gives state_of result (step_open_behind (stack_of stack) (primary_of primary)) }
 {
@@ -55,7 +55,7 @@ pub fn step_open_behind(alloc: Global, stack: Stack, primary: Primary) -> Result
     Ok(State::Wanted(with_frame(stack, frame)?))
 }
 
-/// What a parenthesis behind the name is, which may be that of the built-in function.
+/// The frame that a parenthesis opens behind a name, which may be that of the built-in function.
 fn open_frame(alloc: Global, name: Name, function: Option<Builtin>) -> Frame
     ensures { (s : OpenStack) → pushed result s ≡ open_frame name function s }
 {
@@ -65,7 +65,7 @@ fn open_frame(alloc: Global, name: Name, function: Option<Builtin>) -> Frame
     }
 }
 
-/// A parenthesis is closed behind an expression.
+/// The state behind a parenthesis that is closed behind an expression, the innermost that is open.
 #[tactic(auto, using(crate::proofs::Frames::FrameStacks::stack_on_push))]
 pub fn step_close_stack(alloc: Global, stack: Stack, expr: Expr) -> Result<State, BuildError>
     ensures { Gives state_of result (step_close_stack (stack_of stack) (plain_expr expr)) }
@@ -83,7 +83,7 @@ pub fn step_close_stack(alloc: Global, stack: Stack, expr: Expr) -> Result<State
     Ok(State::Had(Stack { base, frames }, primary))
 }
 
-/// A comma stands behind an expression.
+/// The state behind a comma that follows an expression, in the innermost parenthesis that is open.
 #[tactic(auto, using(crate::proofs::Frames::FrameStacks::stack_on_push))]
 pub fn step_comma_stack(alloc: Global, stack: Stack, expr: Expr) -> Result<State, BuildError>
     ensures { Gives state_of result (step_comma_stack (stack_of stack) (plain_expr expr)) }
@@ -102,7 +102,7 @@ pub fn step_comma_stack(alloc: Global, stack: Stack, expr: Expr) -> Result<State
     }
 }
 
-/// An operator stands before an operand.
+/// The state behind a prefix operator, where an operand is wanted.
 pub fn step_prefix(stack: Stack, op: Option<PrefixOp>) -> Result<State, BuildError>
     ensures { Gives state_of result (step_prefix (stack_of stack) op) }
 {
@@ -112,7 +112,7 @@ pub fn step_prefix(stack: Stack, op: Option<PrefixOp>) -> Result<State, BuildErr
     }
 }
 
-/// An operator stands behind an operand.
+/// The state behind an infix operator that follows an operand.
 pub fn step_infix(
     alloc: Global,
     stack: Stack,
@@ -130,7 +130,7 @@ pub fn step_infix(
     }
 }
 
-/// The state behind an operator that joins what stands before it.
+/// The state behind an infix operator whose left operand is read.
 pub fn behind_infix(stack: Stack, left: Expr, op: InfixOp) -> Result<State, AllocError>
     ensures { IfOk result (λ s. state_of s ≡ behind_infix op (pair_of (stack, left))) }
 {
@@ -147,7 +147,7 @@ pub fn with_frame(stack: Stack, frame: Frame) -> Result<Stack, AllocError>
     Ok(Stack { base, frames })
 }
 
-/// The phrase whose last part is the expression, unless something is still open around it.
+/// The phrase that ends with the expression, unless something is still open around it.
 #[tactic(auto, using(crate::proofs::Frames::FrameStacks::stack_on_push, crate::proofs::Frames::FrameStacks::ended_at_open))]
 pub fn phrase_of_stack(stack: Stack, expr: Expr) -> Result<Phrase, BuildError>
     ensures { Gives plain_phrase result (phrase_of_stack (stack_of stack) (plain_expr expr)) }
@@ -162,7 +162,8 @@ pub fn phrase_of_stack(stack: Stack, expr: Expr) -> Result<Phrase, BuildError>
 /// The level at which every operator is joined.
 pub const EVERY_LEVEL: u8 = 1;
 
-/// The operand, joined with each open operator of the level or a higher one, and what is left open.
+/// An operand, joined with each operator of the level or a higher one that is open on the stack, and what is left
+/// open.
 #[tactic(auto, using(crate::proofs::Frames::FrameStacks::stack_on_push))]
 pub fn reduced(
     alloc: Global,
@@ -186,7 +187,7 @@ pub fn reduced(
     Ok((Stack { base, frames }, operand))
 }
 
-/// The operand, joined with the frame if that is an operator of the level or a higher one.
+/// An operand, joined with the frame around it if that is an operator of the level or a higher one.
 fn join(alloc: Global, frame: Frame, level: u8, operand: Expr) -> Result<Joined, AllocError>
     ensures { IfOk result
         (λ j. (s : OpenStack) → reduced (pushed frame s) level (plain_expr operand) ≡ rest_of j s level) }

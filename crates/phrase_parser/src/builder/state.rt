@@ -6,7 +6,7 @@ ghost use Rattle.phrase_parser.specs.Private.Gives.{Gives};
 ghost use Rattle.phrase_parser.specs.Private.Views.{state_of, primary_of};
 ghost use Rattle.std.specs.Prelude.{◌≤◌};
 ghost use Rattle.plcs_grammar.specs.Limit.{greatest_number};
-ghost use Rattle.plcs_grammar.specs.PlainForm.{plain_phrase};
+ghost use Rattle.plcs_grammar.specs.PlainPhrase.{plain_phrase};
 
 use crate::builder::base::{Base, wanted_on};
 use crate::builder::fault::BuildError;
@@ -26,7 +26,7 @@ use plcs_base::{LONGEST_TEXT, Name};
 use plcs_grammar::{Category, Expr, InfixOp, Item, Phrase, Sign, VarRef};
 use std::alloc::Global;
 
-/// What was read last, and what is wanted.
+/// A state of the builder: what was read last, and what is wanted.
 #[derive(Drop)]
 pub enum State {
     /// An operand is wanted.
@@ -91,7 +91,7 @@ pub fn step(alloc: Global, state: State, text: &[u8], token: Placed) -> Result<S
     }
 }
 
-/// A name is read.
+/// The state behind a name, if one can stand there.
 pub fn step_name(state: State, name: Name) -> Result<State, BuildError>
     ensures { Gives state_of result (step_name (state_of state) name) }
 {
@@ -102,7 +102,7 @@ pub fn step_name(state: State, name: Name) -> Result<State, BuildError>
     }
 }
 
-/// A number is read.
+/// The state behind a number, if one can stand there.
 pub fn step_number(state: State, n: u32) -> Result<State, BuildError>
     requires { n ≤ greatest_number }
     ensures { Gives state_of result (step_number (state_of state) n) }
@@ -117,7 +117,7 @@ pub fn step_number(state: State, n: u32) -> Result<State, BuildError>
     }
 }
 
-/// A whole operand is read.
+/// The state behind a whole operand, if one can stand there.
 pub fn step_operand(state: State, primary: Primary) -> Result<State, BuildError>
     ensures { Gives state_of result (step_operand (state_of state) (primary_of primary)) }
 {
@@ -127,7 +127,7 @@ pub fn step_operand(state: State, primary: Primary) -> Result<State, BuildError>
     }
 }
 
-/// A sign is read.
+/// The state behind a sign, if it can stand there.
 pub fn step_sign(alloc: Global, state: State, sign: Sign) -> Result<State, BuildError>
     ensures { Gives state_of result (step_sign (state_of state) sign) }
 {
@@ -140,7 +140,7 @@ pub fn step_sign(alloc: Global, state: State, sign: Sign) -> Result<State, Build
     }
 }
 
-/// A parenthesis is opened.
+/// The state behind an opening parenthesis, if one can stand there.
 pub fn step_open(alloc: Global, state: State) -> Result<State, BuildError>
     ensures { Gives state_of result (step_open (state_of state)) }
 {
@@ -152,7 +152,7 @@ pub fn step_open(alloc: Global, state: State) -> Result<State, BuildError>
     }
 }
 
-/// A parenthesis is closed.
+/// The state behind a closing parenthesis, if one can stand there.
 pub fn step_close(alloc: Global, state: State) -> Result<State, BuildError>
     ensures { Gives state_of result (step_close (state_of state)) }
 {
@@ -168,7 +168,7 @@ pub fn step_close(alloc: Global, state: State) -> Result<State, BuildError>
     }
 }
 
-/// A comma is read.
+/// The state behind a comma, if one can stand there.
 pub fn step_comma(alloc: Global, state: State) -> Result<State, BuildError>
     ensures { Gives state_of result (step_comma (state_of state)) }
 {
@@ -184,7 +184,8 @@ pub fn step_comma(alloc: Global, state: State) -> Result<State, BuildError>
     }
 }
 
-/// `=` is read: it assigns to the target of an assignment, and elsewhere it compares.
+/// The state behind `=`, if it can stand there: it assigns to the target of an assignment, and elsewhere it
+/// compares.
 fn step_equal(alloc: Global, state: State) -> Result<State, BuildError>
     ensures { Gives state_of result (step_equal (state_of state)) }
 {
@@ -200,7 +201,7 @@ fn step_equal(alloc: Global, state: State) -> Result<State, BuildError>
     }
 }
 
-/// A sign is read that is an operator wherever it stands.
+/// The state behind a sign that is an operator wherever it stands, if it can stand there.
 fn step_operator(alloc: Global, state: State, sign: Sign) -> Result<State, BuildError>
     ensures { Gives state_of result (step_operator (state_of state) sign) }
 {
@@ -211,7 +212,7 @@ fn step_operator(alloc: Global, state: State, sign: Sign) -> Result<State, Build
     }
 }
 
-/// The phrase, if all of it is read.
+/// The phrase that a state ends as, if all of it is read.
 pub fn phrase_of(alloc: Global, state: State) -> Result<Phrase, BuildError>
     ensures { Gives plain_phrase result (phrase_of (state_of state)) }
 {

@@ -27,7 +27,7 @@ pub fn constant_value(bytes: &[u8]) -> TextValue
     undoubled(&bytes[1..bytes.len() - 1])
 }
 
-/// The bytes with one quote for each two.
+/// The bytes of a character constant's value, with one quote for each two.
 fn undoubled(bytes: &[u8]) -> TextValue
     requires { IsTextValue (undoubled bytes.now) }
     ensures { result ≡ undoubled bytes.now }

@@ -52,7 +52,7 @@ pub fn seen_over(class: TokenClass, start: usize, level: u32) -> Option<Over>
     }
 }
 
-/// What is found in a phrase.
+/// The finding of tokens that are a phrase, where this goes past a limit first or nothing does.
 fn finding_of(over: Option<Over>) -> Finding
     ensures { as_found result ≡ finding_of (over_if over) }
 {

@@ -11,9 +11,9 @@ use std::alloc::Global;
 /// Where an expression stands that stands in no other.
 #[derive(Clone, Copy)]
 pub enum Ground {
-    /// Alone.
+    /// Alone: it is the whole phrase, or the value of an assignment.
     Whole,
-    /// In a list.
+    /// In a list of expressions that is the whole phrase.
     Listed,
     /// In the parentheses behind an assignment's target.
     TargetIndex,
@@ -23,14 +23,15 @@ pub enum Ground {
     CallList,
 }
 
-/// An operand is wanted, and nothing is open but the phrase's own expression.
+/// The shape in which an operand is wanted and nothing is open but the phrase's own expression.
 pub fn wanted(alloc: Global, place: Ground, level: u32) -> Shape
     ensures { shape_of result ≡ model.wanted place [] level }
 {
     Shape::Wanted(Nesting::of(alloc, place), level)
 }
 
-/// The parenthesis in which the phrase's own expression stands is closed.
+/// The shape behind the closing parenthesis of a subscript or call in which the phrase's own expression stands, if it
+/// stands in one.
 pub fn next_close_ground(place: Ground) -> Option<Shape>
     ensures { shape_if result ≡ next_close_ground place }
 {
@@ -42,7 +43,7 @@ pub fn next_close_ground(place: Ground) -> Option<Shape>
     }
 }
 
-/// A comma stands behind the phrase's own expression.
+/// The shape behind a comma that follows the phrase's own expression, if one can stand there.
 pub fn next_comma_ground(alloc: Global, place: Ground) -> Option<Shape>
     ensures { shape_if result ≡ next_comma_ground place }
 {
@@ -53,7 +54,7 @@ pub fn next_comma_ground(alloc: Global, place: Ground) -> Option<Shape>
     }
 }
 
-/// How many levels are open where the expression begins.
+/// How many levels are open where the phrase's own expression begins.
 pub fn ground_level(place: Ground) -> u32
     ensures { result ≡ ground_level place }
 {

@@ -21,14 +21,14 @@ pub struct Nesting {
 /// An open parenthesis in an expression.
 #[derive(Clone, Copy)]
 pub struct Bracket {
-    /// Whether a comma may stand in it.
+    /// Whether a comma may stand in the parenthesis.
     pub takes_commas: bool,
-    /// The level that it opened.
+    /// The level that the parenthesis opened.
     pub level: u32,
 }
 
 impl Nesting {
-    /// Nothing is open in the expression.
+    /// The nesting in which no parenthesis is open in the phrase's own expression.
     pub fn of(alloc: Global, place: Ground) -> Nesting
         ensures place { result.place ≡ place }
         ensures brackets { result.brackets.items ≡ [] }
@@ -38,7 +38,7 @@ impl Nesting {
     }
 }
 
-/// A parenthesis is opened where so many levels are open.
+/// The shape behind a parenthesis that is opened where so many levels are open.
 #[tactic(auto, using(crate::proofs::Findings::OpenBrackets::brackets_push))]
 pub fn bracketed(nesting: Nesting, takes_commas: bool, level: u32) -> Result<Shape, AllocError>
     requires { level ≤ deepest_level }
@@ -56,7 +56,7 @@ pub fn bracketed(nesting: Nesting, takes_commas: bool, level: u32) -> Result<Sha
     Ok(Shape::Wanted(Nesting { place, brackets }, level))
 }
 
-/// A parenthesis is closed.
+/// The shape behind the closing parenthesis of the innermost that is open.
 #[tactic(auto, using(crate::proofs::Findings::OpenBrackets::brackets_push))]
 pub fn next_close_in(nesting: Nesting) -> Option<Shape>
     ensures { shape_if result ≡ next_close_in nesting.place (reverse nesting.brackets.items) }
@@ -71,7 +71,7 @@ pub fn next_close_in(nesting: Nesting) -> Option<Shape>
     }
 }
 
-/// A comma is read.
+/// The shape behind a comma in the innermost open parenthesis, if one can stand there.
 #[tactic(auto, using(crate::proofs::Findings::OpenBrackets::brackets_push))]
 pub fn next_comma_in(alloc: Global, nesting: Nesting) -> Result<Option<Shape>, AllocError>
     ensures { IfOk result (λ s. shape_if s ≡ next_comma_in nesting.place (reverse nesting.brackets.items)) }
@@ -90,7 +90,7 @@ pub fn next_comma_in(alloc: Global, nesting: Nesting) -> Result<Option<Shape>, A
     Ok(Some(Shape::Wanted(Nesting { place, brackets }, bracket.level)))
 }
 
-/// An operand is wanted behind an operator.
+/// The shape behind an infix operator, where an operand is wanted.
 pub fn behind_operator(nesting: Nesting) -> Shape
     ensures { shape_of result
         ≡ model.wanted nesting.place (reverse nesting.brackets.items)
@@ -100,7 +100,7 @@ pub fn behind_operator(nesting: Nesting) -> Shape
     Shape::Wanted(nesting, level)
 }
 
-/// Whether a phrase may end where all that is open is this.
+/// Whether a phrase may end behind an expression in these open parentheses.
 pub fn may_end_in(nesting: &Nesting) -> bool
     ensures { result ≡ may_end_in nesting.now.place (reverse nesting.now.brackets.items) }
 {

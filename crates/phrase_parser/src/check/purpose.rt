@@ -25,7 +25,7 @@ pub enum Purpose {
     Single,
 }
 
-/// A parenthesis is opened behind a name that stands in no expression.
+/// The shape behind a parenthesis that is opened behind a name that stands in no expression, if one can stand there.
 pub fn next_open_name(alloc: Global, purpose: Purpose) -> Option<Shape>
     ensures { shape_if result ≡ next_open_name purpose }
 {
@@ -38,7 +38,7 @@ pub fn next_open_name(alloc: Global, purpose: Purpose) -> Option<Shape>
     }
 }
 
-/// A comma stands behind a name that stands in no expression.
+/// The shape behind a comma that follows a name that stands in no expression, if one can stand there.
 pub fn next_comma_name(purpose: Purpose) -> Option<Shape>
     ensures { shape_if result ≡ next_comma_name purpose }
 {
@@ -50,7 +50,7 @@ pub fn next_comma_name(purpose: Purpose) -> Option<Shape>
     }
 }
 
-/// `=` stands behind a name that stands in no expression.
+/// The shape behind `=` that follows a name that stands in no expression, if it can stand there.
 pub fn next_equal_name(alloc: Global, purpose: Purpose) -> Option<Shape>
     ensures { shape_if result ≡ next_equal_name purpose }
 {

@@ -18,7 +18,7 @@ use plcs_base::LONGEST_TEXT;
 use plcs_grammar::{Category, Sign};
 use std::alloc::{AllocError, Global};
 
-/// What was read last, and what is wanted.
+/// A shape: what was read last and what is wanted, without trees.
 #[derive(Drop)]
 pub enum Shape {
     /// An operand is wanted, with so many levels open.
@@ -79,7 +79,7 @@ pub fn next(alloc: Global, shape: Shape, class: TokenClass) -> Result<Option<Sha
     }
 }
 
-/// A name is read.
+/// The shape behind a name, if one can stand there.
 fn next_name(shape: Shape, is_builtin: bool) -> Option<Shape>
     ensures { shape_if result ≡ next_name (shape_of shape) is_builtin }
 {
@@ -90,7 +90,7 @@ fn next_name(shape: Shape, is_builtin: bool) -> Option<Shape>
     }
 }
 
-/// A number is read.
+/// The shape behind a number, if one can stand there.
 fn next_number(shape: Shape, n: u32) -> Option<Shape>
     ensures { shape_if result ≡ next_number (shape_of shape) n }
 {
@@ -102,7 +102,7 @@ fn next_number(shape: Shape, n: u32) -> Option<Shape>
     }
 }
 
-/// A constant is read.
+/// The shape behind a constant, if one can stand there.
 fn next_constant(shape: Shape) -> Option<Shape>
     ensures { shape_if result ≡ next_constant (shape_of shape) }
 {
@@ -112,7 +112,7 @@ fn next_constant(shape: Shape) -> Option<Shape>
     }
 }
 
-/// A sign is read.
+/// The shape behind a sign, if it can stand there.
 fn next_sign(alloc: Global, shape: Shape, sign: Sign) -> Result<Option<Shape>, AllocError>
     requires { Within deepest_level (shape_of shape) }
     ensures { IfOk result (λ s. shape_if s ≡ next_sign (shape_of shape) sign) }
@@ -138,7 +138,7 @@ fn next_sign(alloc: Global, shape: Shape, sign: Sign) -> Result<Option<Shape>, A
     }
 }
 
-/// A parenthesis is opened.
+/// The shape behind an opening parenthesis, if one can stand there.
 fn next_open(alloc: Global, shape: Shape) -> Result<Option<Shape>, AllocError>
     requires { Within deepest_level (shape_of shape) }
     ensures { IfOk result (λ s. shape_if s ≡ next_open (shape_of shape)) }
@@ -153,7 +153,7 @@ fn next_open(alloc: Global, shape: Shape) -> Result<Option<Shape>, AllocError>
     }
 }
 
-/// A parenthesis is closed.
+/// The shape behind a closing parenthesis, if one can stand there.
 fn next_close(shape: Shape) -> Option<Shape>
     ensures { shape_if result ≡ next_close (shape_of shape) }
 {
@@ -164,7 +164,7 @@ fn next_close(shape: Shape) -> Option<Shape>
     }
 }
 
-/// A comma is read.
+/// The shape behind a comma, if one can stand there.
 fn next_comma(alloc: Global, shape: Shape) -> Result<Option<Shape>, AllocError>
     ensures { IfOk result (λ s. shape_if s ≡ next_comma (shape_of shape)) }
 {
@@ -177,7 +177,7 @@ fn next_comma(alloc: Global, shape: Shape) -> Result<Option<Shape>, AllocError>
     }
 }
 
-/// `=` is read.
+/// The shape behind `=`, if it can stand there.
 fn next_equal(alloc: Global, shape: Shape) -> Option<Shape>
     ensures { shape_if result ≡ next_equal (shape_of shape) }
 {
@@ -189,7 +189,7 @@ fn next_equal(alloc: Global, shape: Shape) -> Option<Shape>
     }
 }
 
-/// A sign is read that is an operator wherever it stands.
+/// The shape behind a sign that is an operator wherever it stands, if it can stand there.
 #[tactic(auto, using(crate::proofs::Findings::OperatorTests::prefix_if, crate::proofs::Findings::OperatorTests::infix_if))]
 fn next_operator(shape: Shape, sign: Sign) -> Option<Shape>
     requires { Within deepest_level (shape_of shape) }
@@ -205,7 +205,7 @@ fn next_operator(shape: Shape, sign: Sign) -> Option<Shape>
     }
 }
 
-/// Whether the tokens may be a whole phrase.
+/// Whether the tokens that lead to a shape may be a whole phrase.
 pub fn may_end(shape: &Shape) -> bool
     ensures { result ≡ may_end (shape_of shape.now) }
 {
@@ -221,7 +221,7 @@ pub fn may_end(shape: &Shape) -> bool
     }
 }
 
-/// The level that the token opens, or 0.
+/// The level that a token opens at a shape, or 0.
 pub fn level_of(shape: &Shape, class: TokenClass) -> u32
     requires { Within deepest_level (shape_of shape.now) }
     ensures { result ≡ level_of (shape_of shape.now) class }
@@ -233,7 +233,7 @@ pub fn level_of(shape: &Shape, class: TokenClass) -> u32
     }
 }
 
-/// The level that the sign opens, or 0.
+/// The level that a sign opens at a shape, or 0.
 fn sign_level(shape: &Shape, sign: Sign) -> u32
     requires { Within deepest_level (shape_of shape.now) }
     ensures { result ≡ sign_level (shape_of shape.now) sign }

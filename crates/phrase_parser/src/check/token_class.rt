@@ -1,4 +1,4 @@
-//! What is looked at of a token.
+//! The classes of tokens: what the check looks at of each.
 
 ghost use Rattle.std.specs.Prelude.{◌≡◌, ◌≤◌, length};
 ghost use Rattle.phrase_parser.specs.Private.TokenIn.{bytes_in};
@@ -7,7 +7,7 @@ ghost use Rattle.phrase_parser.specs.Private.Shapes.{class_from};
 use crate::token::{Placed, TokenKind};
 use plcs_grammar::{Builtin, Sign};
 
-/// What is looked at of a token.
+/// The class of a token: what the check looks at of it.
 #[derive(Clone, Copy)]
 pub enum TokenClass {
     /// A name: whether it is a built-in function's.
@@ -22,7 +22,7 @@ pub enum TokenClass {
     Sign(Sign),
 }
 
-/// What is looked at of the token, which stands in the text.
+/// The class of a token that stands in the text.
 #[tactic(auto, unfolding(plcs_grammar::specs::Builtin::is_builtin_name))]
 pub fn class_at(text: &[u8], token: &Placed) -> TokenClass
     requires ordered { token.now.start ≤ token.now.end }

@@ -5,7 +5,7 @@ use Rattle.plcs_grammar.specs.PlainPhrase.{PlainExpr}
 use Rattle.plcs_grammar.specs.Sign.{infix_sign}
 use Rattle.plcs_grammar.specs.Canon.{behind_sign, canon}
 
--- what is reached by going to the left operand so many times, or as far as there is one
+-- the expression that is reached by going to the left operand so many times, or as far as there is one
 abbrev pub leftmost : PlainExpr → ℕ → PlainExpr
 leftmost (PlainExpr.number z) times = PlainExpr.number z
 leftmost (PlainExpr.text value) times = PlainExpr.text value
@@ -17,7 +17,7 @@ leftmost (PlainExpr.binary op a b) (suc times) = leftmost a times
 leftmost (PlainExpr.builtin function arguments) times = PlainExpr.builtin function arguments
 leftmost (PlainExpr.parenthesized a) times = PlainExpr.parenthesized a
 
--- an operator with a blank on each side, and its right operand
+-- the text of an operator with a blank on each side, and of its right operand
 abbrev pub operator_text : InfixOp → PlainExpr → List ℕ
 operator_text op b = behind_sign (infix_sign op) (canon b)
 

@@ -1,7 +1,7 @@
 -- What a row of the code's table stands for.
 use Rattle.session_words.specs.declared.command_table.CommandRow.{CommandRow}
 use Rattle.session_words.specs.CommandTable.{PlainCommandRow, row}
-use Rattle.session_words.specs.Private.PlainForm.{plain_argument_rule}
+use Rattle.session_words.specs.Private.PlainArgumentRule.{plain_argument_rule}
 
 -- the row of the definitions with the same word
 abbrev pub plain_command_row : CommandRow → PlainCommandRow

@@ -2,10 +2,10 @@
 use Rattle.std.specs.Prelude.{map}
 use Rattle.synth_top.specs.declared.session.Session.{Session}
 use Rattle.synth_top.specs.declared.grid.Grid.{Grid}
-use Rattle.synth_top.specs.declared.words.Options.{Options}
+use Rattle.synth_top.specs.declared.options.Options.{Options}
 use Rattle.synth_top.specs.Session.{PlainSession, message_text}
 use Rattle.synth_top.specs.Screen.{PlainGrid}
-use Rattle.synth_top.specs.Words.{PlainOptions}
+use Rattle.synth_top.specs.Options.{PlainOptions}
 
 -- a session as plain data
 abbrev pub plain_session : Session → PlainSession

@@ -14,10 +14,10 @@ use Rattle.synth_top.specs.Private.PlainForms.{plain_grid, plain_session}
 use Rattle.synth_top.specs.Reply.{Reply, failure}
 use Rattle.synth_top.specs.Run.{IsFront, RoseBy, keys_pressed, painted_over}
 use Rattle.synth_top.specs.Screen.{PlainGrid, blank}
-use Rattle.synth_top.specs.Session.{new_session, press}
+use Rattle.synth_top.specs.Session.{PlainSession, new_session, press}
 use Rattle.synth_top.specs.Private.Sized.{IsSized}
 use Rattle.synth_top.specs.Status.{CausedBy}
-use Rattle.synth_top.specs.Turn.{State, PressedKey, CanReply, Replied, after, ends, failures, grids}
+use Rattle.synth_top.specs.Turn.{State, IsMapOf, PressedKey, CanReply, Replied, after, ends, failures, grids}
 
 -- ---- an editor
 
@@ -49,23 +49,54 @@ pub record IsPressed (key : Key) (answer : Answer) (before now : State)
   pub files : now.files ≡ before.files
   pub faults : RoseBy (failure reply) faults_before faults_now
 
+-- a key was pressed in this session, whatever map the files have; and the map behind
+abbrev pub IsPressedWithAnyMap : Key → Answer → PlainSession → PlainSession
+    → Option FileMap → Option FileMap → ℕ → ℕ → Type 0
+IsPressedWithAnyMap key answer before now files_before files_now faults_before faults_now =
+    (map : FileMap) → IsMapOf files_before map →
+    (map_now : FileMap) × IsMapOf files_now map_now
+    × IsPressed key answer (record { session = before; files = map })
+    (record { session = now; files = map_now }) faults_before faults_now
+
 -- ---- some keys
 
--- a moment of a run: its state, the screen that is shown, the bytes that the sink took, and how many
--- faults the files counted
+-- what is seen of a run at a moment: its session, the screen that is shown, the bytes that the sink
+-- took, the map of the files where they tell it, and how many faults they counted
+pub record Snapshot : Type 0 where
+  pub session : PlainSession
+  pub shown : PlainGrid
+  pub taken : Option (List ℕ)
+  pub files : Option FileMap
+  pub file_faults : ℕ
+
+-- what is seen of an editor, a sink and files
+abbrev pub snapshot_of : Editor → Option (List ℕ) → Option FileMap → ℕ → Snapshot
+snapshot_of e taken files file_faults = record {
+  session = plain_session e.session;
+  shown = plain_grid e.painted;
+  taken = taken;
+  files = files;
+  file_faults = file_faults;
+}
+
+-- a moment of a run: its state, with what is seen of it
 pub record Moment : Type 0 where
   pub state : State
   pub shown : PlainGrid
   pub taken : Option (List ℕ)
+  pub files : Option FileMap
+  pub told : IsMapOf files state.files
   pub file_faults : ℕ
 
--- the moment that an editor, a sink and files are in
-abbrev pub moment_of : Editor → Option (List ℕ) → Option FileMap → ℕ → Moment
-moment_of e taken files file_faults = record {
-  state = record { session = plain_session e.session; files = files };
-  shown = plain_grid e.painted;
-  taken = taken;
-  file_faults = file_faults;
+-- the moment that is seen so, where the files have this map
+abbrev pub moment_of : (seen : Snapshot) (map : FileMap) → IsMapOf seen.files map → Moment
+moment_of seen map told = record {
+  state = record { session = seen.session; files = map };
+  shown = seen.shown;
+  taken = seen.taken;
+  files = seen.files;
+  told = told;
+  file_faults = seen.file_faults;
 }
 
 -- the last of some screens, where the first is painted over this one
@@ -129,10 +160,28 @@ Pressed (Over ReadFault) keys before now = ⊥
 Pressed (Over BadWords) keys before now = ⊥
 Pressed (Over KeyLimit) keys before now = ⊥
 
+-- what pressing keys may end a run with
+abbrev pub MayEnd : Going → Type 0
+MayEnd On = Unit {0}
+MayEnd (Over Done) = Unit {0}
+MayEnd (Over WriteFault) = Unit {0}
+MayEnd (Over NoMemory) = Unit {0}
+MayEnd (Over ReadFault) = ⊥
+MayEnd (Over BadWords) = ⊥
+MayEnd (Over KeyLimit) = ⊥
+
+-- keys were pressed, whatever map the files have: what became of them, and the map behind
+abbrev pub PressedWithAnyMap : Going → List Key → Snapshot → Snapshot → Type 0
+PressedWithAnyMap going keys before now =
+    (map : FileMap) (told : IsMapOf before.files map) →
+    (map_now : FileMap) × (told_now : IsMapOf now.files map_now)
+    × Pressed going keys (moment_of before map told) (moment_of now map_now told_now)
+
 -- keys were pressed: what became of them, the count of the sink's faults, and the editor behind
-pub record PressesKeys (going : Going) (keys : List Key) (before now : Moment)
+pub record PressesKeys (going : Going) (keys : List Key) (before now : Snapshot)
     (faults_before faults_now : ℕ) (e : Editor) : Type 0 where
-  pub pressed : Pressed going keys before now
+  pub ends : MayEnd going
+  pub pressed : PressedWithAnyMap going keys before now
   pub cause : CausedBy (going ≡ Over WriteFault) faults_before faults_now
   pub ready : IsReady e
 

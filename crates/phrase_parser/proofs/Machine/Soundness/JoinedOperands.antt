@@ -18,7 +18,7 @@ pub record Joins (level : ℕ) (s : Stack) (t : PlainExpr) (o : Operand) : Type 
   pub tokens : flat_stack o.0 ++ spell o.1 ≡ flat_stack s ++ spell t
   pub category : stack_category o.0 ≡ stack_category s
 
--- the same, from a stack with the same tokens
+-- an operand with operators joined came from a stack with the same tokens
 rejoins : (level : ℕ) (s r : Stack) (t u : PlainExpr) (o : Operand) → Joins level s t o → flat_stack s ++ spell t ≡ flat_stack r ++ spell u
     → stack_category s ≡ stack_category r → Joins level r u o
 rejoins level s r t u o joined same_tokens same_category = record {

@@ -16,7 +16,7 @@ use Rattle.phrase_parser.proofs.Machine.ConsumedTokens.{flat_stack, hole, SoundS
 use Rattle.phrase_parser.proofs.Machine.Soundness.JoinedOperands.{Joins, reduced_joins}
 use Rattle.phrase_parser.proofs.Machine.Soundness.TakenTokens.{After, AfterIf}
 
--- behind an operator, what stands before it is joined
+-- the state behind an infix operator has joined what stands before it
 joined_after : (op : InfixOp) (s : Stack) (t : PlainExpr) (o : Operand) → Joins (priority op) s t o
     → After (State.had s t) (Token.sign (infix_sign op)) (behind_infix op o)
 joined_after op s t o joined = record {
@@ -42,12 +42,12 @@ equated_after (State.name_had role name) is_sound = assigned_by_role_after role 
 equated_after (State.target_had reference) is_sound = record { sound = is_sound; tokens = refl; category = refl }
 equated_after s is_sound = tt
 
--- an operator has its sign
+-- a prefix operator, if there is one, has the sign
 abbrev PrefixIs : Sign → Option PrefixOp → Type 0
 PrefixIs sign None = Unit {0}
 PrefixIs sign (Some op) = prefix_sign op ≡ sign
 
--- the same for an operator between operands
+-- an infix operator, if there is one, has the sign
 abbrev InfixIs : Sign → Option InfixOp → Type 0
 InfixIs sign None = Unit {0}
 InfixIs sign (Some op) = infix_sign op ≡ sign

@@ -8,7 +8,7 @@ use Rattle.phrase_parser.specs.Private.Machine.{Base, Stack, Role, State, reduce
 use Rattle.phrase_parser.proofs.Machine.ExprSpelling.{spell, spell_reference, FitsReference, FitsAll}
 use Rattle.phrase_parser.proofs.Machine.PhraseSpelling.{spell_name, spell_item, spell_phrase, FitsPhrase, FitsItem, AnyName, form_from}
 use Rattle.phrase_parser.proofs.Machine.ConsumedTokens.{all_push, all_fit, call_fits, listed_last, listed_fits, flat, hole, SoundRole, Sound, state_category}
-use Rattle.plcs_grammar.specs.Form.{Form}
+use Rattle.plcs_grammar.specs.PhraseForm.{Form}
 use Rattle.phrase_parser.proofs.Machine.Soundness.JoinedOperands.{Joins, reduced_joins}
 use Rattle.phrase_parser.proofs.Machine.Soundness.ReadTokens.{HasRead, has_read}
 

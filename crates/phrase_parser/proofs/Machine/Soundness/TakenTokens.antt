@@ -5,15 +5,15 @@ use Rattle.plcs_grammar.specs.Token.{Token}
 use Rattle.phrase_parser.specs.Private.Machine.{State}
 use Rattle.phrase_parser.proofs.Machine.ConsumedTokens.{flat, Sound, state_category}
 
--- the comma
+-- the token that is a comma
 abbrev pub comma : Token
 comma = Token.sign Sign.Comma
 
--- the closing parenthesis
+-- the token that is a closing parenthesis
 abbrev pub close : Token
 close = Token.sign Sign.CloseParenthesis
 
--- the opening parenthesis
+-- the token that is an opening parenthesis
 abbrev pub open_ : Token
 open_ = Token.sign Sign.OpenParenthesis
 
@@ -28,6 +28,6 @@ abbrev pub AfterIf : State → Token → Option State → Type 0
 AfterIf s k None = Unit {0}
 AfterIf s k (Some z) = After s k z
 
--- lists in four parts, grouped otherwise
+-- lists in four parts are one list, however they are grouped
 pub regroup : {X : Type 0} (a b c d : List X) → a ++ (b ++ (c ++ d)) ≡ ((a ++ b) ++ c) ++ d
 regroup a b c d = sym (append_assoc a b (c ++ d)) ∙ sym (append_assoc (a ++ b) c d)

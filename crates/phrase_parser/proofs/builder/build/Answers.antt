@@ -1,4 +1,4 @@
--- Where a step is refused, so is the whole.
+-- Where a step of the builder is refused, the whole phrase is.
 use Rattle.std.proofs.Common.{map}
 use Rattle.std.proofs.lemmas.Result.{err_from_is_err_and}
 use Rattle.phrase_parser.specs.declared.token.TokenKind.TheVariants.{Name}

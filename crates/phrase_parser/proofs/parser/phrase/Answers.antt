@@ -7,11 +7,11 @@ use Rattle.phrase_parser.proofs.parser.phrase.Goals as goal
 pub check-requires-clause-within : goal.check-requires-clause-within
 check-requires-clause-within c =
     subst (λ z. All (LiesIn c.args.text.now) z) (sym c.as_slice-placed.ensures.value)
-    (tokens_lie c.in_ok-tokens.tokens.items.items c.in_ok-tokens.tokens.stop c.args.text.now c.in_ok-tokens.ensures)
+    (tokens_lie c.in_ok-tokens.tokens.placed.items c.in_ok-tokens.tokens.stop c.args.text.now c.in_ok-tokens.ensures)
 
 pub check-requires-clause-few : goal.check-requires-clause-few
 check-requires-clause-few c =
-    let few = tokens_few c.in_ok-tokens.tokens.items.items c.in_ok-tokens.tokens.stop c.args.text.now c.in_ok-tokens.ensures in
+    let few = tokens_few c.in_ok-tokens.tokens.placed.items c.in_ok-tokens.tokens.stop c.args.text.now c.in_ok-tokens.ensures in
     omega (arith, few, c.requires.short, ap length c.as_slice-placed.ensures.value)
 
 pub build-requires : goal.build-requires

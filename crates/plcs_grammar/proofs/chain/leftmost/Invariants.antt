@@ -1,6 +1,6 @@
 use Rattle.std.proofs.Common.{◌≡◌, ◌≤◌}
 use Rattle.plcs_grammar.specs.declared.expr.Expr.{size-Expr}
-use Rattle.plcs_grammar.specs.PlainForm.{plain_expr}
+use Rattle.plcs_grammar.specs.PlainPhrase.{plain_expr}
 use Rattle.plcs_grammar.specs.Private.Chain.{leftmost}
 use Rattle.plcs_grammar.proofs.chain.leftmost.Given as goal
 

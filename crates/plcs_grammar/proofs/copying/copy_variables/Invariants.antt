@@ -1,5 +1,5 @@
 use Rattle.std.proofs.Common.{◌≡◌, map, take}
-use Rattle.plcs_grammar.specs.PlainForm.{plain_var_ref}
+use Rattle.plcs_grammar.specs.PlainPhrase.{plain_var_ref}
 use Rattle.plcs_grammar.proofs.copying.copy_variables.Given as goal
 
 abbrev pub invariant-loop-variable : goal.invariant-loop-variable

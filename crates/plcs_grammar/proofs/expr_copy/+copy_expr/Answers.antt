@@ -1,10 +1,9 @@
 use Rattle.std.proofs.Common.{refl, sym, ap, ◌∙◌, arith}
-use Rattle.plcs_grammar.specs.PlainPhrase.{PlainExpr, PlainVarRef}
-use Rattle.plcs_grammar.specs.PlainForm.{plain_expr}
+use Rattle.plcs_grammar.specs.PlainPhrase.{PlainExpr, PlainVarRef, plain_expr}
 use Rattle.plcs_grammar.specs.declared.expr.Expr.{size-Expr}
 use Rattle.plcs_grammar.specs.declared.expr_copy.Link.{Link}
 use Rattle.plcs_grammar.specs.Private.Link.{linked}
-use Rattle.plcs_grammar.proofs.PlainFormCases.{expr_infix, left_no_deeper, reference_subscripted}
+use Rattle.plcs_grammar.proofs.PlainExprCases.{expr_infix, left_no_deeper, reference_subscripted}
 use Rattle.plcs_grammar.proofs.LinkedChains.{linked_push}
 use Rattle.plcs_grammar.proofs.expr_copy.+copy_expr.Goals as goal
 

@@ -1,6 +1,6 @@
 use Rattle.std.proofs.Common.{◌≡◌, ◌≤◌, map, take}
 use Rattle.plcs_grammar.specs.declared.expr.Expr.{size-Expr}
-use Rattle.plcs_grammar.specs.PlainForm.{plain_expr}
+use Rattle.plcs_grammar.specs.PlainPhrase.{plain_expr}
 use Rattle.plcs_grammar.specs.Private.Link.{linked}
 use Rattle.plcs_grammar.proofs.expr_copy.+copy_expr.Given as goal
 

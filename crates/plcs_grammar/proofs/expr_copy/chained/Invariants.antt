@@ -1,5 +1,5 @@
 use Rattle.std.proofs.Common.{◌≡◌, length}
-use Rattle.plcs_grammar.specs.PlainForm.{plain_expr}
+use Rattle.plcs_grammar.specs.PlainPhrase.{plain_expr}
 use Rattle.plcs_grammar.specs.Private.Link.{linked}
 use Rattle.plcs_grammar.proofs.expr_copy.chained.Given as goal
 

@@ -1,6 +1,6 @@
 use Rattle.std.proofs.Common.{◌≡◌, ◌↔◌, map, take, ◌≤◌, length}
 use Rattle.plcs_grammar.specs.declared.expr.Expr.{size-Expr}
-use Rattle.plcs_grammar.specs.PlainForm.{plain_expr}
+use Rattle.plcs_grammar.specs.PlainPhrase.{plain_expr}
 use Rattle.plcs_grammar.proofs.expr_equality.+same_expr.Given as goal
 
 abbrev pub invariant-same_expr-loop-left : goal.invariant-same_expr-loop-left

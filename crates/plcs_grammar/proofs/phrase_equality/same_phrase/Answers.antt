@@ -1,4 +1,4 @@
-use Rattle.plcs_grammar.proofs.EqualForms.{told_through, names_told, items_told, declared_lists, name_lists}
+use Rattle.plcs_grammar.proofs.EqualPlainPhrases.{told_through, names_told, items_told, declared_lists, name_lists}
 use Rattle.plcs_grammar.proofs.phrase_equality.same_phrase.Goals as goal
 
 pub returns-in-DeclaredList-DeclaredList : goal.returns-in-DeclaredList-DeclaredList

@@ -1,6 +1,6 @@
 use Rattle.std.proofs.Common.{◌<◌, length, arith}
-use Rattle.plcs_grammar.specs.PlainForm.{plain_var_ref}
-use Rattle.plcs_grammar.proofs.EqualForms.{differs_at}
+use Rattle.plcs_grammar.specs.PlainPhrase.{plain_var_ref}
+use Rattle.plcs_grammar.proofs.EqualPlainPhrases.{differs_at}
 use Rattle.plcs_grammar.proofs.phrase_equality.same_variables.Goals as goal
 
 pub returns-then-not-same_variable : goal.returns-then-not-same_variable

@@ -1,5 +1,5 @@
 use Rattle.std.proofs.Common.{◌≡◌, map, take, length}
-use Rattle.plcs_grammar.specs.PlainForm.{plain_var_ref}
+use Rattle.plcs_grammar.specs.PlainPhrase.{plain_var_ref}
 use Rattle.plcs_grammar.proofs.phrase_equality.same_variables.Given as goal
 
 abbrev pub invariant-loop-i : goal.invariant-loop-i

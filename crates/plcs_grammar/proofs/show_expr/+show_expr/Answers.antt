@@ -1,7 +1,7 @@
 use Rattle.std.proofs.Common.{◌+◌, ◌-◌, ◌/◌, ◌<◌, ◌≡◌, length, take, sym, ap, ◌∙◌, arith}
 use Rattle.std.proofs.Math.Seq.{take-length}
 use Rattle.plcs_base.specs.Put.{puts_nothing, puts_next}
-use Rattle.plcs_grammar.specs.PlainForm.{plain_expr, plain_exprs}
+use Rattle.plcs_grammar.specs.PlainPhrase.{plain_expr, plain_exprs}
 use Rattle.plcs_grammar.specs.Sign.{sign_bytes}
 use Rattle.plcs_grammar.specs.Canon.{canon, canon_list, joined}
 use Rattle.plcs_grammar.specs.Private.Chain.{leftmost, chain_text, operator_text}
@@ -10,7 +10,7 @@ use Rattle.plcs_grammar.proofs.ParenthesizedTexts.{puts_parenthesized}
 use Rattle.plcs_grammar.proofs.EqualShown.{shown_plain, shown_reference, shown_expr}
 use Rattle.plcs_grammar.proofs.ChainTexts.{chain_whole, chain_halves}
 use Rattle.plcs_grammar.proofs.JoinedTexts.{joined_next, list_is}
-use Rattle.plcs_grammar.proofs.PlainFormCases.{expr_prefix, expr_infix, expr_builtin, expr_paren, reference_subscripted, no_operator}
+use Rattle.plcs_grammar.proofs.PlainExprCases.{expr_prefix, expr_infix, expr_builtin, expr_paren, reference_subscripted, no_operator}
 use Rattle.plcs_grammar.proofs.show_expr.+show_expr.Goals as goal
 
 pub show_expr-returns-in-Prefix : goal.show_expr-returns-in-Prefix

@@ -1,6 +1,6 @@
 use Rattle.std.proofs.Common.{◌+◌, ◌*◌, take}
 use Rattle.plcs_base.specs.Put.{PutsAll}
-use Rattle.plcs_grammar.specs.PlainForm.{plain_expr}
+use Rattle.plcs_grammar.specs.PlainPhrase.{plain_expr}
 use Rattle.plcs_grammar.specs.Canon.{canon, joined}
 use Rattle.plcs_grammar.proofs.show_expr.+show_expr.Given as goal
 

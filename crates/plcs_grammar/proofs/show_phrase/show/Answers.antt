@@ -1,5 +1,5 @@
 use Rattle.std.proofs.Common.{ap, ◌∙◌}
-use Rattle.plcs_grammar.specs.PlainForm.{plain_var_ref}
+use Rattle.plcs_grammar.specs.PlainPhrase.{plain_var_ref}
 use Rattle.plcs_grammar.specs.Canon.{canon_reference, joined}
 use Rattle.plcs_base.proofs.Putting.{puts_same, puts_three}
 use Rattle.plcs_grammar.proofs.JoinedTexts.{joined_map}

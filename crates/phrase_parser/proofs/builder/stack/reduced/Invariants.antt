@@ -1,5 +1,5 @@
 use Rattle.std.proofs.Common.{◌≡◌, length}
-use Rattle.plcs_grammar.specs.PlainForm.{plain_expr}
+use Rattle.plcs_grammar.specs.PlainPhrase.{plain_expr}
 use Rattle.phrase_parser.specs.Private.Machine as machine
 use Rattle.phrase_parser.specs.Private.Views.{base_of, stack_on, stack_of}
 use Rattle.phrase_parser.proofs.builder.stack.reduced.Given as goal

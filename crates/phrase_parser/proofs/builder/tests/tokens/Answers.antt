@@ -1,4 +1,4 @@
--- One token more is placed.
+-- The tokens of the test with one token more are placed in its text.
 use Rattle.std.proofs.Common.{◌≡◌, ℕ, List, [], ◌∷◌, ◌++◌, All, arith}
 use Rattle.std.proofs.lemmas.List.Elements.{All-same, All-push}
 use Rattle.phrase_parser.specs.declared.token.Placed.{Placed}

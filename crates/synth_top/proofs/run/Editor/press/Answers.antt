@@ -7,7 +7,10 @@ use Rattle.synth_top.proofs.run.Editor.press.Goals as goal
 -- the key ended the session
 pub returns-in-Quit-clause-presses : goal.returns-in-Quit-clause-presses
 returns-in-Quit-clause-presses g c = record {
-  pressed = one_quit c.args.key c.press.result _ _ _ c.press.ensures.pressed refl c.in-Quit.is refl;
+  ends = tt;
+  pressed = λ map told.
+      let p = c.press.ensures.pressed map told in
+      (p.0, p.1, one_quit c.args.key c.press.result _ _ _ p.2 refl c.in-Quit.is refl);
   cause = record { later = omega arith; rose = λ e. absurd (cc); same = λ other. refl; last = λ e. refl };
   ready = search rules;
 }
@@ -16,7 +19,10 @@ returns-in-Quit-clause-presses g c = record {
 pub returns-in-Ok-clause-presses : goal.returns-in-Ok-clause-presses
 returns-in-Ok-clause-presses g c =
     record {
-      pressed = one_shown c.args.key c.press.result _ _ _ c.press.ensures.pressed (ap (λ (z : Session). record { session = plain_session z; files = g.F.Files.stored c.press.new._files }) c.show.ensures.session) c.in_default.not-Quit c.in-Ok.ensures.wrote.all c.in-Ok.ensures.shown;
+      ends = tt;
+      pressed = λ map told.
+          let p = c.press.ensures.pressed map told in
+          (p.0, p.1, one_shown c.args.key c.press.result _ _ _ p.2 (ap (λ (z : Session). record { session = plain_session z; files = p.0 }) c.show.ensures.session) c.in_default.not-Quit c.in-Ok.ensures.wrote.all c.in-Ok.ensures.shown);
       cause = record {
         later = c.in-Ok.ensures.wrote.cause.later;
         rose = λ e. absurd (cc);
@@ -30,7 +36,10 @@ returns-in-Ok-clause-presses g c =
 pub returns-in-Err-Failed-clause-presses : goal.returns-in-Err-Failed-clause-presses
 returns-in-Err-Failed-clause-presses g c =
     record {
-      pressed = one_cut c.args.key c.press.result _ _ _ c.press.ensures.pressed (ap (λ (z : Session). record { session = plain_session z; files = g.F.Files.stored c.press.new._files }) c.show.ensures.session) c.in_default.not-Quit c.in-Err-Failed.ensures.wrote.front;
+      ends = tt;
+      pressed = λ map told.
+          let p = c.press.ensures.pressed map told in
+          (p.0, p.1, one_cut c.args.key c.press.result _ _ _ p.2 (ap (λ (z : Session). record { session = plain_session z; files = p.0 }) c.show.ensures.session) c.in_default.not-Quit c.in-Err-Failed.ensures.wrote.front);
       cause = record {
         later = c.in-Err-Failed.ensures.wrote.cause.later;
         rose = λ e. c.in-Err-Failed.ensures.wrote.cause.rose (ap Err c.in-Err-Failed.field-0-is);
@@ -44,7 +53,10 @@ returns-in-Err-Failed-clause-presses g c =
 pub returns-in-Err-OutOfMemory-clause-presses : goal.returns-in-Err-OutOfMemory-clause-presses
 returns-in-Err-OutOfMemory-clause-presses g c =
     record {
-      pressed = one_cut c.args.key c.press.result _ _ _ c.press.ensures.pressed (ap (λ (z : Session). record { session = plain_session z; files = g.F.Files.stored c.press.new._files }) c.show.ensures.session) c.in_default.not-Quit c.in-Err-OutOfMemory.ensures.wrote.front;
+      ends = tt;
+      pressed = λ map told.
+          let p = c.press.ensures.pressed map told in
+          (p.0, p.1, one_cut c.args.key c.press.result _ _ _ p.2 (ap (λ (z : Session). record { session = plain_session z; files = p.0 }) c.show.ensures.session) c.in_default.not-Quit c.in-Err-OutOfMemory.ensures.wrote.front);
       cause = record {
         later = c.in-Err-OutOfMemory.ensures.wrote.cause.later;
         rose = λ e. absurd (cc);

@@ -1,4 +1,4 @@
-use Rattle.synth_top.proofs.KeysInOrder.{pressed_then}
+use Rattle.synth_top.proofs.KeysInOrder.{pressed_before, pressed_then}
 use Rattle.synth_top.proofs.WritesInTurn.{caused_behind}
 use Rattle.synth_top.proofs.run.Editor.press_keys.Goals as goal
 
@@ -8,7 +8,24 @@ returns-clause-presses g c =
     let first = c.in_default.ensures.presses in
     let second = c.press_if-2.ensures.presses in
     record {
-      pressed = pressed_then c.press_if-2.result _ _ _ _ _ first.pressed second.pressed;
+      ends = second.ends;
+      pressed = λ map told.
+          let p = first.pressed map told in
+          let q = second.pressed p.0 p.1 in
+          (q.0, q.1, pressed_then c.press_if-2.result _ _ _ _ _ p.2 q.2);
       cause = caused_behind _ _ _ (first.cause.same (λ e. absurd (cc))) second.cause;
       ready = second.ready;
+    }
+
+-- the first key ended the run
+pub returns-in-Over-clause-presses : goal.returns-in-Over-clause-presses
+returns-in-Over-clause-presses g c =
+    let first = c.in-Over.ensures.presses in
+    record {
+      ends = first.ends;
+      pressed = λ map told.
+          let p = first.pressed map told in
+          (p.0, p.1, pressed_before c.in-Over.status _ _ _ _ p.2);
+      cause = first.cause;
+      ready = first.ready;
     }

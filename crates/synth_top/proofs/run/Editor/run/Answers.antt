@@ -6,7 +6,7 @@ use Rattle.synth_top.specs.Private.PlainForms.{plain_session}
 use Rattle.synth_top.specs.Run.{opening}
 use Rattle.synth_top.specs.Screen.{grid}
 use Rattle.synth_top.specs.Session.{PlainSession}
-use Rattle.synth_top.proofs.Courses.{opening_failed, opening_wanted}
+use Rattle.synth_top.proofs.Courses.{opening_failed, opening_wanted, some_map, some_map_told}
 use Rattle.synth_top.proofs.Runs.{so_far_none, so_far_more, ended_by_byte, read_cut, ended_at_end, ended_at_limit}
 use Rattle.synth_top.proofs.run.Editor.run.Goals as goal
 
@@ -26,11 +26,15 @@ returns-in-Err-OutOfMemory-clause-ended g c =
 -- the opening screen was written
 pub loop-init : goal.loop-init
 loop-init g c = record {
+  map = some_map (g.F.Files.stored c.args.files.now);
+  told = some_map_told (g.F.Files.stored c.args.files.now);
   so_far = so_far_none _ _ _ _ _ _ refl refl (c.start.ensures.reader ∙ c.requires.reader)
       (record {
         wrote = subst (λ (s : PlainSession). Appends (g.K.Sink.taken c.args.screen.now) (g.K.Sink.taken c.start.new.screen) (opening s))
             c.requires.session c.in-Ok.ensures.wrote.all;
-        state = ap (λ (s : PlainSession). record { session = s; files = g.F.Files.stored c.args.files.now }) (ap plain_session c.start.ensures.session ∙ c.requires.session);
+        map = some_map (g.F.Files.stored c.args.files.now);
+        told = some_map_told (g.F.Files.stored c.args.files.now);
+        state = ap (λ (s : PlainSession). record { session = s; files = some_map (g.F.Files.stored c.args.files.now) }) (ap plain_session c.start.ensures.session ∙ c.requires.session);
         shown = c.in-Ok.ensures.shown ∙ ap grid c.requires.session;
         faults = refl;
       });
@@ -45,14 +49,16 @@ loop-init g c = record {
 pub returns-in-Over-clause-ended : goal.returns-in-Over-clause-ended
 returns-in-Over-clause-ended g c =
     ended_by_byte _ _ _ _ _ _ _ c.loop.invariant.so_far _ _ _ c.in-Ok-Some.byte _ _ c.feed-given.ensures.keys c.feed-given.ensures.held
-    (rw c.in-Ok-Some.field-0-is at c.in-Ok-Some.ensures.byte) c.in-Ok-Some.ensures.one c.in-Over.status (omega arith) c.in-Over.ensures.presses.pressed
+    (rw c.in-Ok-Some.field-0-is at c.in-Ok-Some.ensures.byte) c.in-Ok-Some.ensures.one c.in-Over.status (omega arith) (c.in-Over.ensures.presses.pressed _ c.loop.invariant.told).2
     (c.in-Ok-Some.ensures.led _ c.loop.invariant.led)
 
 -- all keys of the byte were shown
 pub loop-preserved : goal.loop-preserved
 loop-preserved g c = record {
+  map = (c.in_default.ensures.presses.pressed _ c.loop.invariant.told).0;
+  told = (c.in_default.ensures.presses.pressed _ c.loop.invariant.told).1;
   so_far = so_far_more _ _ _ _ _ _ _ c.loop.invariant.so_far _ _ _ c.in-Ok-Some.byte _ _ c.feed-given.ensures.keys c.feed-given.ensures.held
-      (rw c.in-Ok-Some.field-0-is at c.in-Ok-Some.ensures.byte) c.in-Ok-Some.ensures.one _ c.press_keys.ensures.reader c.in_default.ensures.presses.pressed;
+      (rw c.in-Ok-Some.field-0-is at c.in-Ok-Some.ensures.byte) c.in-Ok-Some.ensures.one _ c.press_keys.ensures.reader (c.in_default.ensures.presses.pressed _ c.loop.invariant.told).2;
   ready = c.press_keys.ensures.presses.ready;
   unfailed_reads = c.in-Ok-Some.ensures.cause.same (λ e. absurd (cc)) ∙ c.loop.invariant.unfailed_reads;
   unfailed_writes = c.in_default.ensures.presses.cause.same (λ e. absurd (cc)) ∙ c.loop.invariant.unfailed_writes;
@@ -78,7 +84,7 @@ pub returns-in-Ok-None-clause-ended : goal.returns-in-Ok-None-clause-ended
 returns-in-Ok-None-clause-ended g c =
     let read = rw c.in-Ok-None.field-0-is at c.in-Ok-None.ensures.byte in
     rw c.or.ensures
-    (ended_at_end _ _ _ _ _ _ _ c.loop.invariant.so_far _ _ _ read.0 read.1 (omega arith) c.in-Ok-None.ensures.one c.finish.result c.finish.ensures.presses.pressed
+    (ended_at_end _ _ _ _ _ _ _ c.loop.invariant.so_far _ _ _ read.0 read.1 (omega arith) c.in-Ok-None.ensures.one c.finish.result (c.finish.ensures.presses.pressed _ c.loop.invariant.told).2
     (c.in-Ok-None.ensures.led _ c.loop.invariant.led))
 
 -- the limit was met
@@ -87,4 +93,4 @@ returns-clause-ended g c =
     let all : c.loop.counter ≡ c.args.limit = omega arith in
     rw c.or-2.ensures
     (ended_at_limit _ _ _ _ _ _ _ c.loop.invariant.so_far _ _ _ (Consumes-nil _) all refl c.finish-2.result
-    c.finish-2.ensures.presses.pressed c.loop.invariant.led)
+    (c.finish-2.ensures.presses.pressed _ c.loop.invariant.told).2 c.loop.invariant.led)

@@ -1,15 +1,19 @@
 use Rattle.std.proofs.Common.{◌≡◌}
-use Rattle.synth_top.specs.Private.Pressing.{IsReady, moment_of}
+use Rattle.synth_top.specs.Private.Pressing.{IsReady, moment_of, snapshot_of}
+use Rattle.synth_top.specs.Turn.{IsMapOf}
+use Rattle.synth_outside.specs.Files.{FileMap}
 use Rattle.synth_top.proofs.Runs.{SoFar}
 use Rattle.synth_top.proofs.run.Editor.run.Given as goal
 
 -- as many bytes were read, one a read, as turns were made, and all their keys were shown
 abbrev pub invariant-loop : goal.invariant-loop
 invariant-loop g l = record {
+  map : FileMap;
+  told : IsMapOf (g.F.Files.stored l.files) map;
   so_far : SoFar l.counter (record { size = l.fn.self.session.size; key_limit = l.limit })
       (record { left = g.S.Source.left l.fn.keys; reads = g.S.Source.reads l.fn.keys; taken = g.K.Sink.taken l.fn.screen; files = g.F.Files.stored l.fn.files; file_faults = g.F.Files.faults l.fn.files })
       (g.S.Source.left l.keys) (g.S.Source.reads l.keys) l.self.reader
-      (moment_of l.self (g.K.Sink.taken l.screen) (g.F.Files.stored l.files) (g.F.Files.faults l.files));
+      (moment_of (snapshot_of l.self (g.K.Sink.taken l.screen) (g.F.Files.stored l.files) (g.F.Files.faults l.files)) map told);
   ready : IsReady l.self;
   unfailed_reads : g.S.Source.faults l.keys ≡ g.S.Source.faults l.fn.keys;
   unfailed_writes : g.K.Sink.faults l.screen ≡ g.K.Sink.faults l.fn.screen;

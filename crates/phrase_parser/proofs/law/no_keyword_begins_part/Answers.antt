@@ -1,5 +1,0 @@
-use Rattle.phrase_parser.proofs.Lines.KeywordFronts.{no_keyword_begins}
-use Rattle.phrase_parser.proofs.law.no_keyword_begins_part.Goals as goal
-
-pub returns : goal.returns
-returns c = no_keyword_begins

@@ -1,5 +1,0 @@
-use Rattle.phrase_parser.proofs.Readings.Standings.{reading_category}
-use Rattle.phrase_parser.proofs.law.reading_has_category.Goals as goal
-
-pub returns : goal.returns
-returns c = reading_category

@@ -1,5 +1,0 @@
-use Rattle.plcs_base.proofs.Putting as putting
-use Rattle.plcs_base.proofs.law.puts_in_turn.Goals as goal
-
-pub returns : goal.returns
-returns g c = putting.puts_in_turn g.O.ByteOut.puts

@@ -1,9 +1,0 @@
-//! The law about what is put. It is the contract of a function that does nothing.
-ghost use Rattle.plcs_base.specs.Put.{PutsInTurn};
-
-use crate::byte_out::ByteOut;
-
-/// Putting some bytes and then some more is putting the ones followed by the others.
-pub fn puts_in_turn<O: ByteOut>()
-    ensures { PutsInTurn O.puts }
-{}

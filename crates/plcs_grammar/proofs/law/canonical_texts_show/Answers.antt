@@ -1,5 +1,0 @@
-use Rattle.plcs_grammar.proofs.ShownTexts.{shown_text}
-use Rattle.plcs_grammar.proofs.law.canonical_texts_show.Goals as goal
-
-pub returns : goal.returns
-returns c = shown_text

@@ -1,8 +1,0 @@
-//! The law about canonical texts. It is the contract of a function that does nothing.
-ghost use Rattle.plcs_grammar.specs.ShownText.{CanonicalTextsShow};
-
-/// The canonical text of a well-formed phrase isn't empty, has only bytes from 32 to 126, neither begins
-/// nor ends with a blank, and isn't its category's placeholder.
-pub fn canonical_texts_show()
-    ensures { CanonicalTextsShow }
-{}
