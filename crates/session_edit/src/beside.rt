@@ -1,5 +1,6 @@
 //! Holes that come beside list items.
-ghost use Rattle.std.specs.Prelude.{◌≡◌, ◌<◌, All, true};
+ghost use Rattle.std.specs.Prelude.{◌≡◌, ◌<◌, ◌↔◌, All, IsTrue, true};
+ghost use Rattle.template_tree.specs.declared.tree_fault.TreeFault.{TreeFault};
 ghost use Rattle.template_tree.specs.Limit.{most_slots};
 ghost use Rattle.template_tree.specs.PlainTree.{roomless_tree};
 ghost use Rattle.template_tree.specs.Tree.{IsTree};
@@ -32,15 +33,24 @@ pub(crate) fn add_beside(alloc: Global, tree: &mut Tree, path: Path, side: Side)
                 part: None,
             },
         }),
-        Err(TreeFault::NotHere) => {
-            let mut outer = path;
-            if outer.pop().is_none() {
-                return Err(TreeFault::NotHere);
+        Err(fault) => {
+            if !is_not_here(fault) {
+                return Err(fault);
             }
+            let mut outer = path;
+            let Some(_) = outer.pop() else {
+                return Err(TreeFault::NotHere);
+            };
             add_beside(alloc, tree, outer, side)
         }
-        Err(fault) => Err(fault),
     }
+}
+
+/// Whether the fault says that what is wanted isn't there.
+fn is_not_here(fault: TreeFault) -> bool
+    ensures { IsTrue result ↔ (fault ≡ TreeFault.NotHere) }
+{
+    fault == TreeFault::NotHere
 }
 
 /// The path of the hole beside the item at the path.
