@@ -28,11 +28,12 @@ use Rattle.template_tree.specs.TreeLaws.{SlotEditIsPathEdit}
 use Rattle.session_edit.specs.declared.applied.Applied.{Applied}
 use Rattle.session_edit.specs.AppliedEdit.{IsAnswer, IsApplied, IsRefused}
 use Rattle.session_edit.specs.Cursor.{beside_path, node_stop, with_last}
-use Rattle.session_edit.specs.Edited.{Edited, at_node, comes, hole_beside, not_here}
+use Rattle.session_edit.specs.Edited.{Edited, at_node, comes, edited, hole_beside, not_here}
 use Rattle.session_edit.specs.Here.{enclosing_item, is_item, nearest_item}
+use Rattle.session_edit.specs.PlainEdit.{PlainEdit}
 use Rattle.session_edit.specs.Private.ShownPath.{IsShown}
 use Rattle.session_edit.proofs.DropCommands.{item_listed, item_roomless_is, item_true}
-use Rattle.session_edit.proofs.Outcomes.{applied_is, refused_is, stands_after}
+use Rattle.session_edit.proofs.Outcomes.{Node, applied_is, edited_is, node_there, refused_is, stands_after}
 use Rattle.session_edit.proofs.RoomlessEdits.{add_roomless}
 use Rattle.session_edit.proofs.RoomlessNodes.{node_roomless}
 use Rattle.session_edit.proofs.StopTests.{is_false}
@@ -331,3 +332,17 @@ beside_refused tree side path fault refuses other =
         (node_stop (beside_path side path)) None (add_roomless tree node.label.slot side)
         (λ listed. comes_beside tree side path node same listed)
         (λ missing. absurd (missing (here_of (TreeEdit.add side) node (IsListItem tree.items path) tree fault other h))) fault h
+
+-- what comes of a hole beside the item round the cursor
+pub beside_is : (tree : PlainTree) (at : PlainStop) (side : Side) → IsStop (roomless_tree tree).items at
+    → edited (roomless_tree tree) at (PlainEdit.beside side) ≡ hole_beside (roomless_tree tree) side (enclosing_item (roomless_tree tree).items at.path)
+beside_is tree at side stop =
+    let n = node_there tree at stop in edited_is tree at (PlainEdit.beside side) n.node n.there
+
+-- the way to the cursor's node is shown
+pub shown_there : (tree : PlainTree) (at : PlainStop) → IsStop (roomless_tree tree).items at → IsShown tree.items at.path
+shown_there tree at stop = let n = node_there tree at stop in shown at.path n.node n.seen
+  where
+    shown : (path : List ℕ) (node : PlainNode) → visible_at tree.items path ≡ Some node → IsShown tree.items path
+    shown [] node e = tt
+    shown (k ∷ path) node e = subst (λ (found : Option PlainNode). IsSomeAnd found (λ _. Unit {0})) (sym e) tt
