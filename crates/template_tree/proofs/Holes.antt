@@ -1,5 +1,5 @@
 -- Holes have the sort of what may stand there, no parts, and nothing inside.
-use Rattle.std.specs.Prelude.{◌≡◌, refl, ℕ, Bool, true, false, if◌then◌else◌, List, [], ◌∷◌, Option, Some, None, IsSomeAnd}
+use Rattle.std.specs.Prelude.{◌≡◌, refl, ℕ, Bool, true, false, if◌then◌else◌, List, [], ◌∷◌, Option, Some, None, is_some, unwrap_or}
 use Rattle.std.proofs.Common.{ap, sym, ◌∙◌, subst, arith}
 use Rattle.std.proofs.Math.Bool.{false≢true}
 use Rattle.std.proofs.lemmas.Option.{none-some}
@@ -8,12 +8,14 @@ use Rattle.plcs_grammar.specs.declared.node_kind.Sort.{Sort}
 use Rattle.plcs_grammar.specs.Template.{row_of}
 use Rattle.template_tree.specs.PlainTree.{Forest, PlainNode, PlainTree, forest, roomless_node, with_spare}
 use Rattle.template_tree.specs.NewTree.{bare_label}
-use Rattle.template_tree.specs.Limit.{deepest_path}
 use Rattle.template_tree.specs.Path.{node_at}
 use Rattle.template_tree.specs.Program.{Fill, IsSubtree, sorts, sort_of}
 use Rattle.template_tree.specs.Slots.{count, depth}
 use Rattle.template_tree.specs.Tree.{IsTree}
 use Rattle.template_tree.specs.Edit.{hole_left, hole_of, is_hole, lone}
+use Rattle.template_tree.specs.TreeEdit.{TreeEdit}
+use Rattle.template_tree.specs.Receipt.{PlainReceipt}
+use Rattle.template_tree.specs.EditAnswer.{IsEdit, TakesOut}
 use Rattle.template_tree.specs.Private.Exchange.{MayReplace}
 use Rattle.template_tree.proofs.Rooms.{sorts_roomless, nodes_roomless}
 use Rattle.template_tree.proofs.PutLimits.{path_short, put_within}
@@ -95,6 +97,12 @@ hole_may_replace tree path there bare hole t at left is =
           (omega (arith, none, t.live, t.few)) (omega (arith, none, t.drawn_few));
     }
 
--- what holds of the kind of the hole that is left
-pub taken_out : (left : Option NodeKind) (hole : NodeKind) → left ≡ Some hole → (Holds : NodeKind → Type 0) → Holds hole → IsSomeAnd left Holds
-taken_out left hole e Holds h = subst (λ o. IsSomeAnd o Holds) (sym e) h
+-- a node was taken out where its hole came
+pub taken_out : (node : PlainNode) (hole : NodeKind) (before after : PlainTree) (receipt : PlainReceipt) → hole_left node.label.kind ≡ Some hole
+    → IsEdit (TreeEdit.put (lone 0 hole)) node.label.slot before after receipt (Some node) → TakesOut node before after receipt
+taken_out node hole before after receipt e is =
+    record {
+      may_take = ap is_some e;
+      is_edit =
+          subst (λ o. IsEdit (TreeEdit.put (lone 0 (unwrap_or o node.label.kind))) node.label.slot before after receipt (Some node)) (sym e) is;
+    }

@@ -43,6 +43,10 @@ pub mod RevealedNodes
 pub mod PutTrees
 -- the program that a test builds is one
 pub mod BuiltProgram
+-- a copy is a subtree, with as many slots
+pub mod CopiedNodes
+-- a list changed by an item at the end of a path
+pub mod ListChanges
 -- a node that came in place of another is an edit, which its receipt undoes
 pub mod PutEdits
 -- so is a part that was set
@@ -54,3 +58,15 @@ pub mod Holes
 pub mod Refusals
 -- a fresh node has empty parts, and a hole in each section
 pub mod FreshNodes
+-- an assignment may come in place of a hole or an assignment
+pub mod Assignments
+-- a tree stays one where a hole comes into a list, or leaves it
+mod ApartSections
+mod FilledLists
+mod ListTrees
+-- the text of a comment that a test sets
+pub mod RemarkText
+-- which list an item stands in, and the items beside it
+mod BesidePaths
+-- a hole that came into a list, or left it, is an edit
+mod ListEdits

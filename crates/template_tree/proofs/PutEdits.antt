@@ -1,5 +1,5 @@
 -- A node that came in place of another is an edit of the tree, whose receipt undoes it.
-use Rattle.std.specs.Prelude.{◌≡◌, refl, ℕ, ◌+◌, ◌-◌, ◌≤◌, List, [], ◌∷◌, Option, Some, IfSome, IsSomeAnd}
+use Rattle.std.specs.Prelude.{◌≡◌, refl, ℕ, ◌+◌, ◌-◌, ◌≤◌, List, [], ◌∷◌, Option, Some, None, IfSome, IsSomeAnd}
 use Rattle.std.proofs.Common.{ap, sym, ◌∙◌, subst, arith}
 use Rattle.plcs_base.specs.declared.place.Slot.{Slot}
 use Rattle.template_tree.specs.declared.change.Change.{Change}
@@ -9,10 +9,10 @@ use Rattle.template_tree.specs.Path.{node_at}
 use Rattle.template_tree.specs.Slots.{count, times}
 use Rattle.template_tree.specs.Tree.{IsTree}
 use Rattle.template_tree.specs.TreeLend.{with_node}
-use Rattle.template_tree.specs.Edit.{Put, Differs, DifferBy, changed_in, edit_at, edit_slot, node_in_slot, procedure_of}
+use Rattle.template_tree.specs.Edit.{Put, Differs, DifferBy, changed_in, edit_at, node_in_slot, procedure_of}
 use Rattle.template_tree.specs.TreeEdit.{TreeEdit}
-use Rattle.template_tree.specs.Receipt.{PlainUndoing, PlainReceipt, CanUndo, HasRoomBack, items_before, list_room, undone}
-use Rattle.template_tree.specs.EditAnswer.{IsEdit, IsWithin}
+use Rattle.template_tree.specs.Receipt.{PlainUndoing, PlainReceipt, HasRoomBack, items_before, undone}
+use Rattle.template_tree.specs.EditAnswer.{Edits, IsEdit, slot_in}
 use Rattle.template_tree.specs.Private.Exchange.{MayReplace, IsChangeOf, first_item}
 use Rattle.template_tree.proofs.SlotEdits.{slot_edit_is_path_edit}
 use Rattle.template_tree.proofs.PutTrees.{put_keeps_tree}
@@ -164,3 +164,14 @@ edit_like one other slot before after receipt back same e =
       undoes = e.undoes;
       can_undo = e.can_undo;
     }
+
+-- an edit at the node that is there
+pub edits_at : (edit : TreeEdit) (there : Option PlainNode) (Here : PlainNode → Type 0) (before after : PlainTree) (receipt : PlainReceipt) (node : PlainNode)
+    → there ≡ Some node → Here node → IsEdit edit node.label.slot before after receipt None → Edits edit there Here before after receipt
+edits_at edit there Here before after receipt node e h is =
+    record { here = at_there there Here node e h; is_edit = subst (λ o. IsEdit edit (slot_in o) before after receipt None) (sym e) is }
+
+-- an edit in the slot of the node that is there
+pub edit_there : (edit : TreeEdit) (there : Option PlainNode) (before after : PlainTree) (receipt : PlainReceipt) (back : Option PlainNode) (node : PlainNode)
+    → there ≡ Some node → IsEdit edit node.label.slot before after receipt back → IsEdit edit (slot_in there) before after receipt back
+edit_there edit there before after receipt back node e is = subst (λ o. IsEdit edit (slot_in o) before after receipt back) (sym e) is

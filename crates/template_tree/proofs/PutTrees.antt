@@ -91,7 +91,7 @@ edit_replaced (Forest.cons label inner rest) (suc k ∷ path) node new e r =
     (edit_replaced rest (k ∷ path) node new e r)
 
 -- slots below a number are below a greater one
-below_more : (less more : ℕ) (items : Forest) → less ≤ more → AllBelow less items → AllBelow more items
+pub below_more : (less more : ℕ) (items : Forest) → less ≤ more → AllBelow less items → AllBelow more items
 below_more less more Forest.nil le h = tt
 below_more less more (Forest.cons label inner rest) le h =
     (omega (arith, le, h.0), below_more less more inner le h.1, below_more less more rest le h.2)
@@ -105,21 +105,21 @@ apart : (a b : ℕ) → a < b → one_if a b ≡ 0
 apart a b less = rw (ne_eqb a b (λ same. omega arith)) refl
 
 -- a slot that is not below them doesn't stand among them
-none_above : (slot number : ℕ) (items : Forest) → number ≤ slot → AllBelow number items → times slot items ≡ 0
+pub none_above : (slot number : ℕ) (items : Forest) → number ≤ slot → AllBelow number items → times slot items ≡ 0
 none_above slot number Forest.nil le h = refl
 none_above slot number (Forest.cons label inner rest) le h =
     omega (arith, apart label.slot slot (omega (arith, le, h.0)), none_above slot number inner le h.1, none_above slot number rest le h.2)
 
 -- it makes no difference to what nodes are that nothing is elided
-sorts_whole : (items : Forest) → sorts (whole items) ≡ sorts items
+pub sorts_whole : (items : Forest) → sorts (whole items) ≡ sorts items
 sorts_whole Forest.nil = refl
 sorts_whole (Forest.cons label inner rest) = ap (λ ss. sort_of label.kind ∷ ss) (sorts_whole rest)
 
-count_whole : (items : Forest) → count (whole items) ≡ count items
+pub count_whole : (items : Forest) → count (whole items) ≡ count items
 count_whole Forest.nil = refl
 count_whole (Forest.cons label inner rest) = λ i. count_whole inner i + count_whole rest i + 1
 
-nodes_whole : (items : Forest) → AreNodes items → AreNodes (whole items)
+pub nodes_whole : (items : Forest) → AreNodes items → AreNodes (whole items)
 nodes_whole Forest.nil h = tt
 nodes_whole (Forest.cons label inner rest) h = (
   record {
@@ -189,3 +189,18 @@ put_keeps_tree tree path node new t there sound same shallow few drawn_few =
       },
       omega (arith, r.count_is, count_numbered tree.drawn (whole new.inner), count_whole new.inner, t.live),
     )
+
+-- a tree stays one where more slots count as drawn
+pub more_drawn : (tree seen : PlainTree) (drawn : ℕ) → seen ≡ tree → IsTree tree → tree.drawn ≤ drawn → drawn ≤ most_drawn
+    → IsTree record { items = seen.items; spare = seen.spare; drawn = drawn; live = seen.live }
+more_drawn tree seen drawn is t more few =
+    subst (λ (s : PlainTree). IsTree record { items = s.items; spare = s.spare; drawn = drawn; live = s.live }) (sym is)
+    record {
+      program = t.program;
+      shallow = t.shallow;
+      few = t.few;
+      drawn_few = few;
+      drawn = below_more tree.drawn drawn tree.items more t.drawn;
+      once = t.once;
+      live = t.live;
+    }

@@ -5,7 +5,7 @@ use Rattle.std.proofs.Math.Bool.{false≢true}
 use Rattle.std.proofs.lemmas.Bool.{cases_lt}
 use Rattle.template_tree.specs.declared.tree_fault.TreeFault.{TreeFault}
 use Rattle.template_tree.specs.Limit.{deepest_path, most_slots, most_drawn}
-use Rattle.template_tree.specs.PlainTree.{Forest, PlainNode, PlainTree}
+use Rattle.template_tree.specs.PlainTree.{Forest, PlainNode, PlainTree, roomless_node, roomless_tree}
 use Rattle.template_tree.specs.Path.{node_at}
 use Rattle.template_tree.specs.Program.{IsSubtree, sort_of}
 use Rattle.template_tree.specs.Slots.{count, depth}
@@ -17,6 +17,8 @@ use Rattle.template_tree.specs.EditAnswer.{IsHoleFor, IsOver, IsWithin, Refuses}
 use Rattle.template_tree.proofs.PutEdits.{at_there}
 use Rattle.template_tree.proofs.PutLimits.{put_over, put_under}
 use Rattle.template_tree.proofs.Holes.{hole_empty, hole_sort}
+use Rattle.template_tree.proofs.Rooms.{depth_roomless}
+use Rattle.template_tree.proofs.RoomlessEdits.{roomless_put}
 use Rattle.template_tree.proofs.Subtrees.{subtree_at}
 
 -- the node is what it has to be, and the tree after would be over a limit
@@ -100,4 +102,22 @@ asked_of path len node inner shallow slots len_is few is test slots_is =
       deep = deep_where shallow path (depth node.inner) own few;
       fewer = no_more slots (count node.inner) slots_is;
       exact = exactly slots (count node.inner) slots_is;
+    }
+
+-- the same limits hold where the one comes, or another that is the same but for the room of its lists
+pub within_like : (tree : PlainTree) (slot : ℕ) (one other : PlainNode) → roomless_node one ≡ roomless_node other → IsWithin (Put tree slot one)
+    → IsWithin (Put tree slot other)
+within_like tree slot one other same w =
+    let e : roomless_tree (Put tree slot one) ≡ roomless_tree (Put tree slot other) = roomless_put tree slot one other same in
+    record {
+      shallow =
+          omega (
+            arith,
+            w.shallow,
+            depth_roomless (Put tree slot one).items,
+            depth_roomless (Put tree slot other).items,
+            ap (λ (t : PlainTree). depth t.items) e,
+          );
+      few = omega (arith, w.few, ap (λ (t : PlainTree). t.live) e);
+      drawn_few = omega (arith, w.drawn_few, ap (λ (t : PlainTree). t.drawn) e);
     }

@@ -1,7 +1,7 @@
 -- The room of lists makes no difference to an edit.
 use Rattle.std.specs.Prelude.{◌≡◌, refl, ℕ, zero, suc, ◌+◌, Bool, true, false, if◌then◌else◌, ◌==◌, List, [], ◌∷◌, map, None}
 use Rattle.std.proofs.Common.{ap, sym, ◌∙◌}
-use Rattle.template_tree.specs.PlainTree.{Label, Forest, PlainNode, PlainTree, forest, join, roomless, roomless_node, roomless_tree}
+use Rattle.template_tree.specs.PlainTree.{Forest, PlainNode, PlainTree, forest, join, roomless, roomless_node, roomless_tree}
 use Rattle.template_tree.specs.Slots.{count, with_slots_from}
 use Rattle.template_tree.specs.Edit.{give_way, edit_below, edit_at, edit_slot, whole, node_in_slot, Put}
 use Rattle.template_tree.specs.Path.{node_at}
@@ -140,3 +140,12 @@ stays_below (k ∷ path) node =
 pub stays : (path : List ℕ) (items : Forest) → edit_at (λ item. item ∷ []) path items ≡ items
 stays [] items = refl
 stays (k ∷ path) items = stays_in (edit_below (λ item. item ∷ []) path) (stays_below path) k items
+
+roomless_twice : (items : Forest) → roomless (roomless items) ≡ roomless items
+roomless_twice Forest.nil = refl
+roomless_twice (Forest.cons label inner rest) = λ i. Forest.cons (record label { spare = 0 }) (roomless_twice inner i) (roomless_twice rest i)
+
+-- what a node is without room is the same without room
+pub same_roomless : (one other : PlainNode) → roomless_node one ≡ other → roomless_node one ≡ roomless_node other
+same_roomless one other e =
+    (λ i. record { label = record one.label { spare = 0 }; inner = sym (roomless_twice one.inner) i }) ∙ ap roomless_node e

@@ -1,13 +1,11 @@
 -- What an edit answers: the receipt of the edit, or why it is refused.
-use Rattle.std.specs.Prelude.{◌≡◌, ℕ, ◌<◌, ◌≤◌, List, Option, Some, None, IsSome, IsSomeAnd, IsTrue, ◌⊎◌}
+use Rattle.std.specs.Prelude.{◌≡◌, ℕ, ◌<◌, ◌≤◌, List, Option, Some, None, IsSome, IsSomeAnd, IsTrue, ◌⊎◌, unwrap_or}
 use Rattle.plcs_grammar.specs.declared.category.Category.{Category}
 use Rattle.plcs_grammar.specs.declared.node_kind.NodeKind.{NodeKind}
 use Rattle.plcs_grammar.specs.PlainPhrase.{PlainPhrase, category_of}
-use Rattle.template_tree.specs.declared.change.Change.{Change}
 use Rattle.template_tree.specs.declared.tree_fault.TreeFault.{TreeFault}
 use Rattle.template_tree.specs.Limit.{deepest_path, most_slots, most_drawn}
 use Rattle.template_tree.specs.PlainTree.{Forest, PlainNode, PlainTree, roomless_tree}
-use Rattle.template_tree.specs.Path.{node_at}
 use Rattle.template_tree.specs.Slots.{depth}
 use Rattle.template_tree.specs.Tree.{IsTree}
 use Rattle.plcs_grammar.specs.Template.{program_sections}
@@ -30,10 +28,15 @@ pub record IsEdit (edit : TreeEdit) (slot : ℕ) (before after : PlainTree) (rec
   pub undoes : undone receipt back (roomless_tree after) ≡ roomless_tree before
   pub can_undo : CanUndo receipt back after
 
+-- the slot of a node, where there is one
+abbrev pub slot_in : Option PlainNode → ℕ
+slot_in None = 0
+slot_in (Some node) = node.label.slot
+
 -- the edit was made at a node of which this holds, and gave nothing out
-abbrev pub Edits : TreeEdit → Option PlainNode → (PlainNode → Type 0) → (before after : PlainTree) → PlainReceipt → Type 0
-Edits edit there Here before after receipt =
-    IsSomeAnd there (λ node. Here node × IsEdit edit node.label.slot before after receipt None)
+pub record Edits (edit : TreeEdit) (there : Option PlainNode) (Here : PlainNode → Type 0) (before after : PlainTree) (receipt : PlainReceipt) : Type 0 where
+  pub here : IsSomeAnd there Here
+  pub is_edit : IsEdit edit (slot_in there) before after receipt None
 
 -- a tree within the limits
 pub record IsWithin (tree : PlainTree) : Type 0 where
@@ -73,11 +76,14 @@ TakesAtStop part place node = (part < part_stops node.label.kind) × Takes (part
 abbrev pub MayTake : PlainNode → Type 0
 MayTake node = IsSome (hole_left node.label.kind)
 
+-- the hole that stays where a node of the kind is taken out
+abbrev pub hole_in_place : NodeKind → PlainNode
+hole_in_place kind = lone 0 (unwrap_or (hole_left kind) kind)
+
 -- the edit took the node out of the tree, and left a hole in its slot
-abbrev pub TakesOut : PlainNode → (before after : PlainTree) → PlainReceipt → Type 0
-TakesOut node before after receipt =
-    IsSomeAnd (hole_left node.label.kind)
-    (λ hole. IsEdit (TreeEdit.put (lone 0 hole)) node.label.slot before after receipt (Some node))
+pub record TakesOut (node : PlainNode) (before after : PlainTree) (receipt : PlainReceipt) : Type 0 where
+  pub may_take : MayTake node
+  pub is_edit : IsEdit (TreeEdit.put (hole_in_place node.label.kind)) node.label.slot before after receipt (Some node)
 
 -- the node at the path is an item of a list
 abbrev pub IsListItem : Forest → List ℕ → PlainNode → Type 0

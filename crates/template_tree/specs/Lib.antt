@@ -21,6 +21,8 @@ pub mod TreeEdit
 pub mod Receipt
 pub mod ListItem
 pub mod EditAnswer
+-- ---- copies
+pub mod Copy
 -- ---- places of a run
 pub mod Place
 -- ---- the laws

@@ -12,3 +12,6 @@ pub mod NodeLines
 -- ---- an edit in its steps
 pub mod Exchange
 pub mod Restored
+-- ---- lists of items
+pub mod Apart
+pub mod Beside

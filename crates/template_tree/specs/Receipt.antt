@@ -1,5 +1,5 @@
 -- Receipts of edits, and the tree before an edit.
-use Rattle.std.specs.Prelude.{ℕ, zero, ◌<◌, List, [], ◌∷◌, Option, Some, None, slice_get}
+use Rattle.std.specs.Prelude.{ℕ, ◌<◌, List, [], ◌∷◌, Option, Some, None, slice_get}
 use Rattle.std.specs.Option.{option_map_or}
 use Rattle.plcs_grammar.specs.PlainPhrase.{PlainPhrase}
 use Rattle.template_tree.specs.declared.side.Side.{Side}
@@ -66,6 +66,10 @@ list_room spare items (k ∷ (j ∷ path)) =
 abbrev pub HasRoomBack : PlainUndoing → ℕ → Type 0
 HasRoomBack (PlainUndoing.put_in side hole) room = 0 < room
 HasRoomBack other room = Unit {0}
+
+-- to undo the edit of the receipt no list needs room
+abbrev pub NeedsNoRoom : PlainReceipt → Type 0
+NeedsNoRoom receipt = (room : ℕ) → HasRoomBack receipt.undoing room
 
 -- the receipt is of an edit that made this tree, and what it takes to undo it is there
 pub record CanUndo (receipt : PlainReceipt) (back : Option PlainNode) (tree : PlainTree) : Type 0 where

@@ -1,15 +1,18 @@
 -- The laws of trees.
 use Rattle.std.specs.Prelude.{◌≡◌, ℕ, ◌+◌, ◌≤◌, List, Option, Some}
 use Rattle.plcs_grammar.specs.PlainPhrase.{PlainPhrase}
+use Rattle.template_tree.specs.declared.side.Side.{Side}
+use Rattle.template_tree.specs.EditAnswer.{IsListItem, IsSpareHole}
 use Rattle.template_tree.specs.Limit.{deepest_path, most_slots, most_drawn}
 use Rattle.template_tree.specs.Program.{IsSubtree, sort_of}
-use Rattle.template_tree.specs.PlainTree.{Forest, PlainNode, PlainTree}
+use Rattle.template_tree.specs.PlainTree.{Forest, PlainNode, PlainTree, roomless_tree}
 use Rattle.template_tree.specs.Part.{IsPlace, Takes, part_category, with_part}
 use Rattle.template_tree.specs.Slots.{count, depth, times}
 use Rattle.template_tree.specs.Tree.{IsTree}
 use Rattle.template_tree.specs.TreeLend.{with_node}
 use Rattle.template_tree.specs.Path.{node_at}
-use Rattle.template_tree.specs.Edit.{Part, Put, edit_at, edit_slot}
+use Rattle.template_tree.specs.Receipt.{PlainReceipt, CanUndo, HasRoomBack, list_room}
+use Rattle.template_tree.specs.Edit.{Add, Drop, Part, Put, edit_at, edit_slot}
 
 -- an edit by slot is the edit at the path of the node that stands there, where the slot stands but once
 abbrev pub SlotEditIsPathEdit : Type 0
@@ -46,3 +49,30 @@ PutKeepsTree =
     → (Put tree node.label.slot new).drawn ≤ most_drawn
     → IsTree (Put tree node.label.slot new)
     × ((Put tree node.label.slot new).live + count node.inner ≡ tree.live + count new.inner)
+
+-- a tree is one where a hole comes beside an item of a list, as far as the limits allow it; it is as deep as before
+abbrev pub AddKeepsTree : Type 0
+AddKeepsTree =
+    (tree : PlainTree) (path : List ℕ) (node : PlainNode) (side : Side)
+    → IsTree tree → node_at tree.items path ≡ Some node → IsListItem tree.items path node
+    → (Add tree node.label.slot side).live ≤ most_slots
+    → (Add tree node.label.slot side).drawn ≤ most_drawn
+    → IsTree (Add tree node.label.slot side)
+    × ((Add tree node.label.slot side).live ≡ tree.live + 1)
+    × (depth (Add tree node.label.slot side).items ≡ depth tree.items)
+
+-- a tree is one where a hole leaves a list of two or more
+abbrev pub DropKeepsTree : Type 0
+DropKeepsTree =
+    (tree : PlainTree) (path : List ℕ) (node : PlainNode)
+    → IsTree tree → node_at tree.items path ≡ Some node → IsSpareHole tree.items path node
+    → IsTree (Drop tree node.label.slot)
+    × ((Drop tree node.label.slot).live + 1 ≡ tree.live)
+
+-- an edit can be undone in each tree that is, without the room of lists, the one after it, where a list has the room that
+-- it takes
+abbrev pub UndoStaysPossible : Type 0
+UndoStaysPossible =
+    (receipt : PlainReceipt) (back : Option PlainNode) (one other : PlainTree)
+    → roomless_tree one ≡ roomless_tree other → HasRoomBack receipt.undoing (list_room other.spare other.items receipt.path)
+    → CanUndo receipt back one → CanUndo receipt back other

@@ -1,10 +1,11 @@
 //! A node that comes in place of another.
 ghost use Rattle.std.specs.Prelude.{◌≡◌, ◌+◌, ◌≤◌, IfSome, IsSomeAnd, None, Some};
 ghost use Rattle.template_tree.specs.Edit.{Put, node_in_slot, whole};
-ghost use Rattle.template_tree.specs.EditAnswer.{IsEdit};
+ghost use Rattle.template_tree.specs.EditAnswer.{IsEdit, slot_in};
 ghost use Rattle.template_tree.specs.Path.{node_at};
 ghost use Rattle.template_tree.specs.PlainTree.{forest, nodes};
 ghost use Rattle.template_tree.specs.Private.Exchange.{IsChangeOf, MayReplace, first_item};
+ghost use Rattle.template_tree.specs.Receipt.{NeedsNoRoom};
 ghost use Rattle.template_tree.specs.Slots.{count};
 ghost use Rattle.template_tree.specs.Tree.{IsTree};
 ghost use Rattle.template_tree.specs.TreeEdit.{TreeEdit};
@@ -24,7 +25,8 @@ impl Tree {
     pub(crate) fn put(&mut self, path: &Path, node: Node) -> Receipt
         requires tree { IsTree self.old }
         requires fits { IsSomeAnd (node_at self.old.items path.now.items) (MayReplace self.old node) }
-        ensures { IsSomeAnd (node_at self.old.items path.now.items) (λ there. IsEdit (TreeEdit.put node) there.label.slot self.old self.new result None) }
+        ensures edit { IsEdit (TreeEdit.put node) (slot_in (node_at self.old.items path.now.items)) self.old self.new result None }
+        ensures no_room { NeedsNoRoom result }
     {
         let (drawn, live) = (self.drawn, self.live);
         let (old, change) = self.exchange(path, node);

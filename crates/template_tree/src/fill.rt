@@ -1,14 +1,17 @@
 //! Holes filled with templates.
-ghost use Rattle.std.specs.Prelude.{◌≡◌, IfErr, IfOk, None, map};
+ghost use Rattle.std.specs.Prelude.{◌≡◌, ◌+◌, ◌≤◌, ◌↔◌, IfErr, IfOk, IsTrue, None, OnOk, length, map, min};
 ghost use Rattle.plcs_grammar.specs.Template.{plain_section, plain_segment};
 ghost use Rattle.plcs_grammar.specs.declared.node_kind.NodeKind.{NodeKind};
+ghost use Rattle.template_tree.specs.Edit.{hole_list, hole_of};
 ghost use Rattle.template_tree.specs.EditAnswer.{Edits, IsHoleFor, Refuses};
 ghost use Rattle.template_tree.specs.FreshNode.{fresh_node, section_holes};
+ghost use Rattle.template_tree.specs.Limit.{deepest_path};
 ghost use Rattle.template_tree.specs.Path.{node_at};
 ghost use Rattle.template_tree.specs.PlainPlace.{plain_place};
-ghost use Rattle.template_tree.specs.PlainTree.{forest, roomless, roomless_node};
+ghost use Rattle.template_tree.specs.PlainTree.{forest, join, roomless, roomless_node};
 ghost use Rattle.template_tree.specs.Program.{parts_of};
 ghost use Rattle.template_tree.specs.Slots.{count};
+ghost use Rattle.template_tree.specs.Receipt.{NeedsNoRoom};
 ghost use Rattle.template_tree.specs.Tree.{IsTree};
 ghost use Rattle.template_tree.specs.TreeEdit.{TreeEdit};
 
@@ -27,10 +30,17 @@ use std::alloc::Global;
 impl Tree {
     /// The hole at the path becomes the template, with its parts empty and with a hole for each list or
     /// body, which take the next slots. `NotHere` where no hole of its sort is at the path.
-    pub fn fill(&mut self, alloc: Global, path: &Path, template: Template) -> Result<Receipt, TreeFault>
+    pub fn fill(
+        &mut self,
+        alloc: Global,
+        path: &Path,
+        template: Template,
+    ) -> Result<Receipt, TreeFault>
         requires tree { IsTree self.old }
         ensures edited { IfOk result (Edits (TreeEdit.put (fresh_node (NodeKind.Filled template))) (node_at self.old.items path.now.items) (IsHoleFor (NodeKind.Filled template)) self.old self.new) }
+        ensures no_room { IfOk result NeedsNoRoom }
         ensures refused { IfErr result (Refuses (TreeEdit.put (fresh_node (NodeKind.Filled template))) (node_at self.old.items path.now.items) (IsHoleFor (NodeKind.Filled template)) self.old) }
+        ensures tree { IsTree self.new }
         ensures unchanged { IfErr result (λ _. self.new ≡ self.old) }
     {
         let kind = NodeKind::Filled(template);
@@ -41,8 +51,7 @@ impl Tree {
             return Err(TreeFault::NotHere);
         }
         let slots = hole_count(kind.row().sections);
-        let is_shallow = slots == 0 || path.len() < DEEPEST_PATH;
-        if let Some(fault) = self.limit_reached(is_shallow, slots) {
+        if let Some(fault) = self.limit_reached(is_shallow(path, slots), slots) {
             return Err(fault);
         }
         let Ok(node) = Node::fresh(alloc, kind) else {
@@ -88,25 +97,51 @@ fn holes(alloc: Global, sections: &[Section]) -> Result<Nodes, OutOfMemory>
     ensures { IfOk result (λ list. roomless (forest list.items) ≡ section_holes (map plain_section sections.now)) }
 {
     let mut list = Nodes::new(alloc);
-    for section in sections {
-        if let Some(kind) = hole_of(section.sort) {
-            if let Err(_) = list.push(Node::bare(alloc, Slot(0), kind)) {
-                return Err(OutOfMemory);
-            }
-        }
-    }
+    push_holes(&mut list, alloc, sections)?;
     Ok(list)
 }
 
-/// How many holes that is.
-fn hole_count(sections: &[Section]) -> u32
-    ensures { result ≡ count (section_holes (map plain_section sections.now)) }
+/// Puts a hole for each of the sections at the end.
+fn push_holes(list: &mut Nodes, alloc: Global, sections: &[Section]) -> Result<(), OutOfMemory>
+    ensures { OnOk result (roomless (forest list.new.items) ≡ join (roomless (forest list.old.items)) (section_holes (map plain_section sections.now))) }
 {
-    let mut count = 0;
-    for section in sections {
-        if hole_of(section.sort).is_some() {
-            count += 1;
-        }
+    let Some((section, others)) = sections.split_first() else {
+        return Ok(());
+    };
+    push_hole(list, alloc, section)?;
+    push_holes(list, alloc, others)
+}
+
+/// Puts the hole of the section's sort, if there is one, at the end.
+fn push_hole(list: &mut Nodes, alloc: Global, section: &Section) -> Result<(), OutOfMemory>
+    ensures { OnOk result (roomless (forest list.new.items) ≡ join (roomless (forest list.old.items)) (forest (hole_list 0 (hole_of section.now.sort)))) }
+{
+    let Some(kind) = hole_of(section.sort) else {
+        return Ok(());
+    };
+    if let Err(_) = list.push(Node::bare(alloc, Slot(0), kind)) {
+        return Err(OutOfMemory);
     }
-    count
+    Ok(())
+}
+
+/// How many holes that is, as far as the type goes.
+fn hole_count(sections: &[Section]) -> u32
+    ensures { result ≡ min (count (section_holes (map plain_section sections.now))) 4294967295 }
+{
+    let Some((section, others)) = sections.split_first() else {
+        return 0;
+    };
+    let rest = hole_count(others);
+    match hole_of(section.sort) {
+        Some(_) => rest.saturating_add(1),
+        None => rest,
+    }
+}
+
+/// Whether so many holes may stand inside the node at the path.
+fn is_shallow(path: &Path, slots: u32) -> bool
+    ensures { IsTrue result ↔ (length path.now.items + min slots 1 ≤ deepest_path) }
+{
+    path.len() + slots.min(1) as usize <= DEEPEST_PATH
 }

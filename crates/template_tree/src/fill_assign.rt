@@ -2,12 +2,14 @@
 ghost use Rattle.std.specs.Prelude.{◌≡◌, ◌↔◌, ◌⊎◌, IfErr, IfOk, IsTrue, Some};
 ghost use Rattle.plcs_grammar.specs.declared.category.Category.{Category};
 ghost use Rattle.plcs_grammar.specs.declared.node_kind.NodeKind.{NodeKind};
+ghost use Rattle.plcs_grammar.specs.PlainPhrase.{category_of};
 ghost use Rattle.plcs_grammar.specs.PlainForm.{plain_phrase};
 ghost use Rattle.template_tree.specs.EditAnswer.{Edits, Refuses, TakesAssignment};
 ghost use Rattle.template_tree.specs.FreshNode.{assignment_node};
 ghost use Rattle.template_tree.specs.Part.{IsPlace};
 ghost use Rattle.template_tree.specs.Path.{node_at};
 ghost use Rattle.template_tree.specs.PlainTree.{roomless_node};
+ghost use Rattle.template_tree.specs.Receipt.{NeedsNoRoom};
 ghost use Rattle.template_tree.specs.Tree.{IsTree};
 ghost use Rattle.template_tree.specs.TreeEdit.{TreeEdit};
 
@@ -24,17 +26,24 @@ use std::alloc::Global;
 impl Tree {
     /// The statement hole or the assignment at the path becomes this assignment. `NotHere` where neither
     /// is there, and where the phrase is no assignment. The phrase is given back where it is refused.
-    pub fn fill_assign(&mut self, alloc: Global, path: &Path, phrase: Phrase) -> Result<Receipt, (TreeFault, Phrase)>
+    pub fn fill_assign(
+        &mut self,
+        alloc: Global,
+        path: &Path,
+        phrase: Phrase,
+    ) -> Result<Receipt, (TreeFault, Phrase)>
         requires tree { IsTree self.old }
         requires phrase { IsPlace (Some (plain_phrase phrase)) }
         ensures edited { IfOk result (Edits (TreeEdit.put (assignment_node (plain_phrase phrase))) (node_at self.old.items path.now.items) (TakesAssignment (plain_phrase phrase)) self.old self.new) }
+        ensures no_room { IfOk result NeedsNoRoom }
         ensures refused { IfErr result (λ back. Refuses (TreeEdit.put (assignment_node (plain_phrase phrase))) (node_at self.old.items path.now.items) (TakesAssignment (plain_phrase phrase)) self.old back.0) }
+        ensures tree { IsTree self.new }
         ensures unchanged { IfErr result (λ back. (back.1 ≡ phrase) × (self.new ≡ self.old)) }
     {
         let Some(there) = self.node(path) else {
             return Err((TreeFault::NotHere, phrase));
         };
-        if !takes_assignments(there.kind) || phrase.category() != Category::Assignment {
+        if !takes_assignments(there.kind) || !is_assignment_phrase(&phrase) {
             return Err((TreeFault::NotHere, phrase));
         }
         match Node::assignment(alloc, phrase) {
@@ -49,6 +58,13 @@ fn takes_assignments(kind: NodeKind) -> bool
     ensures { IsTrue result ↔ ((kind ≡ NodeKind.StatementHole) ⊎ (kind ≡ NodeKind.Assign)) }
 {
     kind == NodeKind::StatementHole || kind == NodeKind::Assign
+}
+
+/// Whether the phrase is an assignment.
+fn is_assignment_phrase(phrase: &Phrase) -> bool
+    ensures { IsTrue result ↔ (category_of (plain_phrase phrase.now) ≡ Category.Assignment) }
+{
+    phrase.category() == Category::Assignment
 }
 
 impl Node {

@@ -3,6 +3,7 @@ ghost use Rattle.std.specs.Prelude.{◌≡◌, IfErr, IfOk};
 ghost use Rattle.template_tree.specs.EditAnswer.{Edits, IsHoleFor, Refuses};
 ghost use Rattle.template_tree.specs.Path.{node_at};
 ghost use Rattle.template_tree.specs.Program.{IsSubtree};
+ghost use Rattle.template_tree.specs.Receipt.{NeedsNoRoom};
 ghost use Rattle.template_tree.specs.Tree.{IsTree};
 ghost use Rattle.template_tree.specs.TreeEdit.{TreeEdit};
 ghost use Rattle.template_tree.specs.declared.tree_fault.TreeFault.{TreeFault};
@@ -25,7 +26,9 @@ impl Tree {
         requires tree { IsTree self.old }
         requires node { IsSubtree node }
         ensures edited { IfOk result (Edits (TreeEdit.put node) (node_at self.old.items path.now.items) (IsHoleFor node.label.kind) self.old self.new) }
+        ensures no_room { IfOk result NeedsNoRoom }
         ensures refused { IfErr result (λ back. Refuses (TreeEdit.put node) (node_at self.old.items path.now.items) (IsHoleFor node.label.kind) self.old back.0) }
+        ensures tree { IsTree self.new }
         ensures unchanged { IfErr result (λ back. (back.1 ≡ node) × (self.new ≡ self.old)) }
         ensures no_memory { IfErr result (λ back. back.0 ≡ TreeFault.OutOfMemory → ⊥) }
     {

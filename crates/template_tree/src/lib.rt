@@ -1,11 +1,15 @@
 //! The tree of templates: programs, their listing, and how they are read.
 #![tactic(auto, using(crate::specs::PlainTree::nodes_forest))]
 
+mod beside;
 mod build;
 #[cfg(test)]
 mod build_tests;
 mod change;
+mod copy;
 mod descent;
+#[cfg(test)]
+mod edit_tests;
 mod elide;
 mod exchange;
 mod fill;
@@ -14,7 +18,9 @@ mod hole;
 mod insert;
 mod limit;
 mod limit_reached;
+mod list_change;
 mod list_edit;
+mod list_item;
 mod listing;
 mod node;
 mod node_at;
@@ -38,11 +44,13 @@ mod undo;
 mod undo_item;
 mod undo_node;
 mod undo_part;
+#[cfg(test)]
+mod undo_tests;
 
 pub use build::OverLimit;
 pub use change::{Change, What};
-pub use listing::listing_splits_in_lines;
 pub use limit::{DEEPEST_PATH, LONGEST_PHRASE, MOST_DRAWN, MOST_SLOTS};
+pub use listing::listing_splits_in_lines;
 pub use node::{Node, Nodes};
 pub use path::Path;
 pub use phrase_place::PhrasePlace;
@@ -52,5 +60,6 @@ pub use stop::Stop;
 pub use tree::Tree;
 pub use tree_fault::TreeFault;
 pub use tree_laws::{
-    part_keeps_tree, put_keeps_tree, set_part_keeps_tree, slot_edit_is_path_edit,
+    add_keeps_tree, drop_keeps_tree, part_keeps_tree, put_keeps_tree, set_part_keeps_tree,
+    slot_edit_is_path_edit, undo_stays_possible,
 };

@@ -1,17 +1,25 @@
 //! Holes added to lists and dropped from them.
-ghost use Rattle.std.specs.Prelude.{◌≡◌, ◌<◌, IfErr, IfOk, IsSomeAnd};
+ghost use Rattle.std.specs.Prelude.{◌≡◌, ◌↔◌, ◌<◌, [], IfErr, IfNone, IfOk, IfSome, IsSomeAnd, IsTrue};
 ghost use Rattle.template_tree.specs.EditAnswer.{Edits, IsListItem, IsSpareHole, Refuses};
 ghost use Rattle.template_tree.specs.Path.{node_at};
-ghost use Rattle.template_tree.specs.Receipt.{list_room};
+ghost use Rattle.template_tree.specs.PlainTree.{roomless_node, roomless_tree};
+ghost use Rattle.template_tree.specs.Private.Restored.{with_edit};
+ghost use Rattle.template_tree.specs.Receipt.{list_room, with_beside};
 ghost use Rattle.template_tree.specs.Tree.{IsTree};
 ghost use Rattle.template_tree.specs.TreeEdit.{TreeEdit};
 ghost use Rattle.template_tree.specs.declared.tree_fault.TreeFault.{TreeFault};
 
+use crate::beside::{added_path, path_before, side_left};
+use crate::change::{Change, What};
+use crate::hole::{hole_of, is_hole};
+use crate::list_item::{are_two, is_listed};
+use crate::node::Node;
 use crate::path::Path;
-use crate::receipt::Receipt;
+use crate::receipt::{Receipt, Undoing};
 use crate::side::Side;
 use crate::tree::Tree;
 use crate::tree_fault::TreeFault;
+use plcs_base::{OutOfMemory, Slot};
 use std::alloc::Global;
 
 impl Tree {
@@ -21,10 +29,43 @@ impl Tree {
         requires tree { IsTree self.old }
         ensures edited { IfOk result (Edits (TreeEdit.add side) (node_at self.old.items path.now.items) (IsListItem self.old.items path.now.items) self.old self.new) }
         ensures refused { IfErr result (Refuses (TreeEdit.add side) (node_at self.old.items path.now.items) (IsListItem self.old.items path.now.items) self.old) }
+        ensures tree { IsTree self.new }
         ensures unchanged { IfErr result (λ _. self.new ≡ self.old) }
     {
-        // TO DO
-        Err(TreeFault::OutOfMemory)
+        let Some(there) = self.node(path) else {
+            return Err(TreeFault::NotHere);
+        };
+        let sort = there.kind().row().sort;
+        if !is_listed(sort, self.sections_at(path)) {
+            return Err(TreeFault::NotHere);
+        }
+        let Some(hole) = hole_of(sort) else {
+            return Err(TreeFault::NotHere);
+        };
+        if let Some(fault) = self.limit_reached(true, 1) {
+            return Err(fault);
+        }
+        let (drawn, live) = (self.drawn, self.live);
+        let node = Node::bare(alloc, Slot(drawn), hole);
+        if let Err(_) = self.add_beside(path, side, node) {
+            return Err(TreeFault::OutOfMemory);
+        }
+        let added = added_path(side, path);
+        let procedure = self.procedure_at(&added);
+        self.drawn = drawn + 1;
+        self.live = live + 1;
+        let change = Change {
+            slot: Slot(drawn),
+            procedure,
+            what: What::Added,
+        };
+        Ok(Receipt {
+            change,
+            path: added,
+            undoing: Undoing::TakeOut,
+            drawn,
+            live,
+        })
     }
 
     /// Drops the hole at the path from its list, which keeps room for one item at least. `NotHere` where
@@ -34,9 +75,73 @@ impl Tree {
         ensures edited { IfOk result (Edits TreeEdit.drop (node_at self.old.items path.now.items) (IsSpareHole self.old.items path.now.items) self.old self.new) }
         ensures room { IfOk result (λ _. 0 < list_room self.new.spare self.new.items path.now.items) }
         ensures refused { IfErr result (λ fault. (fault ≡ TreeFault.NotHere) × (IsSomeAnd (node_at self.old.items path.now.items) (IsSpareHole self.old.items path.now.items) → ⊥)) }
+        ensures tree { IsTree self.new }
         ensures unchanged { IfErr result (λ _. self.new ≡ self.old) }
     {
-        // TO DO
-        Err(TreeFault::NotHere)
+        if !self.is_spare_hole(path) {
+            return Err(TreeFault::NotHere);
+        }
+        let procedure = self.procedure_at(path);
+        let (drawn, live) = (self.drawn, self.live);
+        let Some(hole) = self.drop_item(path) else {
+            return Err(TreeFault::NotHere);
+        };
+        self.live = live - 1;
+        let change = Change {
+            slot: hole.slot,
+            procedure,
+            what: What::Dropped,
+        };
+        Ok(Receipt {
+            change,
+            path: path_before(path),
+            undoing: Undoing::PutIn(side_left(path), hole),
+            drawn,
+            live,
+        })
+    }
+}
+
+impl Tree {
+    /// Whether a hole in a list of two or more is at the path.
+    fn is_spare_hole(&self, path: &Path) -> bool
+        requires tree { IsTree self.now }
+        ensures { IsTrue result ↔ IsSomeAnd (node_at self.now.items path.now.items) (IsSpareHole self.now.items path.now.items) }
+    {
+        let Some(there) = self.node(path) else {
+            return false;
+        };
+        let sort = there.kind().row().sort;
+        if !is_hole(there.kind()) {
+            return false;
+        }
+        if !is_listed(sort, self.sections_at(path)) {
+            return false;
+        }
+        are_two(sort, self.siblings_at(path))
+    }
+
+    /// Puts a node beside the one at the path, and takes memory for it; the counts stay.
+    fn add_beside(&mut self, path: &Path, side: Side, node: Node) -> Result<(), OutOfMemory>
+        ensures added { IfOk result (λ _. roomless_tree self.new ≡ with_edit (with_beside side (roomless_node node)) path.now.items (roomless_tree self.old)) }
+        ensures refused { IfErr result (λ _. self.new ≡ self.old) }
+    {
+        let Some((k, rest)) = path.split_first() else {
+            return Ok(());
+        };
+        self.items.add_at(*k as usize, rest, side, node)
+    }
+
+    /// Takes the node at the path out of its list, if one is there; the counts stay.
+    fn drop_item(&mut self, path: &Path) -> Option<Node>
+        ensures taken { result ≡ node_at self.old.items path.now.items }
+        ensures others { roomless_tree self.new ≡ with_edit (λ _. []) path.now.items (roomless_tree self.old) }
+        ensures none { IfNone result (self.new ≡ self.old) }
+        ensures room { IfSome result (λ _. 0 < list_room self.new.spare self.new.items path.now.items) }
+    {
+        let Some((k, rest)) = path.split_first() else {
+            return None;
+        };
+        self.items.remove_at(*k as usize, rest)
     }
 }

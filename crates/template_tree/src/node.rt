@@ -206,6 +206,18 @@ impl Nodes {
         Ok(list)
     }
 
+    /// Takes memory for one more.
+    pub(crate) fn reserve_one(&mut self) -> Result<(), OutOfMemory>
+        ensures room { OnOk result (0 < self.new.spare) }
+        ensures items { self.new.items ≡ self.old.items }
+        ensures refused { IfErr result (λ _. self.new ≡ self.old) }
+    {
+        if let Err(_) = self.list.reserve(1) {
+            return Err(OutOfMemory);
+        }
+        Ok(())
+    }
+
     /// Puts one at the end, or gives it back where there is no memory for it.
     pub fn push(&mut self, node: Node) -> Result<(), Node>
         ensures put { OnOk result (self.new.items ≡ self.old.items ++ node ∷ []) }

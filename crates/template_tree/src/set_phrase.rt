@@ -4,6 +4,7 @@ ghost use Rattle.template_tree.specs.EditAnswer.{Edits, TakesAtStop};
 ghost use Rattle.template_tree.specs.Part.{IsPlace};
 ghost use Rattle.template_tree.specs.Path.{node_at};
 ghost use Rattle.template_tree.specs.PlainPlace.{plain_place};
+ghost use Rattle.template_tree.specs.Receipt.{NeedsNoRoom};
 ghost use Rattle.template_tree.specs.Tree.{IsTree};
 ghost use Rattle.template_tree.specs.TreeEdit.{TreeEdit};
 ghost use Rattle.template_tree.specs.declared.tree_fault.TreeFault.{TreeFault};
@@ -20,11 +21,17 @@ use crate::tree_fault::TreeFault;
 impl Tree {
     /// Puts this into the part at the stop, which need not be visible. `NotHere` where there is no such
     /// stop, and where the part doesn't take it; it is given back then. It takes no memory.
-    pub fn set_phrase(&mut self, stop: &Stop, place: PhrasePlace) -> Result<Receipt, (TreeFault, PhrasePlace)>
+    pub fn set_phrase(
+        &mut self,
+        stop: &Stop,
+        place: PhrasePlace,
+    ) -> Result<Receipt, (TreeFault, PhrasePlace)>
         requires tree { IsTree self.old }
         requires phrase { IsPlace (plain_place place) }
         ensures edited { IfOk result (λ receipt. IsSomeAnd stop.now.part (λ part. Edits (TreeEdit.set_part part (plain_place place)) (node_at self.old.items stop.now.path.items) (TakesAtStop part (plain_place place)) self.old self.new receipt)) }
+        ensures no_room { IfOk result NeedsNoRoom }
         ensures refused { IfErr result (λ back. (back.0 ≡ TreeFault.NotHere) × (IsSomeAnd stop.now.part (λ part. IsSomeAnd (node_at self.old.items stop.now.path.items) (TakesAtStop part (plain_place place))) → ⊥)) }
+        ensures tree { IsTree self.new }
         ensures unchanged { IfErr result (λ back. (back.1 ≡ place) × (self.new ≡ self.old)) }
     {
         let (drawn, live) = (self.drawn, self.live);

@@ -4,6 +4,7 @@ ghost use Rattle.template_tree.specs.Edit.{hole_left};
 ghost use Rattle.template_tree.specs.EditAnswer.{MayTake, TakesOut};
 ghost use Rattle.template_tree.specs.Path.{node_at};
 ghost use Rattle.template_tree.specs.Program.{IsSubtree};
+ghost use Rattle.template_tree.specs.Receipt.{NeedsNoRoom};
 ghost use Rattle.template_tree.specs.Tree.{IsTree};
 ghost use Rattle.template_tree.specs.declared.tree_fault.TreeFault.{TreeFault};
 
@@ -25,7 +26,9 @@ impl Tree {
         ensures taken { IfOk result (λ r. node_at self.old.items path.now.items ≡ Some r.0) }
         ensures edited { IfOk result (λ r. TakesOut r.0 self.old self.new r.1) }
         ensures subtree { IfOk result (λ r. IsSubtree r.0) }
+        ensures no_room { IfOk result (λ r. NeedsNoRoom r.1) }
         ensures refused { IfErr result (λ fault. (fault ≡ TreeFault.NotHere) × (IsSomeAnd (node_at self.old.items path.now.items) MayTake → ⊥)) }
+        ensures tree { IsTree self.new }
         ensures unchanged { IfErr result (λ _. self.new ≡ self.old) }
     {
         let (drawn, live) = (self.drawn, self.live);

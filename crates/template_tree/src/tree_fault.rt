@@ -1,9 +1,13 @@
-//! Why an edit of a tree is refused.
+//! Why a call on a tree is refused.
+ghost use Rattle.std.specs.Prelude.{◌≡◌};
+ghost use Rattle.template_tree.specs.declared.tree_fault.TreeFault.{TreeFault};
 
-/// Why an edit of a tree is refused. Where several hold, it is the first of them.
+use plcs_base::OutOfMemory;
+
+/// Why a call on a tree is refused. Where several of them hold, it is the first of these that is told.
 #[derive(Clone, Copy, Debug, PartialEq, Eq)]
 pub enum TreeFault {
-    /// What the edit wants stands not there.
+    /// There is nothing at the path that the call is for.
     NotHere,
     /// A path would have more than 64 numbers.
     TooDeep,
@@ -11,6 +15,14 @@ pub enum TreeFault {
     TooLarge,
     /// More than 2,147,483,648 slots would be drawn.
     SlotsUsedUp,
-    /// There is no memory for it.
+    /// No memory is left.
     OutOfMemory,
+}
+
+impl From<OutOfMemory> for TreeFault {
+    ghost from_gives = { λ _ e. e ≡ TreeFault.OutOfMemory };
+
+    fn from(_error: OutOfMemory) -> Self {
+        TreeFault::OutOfMemory
+    }
 }

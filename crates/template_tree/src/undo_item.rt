@@ -16,7 +16,10 @@ impl Tree {
         requires tree { IsTree self.old }
         ensures { roomless_tree self.new ≡ with_edit (λ _. []) path.now.items (roomless_tree self.old) }
     {
-        // TO DO
+        let Some((k, rest)) = path.split_first() else {
+            return;
+        };
+        self.items.remove_at(*k as usize, rest);
     }
 
     /// Puts the hole, which an edit dropped, back into its list beside the item at the path.
@@ -25,6 +28,9 @@ impl Tree {
         requires room { 0 < list_room self.old.spare self.old.items path.now.items }
         ensures { roomless_tree self.new ≡ with_edit (with_beside side (roomless_node hole)) path.now.items (roomless_tree self.old) }
     {
-        // TO DO
+        let Some((k, rest)) = path.split_first() else {
+            return;
+        };
+        self.items.insert_at(*k as usize, rest, side, hole);
     }
 }

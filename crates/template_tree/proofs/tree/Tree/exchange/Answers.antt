@@ -4,7 +4,7 @@ use Rattle.template_tree.specs.contracts.tree.Tree.{the_view}
 use Rattle.template_tree.specs.PlainTree.{PlainNode, PlainTree}
 use Rattle.template_tree.specs.Path.{node_at}
 use Rattle.template_tree.specs.Slots.{count}
-use Rattle.template_tree.specs.Edit.{Put, node_in_slot}
+use Rattle.template_tree.specs.Edit.{node_in_slot}
 use Rattle.template_tree.specs.Private.Exchange.{MayReplace}
 use Rattle.template_tree.proofs.Counts.{counted_below}
 use Rattle.template_tree.proofs.PutEdits.{come, exchanged_is, put_change, of_there}
@@ -24,7 +24,7 @@ came_is c =
     c.replace-old.ensures.after
     ∙ (c.settle-next.ensures.settled
     ∙ λ i. node_in_slot ((ap (λ (n : PlainNode). n.label.slot) (c.there.view_is ∙ sym c.replace-old.ensures.value)) i)
-      ((ap (λ (t : PlainTree). t.drawn) c.self.view_is) i) c.args.node)
+    ((ap (λ (t : PlainTree). t.drawn) c.self.view_is) i) c.args.node)
 
 few : (c : goal.After-of_node-2) → c.slots.result ≤ c.args.self.now.live
 few c = omega (arith, slots_are c, counted_below c.args.self.now.items c.args.path.now.items c.replace-old.result (there c), c.requires.tree.live)

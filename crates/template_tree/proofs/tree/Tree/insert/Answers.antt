@@ -6,6 +6,8 @@ use Rattle.template_tree.specs.Program.{sort_of}
 use Rattle.template_tree.specs.Slots.{count}
 use Rattle.template_tree.specs.Edit.{hole_of}
 use Rattle.template_tree.specs.EditAnswer.{IsHoleFor}
+use Rattle.template_tree.specs.Path.{node_at}
+use Rattle.template_tree.proofs.PutEdits.{at_there}
 use Rattle.template_tree.proofs.PutLimits.{path_short}
 use Rattle.template_tree.proofs.Refusals.{limit_refused, limit_kept, may_come, asked_of}
 use Rattle.template_tree.proofs.tree.Tree.insert.Goals as goal
@@ -41,3 +43,17 @@ put-requires-clause-fits c =
     (ap forest c.as_slice.ensures ∙ ap (λ (n : PlainNode). n.inner) c.node-2.view_is) c.is_within_depth-is_shallow.ensures
     (c.slots_up_to_limit.ensures ∙ ap (λ (n : PlainNode). min (count n.inner) (most_slots + 1)) c.node-2.view_is))
     c.in_default-limit_reached.ensures.within)
+
+pub returns-clause-edited : goal.returns-clause-edited
+returns-clause-edited c =
+    record {
+      here =
+          at_there (node_at c.args.self.now.items c.args.path.now.items) (IsHoleFor c.args.node.label.kind) c.in-Some.there.now
+          (sym c.in-Some.ensures.found)
+          (ap (λ (n : PlainNode). hole_of (sort_of n.label.kind)) (sym c.node-2.view_is)
+          ∙ (c.is_hole_for.ensures.0 c.if-not-is_hole_for.false ∙ ap (λ (n : PlainNode). Some n.label.kind) c.there.view_is));
+      is_edit = c.put.ensures.edit;
+    }
+
+pub returns-clause-tree : goal.returns-clause-tree
+returns-clause-tree c = c.put.ensures.edit.tree

@@ -1,14 +1,18 @@
 use Rattle.std.specs.Prelude.{◌≡◌, refl, Some}
-use Rattle.std.proofs.Common.{ap, sym, ◌∙◌}
+use Rattle.std.proofs.Common.{ap, sym, ◌∙◌, subst}
 use Rattle.std.proofs.Math.Bool.{false≢true}
 use Rattle.template_tree.specs.declared.change.What.{What}
 use Rattle.template_tree.specs.PlainPlace.{plain_place}
 use Rattle.template_tree.specs.PlainTree.{PlainNode, PlainTree}
 use Rattle.template_tree.specs.Path.{node_at}
 use Rattle.template_tree.specs.Receipt.{PlainUndoing}
+use Rattle.template_tree.specs.Tree.{IsTree}
+use Rattle.template_tree.specs.TreeEdit.{TreeEdit}
+use Rattle.template_tree.specs.EditAnswer.{TakesAtStop}
 use Rattle.template_tree.specs.TreeLend.{with_node}
-use Rattle.template_tree.proofs.PutEdits.{at_there}
-use Rattle.template_tree.proofs.PartEdits.{with_node_same, part_edit, part_stop}
+use Rattle.template_tree.proofs.PutEdits.{edits_at}
+use Rattle.template_tree.proofs.KeptTrees.{part_keeps_tree}
+use Rattle.template_tree.proofs.PartEdits.{with_node_same, part_edit, part_is, part_stop}
 use Rattle.template_tree.proofs.tree.Tree.set_phrase.Goals as goal
 
 pub returns-then-is_assignment-clause-unchanged : goal.returns-then-is_assignment-clause-unchanged
@@ -19,7 +23,7 @@ pub returns-in-Err-clause-unchanged : goal.returns-in-Err-clause-unchanged
 returns-in-Err-clause-unchanged c = (
   c.in-Err.ensures.refused.0,
   ap (with_node c.args.self.now c.args.stop.now.path.items) c.in-Err.ensures.refused.1
-  ∙ with_node_same c.args.self.now c.args.stop.now.path.items c.in-Some-node_mut.node.now (sym c.in-Some-node_mut.ensures.found),
+      ∙ with_node_same c.args.self.now c.args.stop.now.path.items c.in-Some-node_mut.node.now (sym c.in-Some-node_mut.ensures.found),
 )
 
 pub returns-clause-edited : goal.returns-clause-edited
@@ -31,18 +35,33 @@ returns-clause-edited c =
     let drawn = ap (λ (t : PlainTree). t.drawn) c.self.view_is in
     let live = ap (λ (t : PlainTree). t.live) c.self.view_is in
     rw c.in-Some.is
-    (at_there (node_at c.args.self.now.items c.args.stop.now.path.items) _ node there
-    (
-      (part_stop node.label.kind c.in-Some.part (plain_place c.args.place) (λ is. false≢true (sym c.if-is_assignment.false ∙ c.is_assignment.ensures.1 (kind ∙ is))) takes, takes),
-      part_edit c.args.self.now c.args.stop.now.path.items node c.in-Some.part (plain_place c.args.place) (plain_place c.in-Ok.old) _
-      c.node.inside.slot c.procedure_at-procedure.result _ c.requires.tree there takes c.requires.phrase c.in-Ok.ensures.set.0
-      (ap (with_node c.args.self.now c.args.stop.now.path.items) c.in-Ok.ensures.set.1) (ap (λ (n : PlainNode). n.label.slot) c.node.view_is)
-      c.procedure_at-procedure.ensures
-      (λ i. record {
-        change = record { slot = c.node.inside.slot; procedure = c.procedure_at-procedure.result; what = What.Part c.in-Some.part };
-        path = c.copied.ensures i;
-        undoing = PlainUndoing.set_part c.in-Some.part (plain_place c.in-Ok.old);
-        drawn = drawn i;
-        live = live i;
-      }),
-    ))
+    (edits_at (TreeEdit.set_part c.in-Some.part (plain_place c.args.place)) (node_at c.args.self.now.items c.args.stop.now.path.items)
+    (TakesAtStop c.in-Some.part (plain_place c.args.place)) _ _ _ node there
+    (part_stop node.label.kind c.in-Some.part (plain_place c.args.place) (λ is. false≢true (sym c.if-is_assignment.false ∙ c.is_assignment.ensures.1 (kind ∙ is))) takes, takes)
+    (part_edit c.args.self.now c.args.stop.now.path.items node c.in-Some.part (plain_place c.args.place) (plain_place c.in-Ok.old) _
+    c.node.inside.slot c.procedure_at-procedure.result _ c.requires.tree there takes c.requires.phrase c.in-Ok.ensures.set.0
+    (ap (with_node c.args.self.now c.args.stop.now.path.items) c.in-Ok.ensures.set.1) (ap (λ (n : PlainNode). n.label.slot) c.node.view_is)
+    c.procedure_at-procedure.ensures
+    (λ i. record {
+      change = record { slot = c.node.inside.slot; procedure = c.procedure_at-procedure.result; what = What.Part c.in-Some.part };
+      path = c.copied.ensures i;
+      undoing = PlainUndoing.set_part c.in-Some.part (plain_place c.in-Ok.old);
+      drawn = drawn i;
+      live = live i;
+    })))
+
+pub returns-clause-tree : goal.returns-clause-tree
+returns-clause-tree c =
+    let node = c.in-Some-node_mut.node.now in
+    subst IsTree
+    (sym (ap (with_node c.args.self.now c.args.stop.now.path.items) c.in-Ok.ensures.set.1
+    ∙ part_is c.args.self.now c.args.stop.now.path.items node c.in-Some.part (plain_place c.args.place) c.requires.tree
+    (sym c.in-Some-node_mut.ensures.found) (c.in-Ok.ensures.fits.0 refl) c.requires.phrase))
+    (part_keeps_tree c.args.self.now c.args.stop.now.path.items node c.in-Some.part (plain_place c.args.place) c.requires.tree
+    (sym c.in-Some-node_mut.ensures.found) (c.in-Ok.ensures.fits.0 refl) c.requires.phrase).0
+
+pub returns-in-Err-clause-tree : goal.returns-in-Err-clause-tree
+returns-in-Err-clause-tree c = subst IsTree (sym (returns-in-Err-clause-unchanged c).1) c.requires.tree
+
+pub returns-then-is_assignment-clause-tree : goal.returns-then-is_assignment-clause-tree
+returns-then-is_assignment-clause-tree c = subst IsTree (sym (returns-then-is_assignment-clause-unchanged c).1) c.requires.tree

@@ -48,5 +48,10 @@ returns-clause-edited c =
     c.exchange-node.ensures.change refl (λ _. tt)
     (λ i. record { change = c.exchange-node.result.1; path = c.copied.ensures i; undoing = PlainUndoing.put_back; drawn = drawn i; live = live i }))
     in
-    taken_out (hole_left c.exchange-node.result.0.label.kind) c.in-Some-hole_left.kind
-    (ap (λ (n : PlainNode). hole_left n.label.kind) (sym node) ∙ left) _ edit
+    let own : hole_left c.exchange-node.result.0.label.kind ≡ Some c.in-Some-hole_left.kind =
+    ap (λ (n : PlainNode). hole_left n.label.kind) (sym node) ∙ left
+    in
+    taken_out c.exchange-node.result.0 c.in-Some-hole_left.kind tree c.exchange-node.new.self _ own edit
+
+pub returns-clause-tree : goal.returns-clause-tree
+returns-clause-tree c = (returns-clause-edited c).is_edit.tree

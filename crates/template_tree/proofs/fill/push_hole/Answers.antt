@@ -1,0 +1,18 @@
+use Rattle.std.proofs.Common.{sym, ap, ◌∙◌}
+use Rattle.template_tree.specs.PlainTree.{forest, join, roomless}
+use Rattle.template_tree.specs.Edit.{hole_list}
+use Rattle.template_tree.proofs.FreshNodes.{pushed, join_nil}
+use Rattle.template_tree.proofs.Holes.{bare_is}
+use Rattle.template_tree.proofs.fill.push_hole.Goals as goal
+
+pub returns-in_default : goal.returns-in_default
+returns-in_default c =
+    sym (join_nil (roomless (forest c.args.list.now.items)))
+    ∙ ap (λ o. join (roomless (forest c.args.list.now.items)) (forest (hole_list 0 o))) (sym c.in_default.is ∙ c.hole_of.ensures)
+
+pub returns : goal.returns
+returns c =
+    let old = roomless (forest c.args.list.now.items) in
+    ap (λ items. roomless (forest items)) c.in_default-push.ensures.put
+    ∙ (pushed c.args.list.now.items c.bare.result c.in-Some.kind (bare_is c.bare.result 0 c.in-Some.kind c.bare.ensures)
+    ∙ ap (λ o. join old (forest (hole_list 0 o))) (sym c.in-Some.is ∙ c.hole_of.ensures))

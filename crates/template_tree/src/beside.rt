@@ -1,0 +1,56 @@
+//! Paths to the items beside an item.
+ghost use Rattle.std.specs.Prelude.{◌≡◌, ◌<◌, pred, suc};
+ghost use Rattle.template_tree.specs.Private.Beside.{added_path, last_of, side_of, with_last};
+
+use crate::exchange::copied;
+use crate::path::Path;
+use crate::side::Side;
+
+/// Where a node stands that came on this side of the one at the path.
+pub(crate) fn added_path(side: Side, path: &Path) -> Path
+    requires small { last_of path.now.items < 4294967295 }
+    ensures { result.items ≡ added_path side path.now.items }
+{
+    match side {
+        Side::Before => copied(path),
+        Side::After => next_path(path),
+    }
+}
+
+/// The path to the next item.
+fn next_path(path: &Path) -> Path
+    requires small { last_of path.now.items < 4294967295 }
+    ensures { result.items ≡ with_last suc path.now.items }
+{
+    let mut next = copied(path);
+    if let Some(last) = next.pop() {
+        next.push(last + 1);
+    }
+    next
+}
+
+/// The path to the item before the one at the path, or to the one that comes in its place where it is the
+/// first, once it has left its list.
+pub(crate) fn path_before(path: &Path) -> Path
+    ensures { result.items ≡ with_last pred path.now.items }
+{
+    let mut before = copied(path);
+    if let Some(last) = before.pop() {
+        before.push(last.saturating_sub(1));
+    }
+    before
+}
+
+/// On which side of the item there the one at the path stood.
+pub(crate) fn side_left(path: &Path) -> Side
+    ensures { result ≡ side_of (last_of path.now.items) }
+{
+    let mut front = copied(path);
+    let Some(last) = front.pop() else {
+        return Side::Before;
+    };
+    if last == 0 {
+        return Side::Before;
+    }
+    Side::After
+}

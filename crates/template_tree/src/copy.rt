@@ -1,0 +1,88 @@
+//! Copies of nodes.
+ghost use Rattle.std.specs.Prelude.{◌≡◌, IfErr, IfOk, IsSomeAnd, map};
+ghost use Rattle.template_tree.specs.Copy.{CopyRefused, IsCopy};
+ghost use Rattle.template_tree.specs.EditAnswer.{MayTake};
+ghost use Rattle.template_tree.specs.Path.{node_at};
+ghost use Rattle.template_tree.specs.PlainPlace.{plain_place};
+ghost use Rattle.template_tree.specs.Program.{IsSubtree};
+ghost use Rattle.template_tree.specs.Slots.{count, depth};
+ghost use Rattle.template_tree.specs.Tree.{IsTree};
+
+use crate::hole::hole_left;
+use crate::node::{Node, Nodes};
+use crate::path::Path;
+use crate::phrase_place::PhrasePlace;
+use crate::tree::Tree;
+use crate::tree_fault::TreeFault;
+use plcs_base::OutOfMemory;
+use plcs_grammar::copy_phrase;
+use std::alloc::Global;
+
+impl Tree {
+    /// An equal node to the one at the path, with what stands inside it; nothing in it is elided.
+    /// `NotHere` where no node stands there, and at main and at a hole; else `OutOfMemory` may come.
+    pub fn copy_node(&self, alloc: Global, path: &Path) -> Result<Node, TreeFault>
+        requires tree { IsTree self.now }
+        ensures copied { IfOk result (λ copy. IsSomeAnd (node_at self.now.items path.now.items) (λ node. IsCopy node copy)) }
+        ensures may_take { IfOk result (λ copy. IsSomeAnd (node_at self.now.items path.now.items) MayTake) }
+        ensures refused { IfErr result (CopyRefused (node_at self.now.items path.now.items)) }
+        ensures subtree { IfOk result IsSubtree }
+        ensures slots { IfOk result (λ copy. IsSomeAnd (node_at self.now.items path.now.items) (λ node. count copy.inner ≡ count node.inner)) }
+    {
+        let Some(node) = self.node(path) else {
+            return Err(TreeFault::NotHere);
+        };
+        if hole_left(node.kind).is_none() {
+            return Err(TreeFault::NotHere);
+        }
+        let copy = node.copy(alloc)?;
+        Ok(copy)
+    }
+}
+
+impl Node {
+    /// An equal node, with what stands inside it; nothing in it is elided.
+    pub fn copy(&self, alloc: Global) -> Result<Node, OutOfMemory>
+        ensures copied { IfOk result (λ copy. IsCopy self.now copy) }
+        ensures subtree { IfOk result (λ copy. IsSubtree self.now → IsSubtree copy) }
+        ensures slots { IfOk result (λ copy. count copy.inner ≡ count self.now.inner) }
+        ensures depth { IfOk result (λ copy. depth copy.inner ≡ depth self.now.inner) }
+    {
+        let parts = copy_places(alloc, self.parts.as_slice())?;
+        let mut inner = Nodes::new(alloc);
+        for node in self.inner.as_slice() {
+            let copy = node.copy(alloc)?;
+            if let Err(_) = inner.push(copy) {
+                return Err(OutOfMemory);
+            }
+        }
+        Ok(Node {
+            slot: self.slot,
+            kind: self.kind,
+            elided: false,
+            parts,
+            inner,
+        })
+    }
+}
+
+/// Copies of what stands in the parts of a node.
+fn copy_places(alloc: Global, places: &[PhrasePlace]) -> Result<Vec<PhrasePlace>, OutOfMemory>
+    ensures { IfOk result (λ copies. map plain_place copies.items ≡ map plain_place places.now) }
+{
+    let mut copies = Vec::new(alloc);
+    for place in places {
+        copies.push(copy_place(alloc, place)?)?;
+    }
+    Ok(copies)
+}
+
+/// A copy of what stands in a part.
+fn copy_place(alloc: Global, place: &PhrasePlace) -> Result<PhrasePlace, OutOfMemory>
+    ensures { IfOk result (λ copy. plain_place copy ≡ plain_place place.now) }
+{
+    match place {
+        PhrasePlace::Empty => Ok(PhrasePlace::Empty),
+        PhrasePlace::Filled(phrase) => Ok(PhrasePlace::Filled(copy_phrase(alloc, phrase)?)),
+    }
+}
