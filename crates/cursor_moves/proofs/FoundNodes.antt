@@ -1,7 +1,7 @@
 -- What the code is told by an answer that is there or not.
-use Rattle.std.specs.Prelude.{◌≡◌, refl, Bool, true, false, Option, Some, None, option_map, IsSome, IsSomeAnd}
+use Rattle.std.specs.Prelude.{◌≡◌, refl, true, false, Option, Some, None, option_map, IsSome, IsSomeAnd}
 use Rattle.std.specs.Option.{is_some}
-use Rattle.std.proofs.Common.{sym, ◌∙◌}
+use Rattle.std.proofs.Common.{sym}
 use Rattle.std.proofs.Math.Bool.{false≢true}
 
 -- an answer that is there stands for one

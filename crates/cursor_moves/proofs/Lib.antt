@@ -1,8 +1,14 @@
--- the first and the last of lists that are put together
+-- `moved`, `first` and `last`: the first and the last of lists that are put together
 pub mod ListEnds
+-- `stops_are_distinct` and `stops_rise`: lists whose elements are apart
+pub mod ApartLists
+-- every answer of the code that is there or not
+pub mod FoundNodes
 -- nodes and their paths in listing order
 pub mod Nodes
 -- stops in listing order
 pub mod Stops
--- answers that are there or not
-pub mod FoundNodes
+-- the programs that tests build are programs
+pub mod TestPrograms
+-- the phrase that one of them has is one that a part may hold
+pub mod TestPhrases

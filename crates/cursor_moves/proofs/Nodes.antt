@@ -1,12 +1,17 @@
--- the node behind a node, in the list of the visible nodes
+-- Nodes and their paths in listing order.
+-- `moved`: a visible node in the list of all, and the one behind it
 pub mod NextNodes
--- what is listed as visible is so
+-- `moved`, `stops_are_listed`: what is listed as a visible node is one
 pub mod VisibleNodes
--- the lines of visible nodes rise
+-- `moved` of `down` and `up`, `stops_rise`: the lines of visible nodes rise
 pub mod RisingLines
--- paths that are one step longer
+-- `stops_are_distinct`: no node is listed twice
+pub mod DistinctNodes
+-- `ensures` of `node_behind`: paths that are one step longer
 pub mod PathSteps
--- the node before a node, and the last of all
-pub mod PreviousNodes
 -- `ensures` of `next_node`
 pub mod NextPaths
+-- `ensures` of `push_last_below`
+pub mod LastItems
+-- `next` of `previous_node`, and the last node of all
+pub mod PreviousNodes

@@ -1,12 +1,21 @@
--- the stops divided at one of them
+-- Stops in listing order.
+-- `moved`, `stops_are_listed`: the stops divided at one of them
 pub mod DividedStops
--- `stops_are_listed`: the cursor may stand exactly at the visible stops
+-- `stops_are_listed`
 pub mod ListedStops
--- `moved` of each move: where it begins
+-- `moved`: where a move begins, and what stands beside it
 pub mod StopMoves
--- `moved` of `right` and `down`
+-- `moved` of `right` and `down`, over lists
 pub mod NextStops
--- `moved` of `left` and `up`
+-- `moved` of `left` and `up`, over lists
 pub mod PreviousStops
--- `moved` and `stop` of all moves, as they are answered
+-- `moved` and `stop` of these four, as the code finds its answers
 pub mod AnsweredStops
+-- `first`, `last` and `stop` of `top` and `bottom`
+pub mod EndStops
+-- the two laws below: what holds of stops since it holds of their nodes
+pub mod ApartStops
+-- `stops_are_distinct`
+pub mod DistinctStops
+-- `stops_rise`
+pub mod RisingStops

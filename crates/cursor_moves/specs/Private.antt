@@ -1,5 +1,5 @@
 -- Words that private contracts alone cite: nobody has to believe them.
 -- ---- paths of visible nodes, one after the other
 pub mod NextPath
--- ---- the parts of a node, one after the other
-pub mod NextPart
+-- ---- numbers of parts and items
+pub mod Number

@@ -1,5 +1,5 @@
 -- The laws of stops.
-use Rattle.std.specs.Prelude.{◌≢◌, ◌↔◌, map, AllPairs, Contains}
+use Rattle.std.specs.Prelude.{◌≡◌, ◌≢◌, ◌↔◌, ◌⊎◌, ◌<◌, map, AllPairs, Contains}
 use Rattle.template_tree.specs.PlainTree.{Forest}
 use Rattle.template_tree.specs.Stop.{IsStop, PlainStop, Stops}
 
@@ -10,3 +10,11 @@ StopsAreListed = (items : Forest) (stop : PlainStop) → IsStop items stop ↔ C
 -- no stop is listed twice
 abbrev pub StopsAreDistinct : Type 0
 StopsAreDistinct = (items : Forest) → AllPairs (λ stop later. later ≢ stop) (map (λ listed. listed.stop) (Stops items))
+
+-- a later stop is at the same node and on the same line, or else on a later line
+abbrev pub StopsRise : Type 0
+StopsRise =
+    (items : Forest)
+    → AllPairs
+    (λ stop later. ((later.stop.path ≡ stop.stop.path) × (later.line ≡ stop.line)) ⊎ (stop.line < later.line))
+    (Stops items)

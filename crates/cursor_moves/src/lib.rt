@@ -1,5 +1,5 @@
 //! Moves of the cursor over the stops of a tree.
-#![tactic(auto, using(template_tree::specs::PlainTree::nodes_forest))]
+#![tactic(auto)]
 
 mod cursor_move;
 mod end;
@@ -17,4 +17,4 @@ pub use cursor_move::Move;
 pub use end::{bottom, top};
 pub use line::{down, up};
 pub use neighbour::{left, right};
-pub use stop_laws::{stops_are_distinct, stops_are_listed};
+pub use stop_laws::{stops_are_distinct, stops_are_listed, stops_rise};

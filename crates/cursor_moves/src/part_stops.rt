@@ -6,7 +6,7 @@ ghost use Rattle.template_tree.specs.Program.{parts_of};
 ghost use Rattle.template_tree.specs.Stop.{MayStand, plain_stop};
 ghost use Rattle.template_tree.specs.Stop.{part_stops as number_of_part_stops};
 ghost use Rattle.template_tree.specs.Tree.{IsTree};
-ghost use Rattle.cursor_moves.specs.Private.NextPart.{last_part, next_part as part_behind};
+ghost use Rattle.cursor_moves.specs.Private.Number.{last_number, next_number};
 
 use plcs_grammar::{NodeKind, Segment};
 use template_tree::{Path, Stop, Tree};
@@ -15,7 +15,7 @@ use template_tree::{Path, Stop, Tree};
 pub(crate) fn last_stop(tree: &Tree, path: Path) -> Stop
     requires tree { IsTree tree.now }
     requires there { IsSome (node_at tree.now.items path.items) }
-    ensures { IsSomeAnd (node_at tree.now.items path.items) (λ node. plain_stop result ≡ record { path = path.items; part = last_part (number_of_part_stops node.label.kind) }) }
+    ensures { IsSomeAnd (node_at tree.now.items path.items) (λ node. plain_stop result ≡ record { path = path.items; part = last_number (number_of_part_stops node.label.kind) }) }
 {
     let Some(node) = tree.node(&path) else {
         return Stop { path, part: None };
@@ -27,13 +27,17 @@ pub(crate) fn last_stop(tree: &Tree, path: Path) -> Stop
 /// The part behind a part of a node of the kind, or behind the node itself, if it is a stop.
 pub(crate) fn next_part(kind: NodeKind, part: Option<u8>) -> Option<u8>
     requires { MayStand part kind }
-    ensures { result ≡ part_behind (number_of_part_stops kind) part }
+    ensures { result ≡ next_number (number_of_part_stops kind) part }
 {
     let next = match part {
         Some(part) => part + 1,
         None => 0,
     };
-    if next < part_stops(kind) { Some(next) } else { None }
+    if next < part_stops(kind) {
+        Some(next)
+    } else {
+        None
+    }
 }
 
 /// How many parts of a node of the kind are stops.

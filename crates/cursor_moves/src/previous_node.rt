@@ -1,9 +1,11 @@
 //! The visible node before another one.
-ghost use Rattle.std.specs.Prelude.{◌≡◌, ◌+◌, ◌≤◌, ◌++◌, ◌∷◌, [], IfNone, IfSome, IsSome, IsSomeAnd, List, Some, length, ℕ};
+ghost use Rattle.std.specs.Prelude.{◌≡◌, ◌+◌, ◌≤◌, ◌++◌, ◌∷◌, [], IfNone, IfSome, IsSome, IsSomeAnd, List, None, Some, if◌then◌else◌, length, ℕ};
 ghost use Rattle.template_tree.specs.Limit.{deepest_path, most_slots};
+ghost use Rattle.template_tree.specs.PlainTree.{nodes};
 ghost use Rattle.template_tree.specs.Slots.{count, depth};
 ghost use Rattle.template_tree.specs.Stop.{visible_at};
 ghost use Rattle.template_tree.specs.Tree.{IsTree};
+ghost use Rattle.cursor_moves.specs.Private.Number.{last_number};
 ghost use Rattle.cursor_moves.specs.Private.NextPath.{IsLastBelow, next_of};
 
 use crate::path_copy::copy_of;
@@ -21,7 +23,11 @@ pub(crate) fn previous_node(tree: &Tree, path: &Path) -> Option<Path>
         return None;
     };
     let Some(before) = k.checked_sub(1) else {
-        return if previous.is_empty() { None } else { Some(previous) };
+        return if previous.is_empty() {
+            None
+        } else {
+            Some(previous)
+        };
     };
     previous.push(before);
     push_last(tree, &mut previous);
@@ -45,10 +51,7 @@ fn push_last_below(node: &Node, path: &mut Path)
     requires room { length path.old.items + depth node.now.inner ≤ deepest_path }
     ensures { (way : List ℕ) × (path.new.items ≡ path.old.items ++ way) × IsLastBelow node.now way }
 {
-    if node.is_elided() {
-        return;
-    }
-    let Some(k) = node.children().checked_sub(1) else {
+    let Some(k) = last_shown(node) else {
         return;
     };
     let Some(item) = node.child(k) else {
@@ -56,4 +59,15 @@ fn push_last_below(node: &Node, path: &mut Path)
     };
     path.push(k);
     push_last_below(item, path);
+}
+
+/// The number of the last visible item of the node, if there is one.
+fn last_shown(node: &Node) -> Option<u32>
+    requires few { count node.now.inner ≤ most_slots }
+    ensures { result ≡ (if node.now.label.elided then None else last_number (length (nodes node.now.inner))) }
+{
+    if node.is_elided() {
+        return None;
+    }
+    node.children().checked_sub(1)
 }

@@ -1,28 +1,65 @@
 //! Tests of all moves over a program with every template, against its stops as written by hand.
+ghost use Rattle.std.specs.Prelude.{◌≡◌, ◌++◌, ◌∷◌, [], IfOk, None, Some, map, replicate};
+ghost use Rattle.plcs_grammar.specs.declared.node_kind.NodeKind.{NodeKind};
+ghost use Rattle.plcs_grammar.specs.declared.node_kind.Sort.{Sort};
+ghost use Rattle.plcs_grammar.specs.declared.template.Template.{Template};
+ghost use Rattle.plcs_grammar.specs.PlainForm.{plain_phrase};
+ghost use Rattle.plcs_grammar.specs.PlainPhrase.{PlainExpr, PlainPhrase, PlainVarRef};
+ghost use Rattle.plcs_grammar.specs.Template.{block, row_of};
+ghost use Rattle.template_tree.specs.PlainPlace.{plain_place};
+ghost use Rattle.template_tree.specs.PlainTree.{forest};
+ghost use Rattle.template_tree.specs.Program.{AreNodes, AreParts, Fill, IsSubtree, parts_of, sort_of, sorts};
+ghost use Rattle.template_tree.specs.Tree.{IsTree};
+
 use super::*;
 use plcs_base::Name;
 use plcs_grammar::{Expr, NodeKind, Phrase, Template, VarRef};
 use std::alloc::Global;
 use std::test::Fail;
-use template_tree::{Node, Nodes, Path, PhrasePlace, Stop, Tree};
+use template_tree::{Node, Nodes, Path, PhrasePlace, Tree};
 
 /// A stop as it is written by hand: its line counted from 0, the path of its node, and its part.
 type Row = (u32, &'static [u32], Option<u8>);
 
+/// A list of one node.
+fn one(alloc: Global, node: Node) -> Result<Nodes, Fail>
+    requires node { IsSubtree node }
+    ensures nodes { IfOk result (λ list. AreNodes (forest list.items)) }
+    ensures sorts { IfOk result (λ list. sorts (forest list.items) ≡ sort_of node.label.kind ∷ []) }
+{
+    let mut list = Nodes::new(alloc);
+    list.push(node).map_err(|_| "a node")?;
+    Ok(list)
+}
+
 /// The list with one more node.
-fn with(list: Nodes, node: Node) -> Result<Nodes, Fail> {
+fn with(list: Nodes, node: Node) -> Result<Nodes, Fail>
+    requires list { AreNodes (forest list.items) }
+    requires node { IsSubtree node }
+    ensures nodes { IfOk result (λ more. AreNodes (forest more.items)) }
+    ensures sorts { IfOk result (λ more. sorts (forest more.items) ≡ sorts (forest list.items) ++ sort_of node.label.kind ∷ []) }
+{
+    let more = pushed(list, node)?;
+    Ok(more)
+}
+
+/// The list with the node put at its end.
+fn pushed(list: Nodes, node: Node) -> Result<Nodes, Fail>
+    ensures { IfOk result (λ more. more.items ≡ list.items ++ node ∷ []) }
+{
     let mut list = list;
     list.push(node).map_err(|_| "a node")?;
     Ok(list)
 }
 
-/// A list of one node.
-fn one(alloc: Global, node: Node) -> Result<Nodes, Fail> {
-    with(Nodes::new(alloc), node)
-}
-
 /// A node with so many empty parts.
-fn node(alloc: Global, kind: NodeKind, count: u8, inner: Nodes) -> Result<Node, Fail> {
+fn node(alloc: Global, kind: NodeKind, count: u8, inner: Nodes) -> Result<Node, Fail>
+    requires parts { AreParts (parts_of (row_of kind).line) (replicate count None) }
+    requires inner { Fill (row_of kind).sections (sorts (forest inner.items)) }
+    requires nodes { AreNodes (forest inner.items) }
+    ensures node { IfOk result IsSubtree }
+    ensures kind { IfOk result (λ node. node.label.kind ≡ kind) }
+{
     let mut parts = Vec::new(alloc);
     for _ in 0..count {
         parts.push(PhrasePlace::Empty).map_err(|_| "a part")?;
@@ -30,107 +67,223 @@ fn node(alloc: Global, kind: NodeKind, count: u8, inner: Nodes) -> Result<Node, 
     Ok(Node::built(kind, parts, inner))
 }
 
-/// A template around these nodes, with so many empty parts.
-fn filled(alloc: Global, template: Template, count: u8, inner: Nodes) -> Result<Node, Fail> {
-    node(alloc, NodeKind::Filled(template), count, inner)
+/// A node with so many empty parts and with nothing inside.
+fn leaf(alloc: Global, kind: NodeKind, count: u8) -> Result<Node, Fail>
+    requires parts { AreParts (parts_of (row_of kind).line) (replicate count None) }
+    requires alone { (row_of kind).sections ≡ [] }
+    ensures node { IfOk result IsSubtree }
+    ensures kind { IfOk result (λ node. node.label.kind ≡ kind) }
+{
+    node(alloc, kind, count, Nodes::new(alloc))
 }
 
-/// A template with nothing inside, with so many empty parts.
-fn simple(alloc: Global, template: Template, count: u8) -> Result<Node, Fail> {
-    filled(alloc, template, count, Nodes::new(alloc))
-}
-
-/// A hole, or another node with no parts and nothing inside.
-fn bare(alloc: Global, kind: NodeKind) -> Result<Node, Fail> {
-    node(alloc, kind, 0, Nodes::new(alloc))
+/// A statement with so many empty parts and with nothing inside.
+fn statement(alloc: Global, template: Template, count: u8) -> Result<Node, Fail>
+    requires parts { AreParts (parts_of (row_of (NodeKind.Filled template)).line) (replicate count None) }
+    requires alone { (row_of (NodeKind.Filled template)).sections ≡ [] }
+    requires statement { sort_of (NodeKind.Filled template) ≡ Sort.Statement }
+    ensures node { IfOk result IsSubtree }
+    ensures sort { IfOk result (λ node. sort_of node.label.kind ≡ Sort.Statement) }
+{
+    leaf(alloc, NodeKind::Filled(template), count)
 }
 
 /// A statement hole.
-fn hole(alloc: Global) -> Result<Node, Fail> {
-    bare(alloc, NodeKind::StatementHole)
+fn hole(alloc: Global) -> Result<Node, Fail>
+    ensures node { IfOk result IsSubtree }
+    ensures sort { IfOk result (λ node. sort_of node.label.kind ≡ Sort.Statement) }
+{
+    leaf(alloc, NodeKind::StatementHole, 0)
 }
 
 /// A list of one statement hole.
-fn holes(alloc: Global) -> Result<Nodes, Fail> {
+fn holes(alloc: Global) -> Result<Nodes, Fail>
+    ensures nodes { IfOk result (λ list. AreNodes (forest list.items)) }
+    ensures sorts { IfOk result (λ list. sorts (forest list.items) ≡ Sort.Statement ∷ []) }
+{
     one(alloc, hole(alloc)?)
 }
 
-/// What stands in a procedure with one hole of each sort.
-fn empty_block(alloc: Global) -> Result<Nodes, Fail> {
-    with(
-        one(alloc, bare(alloc, NodeKind::DeclarationHole)?)?,
-        hole(alloc)?,
-    )
+/// A list of one declaration hole.
+fn declaration_holes(alloc: Global) -> Result<Nodes, Fail>
+    ensures nodes { IfOk result (λ list. AreNodes (forest list.items)) }
+    ensures sorts { IfOk result (λ list. sorts (forest list.items) ≡ Sort.Declaration ∷ []) }
+{
+    one(alloc, leaf(alloc, NodeKind::DeclarationHole, 0)?)
 }
 
-/// The variable without a subscript.
-fn variable(name: Name) -> VarRef {
-    VarRef { name, index: None }
+/// What stands in a procedure with one hole of each sort.
+fn empty_block(alloc: Global) -> Result<Nodes, Fail>
+    ensures nodes { IfOk result (λ list. AreNodes (forest list.items)) }
+    ensures filled { IfOk result (λ list. Fill block (sorts (forest list.items))) }
+{
+    let list = with(declaration_holes(alloc)?, hole(alloc)?)?;
+    Ok(list)
 }
 
 /// `x = y`.
-fn assignment(alloc: Global) -> Result<Node, Fail> {
+fn copying() -> Result<Phrase, Fail>
+    ensures { IfOk result (λ phrase. plain_phrase phrase ≡ PlainPhrase.assignment (PlainVarRef.simple (120 ∷ [])) (PlainExpr.variable (PlainVarRef.simple (121 ∷ [])))) }
+{
     let x = Name::read(b"x").ok_or("a name")?;
     let y = Name::read(b"y").ok_or("a name")?;
-    let phrase = Phrase::Assignment(variable(x), Expr::Var(variable(y)));
+    let target = VarRef {
+        name: x,
+        index: None,
+    };
+    let value = VarRef {
+        name: y,
+        index: None,
+    };
+    Ok(Phrase::Assignment(target, Expr::Var(value)))
+}
+
+/// One part with the phrase in it.
+fn one_part(alloc: Global, phrase: Phrase) -> Result<Vec<PhrasePlace>, Fail>
+    ensures { IfOk result (λ parts. map plain_place parts.items ≡ Some (plain_phrase phrase) ∷ []) }
+{
     let mut parts = Vec::new(alloc);
     parts
         .push(PhrasePlace::Filled(phrase))
         .map_err(|_| "a part")?;
+    Ok(parts)
+}
+
+/// An assignment.
+fn assignment(alloc: Global) -> Result<Node, Fail>
+    ensures node { IfOk result IsSubtree }
+    ensures sort { IfOk result (λ node. sort_of node.label.kind ≡ Sort.Statement) }
+{
+    let parts = one_part(alloc, copying()?)?;
     Ok(Node::built(NodeKind::Assign, parts, Nodes::new(alloc)))
 }
 
-/// A comment with a statement, a comment with a hole, and a hole.
-fn nested_comments(alloc: Global) -> Result<Node, Fail> {
-    let inner = filled(alloc, Template::Comment, 1, holes(alloc)?)?;
-    let list = one(alloc, simple(alloc, Template::Put, 1)?)?;
-    filled(
-        alloc,
-        Template::Comment,
-        1,
-        with(with(list, inner)?, hole(alloc)?)?,
-    )
+/// A statement template around one hole, with so many empty parts.
+fn around_hole(alloc: Global, template: Template, count: u8) -> Result<Node, Fail>
+    requires parts { AreParts (parts_of (row_of (NodeKind.Filled template)).line) (replicate count None) }
+    requires inner { Fill (row_of (NodeKind.Filled template)).sections (Sort.Statement ∷ []) }
+    requires statement { sort_of (NodeKind.Filled template) ≡ Sort.Statement }
+    ensures node { IfOk result IsSubtree }
+    ensures sort { IfOk result (λ node. sort_of node.label.kind ≡ Sort.Statement) }
+{
+    node(alloc, NodeKind::Filled(template), count, holes(alloc)?)
 }
 
-/// The declarations and statements of main.
-fn body(alloc: Global) -> Result<Nodes, Fail> {
-    let mut list = Nodes::new(alloc);
-    list = with(list, simple(alloc, Template::Fixed, 1)?)?;
-    list = with(list, simple(alloc, Template::Bit, 1)?)?;
-    list = with(list, simple(alloc, Template::Char, 2)?)?;
-    list = with(list, bare(alloc, NodeKind::DeclarationHole)?)?;
-    list = with(list, assignment(alloc)?)?;
-    list = with(list, filled(alloc, Template::If, 1, holes(alloc)?)?)?;
+/// An IF with two ways: a hole, and an assignment.
+fn two_ways(alloc: Global) -> Result<Node, Fail>
+    ensures node { IfOk result IsSubtree }
+    ensures sort { IfOk result (λ node. sort_of node.label.kind ≡ Sort.Statement) }
+{
     let ways = with(holes(alloc)?, assignment(alloc)?)?;
-    list = with(list, filled(alloc, Template::IfElse, 1, ways)?)?;
-    let run = with(holes(alloc)?, simple(alloc, Template::Return, 0)?)?;
-    let run = with(run, hole(alloc)?)?;
-    list = with(list, filled(alloc, Template::While, 1, run)?)?;
-    list = with(list, filled(alloc, Template::For, 4, holes(alloc)?)?)?;
-    list = with(list, filled(alloc, Template::Group, 0, holes(alloc)?)?)?;
-    more_statements(alloc, list)
+    node(alloc, NodeKind::Filled(Template::IfElse), 1, ways)
 }
 
-/// The list with the other statements of main.
-fn more_statements(alloc: Global, list: Nodes) -> Result<Nodes, Fail> {
-    let mut list = list;
-    list = with(list, simple(alloc, Template::Get, 1)?)?;
-    list = with(list, simple(alloc, Template::Put, 1)?)?;
-    list = with(list, simple(alloc, Template::PutSkip, 1)?)?;
-    list = with(list, simple(alloc, Template::Call, 1)?)?;
-    list = with(list, simple(alloc, Template::Return, 0)?)?;
-    list = with(list, nested_comments(alloc)?)?;
-    list = with(list, nested_comments(alloc)?)?;
+/// A loop over a hole, a RETURN and a hole.
+fn long_loop(alloc: Global) -> Result<Node, Fail>
+    ensures node { IfOk result IsSubtree }
+    ensures sort { IfOk result (λ node. sort_of node.label.kind ≡ Sort.Statement) }
+{
+    let list = with(holes(alloc)?, statement(alloc, Template::Return, 0)?)?;
+    let list = with(list, hole(alloc)?)?;
+    node(alloc, NodeKind::Filled(Template::While), 1, list)
+}
+
+/// A comment with a statement, a comment with a hole, and a hole.
+fn nested_comments(alloc: Global) -> Result<Node, Fail>
+    ensures node { IfOk result IsSubtree }
+    ensures sort { IfOk result (λ node. sort_of node.label.kind ≡ Sort.Statement) }
+{
+    let inner = around_hole(alloc, Template::Comment, 1)?;
+    let list = one(alloc, statement(alloc, Template::Put, 1)?)?;
+    let list = with(list, inner)?;
+    let list = with(list, hole(alloc)?)?;
+    node(alloc, NodeKind::Filled(Template::Comment), 1, list)
+}
+
+/// A declaration of each kind, and a hole.
+fn declarations(alloc: Global) -> Result<Nodes, Fail>
+    ensures nodes { IfOk result (λ list. AreNodes (forest list.items)) }
+    ensures sorts { IfOk result (λ list. sorts (forest list.items) ≡ replicate 4 Sort.Declaration) }
+{
+    let list = one(alloc, leaf(alloc, NodeKind::Filled(Template::Fixed), 1)?)?;
+    let list = with(list, leaf(alloc, NodeKind::Filled(Template::Bit), 1)?)?;
+    let list = with(list, leaf(alloc, NodeKind::Filled(Template::Char), 2)?)?;
+    with(list, leaf(alloc, NodeKind::DeclarationHole, 0)?)
+}
+
+/// The list with an assignment and the statements that others stand in.
+fn with_loops(alloc: Global, list: Nodes) -> Result<Nodes, Fail>
+    requires list { AreNodes (forest list.items) }
+    ensures nodes { IfOk result (λ more. AreNodes (forest more.items)) }
+    ensures sorts { IfOk result (λ more. sorts (forest more.items) ≡ sorts (forest list.items) ++ replicate 6 Sort.Statement) }
+{
+    let list = with(list, assignment(alloc)?)?;
+    let list = with(list, around_hole(alloc, Template::If, 1)?)?;
+    let list = with(list, two_ways(alloc)?)?;
+    let list = with(list, long_loop(alloc)?)?;
+    let list = with(list, around_hole(alloc, Template::For, 4)?)?;
+    with(list, around_hole(alloc, Template::Group, 0)?)
+}
+
+/// The list with the other statements, and a hole.
+fn with_others(alloc: Global, list: Nodes) -> Result<Nodes, Fail>
+    requires list { AreNodes (forest list.items) }
+    ensures nodes { IfOk result (λ more. AreNodes (forest more.items)) }
+    ensures sorts { IfOk result (λ more. sorts (forest more.items) ≡ sorts (forest list.items) ++ replicate 8 Sort.Statement) }
+{
+    let list = with(list, statement(alloc, Template::Get, 1)?)?;
+    let list = with(list, statement(alloc, Template::Put, 1)?)?;
+    let list = with(list, statement(alloc, Template::PutSkip, 1)?)?;
+    let list = with(list, statement(alloc, Template::Call, 1)?)?;
+    let list = with(list, statement(alloc, Template::Return, 0)?)?;
+    let list = with(list, nested_comments(alloc)?)?;
+    let list = with(list, nested_comments(alloc)?)?;
     with(list, hole(alloc)?)
 }
 
+/// Main with every declaration and statement.
+fn main_procedure(alloc: Global) -> Result<Node, Fail>
+    ensures node { IfOk result IsSubtree }
+    ensures sort { IfOk result (λ node. sort_of node.label.kind ≡ Sort.Main) }
+{
+    let list = declarations(alloc)?;
+    let list = with_loops(alloc, list)?;
+    let list = with_others(alloc, list)?;
+    node(alloc, NodeKind::Main, 0, list)
+}
+
 /// A program with every template.
-fn every_template(alloc: Global) -> Result<Tree, Fail> {
-    let main = node(alloc, NodeKind::Main, 0, body(alloc)?)?;
-    let mut list = one(alloc, main)?;
-    list = with(list, filled(alloc, Template::Proc, 1, empty_block(alloc)?)?)?;
-    list = with(list, filled(alloc, Template::ProcP, 2, empty_block(alloc)?)?)?;
-    list = with(list, bare(alloc, NodeKind::ProcedureHole)?)?;
+fn every_template(alloc: Global) -> Result<Tree, Fail>
+    ensures { IfOk result IsTree }
+{
+    let proc = node(
+        alloc,
+        NodeKind::Filled(Template::Proc),
+        1,
+        empty_block(alloc)?,
+    )?;
+    let procp = node(
+        alloc,
+        NodeKind::Filled(Template::ProcP),
+        2,
+        empty_block(alloc)?,
+    )?;
+    let list = one(alloc, main_procedure(alloc)?)?;
+    let list = with(list, proc)?;
+    let list = with(list, procp)?;
+    let list = with(list, leaf(alloc, NodeKind::ProcedureHole, 0)?)?;
+    let tree = Tree::built(list).map_err(|_| "a tree")?;
+    Ok(tree)
+}
+
+/// A program whose last procedure ends with comments.
+fn ending_with_comments(alloc: Global) -> Result<Tree, Fail>
+    ensures { IfOk result IsTree }
+{
+    let list = with(declaration_holes(alloc)?, nested_comments(alloc)?)?;
+    let last = node(alloc, NodeKind::Filled(Template::Proc), 1, list)?;
+    let main = node(alloc, NodeKind::Main, 0, empty_block(alloc)?)?;
+    let list = with(one(alloc, main)?, last)?;
     let tree = Tree::built(list).map_err(|_| "a tree")?;
     Ok(tree)
 }
@@ -160,13 +313,19 @@ fn below(rows: &[Row], line: u32) -> Option<&Row> {
 
 /// The first row on the nearest line before this one that has a row.
 fn above(rows: &[Row], line: u32) -> Option<&Row> {
-    let nearest = rows.iter().map(|row| row.0).filter(|other| *other < line).max()?;
+    let nearest = rows
+        .iter()
+        .map(|row| row.0)
+        .filter(|other| *other < line)
+        .max()?;
     rows.iter().find(|row| row.0 == nearest)
 }
 
 /// Goes over all stops and compares each move at each of them with the rows: the number of the first
 /// row at which one differs.
-fn difference(tree: &Tree, rows: &[Row]) -> Option<usize> {
+fn difference(tree: &Tree, rows: &[Row]) -> Option<usize>
+    requires tree { IsTree tree.now }
+{
     let mut at = top(tree);
     for (k, here) in rows.iter().enumerate() {
         let before = k.checked_sub(1).and_then(|before| rows.get(before));
@@ -186,7 +345,9 @@ fn difference(tree: &Tree, rows: &[Row]) -> Option<usize> {
 }
 
 /// Compares the first and the last stop with the rows.
-fn ends_are(tree: &Tree, rows: &[Row]) -> bool {
+fn ends_are(tree: &Tree, rows: &[Row]) -> bool
+    requires tree { IsTree tree.now }
+{
     goes_to(&Move::Moved(top(tree)), rows.first())
         && goes_to(&Move::Moved(bottom(tree)), rows.last())
 }
@@ -265,12 +426,7 @@ fn moves_go_over_every_template(rt: HostRuntime) -> Result<(), Fail> {
 
 #[test]
 fn the_last_stop_may_be_a_hidden_comments_part(rt: HostRuntime) -> Result<(), Fail> {
-    let alloc = rt.alloc();
-    let block = one(alloc, bare(alloc, NodeKind::DeclarationHole)?)?;
-    let block = with(block, nested_comments(alloc)?)?;
-    let main = node(alloc, NodeKind::Main, 0, empty_block(alloc)?)?;
-    let last = filled(alloc, Template::Proc, 1, block)?;
-    let mut tree = Tree::built(with(one(alloc, main)?, last)?).map_err(|_| "a tree")?;
+    let mut tree = ending_with_comments(rt.alloc())?;
     assert!(rt; tree.elide(&path(&[1, 1])?) == Some(true));
     let rows: [Row; 8] = [
         (0, &[0], None),

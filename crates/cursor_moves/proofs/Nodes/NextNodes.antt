@@ -12,7 +12,6 @@ use Rattle.template_tree.specs.Line.{lines, fixed_line}
 use Rattle.template_tree.specs.Stop.{VisibleNode, inside, part_stops, visible_at, visible_nodes}
 use Rattle.cursor_moves.specs.Move.{first_of}
 use Rattle.cursor_moves.specs.Private.NextPath.{first_inside, inner_of, item_behind, next_with}
-use Rattle.cursor_moves.proofs.ListEnds.{first_append, first_map, map_map, map_or}
 
 -- a path whose first number is counted from this one
 abbrev pub from : ℕ → List ℕ → List ℕ

@@ -1,15 +1,14 @@
 -- Paths one step longer, and the last node below a node.
-use Rattle.std.specs.Prelude.{◌≡◌, refl, ℕ, zero, suc, ◌+◌, ◌<◌, ◌≤◌, max, Bool, true, false, if◌then◌else◌, List, [], ◌∷◌, ◌++◌, length, Option, Some, None, option_and_then, option_map, slice_get, IsSome, IsSomeAnd}
+use Rattle.std.specs.Prelude.{◌≡◌, refl, ℕ, zero, suc, ◌+◌, ◌<◌, ◌≤◌, max, Bool, true, false, if◌then◌else◌, List, [], ◌∷◌, ◌++◌, length, Option, Some, None, option_and_then, option_map, slice_get, IsSomeAnd}
 use Rattle.std.specs.Option.{option_map_or, option_or}
-use Rattle.std.proofs.Common.{ap, sym, ◌∙◌, subst, arith, append_assoc}
-use Rattle.std.proofs.lemmas.Option.{none-some, same_Some, slice_get_cases}
-use Rattle.std.proofs.lemmas.List.{append-nil}
+use Rattle.std.proofs.Common.{ap, sym, ◌∙◌, subst, arith}
+use Rattle.std.proofs.lemmas.Option.{none-some, same_Some}
 use Rattle.template_tree.specs.PlainTree.{Forest, PlainNode, nodes}
 use Rattle.template_tree.specs.Path.{below, node_at}
 use Rattle.template_tree.specs.Slots.{count, depth}
 use Rattle.template_tree.specs.Stop.{visible_at, visible_below}
-use Rattle.cursor_moves.specs.Private.NextPath.{IsLastBelow, LeadsOn, first_inside, inner_of, item_behind, next_of, next_with}
-use Rattle.cursor_moves.proofs.ListEnds.{map_map, map_or, or_assoc, or_none}
+use Rattle.cursor_moves.specs.Private.NextPath.{LeadsOn, inner_of, item_behind, next_with}
+use Rattle.cursor_moves.proofs.ListEnds.{map_map, map_or, or_assoc}
 
 -- the node that is there
 pub there : {X : Type 0} (P : X → Type 0) (o : Option X) → IsSomeAnd o P → (x : X) × (o ≡ Some x) × P x

@@ -1,8 +1,8 @@
 -- The visible node before another one, and the last one.
-use Rattle.std.specs.Prelude.{◌≡◌, refl, ℕ, zero, suc, ◌+◌, ◌-◌, ◌<◌, ◌≤◌, Bool, true, false, if◌then◌else◌, List, [], ◌∷◌, ◌++◌, length, Option, Some, None, option_and_then, option_map, slice_get, IsSome, IsSomeAnd, ◌==◌}
+use Rattle.std.specs.Prelude.{◌≡◌, refl, ℕ, ◌+◌, false, if◌then◌else◌, List, [], ◌∷◌, ◌++◌, length, Option, Some, None, option_and_then, option_map, slice_get, IsSome, IsSomeAnd, ◌==◌}
 use Rattle.std.specs.Option.{option_or}
-use Rattle.std.proofs.Common.{ap, sym, ◌∙◌, subst, arith, append_assoc}
-use Rattle.std.proofs.lemmas.Option.{none-some, same_Some, slice_get_past, slice_get_within, slice_get-get_or}
+use Rattle.std.proofs.Common.{ap, sym, ◌∙◌, arith, append_assoc}
+use Rattle.std.proofs.lemmas.Option.{none-some, same_Some, slice_get_within, slice_get-get_or}
 use Rattle.std.proofs.lemmas.List.{append-nil}
 use Rattle.template_tree.specs.PlainTree.{Forest, PlainNode, nodes}
 use Rattle.template_tree.specs.Path.{below, node_at}

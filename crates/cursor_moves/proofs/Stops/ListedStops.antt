@@ -1,8 +1,7 @@
 -- The cursor may stand exactly at the visible stops.
-use Rattle.std.specs.Prelude.{◌≡◌, refl, ℕ, zero, suc, ◌+◌, ◌<◌, ◌↔◌, List, [], ◌∷◌, ◌++◌, length, map, flat_map, All, Contains, Option, Some, None, IsSomeAnd, get_or}
+use Rattle.std.specs.Prelude.{◌≡◌, refl, ℕ, ◌+◌, ◌<◌, List, [], ◌∷◌, ◌++◌, length, map, flat_map, All, Contains, Option, Some, None, IsSomeAnd}
 use Rattle.std.specs.List.{range_with_len}
-use Rattle.std.proofs.Common.{ap, sym, ◌∙◌, subst, arith, add-zero, length-append}
-use Rattle.std.proofs.lemmas.Option.{none-some}
+use Rattle.std.proofs.Common.{ap, sym, ◌∙◌, subst, arith, length-append}
 use Rattle.std.proofs.lemmas.List.{get_or_at, map-append}
 use Rattle.std.proofs.lemmas.List.FromFn.{get_or-range_with_len, length-range_with_len}
 use Rattle.std.proofs.lemmas.List.Elements.{All-append, All-cons, All-contains, All-head, All-map, All-nil, All-tail, All-weaker}
@@ -92,6 +91,8 @@ stop_stands items (k ∷ path) part h =
 
 -- the cursor may stand exactly at the listed stops
 pub listed : StopsAreListed
-listed items stop =
-    (stop_stands items stop.path stop.part, λ h. All-contains (IsStop items) (map (λ listed. listed.stop) (Stops items)) stop
-    (All-map (IsStop items) (λ listed. listed.stop) (Stops items) (all_stops items)) h)
+listed items stop = (
+  stop_stands items stop.path stop.part,
+  λ h. All-contains (IsStop items) (map (λ listed. listed.stop) (Stops items)) stop
+      (All-map (IsStop items) (λ listed. listed.stop) (Stops items) (all_stops items)) h,
+)

@@ -1,5 +1,5 @@
 -- Moves to the next stop, and to the next line.
-use Rattle.std.specs.Prelude.{◌≡◌, refl, ℕ, ◌+◌, nat_lt, Bool, true, false, length, List, [], ◌∷◌, ◌++◌, map, find, flat_map, All, Option, Some, None, option_map}
+use Rattle.std.specs.Prelude.{◌≡◌, refl, ℕ, ◌+◌, nat_lt, Bool, true, false, length, List, [], ◌∷◌, ◌++◌, find, flat_map, Option, Some, None, option_map}
 use Rattle.std.specs.Option.{option_or}
 use Rattle.std.proofs.Common.{ap, sym, ◌∙◌, subst, arith}
 use Rattle.std.proofs.lemmas.Bool.{le-ltb, lt-ltb}
@@ -9,13 +9,13 @@ use Rattle.plcs_grammar.specs.Template.{program_sections}
 use Rattle.template_tree.specs.Line.{lines}
 use Rattle.template_tree.specs.Stop.{MayStand, PlainStop, Stops, VisibleNode, VisibleStop, part_stops, stops_of, visible_at}
 use Rattle.cursor_moves.specs.Move.{IsMove, first_of, next_stop, stop_below}
-use Rattle.cursor_moves.specs.Private.NextPart.{next_part}
+use Rattle.cursor_moves.specs.Private.Number.{next_number}
 use Rattle.cursor_moves.specs.Private.NextPath.{next_of}
 use Rattle.cursor_moves.proofs.ListEnds.{first_append, map_map, map_or}
 use Rattle.cursor_moves.proofs.Nodes.RisingLines.{Rises, rises, rises_behind}
 use Rattle.cursor_moves.proofs.Stops.DividedStops.{rear, stop_of}
 use Rattle.cursor_moves.proofs.Stops.ListedStops.{within}
-use Rattle.cursor_moves.proofs.Stops.StopMoves.{all_nodes, find_none, first_rear, move_at, place_of, rear_line}
+use Rattle.cursor_moves.proofs.Stops.StopMoves.{find_none, first_rear, move_at, place_of, rear_line}
 
 -- the stop of a node itself
 abbrev pub node_stop : List ℕ → PlainStop
@@ -36,18 +36,18 @@ own_path (node ∷ nodes) next e = ap (option_map node_stop) e
 pub next_move : (items : Forest) (stop : PlainStop) (node : PlainNode) (to : Option PlainStop)
     → visible_at items stop.path ≡ Some node → MayStand stop.part node.label.kind
     → to
-    ≡ option_or (option_map (λ part. record { path = stop.path; part = Some part }) (next_part (part_stops node.label.kind) stop.part))
+    ≡ option_or (option_map (λ part. record { path = stop.path; part = Some part }) (next_number (part_stops node.label.kind) stop.part))
     (option_map node_stop (next_of items stop.path))
     → IsMove next_stop (Stops items) stop to
 next_move items stop node to there stands goes =
     let place = place_of items stop.path node there in
     let here = place.here in
     let plain : VisibleStop → PlainStop = λ chosen. chosen.stop in
-    let next = next_part (part_stops node.label.kind) stop.part in
+    let next = next_number (part_stops node.label.kind) stop.part in
     let part : option_map plain (first_of (rear here stop.part)) ≡ option_map (λ part. record { path = stop.path; part = Some part }) next =
     ap (option_map plain) (first_rear here stop.part)
-    ∙ map_map plain (λ n. stop_of here (Some n)) (next_part here.parts stop.part)
-    ∙ ap (λ parts. option_map (λ n. plain (stop_of here (Some n))) (next_part parts stop.part)) place.parts_are
+    ∙ map_map plain (λ n. stop_of here (Some n)) (next_number here.parts stop.part)
+    ∙ ap (λ parts. option_map (λ n. plain (stop_of here (Some n))) (next_number parts stop.part)) place.parts_are
     ∙ ap (λ way. option_map (λ n. record { path = way; part = Some n }) next) place.path_is in
     let behind : option_map plain (first_of (flat_map stops_of place.behind)) ≡ option_map node_stop (next_of items stop.path) =
     ap (option_map plain) (first_flat place.behind) ∙ own_path place.behind (next_of items stop.path) place.next_is in

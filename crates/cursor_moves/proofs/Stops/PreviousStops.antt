@@ -1,5 +1,5 @@
 -- Moves to the previous stop, and to the line before.
-use Rattle.std.specs.Prelude.{◌≡◌, refl, ℕ, zero, suc, ◌+◌, ◌<◌, ◌==◌, nat_lt, Bool, true, false, length, List, [], ◌∷◌, ◌++◌, map, filter, find, flat_map, All, Option, Some, None, option_and_then, option_map}
+use Rattle.std.specs.Prelude.{◌≡◌, refl, ℕ, ◌+◌, ◌<◌, ◌==◌, nat_lt, Bool, true, false, length, List, [], ◌∷◌, ◌++◌, filter, find, flat_map, All, Option, Some, None, option_and_then, option_map}
 use Rattle.std.specs.Option.{option_or}
 use Rattle.std.proofs.Common.{ap, sym, ◌∙◌, subst, arith, append_assoc}
 use Rattle.std.proofs.lemmas.Bool.{eq-eqb, le-ltb, lt-ltb, ne_eqb}
@@ -8,18 +8,17 @@ use Rattle.std.proofs.lemmas.List.{append-nil}
 use Rattle.std.proofs.lemmas.List.Concat.{flat_map-append}
 use Rattle.std.proofs.lemmas.List.Elements.{All-cons, All-contains, All-nil, All-weaker, filter-append}
 use Rattle.std.proofs.lemmas.List.Folds.{find-append}
-use Rattle.plcs_grammar.specs.declared.node_kind.NodeKind.{NodeKind}
 use Rattle.plcs_grammar.specs.Template.{program_sections}
 use Rattle.template_tree.specs.Line.{lines}
 use Rattle.template_tree.specs.PlainTree.{Forest, PlainNode}
 use Rattle.template_tree.specs.Stop.{MayStand, PlainStop, Stops, VisibleNode, VisibleStop, part_stops, stops_of, visible_at}
 use Rattle.cursor_moves.specs.Move.{IsMove, above_line, first_of, last_of, previous_stop, stop_above}
-use Rattle.cursor_moves.specs.Private.NextPart.{last_part}
+use Rattle.cursor_moves.specs.Private.Number.{last_number}
 use Rattle.cursor_moves.specs.Private.NextPath.{first_inside, next_of, next_with}
 use Rattle.cursor_moves.proofs.ListEnds.{last_append}
 use Rattle.cursor_moves.proofs.Nodes.RisingLines.{Rises, rises, rises_before, rises_on}
 use Rattle.cursor_moves.proofs.Nodes.VisibleNodes.{IsListedFrom, all_listed}
-use Rattle.cursor_moves.proofs.Stops.DividedStops.{ahead, rear, stop_of}
+use Rattle.cursor_moves.proofs.Stops.DividedStops.{ahead, stop_of}
 use Rattle.cursor_moves.proofs.Stops.ListedStops.{all_flat, contains_at, from_zero, within}
 use Rattle.cursor_moves.proofs.Stops.NextStops.{node_stop}
 use Rattle.cursor_moves.proofs.Stops.StopMoves.{ahead_line, all_nodes, filter_all, filter_none, find_none, last_own, move_at, own_line, place_of}
@@ -113,8 +112,8 @@ first_node (Forest.cons label inner rest) node e =
     }
 
 -- the last stop of these nodes is the last one of the last node
-last_flat : (before : List VisibleNode) (previous : VisibleNode)
-    → last_of (flat_map stops_of (before ++ previous ∷ [])) ≡ Some (stop_of previous (last_part previous.parts))
+pub last_flat : (before : List VisibleNode) (previous : VisibleNode)
+    → last_of (flat_map stops_of (before ++ previous ∷ [])) ≡ Some (stop_of previous (last_number previous.parts))
 last_flat before previous =
     ap last_of (flat_map-append stops_of before (previous ∷ []) ∙ ap (λ stops. flat_map stops_of before ++ stops) (append-nil (stops_of previous)))
     ∙ last_append (flat_map stops_of before) (stops_of previous)
@@ -123,7 +122,7 @@ last_flat before previous =
 -- the move from a part to the previous stop: to the previous part, or to the node itself
 pub move_from_part : (items : Forest) (path : List ℕ) (part : ℕ) (node : PlainNode) (to : Option PlainStop)
     → visible_at items path ≡ Some node → MayStand (Some part) node.label.kind
-    → to ≡ Some record { path = path; part = last_part part }
+    → to ≡ Some record { path = path; part = last_number part }
     → IsMove previous_stop (Stops items) record { path = path; part = Some part } to
 move_from_part items path part node to there stands goes =
     let place = place_of items path node there in
@@ -137,12 +136,12 @@ move_from_part items path part node to there stands goes =
     (ap (option_map plain)
     (last_append (flat_map stops_of place.before) (ahead here (Some part))
     ∙ ap (λ o. option_or o (last_of (flat_map stops_of place.before))) (last_own here part))
-    ∙ ap (λ way. Some record { path = way; part = last_part part }) place.path_is))
+    ∙ ap (λ way. Some record { path = way; part = last_number part }) place.path_is))
 
 -- the move from a node to the previous stop: to the last stop of the node before it
 pub move_from_node : (items : Forest) (path way : List ℕ) (node previous : PlainNode) (to : Option PlainStop)
     → visible_at items path ≡ Some node → visible_at items way ≡ Some previous → next_of items way ≡ Some path
-    → to ≡ Some record { path = way; part = last_part (part_stops previous.label.kind) }
+    → to ≡ Some record { path = way; part = last_number (part_stops previous.label.kind) }
     → IsMove previous_stop (Stops items) (node_stop path) to
 move_from_node items path way node previous to there there_before next goes =
     let place = behind_of items way path node previous there there_before next in
@@ -152,8 +151,8 @@ move_from_node items path way node previous to there there_before next goes =
     ∙ sym
     (ap (λ stops. option_map plain (last_of stops)) (append-nil (flat_map stops_of (place.before ++ place.previous ∷ [])))
     ∙ ap (option_map plain) (last_flat place.before place.previous)
-    ∙ ap (λ way. Some record { path = way; part = last_part place.previous.parts }) place.previous_is
-    ∙ ap (λ parts. Some record { path = way; part = last_part parts }) place.previous_parts))
+    ∙ ap (λ way. Some record { path = way; part = last_number place.previous.parts }) place.previous_is
+    ∙ ap (λ parts. Some record { path = way; part = last_number parts }) place.previous_parts))
 
 -- no stop is before the first node
 pub move_from_first : (items : Forest) (path : List ℕ) (node : PlainNode) (to : Option PlainStop)
@@ -220,7 +219,7 @@ move_above items stop way node previous to there stands there_before next goes =
     let high = 0 + length (lines true 0 program_sections items) in
     let up_to : Rises 0 here.line nodes =
     rises_before 0 high nodes here place.behind (subst (Rises 0 high) place.stands (rises program_sections 0 0 items)) in
-    let near : last_of (above_line here.line before) ≡ Some (stop_of place.previous (last_part place.previous.parts)) =
+    let near : last_of (above_line here.line before) ≡ Some (stop_of place.previous (last_number place.previous.parts)) =
     ap last_of (above_here 0 nodes here stop.part up_to) ∙ last_flat place.before place.previous in
     move_at stop_above items stop nodes here place.behind to place.stands place.path_is
     (within stop.part node.label.kind here.parts place.parts_are stands)

@@ -1,24 +1,23 @@
 -- Where a move begins among the visible stops.
-use Rattle.std.specs.Prelude.{◌≡◌, refl, ℕ, zero, suc, ◌+◌, ◌-◌, ◌<◌, ◌==◌, nat_lt, Bool, true, false, if◌then◌else◌, List, [], ◌∷◌, ◌++◌, map, filter, find, flat_map, All, Option, Some, None, option_and_then, option_map}
+use Rattle.std.specs.Prelude.{◌≡◌, refl, ℕ, zero, suc, ◌+◌, ◌-◌, nat_lt, Bool, true, false, if◌then◌else◌, List, [], ◌∷◌, ◌++◌, map, filter, find, flat_map, All, Option, Some, None, option_and_then, option_map}
 use Rattle.std.specs.List.{range_with_len}
 use Rattle.std.specs.Option.{option_or}
-use Rattle.std.proofs.Common.{ap, sym, ◌∙◌, subst, arith, add-one}
-use Rattle.std.proofs.lemmas.Bool.{le-ltb, lt-ltb}
+use Rattle.std.proofs.Common.{ap, sym, ◌∙◌, arith, add-one}
+use Rattle.std.proofs.lemmas.Bool.{lt-ltb}
 use Rattle.std.proofs.lemmas.Bool.Decides.{nat_tests}
-use Rattle.std.proofs.lemmas.Option.{none-some, same_Some}
-use Rattle.std.proofs.lemmas.List.Elements.{All-contains, All-cons, All-head, All-map, All-nil, All-tail}
+use Rattle.std.proofs.lemmas.Option.{none-some}
+use Rattle.std.proofs.lemmas.List.Elements.{All-cons, All-head, All-map, All-nil, All-tail}
 use Rattle.std.proofs.lemmas.List.FromFn.{map-range_with_len_more}
 use Rattle.plcs_grammar.specs.Template.{program_sections}
 use Rattle.template_tree.specs.PlainTree.{Forest, PlainNode}
 use Rattle.template_tree.specs.Stop.{PlainStop, Stops, VisibleNode, VisibleStop, part_stops, stops_of, visible_at, visible_nodes}
 use Rattle.cursor_moves.specs.Move.{Choice, IsMove, first_of, last_of}
-use Rattle.cursor_moves.specs.Private.NextPart.{last_part, next_part}
+use Rattle.cursor_moves.specs.Private.Number.{last_number, next_number}
 use Rattle.cursor_moves.specs.Private.NextPath.{first_inside, next_of, next_with}
 use Rattle.cursor_moves.proofs.ListEnds.{last_append}
-use Rattle.cursor_moves.proofs.Nodes.NextNodes.{IsPlaced, from, from_none, placed}
-use Rattle.cursor_moves.proofs.Nodes.VisibleNodes.{IsListedFrom, all_listed}
+use Rattle.cursor_moves.proofs.Nodes.NextNodes.{IsPlaced, from_none, placed}
 use Rattle.cursor_moves.proofs.Stops.DividedStops.{IsWithin, ahead, rear, stop_of, stops_divided}
-use Rattle.cursor_moves.proofs.Stops.ListedStops.{contains_at, from_zero}
+use Rattle.cursor_moves.proofs.Stops.ListedStops.{from_zero}
 
 -- the visible nodes
 abbrev pub all_nodes : Forest → List VisibleNode
@@ -79,7 +78,7 @@ chosen false node part = refl
 
 -- the first stop of the node behind one of its stops
 pub first_rear : (node : VisibleNode) (part : Option ℕ)
-    → first_of (rear node part) ≡ option_map (λ n. stop_of node (Some n)) (next_part node.parts part)
+    → first_of (rear node part) ≡ option_map (λ n. stop_of node (Some n)) (next_number node.parts part)
 first_rear node None = first_range node 0 node.parts ∙ chosen (nat_lt 0 node.parts) node 0
 first_rear node (Some part) =
     first_range node (part + 1) (node.parts - (part + 1))
@@ -88,7 +87,7 @@ first_rear node (Some part) =
 
 -- the last stop of the node, where it has so many parts
 pub last_own : (node : VisibleNode) (parts : ℕ)
-    → last_of (stop_of node None ∷ map (λ n. stop_of node (Some n)) (range_with_len 0 parts)) ≡ Some (stop_of node (last_part parts))
+    → last_of (stop_of node None ∷ map (λ n. stop_of node (Some n)) (range_with_len 0 parts)) ≡ Some (stop_of node (last_number parts))
 last_own node zero = refl
 last_own node (suc parts) =
     let stop : ℕ → VisibleStop = λ n. stop_of node (Some n) in

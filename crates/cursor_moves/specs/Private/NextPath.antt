@@ -1,5 +1,5 @@
 -- Paths of visible nodes, one after the other in listing order.
-use Rattle.std.specs.Prelude.{◌≡◌, ℕ, ◌+◌, ◌-◌, true, false, if◌then◌else◌, List, [], ◌∷◌, length, Option, Some, None, option_and_then, option_map, slice_get, IsSomeAnd, ◌⊎◌}
+use Rattle.std.specs.Prelude.{◌≡◌, ℕ, ◌+◌, false, if◌then◌else◌, List, [], ◌∷◌, Option, None, option_and_then, option_map, slice_get, IsSomeAnd}
 use Rattle.std.specs.Option.{option_map_or, option_or}
 use Rattle.template_tree.specs.PlainTree.{Forest, PlainNode, nodes}
 use Rattle.template_tree.specs.Stop.{visible_at}

@@ -1,8 +1,7 @@
-use Rattle.std.proofs.Common.{ap, sym, ◌∙◌}
 use Rattle.template_tree.specs.Stop.{plain_stop}
 use Rattle.cursor_moves.specs.Private.NextPath.{next_of}
 use Rattle.cursor_moves.specs.Move.{moved_to}
-use Rattle.cursor_moves.proofs.Stops.AnsweredStops.{by_paths, down_moved, next_stands, stop_visible}
+use Rattle.cursor_moves.proofs.Stops.AnsweredStops.{by_paths, down_moved, next_stands}
 use Rattle.cursor_moves.proofs.line.down.Goals as goal
 
 pub returns-clause-moved : goal.returns-clause-moved

@@ -1,10 +1,6 @@
-use Rattle.std.specs.Prelude.{◌≡◌, ◌++◌, ◌∷◌, [], ◌<◌, length, None, Some}
+use Rattle.std.specs.Prelude.{◌++◌, ◌∷◌, [], length, None, Some}
 use Rattle.std.proofs.Common.{ap, sym, ◌∙◌, arith, subst, lit<}
-use Rattle.std.proofs.lemmas.Option.{none-some, same_Some}
-use Rattle.template_tree.specs.PlainTree.{PlainNode}
-use Rattle.template_tree.specs.Path.{node_at}
-use Rattle.template_tree.specs.Stop.{visible_at}
-use Rattle.cursor_moves.specs.Private.NextPath.{LeadsOn, first_inside, next_of, next_with}
+use Rattle.cursor_moves.specs.Private.NextPath.{LeadsOn, next_with}
 use Rattle.cursor_moves.proofs.Nodes.PathSteps.{leads_to}
 use Rattle.cursor_moves.proofs.Nodes.NextPaths.{next_beyond, next_inside, not_missing, room_inside, visible_is}
 use Rattle.cursor_moves.proofs.next_node.next_node.Goals as goal

@@ -1,4 +1,4 @@
-use Rattle.std.specs.Prelude.{◌≡◌, refl, ◌+◌, ◌-◌, ◌++◌, ◌∷◌, [], ◌<◌, ◌≤◌, length, take, List, ℕ, None, Some}
+use Rattle.std.specs.Prelude.{◌≡◌, refl, ◌+◌, ◌-◌, ◌∷◌, [], length, take, None, Some}
 use Rattle.std.proofs.Common.{ap, sym, ◌∙◌, arith, subst, length-append, lit<}
 use Rattle.std.proofs.lemmas.List.{take_at}
 use Rattle.template_tree.specs.Path.{node_at}

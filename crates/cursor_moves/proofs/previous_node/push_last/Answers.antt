@@ -15,12 +15,11 @@ pub returns-in-Some : goal.returns-in-Some
 returns-in-Some c =
     let items = c.args.tree.now.items in
     let path = c.args.path.now.items in
-    let last = c.push_last_below.ensures in
-    (
+    let last = c.push_last_below.ensures in (
       last.0,
       last.1,
       holds (λ node. IsLastBelow node last.0) (visible_at items path) c.in-Some.node.now
-      (visible_is items path c.in-Some.node.now c.requires.visible c.in-Some.ensures.found) last.2,
+          (visible_is items path c.in-Some.node.now c.requires.visible c.in-Some.ensures.found) last.2,
     )
 
 pub returns-in_default : goal.returns-in_default

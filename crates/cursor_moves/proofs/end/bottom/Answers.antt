@@ -1,0 +1,28 @@
+use Rattle.std.specs.Prelude.{◌++◌, ◌∷◌, []}
+use Rattle.std.proofs.Common.{ap, ◌∙◌}
+use Rattle.template_tree.specs.Stop.{plain_stop}
+use Rattle.cursor_moves.proofs.Stops.AnsweredStops.{last_stands}
+use Rattle.cursor_moves.proofs.Stops.EndStops.{IsEnd, end_at, end_there, last_stop}
+use Rattle.cursor_moves.proofs.end.bottom.Goals as goal
+
+-- the node at which the way ends is the last one
+end : (c : goal.After-push_last) → IsEnd c.args.tree.now.items c.push_last.new.path.items
+end c =
+    let last = c.push_last.ensures in
+    end_at c.args.tree.now.items c.procedures.result c.push.new.self.items c.push_last.new.path.items last.0 c.procedures.ensures
+    (c.push.ensures.items ∙ ap (λ way. way ++ c.procedures.result ∷ []) c.new-path.ensures) last.1 last.2
+
+pub last_stop-requires-clause-there : goal.last_stop-requires-clause-there
+last_stop-requires-clause-there c = end_there c.args.tree.now.items c.push_last.new.path.items (end c)
+
+pub returns-clause-last : goal.returns-clause-last
+returns-clause-last c =
+    let e = end_at c.args.tree.now.items c.procedures.result c.push.new.self.items c.push_last.new.path.items c.push_last.ensures.0 c.procedures.ensures
+    (c.push.ensures.items ∙ ap (λ way. way ++ c.procedures.result ∷ []) c.new-path.ensures) c.push_last.ensures.1 c.push_last.ensures.2 in
+    last_stop c.args.tree.now.items c.push_last.new.path.items (plain_stop c.last_stop.result) e c.last_stop.ensures
+
+pub returns-clause-stop : goal.returns-clause-stop
+returns-clause-stop c =
+    let e = end_at c.args.tree.now.items c.procedures.result c.push.new.self.items c.push_last.new.path.items c.push_last.ensures.0 c.procedures.ensures
+    (c.push.ensures.items ∙ ap (λ way. way ++ c.procedures.result ∷ []) c.new-path.ensures) c.push_last.ensures.1 c.push_last.ensures.2 in
+    last_stands c.args.tree.now.items c.push_last.new.path.items e.node (plain_stop c.last_stop.result) e.visible c.last_stop.ensures
