@@ -1,13 +1,14 @@
 -- What isn't full, and the pairs within the limits after a fragment came.
-use Rattle.std.proofs.Common.{◌≡◌, ℕ, zero, suc, ◌+◌, ◌<◌, ◌≤◌, Bool, true, false, not, List, length, is_some, None, refl, sym, ap, ◌∙◌, true≢false, arith}
+use Rattle.std.proofs.Common.{◌≡◌, ℕ, zero, suc, ◌+◌, ◌<◌, ◌≤◌, Bool, true, false, not, List, length, is_some, IfSome, Option, Some, None, refl, sym, ap, ◌∙◌, true≢false, arith}
 use Rattle.std.proofs.lemmas.Bool.Decides.{nat_tests}
 use Rattle.std.specs.List.{IsDistinct}
 use Rattle.std.specs.Map.{keys_of}
 use Rattle.std.specs.Str.{bytes_eq}
 use Rattle.clip_store.specs.PlainFragment.{PlainFragment, IsFragment, slots_of}
 use Rattle.clip_store.specs.PlainClips.{Pair, PlainClips, clip_named, slots_held, with_clip, without}
-use Rattle.clip_store.specs.ClipLimit.{AreClips, has_room, is_full, most_clips, most_clip_slots}
-use Rattle.clip_store.proofs.PutPairs.{All-with_clip, length-with_clip, slots_held-with_clip}
+use Rattle.clip_store.specs.ClipLimit.{AreClips, IsClip, has_room, is_full, most_clips, most_clip_slots}
+use Rattle.clip_store.proofs.PutPairs.{All-with_clip, length-with_clip, slots_held-with_clip, slots_of-le-slots_held}
+use Rattle.std.proofs.lemmas.Map.Views.{IfSome-lookup_from_All}
 
 -- so few other names are held
 pub few_others : (name : List ℕ) (slots : ℕ) (pairs : List Pair) → is_full name slots pairs ≡ false → length (without name pairs) < most_clips
@@ -52,3 +53,13 @@ no_room name clips absent does =
     let none : clips.spare ≤ 0 = none_spare clips.spare does in
     let unheld : is_some (clip_named name clips.pairs) ≡ false = ap is_some absent in
     grind (arith, nat_tests)
+
+-- the fragment under a name is one that may be held
+pub IsClip-named : (name : List ℕ) (pairs : List Pair) → AreClips pairs → IfSome (clip_named name pairs) IsClip
+IsClip-named name pairs clips =
+    by (clip_named name pairs) (IfSome-lookup_from_All IsFragment (bytes_eq name) pairs clips.sound) (slots_of-le-slots_held name pairs)
+  where
+    by : (found : Option PlainFragment) → IfSome found IsFragment
+        → IfSome found (λ fragment. slots_of fragment ≤ slots_held pairs) → IfSome found IsClip
+    by None sound few = tt
+    by (Some fragment) sound few = record { sound = sound; few = omega (arith, clips.small) }

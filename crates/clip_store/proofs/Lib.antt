@@ -4,5 +4,7 @@ mod Limits
 pub mod PutPairs
 -- what isn't full takes the fragment, and the pairs stay within the limits
 pub mod ClipLimits
+-- the fragments that tests put
+pub mod TestFragments
 -- the map's entries as pairs
 pub mod MapPairs

@@ -31,6 +31,12 @@ pub lent_holds : (P : PlainFragment → Type 0) (found : Option (Bor Fragment)) 
 lent_holds P None plain is holds = tt
 lent_holds P (Some fragment) plain is holds = subst (λ p. IfSome p P) (sym is) holds
 
+-- and of what is given out
+pub given_holds : (P : PlainFragment → Type 0) (found : Option Fragment) (plain : Option PlainFragment)
+    → option_map plain_fragment found ≡ plain → IfSome plain P → IfSome found (λ fragment. P (plain_fragment fragment))
+given_holds P None plain is holds = tt
+given_holds P (Some fragment) plain is holds = subst (λ p. IfSome p P) (sym is) holds
+
 module _ (name : List ℕ) where
   -- under a name there is what the map finds
   pub clip_named-pairs : (entries : List (List ℕ × Fragment)) → option_map plain_fragment (lookup (bytes_eq name) entries) ≡ clip_named name (pairs_of entries)

@@ -5,7 +5,7 @@ use Rattle.std.specs.Map.{keys_of, values_of}
 use Rattle.std.specs.Str.{bytes_eq}
 use Rattle.clip_store.specs.declared.limit.TheConstants.{MOST_CLIPS, MOST_CLIP_SLOTS}
 use Rattle.clip_store.specs.declared.clips.ClipFault.{ClipFault}
-use Rattle.clip_store.specs.PlainFragment.{IsFragment}
+use Rattle.clip_store.specs.PlainFragment.{PlainFragment, IsFragment, slots_of}
 use Rattle.clip_store.specs.PlainClips.{Pair, PlainClips, clip_named, slots_held, without}
 
 -- how many names may be held
@@ -15,6 +15,11 @@ most_clips = MOST_CLIPS
 -- how many slots the fragments may have together
 abbrev pub most_clip_slots : ℕ
 most_clip_slots = MOST_CLIP_SLOTS
+
+-- a fragment as it may be held: it may come into a program, and it alone has no more slots than all may have
+pub record IsClip (fragment : PlainFragment) : Type 0 where
+  pub sound : IsFragment fragment
+  pub few : slots_of fragment ≤ most_clip_slots
 
 -- pairs within the limits: each name is held once, and each fragment may come into a program
 pub record AreClips (pairs : List Pair) : Type 0 where
@@ -33,7 +38,7 @@ is_full name slots pairs =
 abbrev pub has_room : List ℕ → PlainClips → Bool
 has_room name clips = is_some (clip_named name clips.pairs) || nat_lt 0 clips.spare
 
--- why a fragment of so many slots isn't taken
-abbrev pub HasCause : ClipFault → List ℕ → ℕ → PlainClips → Type 0
-HasCause ClipFault.Full name slots clips = is_full name slots clips.pairs ≡ true
-HasCause ClipFault.OutOfMemory name slots clips = (is_full name slots clips.pairs ≡ false) × (has_room name clips ≡ false)
+-- the fault with which a fragment of so many slots isn't taken; memory runs out only where there is no room
+abbrev pub IsClipFault : ClipFault → List ℕ → ℕ → PlainClips → Type 0
+IsClipFault ClipFault.Full name slots clips = is_full name slots clips.pairs ≡ true
+IsClipFault ClipFault.OutOfMemory name slots clips = (is_full name slots clips.pairs ≡ false) × (has_room name clips ≡ false)

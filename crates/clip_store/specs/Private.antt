@@ -3,3 +3,5 @@
 pub mod ClipsCode
 -- ---- clips in memory
 pub mod ClipsView
+-- ---- the fragments of tests
+pub mod Holes

@@ -2,7 +2,7 @@
 ghost use Rattle.std.specs.Prelude.{◌≡◌, ◌+◌, ◌<◌, ◌≤◌, true, false, not, [], length, is_some, option_map, IfErr, IfOk, IfSome, IsOk, OnErr, OnOk};
 ghost use Rattle.clip_store.specs.PlainFragment.{IsFragment, plain_fragment, slots_of};
 ghost use Rattle.clip_store.specs.PlainClips.{clip_named, slots_held, with_clip, without};
-ghost use Rattle.clip_store.specs.ClipLimit.{AreClips, HasCause, has_room, is_full, most_clip_slots};
+ghost use Rattle.clip_store.specs.ClipLimit.{AreClips, IsClip, IsClipFault, has_room, is_full, most_clip_slots};
 
 use crate::fragment::Fragment;
 use crate::limit::{MOST_CLIP_SLOTS, MOST_CLIPS};
@@ -44,7 +44,7 @@ impl Model for Clips {
 }
 
 impl Clips {
-    /// None, taking no memory.
+    /// No clips. It takes no memory yet, though its answer allows for that.
     pub fn new(alloc: Global) -> Result<Clips, OutOfMemory>
         ensures { IfOk result (λ clips. clips.pairs ≡ []) }
     {
@@ -68,8 +68,9 @@ impl Clips {
         requires few { slots_of (plain_fragment fragment) ≤ 4294967295 }
         ensures put { OnOk result (self.new.pairs ≡ with_clip name (plain_fragment fragment) self.old.pairs) }
         ensures replaced { IfOk result (λ old. option_map plain_fragment old ≡ clip_named name self.old.pairs) }
+        ensures clip { IfOk result (λ old. IfSome old (λ fragment. IsClip (plain_fragment fragment))) }
         ensures fits { OnOk result (is_full name (slots_of (plain_fragment fragment)) self.old.pairs ≡ false) }
-        ensures cause { IfErr result (λ refusal. HasCause refusal.0 name (slots_of (plain_fragment fragment)) self.old) }
+        ensures cause { IfErr result (λ refusal. IsClipFault refusal.0 name (slots_of (plain_fragment fragment)) self.old) }
         ensures refused { IfErr result (λ refusal. (refusal.1 ≡ fragment) × (self.new.pairs ≡ self.old.pairs)) }
         ensures succeeds { is_full name (slots_of (plain_fragment fragment)) self.old.pairs ≡ false → has_room name self.old ≡ true → IsOk result }
         ensures room { self.old.spare ≤ self.new.spare + 1 }
@@ -95,8 +96,7 @@ impl Clips {
     /// The fragment under the name, or `None` where the name isn't held. It takes no memory.
     pub fn get(&self, name: &Name) -> Option<&Fragment>
         ensures found { option_map (λ fragment. plain_fragment fragment.now) result ≡ clip_named name.now self.now.pairs }
-        ensures fragment { IfSome result (λ fragment. IsFragment (plain_fragment fragment.now)) }
-        ensures few { IfSome result (λ fragment. slots_of (plain_fragment fragment.now) ≤ most_clip_slots) }
+        ensures clip { IfSome result (λ fragment. IsClip (plain_fragment fragment.now)) }
         ensures clips { AreClips self.now.pairs }
     {
         self.fragments.get(name)

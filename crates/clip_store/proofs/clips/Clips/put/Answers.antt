@@ -5,11 +5,11 @@ use Rattle.std.specs.Map.{keys_of}
 use Rattle.std.specs.Str.{bytes_eq}
 use Rattle.clip_store.specs.PlainFragment.{plain_fragment, slots_of}
 use Rattle.clip_store.specs.PlainClips.{clip_named, slots_held, with_clip, without}
-use Rattle.clip_store.specs.ClipLimit.{AreClips, is_full, has_room}
+use Rattle.clip_store.specs.ClipLimit.{AreClips, IsClip, is_full, has_room}
 use Rattle.clip_store.specs.Private.ClipsView.{pairs_of, seen}
-use Rattle.clip_store.proofs.MapPairs.{clip_named-pairs, keys_of-pairs, with_clip-pairs}
+use Rattle.clip_store.proofs.MapPairs.{clip_named-pairs, given_holds, keys_of-pairs, with_clip-pairs}
 use Rattle.clip_store.proofs.PutPairs.{slots_held-with_clip}
-use Rattle.clip_store.proofs.ClipLimits.{AreClips-with_clip, fits, no_room}
+use Rattle.clip_store.proofs.ClipLimits.{AreClips-with_clip, IsClip-named, fits, no_room}
 use Rattle.clip_store.proofs.clips.Clips.put.Goals as goal
 
 pub invariant_of-self : goal.invariant_of-self
@@ -46,6 +46,13 @@ pub returns-in-Ok-clause-replaced : goal.returns-in-Ok-clause-replaced
 returns-in-Ok-clause-replaced c =
     rw (← c.self.view_is)
     (ap (option_map plain_fragment) c.in-Ok.ensures.old ∙ clip_named-pairs c.args.name c.self.inside.fragments.entries)
+
+pub returns-in-Ok-clause-clip : goal.returns-in-Ok-clause-clip
+returns-in-Ok-clause-clip c =
+    let pairs = pairs_of c.self.inside.fragments.entries in
+    given_holds IsClip c.in-Ok.old (clip_named c.args.name pairs)
+    (ap (option_map plain_fragment) c.in-Ok.ensures.old ∙ clip_named-pairs c.args.name c.self.inside.fragments.entries)
+    (IsClip-named c.args.name pairs c.self.invariant.clips)
 
 pub returns-in-Err-clause-cause : goal.returns-in-Err-clause-cause
 returns-in-Err-clause-cause c =
