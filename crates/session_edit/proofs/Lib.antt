@@ -17,3 +17,4 @@ pub mod PutCommands
 pub mod PartCommands
 pub mod LastNumbers
 pub mod DropCommands
+pub mod BesideCommands

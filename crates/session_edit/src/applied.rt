@@ -6,11 +6,10 @@ ghost use Rattle.session_edit.specs.AppliedEdit.{IsAnswer, takes_memory};
 ghost use Rattle.session_edit.specs.Edited.{edited};
 ghost use Rattle.session_edit.specs.PlainEdit.{BringsWhatMayStand, plain_edit};
 
-use crate::beside::add_beside;
+use crate::beside::add_hole;
 use crate::edit::Edit;
 use crate::entry::{enter, fill};
 use crate::insertion::insert;
-use crate::path_copy::copy_of;
 use crate::removal::{delete, take_out};
 use std::alloc::Global;
 use template_tree::{Node, Receipt, Stop, Tree, TreeFault};
@@ -43,6 +42,6 @@ pub fn apply(alloc: Global, tree: &mut Tree, at: &Stop, edit: Edit) -> Result<Ap
         Edit::Insert(fragment) => insert(tree, at, fragment),
         Edit::Delete => delete(alloc, tree, at),
         Edit::Take => take_out(alloc, tree, at),
-        Edit::Beside(side) => add_beside(alloc, tree, copy_of(&at.path), side),
+        Edit::Beside(side) => add_hole(alloc, tree, at, side),
     }
 }

@@ -1,12 +1,15 @@
 //! Holes that come beside list items.
-ghost use Rattle.std.specs.Prelude.{◌≡◌, ◌<◌, All, true};
+ghost use Rattle.std.specs.Prelude.{◌≡◌, ◌<◌, ◌↔◌, All, IsTrue, true};
+ghost use Rattle.template_tree.specs.declared.tree_fault.TreeFault.{TreeFault};
 ghost use Rattle.template_tree.specs.Limit.{most_slots};
 ghost use Rattle.template_tree.specs.PlainTree.{roomless_tree};
+ghost use Rattle.template_tree.specs.Stop.{IsStop, plain_stop};
 ghost use Rattle.template_tree.specs.Tree.{IsTree};
 ghost use Rattle.session_edit.specs.AppliedEdit.{IsAnswer};
 ghost use Rattle.session_edit.specs.Cursor.{beside_path};
-ghost use Rattle.session_edit.specs.Edited.{hole_beside};
+ghost use Rattle.session_edit.specs.Edited.{edited, hole_beside};
 ghost use Rattle.session_edit.specs.Here.{enclosing_item};
+ghost use Rattle.session_edit.specs.PlainEdit.{PlainEdit};
 ghost use Rattle.session_edit.specs.Private.ShownPath.{IsShown};
 
 use crate::applied::Applied;
@@ -15,14 +18,18 @@ use crate::path_last::path_behind;
 use std::alloc::Global;
 use template_tree::{Path, Side, Stop, Tree, TreeFault, slot_edit_is_path_edit};
 
+/// A hole comes on this side of the nearest list item that stands round the cursor, which goes to it.
+pub(crate) fn add_hole(alloc: Global, tree: &mut Tree, at: &Stop, side: Side) -> Result<Applied, TreeFault>
+    requires tree { IsTree tree.old }
+    requires stop { IsStop (roomless_tree tree.old).items (plain_stop at.now) }
+    ensures { IsAnswer true (edited (roomless_tree tree.old) (plain_stop at.now) (PlainEdit.beside side)) tree.old tree.new result }
+{
+    add_beside(alloc, tree, copy_of(&at.path), side)
+}
+
 /// A hole comes on this side of the nearest list item that the node at the path is, or in which it
 /// stands; the cursor goes to it.
-pub(crate) fn add_beside(
-    alloc: Global,
-    tree: &mut Tree,
-    path: Path,
-    side: Side,
-) -> Result<Applied, TreeFault>
+fn add_beside(alloc: Global, tree: &mut Tree, path: Path, side: Side) -> Result<Applied, TreeFault>
     requires tree { IsTree tree.old }
     requires seen { IsShown tree.old.items path.items }
     ensures { IsAnswer true (hole_beside (roomless_tree tree.old) side (enclosing_item (roomless_tree tree.old).items path.items)) tree.old tree.new result }
@@ -37,15 +44,24 @@ pub(crate) fn add_beside(
                 part: None,
             },
         }),
-        Err(TreeFault::NotHere) => {
-            let mut outer = path;
-            if outer.pop().is_none() {
-                return Err(TreeFault::NotHere);
+        Err(fault) => {
+            if !is_not_here(fault) {
+                return Err(fault);
             }
+            let mut outer = path;
+            let Some(_) = outer.pop() else {
+                return Err(TreeFault::NotHere);
+            };
             add_beside(alloc, tree, outer, side)
         }
-        Err(fault) => Err(fault),
     }
+}
+
+/// Whether the fault says that what is wanted isn't there.
+fn is_not_here(fault: TreeFault) -> bool
+    ensures { IsTrue result ↔ (fault ≡ TreeFault.NotHere) }
+{
+    fault == TreeFault::NotHere
 }
 
 /// The path of the hole beside the item at the path.

@@ -1,0 +1,54 @@
+use Rattle.std.specs.Prelude.{◌≡◌, refl, suc, ◌∷◌, [], length, None}
+use Rattle.std.proofs.Common.{ap, sym, ◌∙◌, subst, arith}
+use Rattle.std.proofs.lemmas.Bool.{false≢true}
+use Rattle.template_tree.specs.EditAnswer.{IsListItem, Refuses}
+use Rattle.template_tree.specs.Path.{node_at}
+use Rattle.template_tree.specs.PlainTree.{PlainTree}
+use Rattle.template_tree.specs.Tree.{IsTree}
+use Rattle.template_tree.specs.TreeEdit.{TreeEdit}
+use Rattle.session_edit.specs.Cursor.{node_stop}
+use Rattle.session_edit.specs.Private.ShownPath.{IsShown}
+use Rattle.session_edit.proofs.BesideCommands.{added_few, answer_outer, beside_applied, beside_nothing, beside_refused, one_longer, outer_shown}
+use Rattle.session_edit.proofs.beside.+add_beside.Goals as goal
+
+pub beside-requires : goal.beside-requires
+beside-requires t c =
+    record { few = added_few c.args.tree.now c.add_hole.new.self c.args.side c.args.path.items c.in-Ok.receipt c.requires.tree c.in-Ok.ensures.edited }
+
+pub returns-in-Ok : goal.returns-in-Ok
+returns-in-Ok t c =
+    beside_applied c.slot_edit_is_path_edit.ensures c.args.tree.now c.add_hole.new.self c.args.side c.args.path.items c.in-Ok.receipt
+    record { path = c.beside.result; part = None } c.requires.tree c.requires.seen c.in-Ok.ensures.edited (ap node_stop c.beside.ensures)
+
+pub returns-then-not-is_not_here : goal.returns-then-not-is_not_here
+returns-then-not-is_not_here t c = (
+  beside_refused c.args.tree.now c.args.side c.args.path.items c.in-Err.fault c.in-Err.ensures.refused
+  (λ e. false≢true (sym c.if-not-is_not_here.true ∙ c.is_not_here.ensures.1 e)),
+  c.in-Err.ensures.unchanged,
+)
+
+pub add_beside-requires : goal.add_beside-requires
+add_beside-requires t c =
+    let same = c.in-Err.ensures.unchanged in
+    let longer : length c.args.path.items ≡ suc (length c.pop.new.self.items) =
+    ap length c.in-Some.ensures.items ∙ one_longer c.pop.new.self.items c.in-Some.field-0
+    in
+    (
+      omega (arith, longer),
+      (
+        c.requires.stub,
+        (
+          subst IsTree (sym same) c.requires.tree,
+          subst (λ (tree : PlainTree). IsShown tree.items c.pop.new.self.items) (sym same)
+          (outer_shown c.args.tree.now.items c.args.path.items c.pop.new.self.items c.in-Some.field-0 c.in-Some.ensures.items c.requires.seen),
+        ),
+      ),
+    )
+
+pub returns-in-Some : goal.returns-in-Some
+returns-in-Some t c =
+    answer_outer c.args.tree.now c.add_hole.new.self c.add_beside.new.tree c.args.side c.args.path.items c.pop.new.self.items c.in-Some.field-0
+    c.add_beside.result c.in-Err.ensures.unchanged c.in-Some.ensures.items
+    (subst (λ fault. Refuses (TreeEdit.add c.args.side) (node_at c.args.tree.now.items c.args.path.items) (IsListItem c.args.tree.now.items c.args.path.items) c.args.tree.now fault)
+    (c.is_not_here.ensures.0 c.if-not-is_not_here.false) c.in-Err.ensures.refused)
+    c.add_beside.ensures
