@@ -1,4 +1,4 @@
-use Rattle.std.specs.Prelude.{◌≡◌, refl, ◌-◌, ◌<◌, pred, Some, None, []}
+use Rattle.std.specs.Prelude.{◌≡◌, refl, ◌-◌, ◌<◌, Some, None, []}
 use Rattle.std.proofs.Common.{arith, ap, sym, ◌∙◌, subst}
 use Rattle.template_tree.specs.declared.change.Change.{Change}
 use Rattle.template_tree.specs.declared.change.What.{What}
@@ -46,15 +46,15 @@ returns-clause-edited c =
     record { slot_is = ap (λ (n : PlainNode). n.label.slot) c.hole.view_is; what_is = refl; first = c.procedure_at-procedure.ensures } in
     edits_at TreeEdit.drop (node_at tree.items path) (IsSpareHole tree.items path) _ _ _ node there spare
     (
-      subst (λ (r : PlainReceipt). IsEdit TreeEdit.drop node.label.slot tree after r None)
-          (λ i. record {
-            change = change;
-            path = sym c.path_before.ensures i;
-            undoing = PlainUndoing.put_in (sym c.side_left.ensures i) (roomless_node node);
-            drawn = ap (λ (t : PlainTree). t.drawn) (sym c.self.view_is) i;
-            live = ap (λ (t : PlainTree). t.live) (sym c.self.view_is) i;
-          })
-          edit
+    subst (λ (r : PlainReceipt). IsEdit TreeEdit.drop node.label.slot tree after r None)
+    (λ i. record {
+      change = change;
+      path = sym c.path_before.ensures i;
+      undoing = PlainUndoing.put_in (sym c.side_left.ensures i) (roomless_node node);
+      drawn = ap (λ (t : PlainTree). t.drawn) (sym c.self.view_is) i;
+      live = ap (λ (t : PlainTree). t.live) (sym c.self.view_is) i;
+    })
+    edit
     )
 
 pub returns-clause-tree : goal.returns-clause-tree
