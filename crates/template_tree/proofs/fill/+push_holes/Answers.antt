@@ -1,7 +1,6 @@
-use Rattle.std.specs.Prelude.{◌≡◌, ◌∷◌, [], List, map, OnOk}
+use Rattle.std.specs.Prelude.{◌≡◌, ◌∷◌, [], map}
 use Rattle.std.proofs.Common.{sym, ap, ◌∙◌}
 use Rattle.std.proofs.lemmas.List.{nil_from_length}
-use Rattle.plcs_grammar.specs.declared.row.Section.{Section}
 use Rattle.plcs_grammar.specs.Template.{plain_section}
 use Rattle.template_tree.specs.PlainTree.{forest, join, roomless}
 use Rattle.template_tree.specs.Edit.{hole_list, hole_of}

@@ -1,4 +1,3 @@
-use Rattle.std.specs.Prelude.{◌≡◌}
 use Rattle.std.proofs.Common.{sym, ap, ◌∙◌}
 use Rattle.template_tree.specs.PlainTree.{forest, join, roomless}
 use Rattle.template_tree.specs.Edit.{hole_list}

@@ -1,7 +1,7 @@
-use Rattle.std.specs.Prelude.{◌≡◌, ◌+◌, ◌≤◌, List, false}
-use Rattle.std.proofs.Common.{arith, ap, sym, ◌∙◌}
+use Rattle.std.specs.Prelude.{◌≡◌, false}
+use Rattle.std.proofs.Common.{arith, ap, ◌∙◌}
 use Rattle.template_tree.specs.contracts.node.Node.{the_view}
-use Rattle.template_tree.specs.PlainTree.{Forest, PlainNode, PlainNodes, forest, forest_nodes}
+use Rattle.template_tree.specs.PlainTree.{PlainNode, PlainNodes, forest, forest_nodes}
 use Rattle.template_tree.specs.Edit.{whole}
 use Rattle.template_tree.specs.Slots.{count, with_slots_from}
 use Rattle.template_tree.proofs.RevealedNodes.{revealed}

@@ -18,7 +18,7 @@ use Rattle.template_tree.specs.Private.Beside.{added_path}
 use Rattle.template_tree.specs.Receipt.{PlainReceipt, PlainUndoing, with_beside}
 use Rattle.template_tree.specs.TreeEdit.{TreeEdit}
 use Rattle.template_tree.proofs.Holes.{bare_is}
-use Rattle.template_tree.proofs.PutEdits.{at_there}
+use Rattle.template_tree.proofs.PutEdits.{at_there, edits_at}
 use Rattle.template_tree.proofs.Refusals.{refused_by}
 use Rattle.template_tree.proofs.ListTrees.{hole_kind}
 use Rattle.template_tree.proofs.ListEdits.{add_edit, add_over, add_within, last_small}
@@ -76,8 +76,19 @@ added_path-added-requires c =
     let few : count c.args.self.now.items ≤ 20000 = c.requires.tree.few in
     record { small = omega (arith, few, last_small c.args.self.now.items c.args.path.now.items c.in-Some.there.now (sym c.in-Some.ensures.found)) }
 
-pub returns-clause-edited : goal.returns-clause-edited
-returns-clause-edited c =
+-- the edit that was made, at an item of a list
+is_edit : (c : goal.After-self-2-1) → IsListItem c.args.self.now.items c.args.path.now.items c.in-Some.there.now
+    × IsEdit (TreeEdit.add c.args.side) c.in-Some.there.now.label.slot c.args.self.now
+    (the_view record { items = c.self-2.inside.items; drawn = c.self.inside.drawn + 1; live = c.self.inside.live + 1 })
+    record {
+      change = record { slot = record { 0 = c.self.inside.drawn }; procedure = c.procedure_at-procedure.result; what = What.Added };
+      path = c.added_path-added.result.items;
+      undoing = PlainUndoing.take_out;
+      drawn = c.self.inside.drawn;
+      live = c.self.inside.live;
+    }
+    None
+is_edit c =
     let tree = c.args.self.now in
     let path = c.args.path.now.items in
     let node = c.in-Some.there.now in
@@ -108,7 +119,7 @@ returns-clause-edited c =
     let edit = add_edit tree path node side hole after change c.requires.tree there listed hole_is
     c.in_default-limit_reached.ensures.within.1 c.in_default-limit_reached.ensures.within.2 others (ap (λ n. n + 1) drawn) (ap (λ n. n + 1) live)
     record { slot_is = drawn; what_is = refl; first = first } in
-    at_there (node_at tree.items path) _ node there (
+    (
       listed,
       subst (λ (r : PlainReceipt). IsEdit (TreeEdit.add side) node.label.slot tree after r None)
           (λ i. record {
@@ -120,3 +131,14 @@ returns-clause-edited c =
           })
           edit,
     )
+
+pub returns-clause-edited : goal.returns-clause-edited
+returns-clause-edited c =
+    let tree = c.args.self.now in
+    let path = c.args.path.now.items in
+    let made = is_edit c in
+    edits_at (TreeEdit.add c.args.side) (node_at tree.items path) (IsListItem tree.items path) tree _ _ c.in-Some.there.now
+    (sym c.in-Some.ensures.found) made.0 made.1
+
+pub returns-clause-tree : goal.returns-clause-tree
+returns-clause-tree c = (is_edit c).1.tree

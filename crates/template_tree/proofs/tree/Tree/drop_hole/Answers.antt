@@ -10,7 +10,7 @@ use Rattle.template_tree.specs.EditAnswer.{IsEdit, IsSpareHole}
 use Rattle.template_tree.specs.Receipt.{PlainReceipt, PlainUndoing, list_room}
 use Rattle.template_tree.specs.TreeEdit.{TreeEdit}
 use Rattle.template_tree.proofs.Counts.{counted_below}
-use Rattle.template_tree.proofs.PutEdits.{at_there, of_there}
+use Rattle.template_tree.proofs.PutEdits.{edits_at, of_there}
 use Rattle.template_tree.proofs.ListEdits.{drop_edit}
 use Rattle.template_tree.proofs.tree.Tree.drop_hole.Goals as goal
 
@@ -23,8 +23,18 @@ overflow_sub-self c =
       counted_below c.args.self.now.items c.args.path.now.items c.in-Some.hole (sym c.in-Some.ensures.taken),
     )
 
-pub returns-clause-edited : goal.returns-clause-edited
-returns-clause-edited c =
+-- the edit that was made
+is_edit : (c : goal.After-side_left) → IsEdit TreeEdit.drop c.in-Some.hole.label.slot c.args.self.now
+    (the_view record { items = c.self-2.inside.items; drawn = c.self-2.inside.drawn; live = c.self.inside.live - 1 })
+    record {
+      change = record { slot = c.hole.inside.slot; procedure = c.procedure_at-procedure.result; what = What.Dropped };
+      path = c.path_before.result.items;
+      undoing = PlainUndoing.put_in c.side_left.result (roomless_node c.in-Some.hole);
+      drawn = c.self.inside.drawn;
+      live = c.self.inside.live;
+    }
+    None
+is_edit c =
     let tree = c.args.self.now in
     let path = c.args.path.now.items in
     let node = c.in-Some.hole in
@@ -44,15 +54,24 @@ returns-clause-edited c =
     let edit = drop_edit tree path node after change c.requires.tree there spare others drawn
     (ap (λ (t : PlainTree). t.live - 1) c.self.view_is) room
     record { slot_is = ap (λ (n : PlainNode). n.label.slot) c.hole.view_is; what_is = refl; first = c.procedure_at-procedure.ensures } in
-    at_there (node_at tree.items path) _ node there (
-      spare,
-      subst (λ (r : PlainReceipt). IsEdit TreeEdit.drop node.label.slot tree after r None)
-          (λ i. record {
-            change = change;
-            path = sym c.path_before.ensures i;
-            undoing = PlainUndoing.put_in (sym c.side_left.ensures i) (roomless_node node);
-            drawn = ap (λ (t : PlainTree). t.drawn) (sym c.self.view_is) i;
-            live = ap (λ (t : PlainTree). t.live) (sym c.self.view_is) i;
-          })
-          edit,
-    )
+    subst (λ (r : PlainReceipt). IsEdit TreeEdit.drop node.label.slot tree after r None)
+    (λ i. record {
+      change = change;
+      path = sym c.path_before.ensures i;
+      undoing = PlainUndoing.put_in (sym c.side_left.ensures i) (roomless_node node);
+      drawn = ap (λ (t : PlainTree). t.drawn) (sym c.self.view_is) i;
+      live = ap (λ (t : PlainTree). t.live) (sym c.self.view_is) i;
+    })
+    edit
+
+pub returns-clause-edited : goal.returns-clause-edited
+returns-clause-edited c =
+    let tree = c.args.self.now in
+    let path = c.args.path.now.items in
+    let there : node_at tree.items path ≡ Some c.in-Some.hole = sym c.in-Some.ensures.taken in
+    edits_at TreeEdit.drop (node_at tree.items path) (IsSpareHole tree.items path) tree _ _ c.in-Some.hole there
+    (of_there (node_at tree.items path) (IsSpareHole tree.items path) c.in-Some.hole there (c.is_spare_hole.ensures.0 c.if-not-is_spare_hole.false))
+    (is_edit c)
+
+pub returns-clause-tree : goal.returns-clause-tree
+returns-clause-tree c = (is_edit c).tree

@@ -4,7 +4,7 @@ use Rattle.template_tree.specs.contracts.tree.Tree.{the_view}
 use Rattle.template_tree.specs.PlainTree.{PlainNode, PlainTree}
 use Rattle.template_tree.specs.Path.{node_at}
 use Rattle.template_tree.specs.Slots.{count}
-use Rattle.template_tree.specs.Edit.{Put, node_in_slot}
+use Rattle.template_tree.specs.Edit.{node_in_slot}
 use Rattle.template_tree.specs.Private.Exchange.{MayReplace}
 use Rattle.template_tree.proofs.Counts.{counted_below}
 use Rattle.template_tree.proofs.PutEdits.{come, exchanged_is, put_change, of_there}

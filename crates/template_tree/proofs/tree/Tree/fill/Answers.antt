@@ -13,7 +13,7 @@ use Rattle.template_tree.proofs.PutEdits.{at_there, edit_like}
 use Rattle.template_tree.proofs.RoomlessEdits.{same_roomless}
 use Rattle.template_tree.proofs.Holes.{subtree_with_room}
 use Rattle.template_tree.proofs.FreshNodes.{fresh_asked, fresh_subtree}
-use Rattle.template_tree.proofs.Refusals.{Asked, limit_refused, limit_kept, may_come, within_like}
+use Rattle.template_tree.proofs.Refusals.{limit_refused, limit_kept, may_come, within_like}
 use Rattle.template_tree.proofs.tree.Tree.fill.Goals as goal
 
 pub returns-in-Some-limit_reached-clause-refused : goal.returns-in-Some-limit_reached-clause-refused

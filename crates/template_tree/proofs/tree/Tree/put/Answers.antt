@@ -1,5 +1,5 @@
 use Rattle.std.specs.Prelude.{◌≡◌, refl, None}
-use Rattle.std.proofs.Common.{ap, sym}
+use Rattle.std.proofs.Common.{ap}
 use Rattle.template_tree.specs.PlainTree.{PlainTree, roomless_node}
 use Rattle.template_tree.specs.Path.{node_at}
 use Rattle.template_tree.specs.Receipt.{PlainUndoing}
