@@ -1,6 +1,6 @@
 -- Fresh nodes: their parts are empty, and a hole stands in each section.
-use Rattle.std.specs.Prelude.{◌≡◌, refl, ℕ, zero, suc, ◌+◌, ◌≤◌, ◌<◌, ◌↔◌, ◌&&◌, min, max, Bool, true, false, IsTrue, All, OnOk, Result, Ok, Err, List, [], ◌∷◌, ◌++◌, length, map, Option, Some, None}
-use Rattle.std.proofs.Common.{ap, sym, ◌∙◌, subst, arith, inl, inr}
+use Rattle.std.specs.Prelude.{◌≡◌, refl, ℕ, zero, suc, ◌+◌, ◌≤◌, ◌↔◌, ◌&&◌, min, max, Bool, true, false, IsTrue, All, OnOk, Result, Ok, Err, List, [], ◌∷◌, ◌++◌, map, Option, Some, None}
+use Rattle.std.proofs.Common.{ap, sym, ◌∙◌, arith, inl, inr}
 use Rattle.std.proofs.Math.Bool.{false≢true}
 use Rattle.std.proofs.lemmas.Bool.{cases_lt}
 use Rattle.plcs_grammar.specs.declared.category.Category.{Category}
@@ -10,7 +10,7 @@ use Rattle.plcs_grammar.specs.declared.row.Amount.{Amount}
 use Rattle.plcs_grammar.specs.declared.row.Segment.{Segment}
 use Rattle.plcs_grammar.specs.declared.template.Template.{Template}
 use Rattle.plcs_grammar.specs.PlainPhrase.{PlainPhrase}
-use Rattle.plcs_grammar.specs.Template.{PlainSection, plain_section, plain_segment, row_of, template_row}
+use Rattle.plcs_grammar.specs.Template.{PlainSection, plain_segment, row_of, template_row}
 use Rattle.template_tree.specs.PlainTree.{Forest, PlainNode, forest, join, roomless, roomless_node}
 use Rattle.template_tree.specs.Slots.{count, depth}
 use Rattle.template_tree.specs.Limit.{deepest_path}

@@ -8,7 +8,6 @@ use Rattle.plcs_grammar.specs.declared.node_kind.Sort.{Sort}
 use Rattle.plcs_grammar.specs.Template.{row_of}
 use Rattle.template_tree.specs.PlainTree.{Forest, PlainNode, PlainTree, forest, roomless_node, with_spare}
 use Rattle.template_tree.specs.NewTree.{bare_label}
-use Rattle.template_tree.specs.Limit.{deepest_path}
 use Rattle.template_tree.specs.Path.{node_at}
 use Rattle.template_tree.specs.Program.{Fill, IsSubtree, sorts, sort_of}
 use Rattle.template_tree.specs.Slots.{count, depth}

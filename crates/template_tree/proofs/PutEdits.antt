@@ -9,10 +9,10 @@ use Rattle.template_tree.specs.Path.{node_at}
 use Rattle.template_tree.specs.Slots.{count, times}
 use Rattle.template_tree.specs.Tree.{IsTree}
 use Rattle.template_tree.specs.TreeLend.{with_node}
-use Rattle.template_tree.specs.Edit.{Put, Differs, DifferBy, changed_in, edit_at, edit_slot, node_in_slot, procedure_of}
+use Rattle.template_tree.specs.Edit.{Put, Differs, DifferBy, changed_in, edit_at, node_in_slot, procedure_of}
 use Rattle.template_tree.specs.TreeEdit.{TreeEdit}
-use Rattle.template_tree.specs.Receipt.{PlainUndoing, PlainReceipt, CanUndo, HasRoomBack, items_before, list_room, undone}
-use Rattle.template_tree.specs.EditAnswer.{Edits, IsEdit, IsWithin, slot_in}
+use Rattle.template_tree.specs.Receipt.{PlainUndoing, PlainReceipt, HasRoomBack, items_before, undone}
+use Rattle.template_tree.specs.EditAnswer.{Edits, IsEdit, slot_in}
 use Rattle.template_tree.specs.Private.Exchange.{MayReplace, IsChangeOf, first_item}
 use Rattle.template_tree.proofs.SlotEdits.{slot_edit_is_path_edit}
 use Rattle.template_tree.proofs.PutTrees.{put_keeps_tree}

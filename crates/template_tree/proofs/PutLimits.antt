@@ -1,14 +1,13 @@
 -- The limits of a tree into which a node comes.
-use Rattle.std.specs.Prelude.{◌≡◌, refl, ℕ, ◌+◌, ◌<◌, ◌≤◌, max, Bool, true, false, List, [], ◌∷◌, length, Some}
-use Rattle.std.proofs.Common.{ap, sym, ◌∙◌, subst, arith}
-use Rattle.std.proofs.Math.Bool.{false≢true}
+use Rattle.std.specs.Prelude.{◌≡◌, refl, ℕ, ◌+◌, ◌<◌, ◌≤◌, max, Bool, true, false, List, length, Some}
+use Rattle.std.proofs.Common.{ap, ◌∙◌, subst, arith}
 use Rattle.template_tree.specs.declared.tree_fault.TreeFault.{TreeFault}
 use Rattle.template_tree.specs.Limit.{deepest_path, most_slots, most_drawn}
 use Rattle.template_tree.specs.PlainTree.{Forest, PlainNode, PlainTree}
 use Rattle.template_tree.specs.Path.{node_at}
 use Rattle.template_tree.specs.Slots.{count, depth}
 use Rattle.template_tree.specs.Tree.{IsTree}
-use Rattle.template_tree.specs.Edit.{Put, edit_at, whole}
+use Rattle.template_tree.specs.Edit.{Put, whole}
 use Rattle.template_tree.specs.EditAnswer.{IsWithin, IsOver}
 use Rattle.template_tree.specs.Private.Exchange.{MeetsLimit}
 use Rattle.template_tree.proofs.DrawnSlots.{depth_numbered}

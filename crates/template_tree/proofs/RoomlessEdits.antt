@@ -1,7 +1,7 @@
 -- The room of lists makes no difference to an edit.
 use Rattle.std.specs.Prelude.{◌≡◌, refl, ℕ, zero, suc, ◌+◌, Bool, true, false, if◌then◌else◌, ◌==◌, List, [], ◌∷◌, map, None}
 use Rattle.std.proofs.Common.{ap, sym, ◌∙◌}
-use Rattle.template_tree.specs.PlainTree.{Label, Forest, PlainNode, PlainTree, forest, join, roomless, roomless_node, roomless_tree}
+use Rattle.template_tree.specs.PlainTree.{Forest, PlainNode, PlainTree, forest, join, roomless, roomless_node, roomless_tree}
 use Rattle.template_tree.specs.Slots.{count, with_slots_from}
 use Rattle.template_tree.specs.Edit.{give_way, edit_below, edit_at, edit_slot, whole, node_in_slot, Put}
 use Rattle.template_tree.specs.Path.{node_at}

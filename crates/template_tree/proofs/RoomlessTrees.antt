@@ -1,9 +1,9 @@
 -- A tree is one with and without the room of its lists.
-use Rattle.std.specs.Prelude.{◌≡◌, ℕ}
+use Rattle.std.specs.Prelude.{ℕ}
 use Rattle.std.proofs.Common.{sym, ◌∙◌, subst, arith}
 use Rattle.plcs_grammar.specs.Template.{row_of, program_sections}
 use Rattle.template_tree.specs.PlainTree.{Forest, PlainTree, roomless, roomless_tree}
-use Rattle.template_tree.specs.Program.{sorts, Fill, AreNodes}
+use Rattle.template_tree.specs.Program.{Fill, AreNodes}
 use Rattle.template_tree.specs.Slots.{AllBelow}
 use Rattle.template_tree.specs.Tree.{IsTree}
 use Rattle.template_tree.proofs.Rooms.{sorts_roomless, count_roomless, depth_roomless, times_roomless, below_roomless, nodes_roomless}

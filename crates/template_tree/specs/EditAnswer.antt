@@ -3,11 +3,9 @@ use Rattle.std.specs.Prelude.{◌≡◌, ℕ, ◌<◌, ◌≤◌, List, Option, 
 use Rattle.plcs_grammar.specs.declared.category.Category.{Category}
 use Rattle.plcs_grammar.specs.declared.node_kind.NodeKind.{NodeKind}
 use Rattle.plcs_grammar.specs.PlainPhrase.{PlainPhrase, category_of}
-use Rattle.template_tree.specs.declared.change.Change.{Change}
 use Rattle.template_tree.specs.declared.tree_fault.TreeFault.{TreeFault}
 use Rattle.template_tree.specs.Limit.{deepest_path, most_slots, most_drawn}
 use Rattle.template_tree.specs.PlainTree.{Forest, PlainNode, PlainTree, roomless_tree}
-use Rattle.template_tree.specs.Path.{node_at}
 use Rattle.template_tree.specs.Slots.{depth}
 use Rattle.template_tree.specs.Tree.{IsTree}
 use Rattle.plcs_grammar.specs.Template.{program_sections}

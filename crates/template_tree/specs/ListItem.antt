@@ -4,7 +4,7 @@ use Rattle.std.specs.Option.{option_map_or}
 use Rattle.plcs_grammar.specs.declared.node_kind.Sort.{Sort}
 use Rattle.plcs_grammar.specs.declared.row.Amount.{Amount}
 use Rattle.plcs_grammar.specs.Template.{PlainSection, row_of}
-use Rattle.template_tree.specs.PlainTree.{Forest, PlainNode, nodes}
+use Rattle.template_tree.specs.PlainTree.{Forest, nodes}
 use Rattle.template_tree.specs.Section.{same_sort}
 
 -- whether a section is a list

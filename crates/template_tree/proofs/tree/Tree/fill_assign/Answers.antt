@@ -18,7 +18,7 @@ put-requires-clause-fits c =
     let at = sym c.in-Some.ensures.found in
     let takes : TakesAssignment (plain_phrase c.args.phrase) c.in-Some.there.now = (
       subst (λ kind. (kind ≡ NodeKind.StatementHole) ⊎ (kind ≡ NodeKind.Assign)) (ap (λ (n : PlainNode). n.label.kind) c.there.view_is)
-      (c.takes_assignments.ensures.0 c.if-not-takes_assignments.false),
+          (c.takes_assignments.ensures.0 c.if-not-takes_assignments.false),
       c.is_assignment_phrase.ensures.0 c.if-not-is_assignment_phrase.false,
     ) in
     at_there (node_at c.args.self.now.items c.args.path.now.items) (MayReplace c.args.self.now c.in-Ok.node) c.in-Some.there.now at
@@ -31,7 +31,7 @@ returns-in-Ok-clause-edited c =
     let new = assignment_node (plain_phrase c.args.phrase) in
     let takes : TakesAssignment (plain_phrase c.args.phrase) c.in-Some.there.now = (
       subst (λ kind. (kind ≡ NodeKind.StatementHole) ⊎ (kind ≡ NodeKind.Assign)) (ap (λ (n : PlainNode). n.label.kind) c.there.view_is)
-      (c.takes_assignments.ensures.0 c.if-not-takes_assignments.false),
+          (c.takes_assignments.ensures.0 c.if-not-takes_assignments.false),
       c.is_assignment_phrase.ensures.0 c.if-not-is_assignment_phrase.false,
     ) in
     let there = node_at c.args.self.now.items c.args.path.now.items in
@@ -50,7 +50,7 @@ returns-in-Err-clause-refused c =
     let at = sym c.in-Some.ensures.found in
     let takes : TakesAssignment (plain_phrase c.args.phrase) c.in-Some.there.now = (
       subst (λ kind. (kind ≡ NodeKind.StatementHole) ⊎ (kind ≡ NodeKind.Assign)) (ap (λ (n : PlainNode). n.label.kind) c.there.view_is)
-      (c.takes_assignments.ensures.0 c.if-not-takes_assignments.false),
+          (c.takes_assignments.ensures.0 c.if-not-takes_assignments.false),
       c.is_assignment_phrase.ensures.0 c.if-not-is_assignment_phrase.false,
     ) in
     at_there (node_at c.args.self.now.items c.args.path.now.items)

@@ -39,16 +39,16 @@ returns-clause-edited c =
     (TakesAtStop c.in-Some.part (plain_place c.args.place)) _ _ _ node there
     (part_stop node.label.kind c.in-Some.part (plain_place c.args.place) (λ is. false≢true (sym c.if-is_assignment.false ∙ c.is_assignment.ensures.1 (kind ∙ is))) takes, takes)
     (part_edit c.args.self.now c.args.stop.now.path.items node c.in-Some.part (plain_place c.args.place) (plain_place c.in-Ok.old) _
-      c.node.inside.slot c.procedure_at-procedure.result _ c.requires.tree there takes c.requires.phrase c.in-Ok.ensures.set.0
-      (ap (with_node c.args.self.now c.args.stop.now.path.items) c.in-Ok.ensures.set.1) (ap (λ (n : PlainNode). n.label.slot) c.node.view_is)
-      c.procedure_at-procedure.ensures
-      (λ i. record {
-        change = record { slot = c.node.inside.slot; procedure = c.procedure_at-procedure.result; what = What.Part c.in-Some.part };
-        path = c.copied.ensures i;
-        undoing = PlainUndoing.set_part c.in-Some.part (plain_place c.in-Ok.old);
-        drawn = drawn i;
-        live = live i;
-      })))
+    c.node.inside.slot c.procedure_at-procedure.result _ c.requires.tree there takes c.requires.phrase c.in-Ok.ensures.set.0
+    (ap (with_node c.args.self.now c.args.stop.now.path.items) c.in-Ok.ensures.set.1) (ap (λ (n : PlainNode). n.label.slot) c.node.view_is)
+    c.procedure_at-procedure.ensures
+    (λ i. record {
+      change = record { slot = c.node.inside.slot; procedure = c.procedure_at-procedure.result; what = What.Part c.in-Some.part };
+      path = c.copied.ensures i;
+      undoing = PlainUndoing.set_part c.in-Some.part (plain_place c.in-Ok.old);
+      drawn = drawn i;
+      live = live i;
+    })))
 
 pub returns-clause-tree : goal.returns-clause-tree
 returns-clause-tree c =
