@@ -2,7 +2,7 @@
 #![tactic(auto, using(crate::specs::Private::PlainNodeLayout::node_layouts_bones))]
 
 mod elided;
-mod law;
+mod line_laws;
 mod lay;
 mod layout;
 #[cfg(test)]
@@ -14,6 +14,6 @@ mod node_layout;
 mod plan;
 mod sections_left;
 
-pub use law::owned_lines_are_lines;
+pub use line_laws::owned_lines_are_lines;
 pub use layout::Layout;
 pub use line::{LONGEST_LINE, Line, LineKind};
