@@ -1,7 +1,7 @@
 -- A journal that is closed behind the editor's run.
 use Rattle.std.proofs.Common.{◌≡◌, ℕ, Bool, false, ◌⊎◌, inl, inr, List, [], ◌∷◌, ◌++◌, refl, sym, ap, ◌∙◌, subst, Option, append-nil}
 use Rattle.std.specs.Prelude.{IsTrue}
-use Rattle.key_journal.specs.Clearing.{LeavesNothingOr}
+use Rattle.key_journal.specs.ClearedJournal.{LeavesNothingOr}
 use Rattle.key_journal.specs.Crash.{LeavesOnly, LeavesOneOf}
 use Rattle.key_journal.specs.Disk.{DiskState, Newest}
 use Rattle.key_journal.specs.Journal.{PlainJournal}
@@ -16,7 +16,7 @@ use Rattle.synth_kept.specs.declared.status.KeptStatus.TheVariants.{Run}
 use Rattle.synth_outside.specs.Files.{FileMap}
 use Rattle.synth_top.specs.declared.status.Status.{Status}
 use Rattle.synth_top.specs.declared.status.Status.TheVariants.{Done}
-use Rattle.synth_top.specs.Words.{PlainOptions}
+use Rattle.synth_top.specs.Options.{PlainOptions}
 use Rattle.synth_kept.proofs.Moments.{newest_weaker, throughout_weaker}
 
 -- where a crash left these keys alone, it leaves nothing or them while they are cleared

@@ -16,7 +16,7 @@ use Rattle.synth_top.specs.declared.status.Status.{Status}
 use Rattle.synth_top.specs.declared.status.Status.TheVariants.{Done, ReadFault, WriteFault, NoMemory, BadWords, KeyLimit}
 use Rattle.synth_top.specs.Run.{Ended, NoneLost, QuitPressed, ReadCut, Told}
 use Rattle.synth_top.specs.Status.{LeftAs}
-use Rattle.synth_top.specs.Words.{PlainOptions}
+use Rattle.synth_top.specs.Options.{PlainOptions}
 use Rattle.synth_kept.proofs.GivenKeys.{given_all, given_before}
 use Rattle.synth_kept.proofs.Limits.{IsLimited}
 use Rattle.synth_kept.proofs.Moments.{newest_weaker, one_of_all, still_told, throughout_both, throughout_same, throughout_weaker}

@@ -2,7 +2,8 @@
 use Rattle.std.proofs.Common.{◌≡◌, ℕ, Bool, true, false, List, [], ◌∷◌, Option, Some, None, refl}
 use Rattle.std.specs.Prelude.{IfSome, ◌&&◌, codes, bytes_eq, if◌then◌else◌}
 use Rattle.std.specs.Option.{option_and_then}
-use Rattle.synth_top.specs.Words.{PlainOptions, count_between, options_for, options_of, options_with}
+use Rattle.synth_top.specs.Extent.{least_cols, least_rows, most_cols, most_rows}
+use Rattle.synth_top.specs.Options.{PlainOptions, count_between, options_for, options_of, options_with}
 
 -- these options have the limit
 abbrev pub IsLimited : PlainOptions → Type 0
@@ -14,12 +15,12 @@ tested true options limited = limited
 tested false options limited = tt
 
 of_cols : (rows : ℕ) (cols : Option ℕ) →
-    IfSome (option_and_then (λ c. Some (options_for rows c)) cols) IsLimited
+    IfSome (option_and_then (λ c. Some (options_for (record { rows = rows; cols = c }))) cols) IsLimited
 of_cols rows None = tt
 of_cols rows (Some cols) = refl
 
 of_rows : (rows cols : Option ℕ) →
-    IfSome (option_and_then (λ r. option_and_then (λ c. Some (options_for r c)) cols) rows) IsLimited
+    IfSome (option_and_then (λ r. option_and_then (λ c. Some (options_for (record { rows = r; cols = c }))) cols) rows) IsLimited
 of_rows None cols = tt
 of_rows (Some rows) cols = of_cols rows cols
 
@@ -32,5 +33,5 @@ limited (first ∷ rows ∷ []) = tt
 limited (first ∷ rows ∷ second ∷ []) = tt
 limited (first ∷ rows ∷ second ∷ cols ∷ []) =
     tested (bytes_eq first (codes "--rows") && bytes_eq second (codes "--cols")) (options_with rows cols)
-    (of_rows (count_between 12 100 rows) (count_between 40 160 cols))
+    (of_rows (count_between least_rows most_rows rows) (count_between least_cols most_cols cols))
 limited (first ∷ rows ∷ second ∷ cols ∷ more ∷ words) = tt

@@ -9,7 +9,7 @@ use Rattle.synth_top.specs.declared.status.Status.TheVariants.{Done}
 use Rattle.synth_top.specs.Keys.{keys}
 use Rattle.synth_top.specs.Run.{Told, Course, IsFront, QuitPressed, SourceEnded, Stopped, keys_pressed}
 use Rattle.synth_top.specs.Turn.{PressedKey}
-use Rattle.synth_top.specs.Words.{PlainOptions}
+use Rattle.synth_top.specs.Options.{PlainOptions}
 use Rattle.synth_kept.proofs.Limits.{IsLimited}
 
 -- no byte gives no key

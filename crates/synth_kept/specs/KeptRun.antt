@@ -14,7 +14,7 @@ use Rattle.synth_outside.specs.Files.{FileMap}
 use Rattle.synth_top.specs.declared.status.Status.{Status}
 use Rattle.synth_top.specs.declared.status.Status.TheVariants.{Done, ReadFault, NoMemory, BadWords}
 use Rattle.synth_top.specs.Run.{Ended, QuitPressed, Told}
-use Rattle.synth_top.specs.Words.{PlainOptions}
+use Rattle.synth_top.specs.Options.{PlainOptions}
 
 -- what is told of the outside of a kept session: the bytes that the source of new keys has left, the
 -- states of the disk, the bytes that the sink took, the map of the files, and how many faults these

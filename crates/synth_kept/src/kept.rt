@@ -7,7 +7,7 @@ ghost use Rattle.synth_kept.specs.KeptRun.{KeptEnded};
 ghost use Rattle.synth_kept.specs.Private.Agreement.{IsToClear};
 ghost use Rattle.synth_kept.specs.Private.Clearing.{ClearsKeys};
 ghost use Rattle.synth_top.specs.Status.{CausedBy};
-ghost use Rattle.synth_top.specs.Words.{options_of};
+ghost use Rattle.synth_top.specs.Options.{options_of};
 
 use crate::status::KeptStatus;
 use key_journal::{Disk, JournalKeys};

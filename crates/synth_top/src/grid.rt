@@ -9,9 +9,9 @@ ghost use Rattle.synth_top.specs.Session.{message_text};
 ghost use Rattle.synth_top.specs.Private.Sized.{IsSized};
 
 use crate::bound::MOST_COLS;
+use crate::row_text::append;
 use crate::session::{Refusal, Session, Statement};
 use crate::size::ScreenSize;
-use crate::row_text::append;
 use arrayvec::ArrayVec;
 use plcs_grammar::Category;
 use std::alloc::{AllocError, Global};

@@ -9,8 +9,8 @@ ghost use Rattle.synth_top.specs.Private.PlainForms.{plain_grid};
 ghost use Rattle.synth_top.specs.Private.Writes.{Writes};
 
 use crate::grid::Grid;
-use crate::size::ScreenSize;
 use crate::row_text::append;
+use crate::size::ScreenSize;
 use arrayvec::ArrayVec;
 use synth_outside::{Sink, SinkFault};
 

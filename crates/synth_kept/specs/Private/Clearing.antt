@@ -1,6 +1,6 @@
 -- What clearing a journal behind a run does.
 use Rattle.std.specs.Prelude.{◌≡◌, ◌⊎◌, ℕ, List, Ok, Err}
-use Rattle.key_journal.specs.Clearing.{Clears}
+use Rattle.key_journal.specs.ClearedJournal.{Clears}
 use Rattle.key_journal.specs.Disk.{DiskState}
 use Rattle.key_journal.specs.declared.disk.DiskFault.{DiskFault}
 use Rattle.key_journal.specs.declared.disk.DiskFault.TheVariants.{Failed}
