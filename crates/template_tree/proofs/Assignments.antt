@@ -1,5 +1,5 @@
 -- Assignments as they come in place of holes and assignments.
-use Rattle.std.specs.Prelude.{◌≡◌, refl, ℕ, ◌⊎◌, [], ◌∷◌, List, Some}
+use Rattle.std.specs.Prelude.{◌≡◌, refl, ℕ, ◌⊎◌, List, Some}
 use Rattle.std.proofs.Common.{ap, sym, ◌∙◌, subst, arith, inl, inr}
 use Rattle.std.proofs.Math.Bool.{false≢true}
 use Rattle.plcs_grammar.specs.declared.category.Category.{Category}
@@ -10,7 +10,6 @@ use Rattle.template_tree.specs.PlainTree.{PlainNode, PlainTree, roomless_node}
 use Rattle.template_tree.specs.Part.{IsPlace}
 use Rattle.template_tree.specs.Path.{node_at}
 use Rattle.template_tree.specs.Program.{IsPhrase, IsSubtree, sort_of}
-use Rattle.template_tree.specs.Slots.{count, depth}
 use Rattle.template_tree.specs.Tree.{IsTree}
 use Rattle.template_tree.specs.Edit.{Put}
 use Rattle.template_tree.specs.FreshNode.{assignment_node}

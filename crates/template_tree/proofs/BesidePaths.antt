@@ -1,5 +1,5 @@
 -- Paths to the items beside an item, and the lists at the end of paths.
-use Rattle.std.specs.Prelude.{◌≡◌, refl, ℕ, zero, suc, ◌+◌, ◌<◌, ◌≤◌, ◌==◌, Bool, true, false, if◌then◌else◌, List, [], ◌∷◌, ◌++◌, length, drop, get_or, Option, Some, None, slice_get}
+use Rattle.std.specs.Prelude.{◌≡◌, refl, ℕ, zero, suc, ◌+◌, ◌<◌, ◌≤◌, ◌==◌, Bool, true, false, if◌then◌else◌, List, [], ◌∷◌, ◌++◌, length, drop, get_or, Some, None, slice_get}
 use Rattle.std.specs.Option.{option_map_or}
 use Rattle.std.proofs.Common.{ap, sym, ◌∙◌, arith}
 use Rattle.std.proofs.Math.Bool.{false≢true}
@@ -8,7 +8,7 @@ use Rattle.std.proofs.Math.Seq.{drop-cons}
 use Rattle.std.proofs.Common.{add-one}
 use Rattle.plcs_grammar.specs.declared.node_kind.Sort.{Sort}
 use Rattle.plcs_grammar.specs.Template.{PlainSection, row_of}
-use Rattle.template_tree.specs.PlainTree.{Forest, PlainNode, nodes, forest, nodes_forest}
+use Rattle.template_tree.specs.PlainTree.{Forest, PlainNode, forest, nodes_forest}
 use Rattle.template_tree.specs.Program.{sorts, sort_of}
 use Rattle.template_tree.specs.Section.{same_sort}
 use Rattle.template_tree.specs.ListItem.{sections_at, siblings_at, how_many}

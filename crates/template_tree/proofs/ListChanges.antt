@@ -1,14 +1,14 @@
 -- Lists changed by an item at the end of a path, level by level.
-use Rattle.std.specs.Prelude.{◌≡◌, refl, ℕ, zero, suc, ◌+◌, ◌<◌, ◌≤◌, List, [], ◌∷◌, length, Option, Some, None, IfSome, IfNone, Result, Ok, Err, IfOk, IfErr, option_and_then, slice_get, slice_set}
+use Rattle.std.specs.Prelude.{◌≡◌, refl, ℕ, zero, suc, ◌<◌, ◌≤◌, List, [], ◌∷◌, length, Option, Some, None, IfSome, IfNone, Result, Ok, Err, IfOk, IfErr, option_and_then, slice_get, slice_set}
 use Rattle.std.specs.List.{remove, insert}
 use Rattle.std.specs.Option.{option_map_or}
 use Rattle.std.proofs.Common.{ap, sym, ◌∙◌, arith}
 use Rattle.std.proofs.lemmas.Option.{none-some}
 use Rattle.template_tree.specs.declared.side.Side.{Side}
-use Rattle.template_tree.specs.PlainTree.{Label, Forest, PlainNode, PlainNodes, nodes, forest, forest_nodes, nodes_forest, join, roomless, roomless_node}
+use Rattle.template_tree.specs.PlainTree.{Label, Forest, PlainNode, PlainNodes, forest, nodes_forest, roomless, roomless_node}
 use Rattle.template_tree.specs.Lend.{with_item, without_item}
-use Rattle.template_tree.specs.Path.{below, node_at}
-use Rattle.template_tree.specs.Edit.{give_way, edit_below, edit_at}
+use Rattle.template_tree.specs.Path.{node_at}
+use Rattle.template_tree.specs.Edit.{edit_at}
 use Rattle.template_tree.specs.Receipt.{list_room, with_beside}
 use Rattle.template_tree.proofs.SameEdits.{taken}
 use Rattle.template_tree.proofs.RoomlessEdits.{SameWithoutRoom, roomless_edit}

@@ -1,5 +1,5 @@
 -- A hole that came beside an item, or left its list, is an edit of the tree, whose receipt undoes it.
-use Rattle.std.specs.Prelude.{◌≡◌, refl, ℕ, zero, suc, pred, ◌+◌, ◌-◌, ◌<◌, ◌≤◌, true, if◌then◌else◌, ◌==◌, List, [], ◌∷◌, length, Option, Some, None, IfSome, option_map, slice_get}
+use Rattle.std.specs.Prelude.{◌≡◌, refl, ℕ, zero, suc, pred, ◌+◌, ◌-◌, ◌<◌, ◌≤◌, true, List, [], ◌∷◌, length, Option, Some, None, IfSome, option_map, slice_get}
 use Rattle.std.specs.Option.{option_map_or}
 use Rattle.std.proofs.Common.{ap, sym, ◌∙◌, subst, arith}
 use Rattle.std.proofs.Math.Bool.{false≢true}
@@ -10,7 +10,7 @@ use Rattle.template_tree.specs.declared.side.Side.{Side}
 use Rattle.template_tree.specs.declared.tree_fault.TreeFault.{TreeFault}
 use Rattle.template_tree.specs.declared.change.Change.{Change}
 use Rattle.template_tree.specs.declared.change.What.{What}
-use Rattle.template_tree.specs.PlainTree.{Label, Forest, PlainNode, PlainTree, nodes, forest, join, roomless, roomless_node, roomless_tree}
+use Rattle.template_tree.specs.PlainTree.{Forest, PlainNode, PlainTree, nodes, roomless, roomless_node, roomless_tree}
 use Rattle.template_tree.specs.Program.{sorts, sort_of}
 use Rattle.template_tree.specs.Path.{node_at}
 use Rattle.template_tree.specs.Slots.{count, depth, times}
@@ -18,9 +18,9 @@ use Rattle.template_tree.specs.Limit.{most_slots, most_drawn}
 use Rattle.template_tree.specs.Tree.{IsTree}
 use Rattle.template_tree.specs.Edit.{Add, Drop, Differs, DifferBy, changed_in, edit_at, edit_below, edit_slot, give_way, hole_of, lone, procedure_of}
 use Rattle.template_tree.specs.TreeEdit.{TreeEdit}
-use Rattle.template_tree.specs.Receipt.{PlainUndoing, PlainReceipt, CanUndo, list_room, undone, with_beside}
+use Rattle.template_tree.specs.Receipt.{PlainUndoing, PlainReceipt, list_room, undone, with_beside}
 use Rattle.template_tree.specs.EditAnswer.{IsEdit, IsListItem, IsOver, IsSpareHole, IsWithin}
-use Rattle.template_tree.specs.ListItem.{siblings_at, how_many}
+use Rattle.template_tree.specs.ListItem.{siblings_at}
 use Rattle.template_tree.specs.Private.Exchange.{MeetsLimit, first_item}
 use Rattle.template_tree.specs.Private.Beside.{added_path, last_of, side_of, with_last}
 use Rattle.template_tree.proofs.SameEdits.{taken}

@@ -1,21 +1,20 @@
 -- A tree stays one where a hole comes into a list, or leaves a list of two or more.
-use Rattle.std.specs.Prelude.{◌≡◌, refl, ℕ, zero, suc, ◌+◌, ◌<◌, ◌≤◌, max, Bool, true, false, is_some, if◌then◌else◌, ◌==◌, List, [], ◌∷◌, ◌++◌, Option, Some, None, option_and_then, slice_get}
+use Rattle.std.specs.Prelude.{◌≡◌, refl, ℕ, zero, suc, ◌+◌, ◌<◌, ◌≤◌, Bool, true, false, is_some, if◌then◌else◌, ◌==◌, List, [], ◌∷◌, ◌++◌, Option, Some, None, slice_get}
 use Rattle.std.specs.Option.{option_map_or}
 use Rattle.std.proofs.Common.{ap, sym, ◌∙◌, subst, arith, inl, inr}
 use Rattle.std.proofs.Math.Bool.{false≢true}
 use Rattle.std.proofs.lemmas.Bool.{cases_lt, ne_eqb}
 use Rattle.std.proofs.lemmas.Option.{none-some}
 use Rattle.plcs_grammar.specs.declared.node_kind.NodeKind.{NodeKind}
-use Rattle.plcs_grammar.specs.declared.node_kind.Sort.{Sort}
 use Rattle.plcs_grammar.specs.Template.{PlainSection, row_of, program_sections}
 use Rattle.template_tree.specs.declared.side.Side.{Side}
-use Rattle.template_tree.specs.PlainTree.{Label, Forest, PlainNode, PlainTree, nodes, forest, join}
-use Rattle.template_tree.specs.Program.{sorts, sort_of, Fill, IsNode, AreNodes, IsProgram, IsSubtree}
+use Rattle.template_tree.specs.PlainTree.{Forest, PlainNode, PlainTree, nodes, forest}
+use Rattle.template_tree.specs.Program.{sorts, sort_of, Fill, AreNodes, IsProgram, IsSubtree}
 use Rattle.template_tree.specs.Slots.{count, depth, times, AllBelow}
 use Rattle.template_tree.specs.Path.{below, node_at}
-use Rattle.template_tree.specs.Limit.{deepest_path, most_slots, most_drawn}
+use Rattle.template_tree.specs.Limit.{most_slots, most_drawn}
 use Rattle.template_tree.specs.Tree.{IsTree}
-use Rattle.template_tree.specs.Edit.{Add, Drop, is_hole, edit_at, edit_below, edit_slot, give_way, hole_list, hole_of, lone, with_hole}
+use Rattle.template_tree.specs.Edit.{Add, Drop, is_hole, edit_at, give_way, hole_list, hole_of, lone, with_hole}
 use Rattle.template_tree.specs.ListItem.{is_listed, sections_at, siblings_at, how_many}
 use Rattle.template_tree.specs.EditAnswer.{IsListItem, IsSpareHole}
 use Rattle.template_tree.specs.Receipt.{with_beside}

@@ -1,6 +1,6 @@
 -- A part that was set is an edit of the tree, whose receipt undoes it.
 use Rattle.std.specs.Prelude.{◌≡◌, refl, ℕ, zero, suc, ◌<◌, ◌≤◌, List, [], ◌∷◌, Option, Some, None, IfSome, slice_get, slice_set}
-use Rattle.std.proofs.Common.{ap, sym, ◌∙◌, subst, arith}
+use Rattle.std.proofs.Common.{ap, sym, ◌∙◌, subst}
 use Rattle.std.proofs.lemmas.Option.{none-some}
 use Rattle.plcs_base.specs.declared.place.Slot.{Slot}
 use Rattle.plcs_grammar.specs.declared.node_kind.NodeKind.{NodeKind}

@@ -4,7 +4,7 @@ ghost use Rattle.template_tree.specs.EditAnswer.{Edits, IsListItem, IsSpareHole,
 ghost use Rattle.template_tree.specs.Path.{node_at};
 ghost use Rattle.template_tree.specs.PlainTree.{roomless_node, roomless_tree};
 ghost use Rattle.template_tree.specs.Private.Restored.{with_edit};
-ghost use Rattle.template_tree.specs.Receipt.{list_room, with_beside};
+ghost use Rattle.template_tree.specs.Receipt.{NeedsNoRoom, list_room, with_beside};
 ghost use Rattle.template_tree.specs.Tree.{IsTree};
 ghost use Rattle.template_tree.specs.TreeEdit.{TreeEdit};
 ghost use Rattle.template_tree.specs.declared.tree_fault.TreeFault.{TreeFault};
@@ -28,6 +28,7 @@ impl Tree {
     pub fn add_hole(&mut self, alloc: Global, path: &Path, side: Side) -> Result<Receipt, TreeFault>
         requires tree { IsTree self.old }
         ensures edited { IfOk result (Edits (TreeEdit.add side) (node_at self.old.items path.now.items) (IsListItem self.old.items path.now.items) self.old self.new) }
+        ensures no_room { IfOk result NeedsNoRoom }
         ensures refused { IfErr result (Refuses (TreeEdit.add side) (node_at self.old.items path.now.items) (IsListItem self.old.items path.now.items) self.old) }
         ensures tree { IsTree self.new }
         ensures unchanged { IfErr result (λ _. self.new ≡ self.old) }

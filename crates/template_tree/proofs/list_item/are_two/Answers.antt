@@ -1,4 +1,4 @@
-use Rattle.std.specs.Prelude.{◌≡◌, ◌≤◌, ◌+◌, length, drop, if◌then◌else◌, refl, [], Bool, true, false}
+use Rattle.std.specs.Prelude.{◌≡◌, ◌≤◌, drop, refl}
 use Rattle.std.proofs.Common.{arith, ap}
 use Rattle.std.proofs.Math.Bool.{false≢true}
 use Rattle.std.proofs.lemmas.List.{drop_all}

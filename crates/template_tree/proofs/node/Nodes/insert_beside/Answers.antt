@@ -1,8 +1,7 @@
-use Rattle.std.specs.Prelude.{◌≡◌, ◌+◌, suc, ◌∷◌, [], length}
+use Rattle.std.specs.Prelude.{◌∷◌, []}
 use Rattle.std.specs.List.{insert}
-use Rattle.std.proofs.Common.{arith, ap, sym, ◌∙◌, add-one, subst}
-use Rattle.template_tree.specs.declared.side.Side.{Side}
-use Rattle.template_tree.specs.PlainTree.{Forest, PlainNodes, forest}
+use Rattle.std.proofs.Common.{arith, ap, sym, ◌∙◌, add-one}
+use Rattle.template_tree.specs.PlainTree.{PlainNodes, forest}
 use Rattle.template_tree.specs.Edit.{edit_at}
 use Rattle.template_tree.specs.Receipt.{with_beside}
 use Rattle.template_tree.proofs.ListChanges.{put_nowhere, put_before, put_behind}

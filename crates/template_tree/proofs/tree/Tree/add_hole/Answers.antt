@@ -1,24 +1,24 @@
-use Rattle.std.specs.Prelude.{◌≡◌, refl, ◌+◌, ◌≤◌, Some, None, IfSome, map}
+use Rattle.std.specs.Prelude.{◌≡◌, refl, ◌+◌, ◌≤◌, Some, None, IfSome}
 use Rattle.std.proofs.Common.{arith, ap, sym, ◌∙◌, subst}
 use Rattle.std.proofs.lemmas.Option.{none-some}
 use Rattle.plcs_grammar.specs.declared.node_kind.NodeKind.{NodeKind}
-use Rattle.plcs_grammar.specs.Template.{PlainRow, plain_section, program_sections, row_of}
+use Rattle.plcs_grammar.specs.Template.{PlainRow, row_of}
 use Rattle.template_tree.specs.declared.change.Change.{Change}
 use Rattle.template_tree.specs.declared.change.What.{What}
 use Rattle.template_tree.specs.contracts.tree.Tree.{the_view}
-use Rattle.template_tree.specs.PlainTree.{PlainNode, PlainTree, roomless, roomless_node}
+use Rattle.template_tree.specs.PlainTree.{PlainTree, roomless, roomless_node}
 use Rattle.template_tree.specs.Path.{node_at}
 use Rattle.template_tree.specs.Program.{sort_of}
 use Rattle.template_tree.specs.Slots.{count}
 use Rattle.template_tree.specs.Edit.{edit_at, hole_of, lone}
 use Rattle.template_tree.specs.EditAnswer.{IsEdit, IsListItem}
-use Rattle.template_tree.specs.ListItem.{is_listed, sections_at}
+use Rattle.template_tree.specs.ListItem.{is_listed}
 use Rattle.template_tree.specs.Private.Exchange.{first_item}
 use Rattle.template_tree.specs.Private.Beside.{added_path}
 use Rattle.template_tree.specs.Receipt.{PlainReceipt, PlainUndoing, with_beside}
 use Rattle.template_tree.specs.TreeEdit.{TreeEdit}
 use Rattle.template_tree.proofs.Holes.{bare_is}
-use Rattle.template_tree.proofs.PutEdits.{at_there}
+use Rattle.template_tree.proofs.PutEdits.{at_there, edits_at}
 use Rattle.template_tree.proofs.Refusals.{refused_by}
 use Rattle.template_tree.proofs.ListTrees.{hole_kind}
 use Rattle.template_tree.proofs.ListEdits.{add_edit, add_over, add_within, last_small}
@@ -108,15 +108,18 @@ returns-clause-edited c =
     let edit = add_edit tree path node side hole after change c.requires.tree there listed hole_is
     c.in_default-limit_reached.ensures.within.1 c.in_default-limit_reached.ensures.within.2 others (ap (λ n. n + 1) drawn) (ap (λ n. n + 1) live)
     record { slot_is = drawn; what_is = refl; first = first } in
-    at_there (node_at tree.items path) _ node there (
-      listed,
-      subst (λ (r : PlainReceipt). IsEdit (TreeEdit.add side) node.label.slot tree after r None)
-          (λ i. record {
-            change = change;
-            path = sym c.added_path-added.ensures i;
-            undoing = PlainUndoing.take_out;
-            drawn = sym drawn i;
-            live = sym live i;
-          })
-          edit,
+    edits_at (TreeEdit.add side) (node_at tree.items path) (IsListItem tree.items path) _ _ _ node there listed
+    (
+    subst (λ (r : PlainReceipt). IsEdit (TreeEdit.add side) node.label.slot tree after r None)
+    (λ i. record {
+      change = change;
+      path = sym c.added_path-added.ensures i;
+      undoing = PlainUndoing.take_out;
+      drawn = sym drawn i;
+      live = sym live i;
+    })
+    edit
     )
+
+pub returns-clause-tree : goal.returns-clause-tree
+returns-clause-tree c = (returns-clause-edited c).is_edit.tree

@@ -1,4 +1,4 @@
-use Rattle.std.specs.Prelude.{◌≡◌, refl, ◌-◌, ◌<◌, pred, Some, None, []}
+use Rattle.std.specs.Prelude.{◌≡◌, refl, ◌-◌, ◌<◌, Some, None, []}
 use Rattle.std.proofs.Common.{arith, ap, sym, ◌∙◌, subst}
 use Rattle.template_tree.specs.declared.change.Change.{Change}
 use Rattle.template_tree.specs.declared.change.What.{What}
@@ -10,7 +10,7 @@ use Rattle.template_tree.specs.EditAnswer.{IsEdit, IsSpareHole}
 use Rattle.template_tree.specs.Receipt.{PlainReceipt, PlainUndoing, list_room}
 use Rattle.template_tree.specs.TreeEdit.{TreeEdit}
 use Rattle.template_tree.proofs.Counts.{counted_below}
-use Rattle.template_tree.proofs.PutEdits.{at_there, of_there}
+use Rattle.template_tree.proofs.PutEdits.{edits_at, of_there}
 use Rattle.template_tree.proofs.ListEdits.{drop_edit}
 use Rattle.template_tree.proofs.tree.Tree.drop_hole.Goals as goal
 
@@ -44,15 +44,18 @@ returns-clause-edited c =
     let edit = drop_edit tree path node after change c.requires.tree there spare others drawn
     (ap (λ (t : PlainTree). t.live - 1) c.self.view_is) room
     record { slot_is = ap (λ (n : PlainNode). n.label.slot) c.hole.view_is; what_is = refl; first = c.procedure_at-procedure.ensures } in
-    at_there (node_at tree.items path) _ node there (
-      spare,
-      subst (λ (r : PlainReceipt). IsEdit TreeEdit.drop node.label.slot tree after r None)
-          (λ i. record {
-            change = change;
-            path = sym c.path_before.ensures i;
-            undoing = PlainUndoing.put_in (sym c.side_left.ensures i) (roomless_node node);
-            drawn = ap (λ (t : PlainTree). t.drawn) (sym c.self.view_is) i;
-            live = ap (λ (t : PlainTree). t.live) (sym c.self.view_is) i;
-          })
-          edit,
+    edits_at TreeEdit.drop (node_at tree.items path) (IsSpareHole tree.items path) _ _ _ node there spare
+    (
+    subst (λ (r : PlainReceipt). IsEdit TreeEdit.drop node.label.slot tree after r None)
+    (λ i. record {
+      change = change;
+      path = sym c.path_before.ensures i;
+      undoing = PlainUndoing.put_in (sym c.side_left.ensures i) (roomless_node node);
+      drawn = ap (λ (t : PlainTree). t.drawn) (sym c.self.view_is) i;
+      live = ap (λ (t : PlainTree). t.live) (sym c.self.view_is) i;
+    })
+    edit
     )
+
+pub returns-clause-tree : goal.returns-clause-tree
+returns-clause-tree c = (returns-clause-edited c).is_edit.tree

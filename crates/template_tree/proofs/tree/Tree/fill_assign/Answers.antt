@@ -1,8 +1,8 @@
-use Rattle.std.specs.Prelude.{◌≡◌, ◌⊎◌, Some, None}
-use Rattle.std.proofs.Common.{ap, sym, ◌∙◌, subst}
+use Rattle.std.specs.Prelude.{◌≡◌, ◌⊎◌, None}
+use Rattle.std.proofs.Common.{ap, sym, subst}
 use Rattle.plcs_grammar.specs.declared.node_kind.NodeKind.{NodeKind}
 use Rattle.plcs_grammar.specs.PlainForm.{plain_phrase}
-use Rattle.template_tree.specs.PlainTree.{PlainNode, roomless_node}
+use Rattle.template_tree.specs.PlainTree.{PlainNode}
 use Rattle.template_tree.specs.Path.{node_at}
 use Rattle.template_tree.specs.FreshNode.{assignment_node}
 use Rattle.template_tree.specs.Edit.{Put}

@@ -1,6 +1,6 @@
-use Rattle.std.specs.Prelude.{◌≡◌, ◌≤◌, ◌+◌, min, Some, length}
+use Rattle.std.specs.Prelude.{◌+◌, min, Some, length}
 use Rattle.std.proofs.Common.{ap, sym, ◌∙◌, arith}
-use Rattle.template_tree.specs.Limit.{deepest_path, most_slots}
+use Rattle.template_tree.specs.Limit.{most_slots}
 use Rattle.template_tree.specs.PlainTree.{PlainNode, forest}
 use Rattle.template_tree.specs.Program.{sort_of}
 use Rattle.template_tree.specs.Slots.{count}

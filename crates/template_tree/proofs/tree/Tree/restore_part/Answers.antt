@@ -1,4 +1,4 @@
-use Rattle.std.specs.Prelude.{◌≡◌, refl, List, [], ◌∷◌}
+use Rattle.std.specs.Prelude.{refl, List, [], ◌∷◌}
 use Rattle.std.proofs.Common.{ap, sym, ◌∙◌}
 use Rattle.template_tree.specs.Part.{with_part}
 use Rattle.template_tree.specs.PlainPlace.{plain_place}
