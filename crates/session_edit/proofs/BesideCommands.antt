@@ -1,10 +1,10 @@
 -- Holes that come beside list items.
-use Rattle.std.specs.Prelude.{◌≡◌, refl, ℕ, zero, suc, ◌+◌, ◌<◌, ◌≤◌, Bool, true, false, if◌then◌else◌, IsTrue, List, [], ◌∷◌, ◌++◌, length, take, slice_index_or, All, Option, Some, None, IfSome, IsSomeAnd, Result, option_map, option_and_then, slice_get}
+use Rattle.std.specs.Prelude.{◌≡◌, refl, ℕ, zero, suc, ◌+◌, ◌<◌, ◌≤◌, Bool, true, false, if◌then◌else◌, List, [], ◌∷◌, ◌++◌, length, take, slice_index_or, All, Option, Some, None, IsSomeAnd, Result, option_map, option_and_then, slice_get}
 use Rattle.std.specs.Option.{option_map_or}
 use Rattle.std.proofs.Common.{ap, sym, ◌∙◌, subst, arith}
 use Rattle.std.proofs.lemmas.List.{take-append-le}
 use Rattle.std.proofs.lemmas.Bool.{false≢true}
-use Rattle.std.proofs.lemmas.Option.{none-some, same_Some}
+use Rattle.std.proofs.lemmas.Option.{none-some}
 use Rattle.plcs_grammar.specs.declared.node_kind.NodeKind.{NodeKind}
 use Rattle.plcs_grammar.specs.declared.node_kind.Sort.{Sort}
 use Rattle.plcs_grammar.specs.declared.template.Template.{Template}
@@ -33,7 +33,8 @@ use Rattle.session_edit.specs.Here.{enclosing_item, is_item, nearest_item}
 use Rattle.session_edit.specs.PlainEdit.{PlainEdit}
 use Rattle.session_edit.specs.Private.ShownPath.{IsShown}
 use Rattle.session_edit.proofs.DropCommands.{item_listed, item_roomless_is, item_true}
-use Rattle.session_edit.proofs.Outcomes.{Node, applied_is, edited_is, node_there, refused_is, stands_after}
+use Rattle.session_edit.proofs.Outcomes.{applied_is, edited_is, node_there, refused_is, stands_after}
+use Rattle.session_edit.proofs.PutCommands.{edit_there}
 use Rattle.session_edit.proofs.RoomlessEdits.{add_roomless}
 use Rattle.session_edit.proofs.RoomlessNodes.{node_roomless}
 use Rattle.session_edit.proofs.StopTests.{is_false}
@@ -219,11 +220,17 @@ abbrev pub AddsHole : Side → List ℕ → (before after : PlainTree) → Plain
 AddsHole side path before after receipt =
     Edits (TreeEdit.add side) (node_at before.items path) (IsListItem before.items path) before after receipt
 
+held_edit : (tree after : PlainTree) (side : Side) (path : List ℕ) (receipt : PlainReceipt) → AddsHole side path tree after receipt
+    → (node : PlainNode) × (node_at tree.items path ≡ Some node)
+    × (IsListItem tree.items path node × IsEdit (TreeEdit.add side) node.label.slot tree after receipt None)
+held_edit tree after side path receipt adds =
+    let held = held_node (node_at tree.items path) (IsListItem tree.items path) adds.here in
+    (held.0, held.1, edit_there (TreeEdit.add side) (node_at tree.items path) (IsListItem tree.items path) tree after receipt held.0 held.1 adds)
+
 pub added_few : (tree after : PlainTree) (side : Side) (path : List ℕ) (receipt : PlainReceipt) → IsTree tree → AddsHole side path tree after receipt
     → All (λ k. k < most_slots) path
 added_few tree after side path receipt t adds =
-    let made = held_node (node_at tree.items path)
-    (λ node. IsListItem tree.items path node × IsEdit (TreeEdit.add side) node.label.slot tree after receipt None) adds
+    let made = held_edit tree after side path receipt adds
     in
     numbers_few tree path made.0 t made.1
 
@@ -232,8 +239,7 @@ pub beside_applied : SlotEditIsPathEdit → (tree after : PlainTree) (side : Sid
     → IsApplied (hole_beside (roomless_tree tree) side (enclosing_item (roomless_tree tree).items path)) tree after
     record { receipt = receipt; taken = None; stop = stop_after }
 beside_applied law tree after side path receipt stop_after t shown adds there =
-    let made = held_node (node_at tree.items path)
-    (λ node. IsListItem tree.items path node × IsEdit (TreeEdit.add side) node.label.slot tree after receipt None) adds
+    let made = held_edit tree after side path receipt adds
     in
     applied_is (beside_outcome tree side path) (TreeEdit.add side) (TreeEdit.add side) made.0.label.slot tree after receipt None stop_after
     (node_stop (beside_path side path)) made.2.1 (add_roomless tree made.0.label.slot side) (comes_beside tree side path made.0 made.1 made.2.0) there

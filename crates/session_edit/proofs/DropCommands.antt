@@ -1,5 +1,5 @@
 -- Holes dropped from their lists.
-use Rattle.std.specs.Prelude.{◌≡◌, refl, ℕ, zero, suc, ◌+◌, ◌-◌, ◌≤◌, Bool, true, false, ◌&&◌, nat_lt, if◌then◌else◌, IsTrue, List, [], ◌∷◌, length, Option, Some, None, IfSome, IsSomeAnd, is_some, is_none, option_map, option_and_then, slice_get}
+use Rattle.std.specs.Prelude.{◌≡◌, refl, ℕ, suc, ◌+◌, ◌-◌, ◌≤◌, Bool, true, false, ◌&&◌, nat_lt, if◌then◌else◌, List, [], ◌∷◌, length, Option, Some, None, IsSomeAnd, is_some, is_none, option_map, option_and_then, slice_get}
 use Rattle.std.specs.Option.{option_map_or}
 use Rattle.std.proofs.Common.{ap, sym, ◌∙◌, subst, arith}
 use Rattle.std.proofs.lemmas.Bool.{false≢true}
@@ -16,22 +16,22 @@ use Rattle.template_tree.specs.PlainTree.{Forest, PlainNode, PlainTree, nodes, r
 use Rattle.template_tree.specs.Program.{sort_of, sorts}
 use Rattle.template_tree.specs.Receipt.{PlainReceipt}
 use Rattle.template_tree.specs.Section.{same_sort}
-use Rattle.template_tree.specs.Stop.{IsStop, MayStand, PlainStop, plain_stop, visible_at}
+use Rattle.template_tree.specs.Stop.{IsStop, PlainStop, plain_stop, visible_at}
 use Rattle.template_tree.specs.Tree.{IsTree}
 use Rattle.template_tree.specs.TreeEdit.{TreeEdit, tree_after}
 use Rattle.template_tree.specs.TreeLaws.{SlotEditIsPathEdit}
 use Rattle.template_tree.specs.Edit.{edit_at, give_way}
-use Rattle.session_edit.specs.AppliedEdit.{IsApplied, IsRefused}
+use Rattle.session_edit.specs.AppliedEdit.{IsApplied}
 use Rattle.session_edit.specs.Cursor.{has_sort, node_stop, path_after_drop, with_last}
-use Rattle.session_edit.specs.Edited.{Edited, comes, dropped, edited, not_here, taken_out}
+use Rattle.session_edit.specs.Edited.{dropped, edited, taken_out}
 use Rattle.session_edit.specs.Here.{is_item, is_spare_hole}
 use Rattle.session_edit.specs.PlainEdit.{PlainEdit}
 use Rattle.session_edit.proofs.Outcomes.{Node, applied_is, edited_is, items_after, node_there, stands_after}
-use Rattle.session_edit.proofs.PutCommands.{at_found, of_found}
+use Rattle.session_edit.proofs.PutCommands.{edit_there, of_found}
 use Rattle.session_edit.proofs.RoomlessEdits.{drop_roomless}
 use Rattle.session_edit.proofs.RoomlessNodes.{item_roomless, node_roomless}
 use Rattle.session_edit.proofs.StopTests.{is_false}
-use Rattle.session_edit.proofs.VisibleEdits.{item_of, last_number, other_stays, seen_beside, seen_here, shelf, shelf_after, shelf_of, IsHeld}
+use Rattle.session_edit.proofs.VisibleEdits.{item_of, last_number, other_stays, seen_beside, seen_here, shelf, shelf_after, shelf_of}
 
 -- the room of lists makes no difference to the sections and the neighbours of a node
 sections_found : (path : List ℕ) (j : ℕ)
@@ -287,8 +287,7 @@ pub drop_is_tree : (tree after : PlainTree) (at : PlainStop) (receipt : PlainRec
     → Edits TreeEdit.drop (node_at tree.items at.path) (IsSpareHole tree.items at.path) tree after receipt → IsTree after
 drop_is_tree tree after at receipt stop edits =
     let n = node_there tree at stop in
-    let made = at_found (node_at tree.items at.path)
-    (λ node. IsSpareHole tree.items at.path node × IsEdit TreeEdit.drop node.label.slot tree after receipt None) n.node n.there edits
+    let made = edit_there TreeEdit.drop (node_at tree.items at.path) (IsSpareHole tree.items at.path) tree after receipt n.node n.there edits
     in
     made.1.tree
 
@@ -300,8 +299,7 @@ pub drop_applied : SlotEditIsPathEdit → (tree after : PlainTree) (at : PlainSt
     → IsApplied (edited (roomless_tree tree) at PlainEdit.delete) tree after record { receipt = receipt; taken = None; stop = stop_after }
 drop_applied law tree after at receipt stop_after sort is_tree stop part edits sort_is there =
     let n = node_there tree at stop in
-    let made = at_found (node_at tree.items at.path)
-    (λ node. IsSpareHole tree.items at.path node × IsEdit TreeEdit.drop node.label.slot tree after receipt None) n.node n.there edits
+    let made = edit_there TreeEdit.drop (node_at tree.items at.path) (IsSpareHole tree.items at.path) tree after receipt n.node n.there edits
     in
     let kind : Sort = sort_of n.node.label.kind in
     let same_kind : sort ≡ kind =

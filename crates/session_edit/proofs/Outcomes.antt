@@ -1,31 +1,27 @@
 -- What comes of an edit, and what is answered to it.
-use Rattle.std.specs.Prelude.{◌≡◌, refl, ℕ, ◌<◌, ◌≤◌, Bool, true, false, ◌&&◌, nat_lt, if◌then◌else◌, IsTrue, List, [], ◌∷◌, Option, Some, None, IfSome, IsSomeAnd, is_some, option_map}
+use Rattle.std.specs.Prelude.{◌≡◌, refl, ℕ, ◌<◌, ◌≤◌, Bool, true, false, nat_lt, List, Option, Some, None, IfSome, IsSomeAnd, option_map}
 use Rattle.std.proofs.Common.{ap, sym, ◌∙◌, subst, arith}
-use Rattle.std.proofs.lemmas.Bool.{false≢true}
 use Rattle.std.proofs.lemmas.Bool.Decides.{Decides-ltb}
-use Rattle.plcs_grammar.specs.declared.node_kind.NodeKind.{NodeKind}
-use Rattle.plcs_grammar.specs.declared.node_kind.Sort.{Sort}
 use Rattle.template_tree.specs.declared.stop.Stop.{Stop}
 use Rattle.template_tree.specs.declared.tree_fault.TreeFault.{TreeFault}
 use Rattle.template_tree.specs.Edit.{edit_at, edit_slot, with_items}
 use Rattle.template_tree.specs.EditAnswer.{IsEdit, IsOver, IsWithin, Refuses}
 use Rattle.template_tree.specs.Limit.{deepest_path, most_slots, most_drawn}
 use Rattle.template_tree.specs.Path.{node_at}
-use Rattle.template_tree.specs.PlainTree.{Forest, PlainNode, PlainTree, roomless, roomless_node, roomless_tree}
+use Rattle.template_tree.specs.PlainTree.{PlainNode, PlainTree, roomless, roomless_node, roomless_tree}
 use Rattle.template_tree.specs.Program.{IsSubtree}
 use Rattle.template_tree.specs.Receipt.{PlainReceipt}
-use Rattle.template_tree.specs.Slots.{depth, times}
-use Rattle.template_tree.specs.Stop.{IsStop, MayStand, PlainStop, Stops, plain_stop, visible_at}
+use Rattle.template_tree.specs.Slots.{depth}
+use Rattle.template_tree.specs.Stop.{IsStop, MayStand, PlainStop, plain_stop, visible_at}
 use Rattle.template_tree.specs.Tree.{IsTree}
 use Rattle.template_tree.specs.TreeEdit.{TreeEdit, tree_after}
 use Rattle.template_tree.specs.TreeLaws.{SlotEditIsPathEdit}
-use Rattle.session_edit.specs.declared.applied.Applied.{Applied}
 use Rattle.session_edit.specs.AppliedEdit.{IsApplied, IsRefused, is_made}
 use Rattle.session_edit.specs.Cursor.{onward, onward_among}
 use Rattle.session_edit.specs.Edited.{Edited, comes, comes_onward, edited, edited_at, at_node, limit_reached, not_here, unless}
 use Rattle.session_edit.specs.PlainEdit.{PlainEdit}
 use Rattle.session_edit.proofs.RoomlessNodes.{node_roomless, stop_roomless, stop_with_room}
-use Rattle.session_edit.proofs.RoomlessEdits.{depth_roomless, differs_roomless, roomless_twice}
+use Rattle.session_edit.proofs.RoomlessEdits.{depth_roomless, differs_roomless}
 use Rattle.session_edit.proofs.RoomlessStops.{stops_roomless}
 use Rattle.session_edit.proofs.VisibleEdits.{visible_node}
 

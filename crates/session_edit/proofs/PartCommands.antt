@@ -1,5 +1,5 @@
 -- Commands that set a part at the stop of the part.
-use Rattle.std.specs.Prelude.{◌≡◌, refl, ℕ, ◌<◌, Bool, true, false, ◌&&◌, if◌then◌else◌, List, [], ◌∷◌, Option, Some, None, IfSome, IsSome, IsSomeAnd, is_some, is_none, option_map}
+use Rattle.std.specs.Prelude.{◌≡◌, refl, ℕ, ◌<◌, Bool, true, false, ◌&&◌, if◌then◌else◌, List, [], ◌∷◌, Option, Some, None, IsSome, IsSomeAnd, is_some, is_none}
 use Rattle.std.specs.Option.{option_map_or}
 use Rattle.std.proofs.Common.{ap, sym, ◌∙◌, subst}
 use Rattle.std.proofs.lemmas.Bool.{false≢true}
@@ -7,7 +7,7 @@ use Rattle.plcs_grammar.specs.PlainPhrase.{PlainPhrase}
 use Rattle.template_tree.specs.declared.stop.Stop.{Stop}
 use Rattle.template_tree.specs.declared.tree_fault.TreeFault.{TreeFault}
 use Rattle.template_tree.specs.EditAnswer.{Edits, IsEdit, TakesAtStop}
-use Rattle.template_tree.specs.Part.{Takes, part_category, with_part}
+use Rattle.template_tree.specs.Part.{part_category, with_part}
 use Rattle.template_tree.specs.Path.{node_at}
 use Rattle.template_tree.specs.PlainTree.{PlainNode, PlainTree, roomless_node, roomless_tree}
 use Rattle.template_tree.specs.Receipt.{PlainReceipt}
@@ -18,11 +18,11 @@ use Rattle.template_tree.specs.TreeLaws.{SlotEditIsPathEdit}
 use Rattle.clip_store.specs.PlainFragment.{PlainFragment}
 use Rattle.session_edit.specs.AppliedEdit.{IsApplied, IsRefused}
 use Rattle.session_edit.specs.Cursor.{onward}
-use Rattle.session_edit.specs.Edited.{Edited, comes, comes_onward, edited, entry, not_here, phrase_inserted, taken_out}
+use Rattle.session_edit.specs.Edited.{comes, comes_onward, edited, entry, not_here, phrase_inserted, taken_out}
 use Rattle.session_edit.specs.Here.{can_take, category_in, is_wanted, phrase_in, takes_at, takes_phrase}
 use Rattle.session_edit.specs.PlainEdit.{PlainEdit}
 use Rattle.session_edit.proofs.Outcomes.{Node, applied_is, edited_is, node_there, not_here_is, onward_applied, stands_after}
-use Rattle.session_edit.proofs.PutCommands.{at_found, of_found}
+use Rattle.session_edit.proofs.PutCommands.{edit_there, of_found}
 use Rattle.session_edit.proofs.RoomlessEdits.{part_roomless}
 use Rattle.session_edit.proofs.RoomlessNodes.{stop_with_room}
 use Rattle.session_edit.proofs.StopNodes.{takes_is}
@@ -59,8 +59,7 @@ setting at place before after n receipt sets =
     let held = held_part at.part
     (λ part. Edits (TreeEdit.set_part part place) (node_at before.items at.path) (TakesAtStop part place) before after receipt) sets
     in
-    let made = at_found (node_at before.items at.path)
-    (λ node. TakesAtStop held.0 place node × IsEdit (TreeEdit.set_part held.0 place) node.label.slot before after receipt None) n.node n.there held.2
+    let made = edit_there (TreeEdit.set_part held.0 place) (node_at before.items at.path) (TakesAtStop held.0 place) before after receipt n.node n.there held.2
     in
     record { part = held.0; is = held.1; takes = made.0; edit = made.1 }
 

@@ -1,6 +1,7 @@
 -- Commands that put a node in at the stop of a node.
-use Rattle.std.specs.Prelude.{◌≡◌, refl, ℕ, ◌+◌, Bool, true, false, if◌then◌else◌, List, [], ◌∷◌, Option, Some, None, IfSome, IsSome, IsSomeAnd, option_map, is_some}
+use Rattle.std.specs.Prelude.{◌≡◌, refl, ℕ, ◌+◌, Bool, true, false, if◌then◌else◌, List, [], ◌∷◌, Option, Some, None, IsSome, IsSomeAnd, is_some, unwrap_or}
 use Rattle.std.proofs.Common.{ap, sym, ◌∙◌, subst}
+use Rattle.std.proofs.lemmas.Bool.{false≢true}
 use Rattle.std.proofs.lemmas.Option.{same_Some}
 use Rattle.plcs_grammar.specs.declared.node_kind.NodeKind.{NodeKind}
 use Rattle.plcs_grammar.specs.declared.template.Template.{Template}
@@ -8,7 +9,7 @@ use Rattle.plcs_grammar.specs.PlainPhrase.{PlainPhrase}
 use Rattle.template_tree.specs.declared.stop.Stop.{Stop}
 use Rattle.template_tree.specs.declared.tree_fault.TreeFault.{TreeFault}
 use Rattle.template_tree.specs.Edit.{hole_left, lone, node_in_slot}
-use Rattle.template_tree.specs.EditAnswer.{Edits, IsEdit, IsHoleFor, MayTake, Refuses, TakesAssignment, TakesOut}
+use Rattle.template_tree.specs.EditAnswer.{Edits, IsEdit, IsHoleFor, MayTake, Refuses, TakesAssignment, TakesOut, slot_in}
 use Rattle.template_tree.specs.FreshNode.{assignment_node, fresh_node}
 use Rattle.template_tree.specs.Path.{node_at}
 use Rattle.template_tree.specs.PlainTree.{PlainNode, PlainTree, roomless_node, roomless_tree}
@@ -36,6 +37,13 @@ at_found found P node e h = subst (λ o. IsSomeAnd o P) e h
 
 pub of_found : (found : Option PlainNode) (P : PlainNode → Type 0) (node : PlainNode) → found ≡ Some node → P node → IsSomeAnd found P
 of_found found P node e h = subst (λ o. IsSomeAnd o P) (sym e) h
+
+-- the edit that was made at the node that stands there
+pub edit_there : (edit : TreeEdit) (found : Option PlainNode) (Here : PlainNode → Type 0) (before after : PlainTree) (receipt : PlainReceipt)
+    (node : PlainNode)
+    → found ≡ Some node → Edits edit found Here before after receipt → Here node × IsEdit edit node.label.slot before after receipt None
+edit_there edit found Here before after receipt node e edits =
+    (at_found found Here node e edits.here, subst (λ o. IsEdit edit (slot_in o) before after receipt None) e edits.is_edit)
 
 -- the cursor may stand on the node that came
 pub put_stands : SlotEditIsPathEdit → (before after : PlainTree) (at : PlainStop) (n : Node before at) (new : PlainNode) (receipt : PlainReceipt)
@@ -105,7 +113,7 @@ pub fill_stands : SlotEditIsPathEdit → (tree after : PlainTree) (at : PlainSto
 fill_stands law tree after at template receipt is_tree stop part edits =
     let n = node_there tree at stop in
     let new : PlainNode = fresh_node (NodeKind.Filled template) in
-    let made = at_found (node_at tree.items at.path) (λ node. IsHoleFor (NodeKind.Filled template) node × IsEdit (TreeEdit.put new) node.label.slot tree after receipt None) n.node n.there edits in
+    let made = edit_there (TreeEdit.put new) (node_at tree.items at.path) (IsHoleFor (NodeKind.Filled template)) tree after receipt n.node n.there edits in
     stop_with_room after.items at (put_stands law tree after at n new receipt None part is_tree made.1)
 
 pub fill_applied : (tree after : PlainTree) (at : PlainStop) (template : Template) (receipt : PlainReceipt) (stop_after : Stop)
@@ -116,7 +124,7 @@ pub fill_applied : (tree after : PlainTree) (at : PlainStop) (template : Templat
 fill_applied tree after at template receipt stop_after stop part edits there seen =
     let n = node_there tree at stop in
     let new : PlainNode = fresh_node (NodeKind.Filled template) in
-    let made = at_found (node_at tree.items at.path) (λ node. IsHoleFor (NodeKind.Filled template) node × IsEdit (TreeEdit.put new) node.label.slot tree after receipt None) n.node n.there edits in
+    let made = edit_there (TreeEdit.put new) (node_at tree.items at.path) (IsHoleFor (NodeKind.Filled template)) tree after receipt n.node n.there edits in
     onward_applied (edited (roomless_tree tree) at (PlainEdit.fill template)) (TreeEdit.put new) (TreeEdit.put new) n.node.label.slot tree after receipt
     stop_after at made.1 (put_roomless tree n.node.label.slot new new refl) (fill_comes tree at n template part made.0) there seen
 
@@ -166,7 +174,7 @@ pub assign_stands : SlotEditIsPathEdit → (tree after : PlainTree) (at : PlainS
 assign_stands law tree after at phrase receipt is_tree stop part edits =
     let n = node_there tree at stop in
     let new : PlainNode = assignment_node phrase in
-    let made = at_found (node_at tree.items at.path) (λ node. TakesAssignment phrase node × IsEdit (TreeEdit.put new) node.label.slot tree after receipt None) n.node n.there edits in
+    let made = edit_there (TreeEdit.put new) (node_at tree.items at.path) (TakesAssignment phrase) tree after receipt n.node n.there edits in
     stop_with_room after.items at (put_stands law tree after at n new receipt None part is_tree made.1)
 
 pub assign_applied : (tree after : PlainTree) (at : PlainStop) (phrase : PlainPhrase) (receipt : PlainReceipt) (stop_after : Stop)
@@ -177,7 +185,7 @@ pub assign_applied : (tree after : PlainTree) (at : PlainStop) (phrase : PlainPh
 assign_applied tree after at phrase receipt stop_after stop part edits there seen =
     let n = node_there tree at stop in
     let new : PlainNode = assignment_node phrase in
-    let made = at_found (node_at tree.items at.path) (λ node. TakesAssignment phrase node × IsEdit (TreeEdit.put new) node.label.slot tree after receipt None) n.node n.there edits in
+    let made = edit_there (TreeEdit.put new) (node_at tree.items at.path) (TakesAssignment phrase) tree after receipt n.node n.there edits in
     onward_applied (edited (roomless_tree tree) at (PlainEdit.enter phrase)) (TreeEdit.put new) (TreeEdit.put new) n.node.label.slot tree after receipt
     stop_after at made.1 (put_roomless tree n.node.label.slot new new refl)
     (assign_if tree at n phrase true part (assignment_true phrase n.node made.0)) there seen
@@ -233,7 +241,7 @@ pub insert_applied : SlotEditIsPathEdit → (tree after : PlainTree) (at : Plain
     record { receipt = receipt; taken = None; stop = stop_after }
 insert_applied law tree after at new receipt stop_after is_tree stop part edits there =
     let n = node_there tree at stop in
-    let made = at_found (node_at tree.items at.path) (λ node. IsHoleFor new.label.kind node × IsEdit (TreeEdit.put new) node.label.slot tree after receipt None) n.node n.there edits in
+    let made = edit_there (TreeEdit.put new) (node_at tree.items at.path) (IsHoleFor new.label.kind) tree after receipt n.node n.there edits in
     applied_is (edited (roomless_tree tree) at (PlainEdit.insert (PlainFragment.node (roomless_node new)))) (TreeEdit.put new)
     (TreeEdit.put (roomless_node new)) n.node.label.slot tree after receipt None stop_after at made.1
     (put_roomless tree n.node.label.slot new (roomless_node new) (sym (node_twice new)))
@@ -263,9 +271,9 @@ take_refused tree at fault stop part e missing =
     (take_if tree at n None part
     (no_hole (hole_left n.node.label.kind) (λ may. missing (of_found (node_at tree.items at.path) MayTake n.node n.there may))))
 
-taken_hole : (found : Option NodeKind) (P : NodeKind → Type 0) → IsSomeAnd found P → (kind : NodeKind) × (found ≡ Some kind) × P kind
-taken_hole None P h = absurd h
-taken_hole (Some kind) P h = (kind, refl, h)
+taken_hole : (hole : Option NodeKind) → IsSome hole → (kind : NodeKind) × (hole ≡ Some kind)
+taken_hole None h = absurd (false≢true h)
+taken_hole (Some kind) h = (kind, refl)
 
 pub take_applied : SlotEditIsPathEdit → (tree after : PlainTree) (at : PlainStop) (node : PlainNode) (receipt : PlainReceipt) (stop_after : Stop)
     → IsTree tree → IsStop (roomless_tree tree).items at → at.part ≡ None
@@ -278,9 +286,12 @@ take_applied law tree after at node receipt stop_after is_tree stop part found t
     let n : Node tree at =
     record { node = node; seen = n0.seen ∙ ap Some same; there = found; stands = subst (λ (m : PlainNode). MayStand at.part m.label.kind) same n0.stands }
     in
-    let hole = taken_hole (hole_left node.label.kind) (λ hole. IsEdit (TreeEdit.put (lone 0 hole)) node.label.slot tree after receipt (Some node)) takes in
+    let hole = taken_hole (hole_left node.label.kind) takes.may_take in
+    let made : IsEdit (TreeEdit.put (lone 0 hole.0)) node.label.slot tree after receipt (Some node) =
+    subst (λ (h : Option NodeKind). IsEdit (TreeEdit.put (lone 0 (unwrap_or h node.label.kind))) node.label.slot tree after receipt (Some node)) hole.1 takes.is_edit
+    in
     applied_is (edited (roomless_tree tree) at PlainEdit.take) (TreeEdit.put (lone 0 hole.0)) (TreeEdit.put (lone 0 hole.0)) node.label.slot tree after
-    receipt (Some node) stop_after at hole.2 (put_roomless tree node.label.slot (lone 0 hole.0) (lone 0 hole.0) refl)
+    receipt (Some node) stop_after at made (put_roomless tree node.label.slot (lone 0 hole.0) (lone 0 hole.0) refl)
     (take_if tree at n (Some hole.0) part hole.1) there
-    (subst (λ s. IsStop (roomless_tree after).items s) (sym there) (put_stands law tree after at n (lone 0 hole.0) receipt (Some node) part is_tree hole.2))
+    (subst (λ s. IsStop (roomless_tree after).items s) (sym there) (put_stands law tree after at n (lone 0 hole.0) receipt (Some node) part is_tree made))
     sound

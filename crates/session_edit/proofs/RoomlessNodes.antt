@@ -1,7 +1,7 @@
 -- Nodes at paths, with and without the room of lists.
 use Rattle.std.specs.Prelude.{◌≡◌, refl, ℕ, zero, suc, Bool, true, false, if◌then◌else◌, List, [], ◌∷◌, Option, Some, None, IsSomeAnd, option_map, option_and_then, slice_get}
-use Rattle.std.proofs.Common.{ap, sym, ◌∙◌, subst}
-use Rattle.template_tree.specs.PlainTree.{Label, Forest, PlainNode, nodes, roomless, roomless_node}
+use Rattle.std.proofs.Common.{ap, ◌∙◌, subst}
+use Rattle.template_tree.specs.PlainTree.{Forest, PlainNode, nodes, roomless, roomless_node}
 use Rattle.template_tree.specs.Path.{below, node_at}
 use Rattle.template_tree.specs.Stop.{IsStop, MayStand, PlainStop, visible_below, visible_at}
 

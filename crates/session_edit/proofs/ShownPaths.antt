@@ -1,10 +1,10 @@
 -- The path to a slot, cut where a refinement is hidden.
 use Rattle.std.specs.Prelude.{◌≡◌, refl, ℕ, zero, suc, ◌+◌, ◌≤◌, ◌==◌, Bool, true, false, if◌then◌else◌, List, [], ◌∷◌, Option, Some, None, IsSomeAnd, option_map, option_and_then, slice_get}
 use Rattle.std.specs.Option.{option_or, option_map_or}
-use Rattle.std.proofs.Common.{ap, sym, ◌∙◌, arith}
+use Rattle.std.proofs.Common.{ap, ◌∙◌, arith}
 use Rattle.std.proofs.lemmas.Bool.{eq-eqb}
 use Rattle.std.proofs.lemmas.Option.{none-some}
-use Rattle.template_tree.specs.PlainTree.{Label, Forest, PlainNode, nodes, roomless}
+use Rattle.template_tree.specs.PlainTree.{Forest, PlainNode, nodes, roomless}
 use Rattle.template_tree.specs.Slots.{times}
 use Rattle.template_tree.specs.Path.{below, node_at, slot_at}
 use Rattle.template_tree.specs.Stop.{MayStand, visible_below, visible_at}

@@ -1,8 +1,7 @@
 -- What may be done at a stop, at the node there.
-use Rattle.std.specs.Prelude.{◌≡◌, refl, ℕ, Bool, false, Option, Some, None, option_and_then, option_map}
+use Rattle.std.specs.Prelude.{◌≡◌, refl, ℕ, false, Option, Some, None, option_and_then, option_map}
 use Rattle.std.specs.Option.{option_map_or}
-use Rattle.std.proofs.Common.{ap, sym, ◌∙◌}
-use Rattle.plcs_grammar.specs.declared.category.Category.{Category}
+use Rattle.std.proofs.Common.{ap, ◌∙◌}
 use Rattle.template_tree.specs.PlainTree.{PlainNode, PlainTree, roomless_node, roomless_tree}
 use Rattle.template_tree.specs.Path.{node_at}
 use Rattle.template_tree.specs.Stop.{PlainStop}

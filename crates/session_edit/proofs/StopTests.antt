@@ -1,7 +1,7 @@
 -- The tests of what stands at a stop, and what they tell.
-use Rattle.std.specs.Prelude.{◌≡◌, refl, ℕ, zero, suc, ◌<◌, ◌⊎◌, Bool, true, false, ◌&&◌, ◌==◌, if◌then◌else◌, IsTrue, List, [], ◌∷◌, length, Option, Some, None, is_some, is_none, slice_get}
-use Rattle.std.proofs.Common.{ap, sym, ◌∙◌, subst, arith, inl, inr}
-use Rattle.std.proofs.lemmas.Bool.{false≢true, eq-eqb}
+use Rattle.std.specs.Prelude.{◌≡◌, refl, ℕ, zero, suc, ◌<◌, ◌⊎◌, Bool, true, false, ◌&&◌, ◌==◌, if◌then◌else◌, List, [], ◌∷◌, length, Option, Some, None, is_some, slice_get}
+use Rattle.std.proofs.Common.{ap, sym, ◌∙◌, arith, inl, inr}
+use Rattle.std.proofs.lemmas.Bool.{false≢true}
 use Rattle.std.proofs.lemmas.Bool.Decides.{Decides-eqb}
 use Rattle.std.proofs.lemmas.Option.{none-some, same_Some}
 use Rattle.plcs_grammar.specs.declared.category.Category.{Category}

@@ -1,9 +1,9 @@
 -- What is visible after an edit at a path.
-use Rattle.std.specs.Prelude.{◌≡◌, refl, ℕ, zero, suc, ◌+◌, ◌-◌, ◌≤◌, ◌<◌, Bool, true, false, if◌then◌else◌, List, [], ◌∷◌, length, Option, Some, None, option_map, option_and_then, slice_get}
-use Rattle.std.proofs.Common.{ap, sym, ◌∙◌, subst, arith}
+use Rattle.std.specs.Prelude.{◌≡◌, refl, ℕ, zero, suc, ◌-◌, ◌≤◌, Bool, true, false, if◌then◌else◌, List, [], ◌∷◌, length, Option, Some, None, option_map, option_and_then, slice_get}
+use Rattle.std.proofs.Common.{ap, sym, ◌∙◌, arith}
 use Rattle.std.proofs.lemmas.Option.{none-some}
-use Rattle.template_tree.specs.PlainTree.{Label, Forest, PlainNode, nodes, forest, join}
-use Rattle.template_tree.specs.Edit.{edit_at, edit_below, give_way}
+use Rattle.template_tree.specs.PlainTree.{Forest, PlainNode, nodes, forest, join}
+use Rattle.template_tree.specs.Edit.{edit_at, give_way}
 use Rattle.template_tree.specs.Path.{below, node_at}
 use Rattle.template_tree.specs.Stop.{visible_below, visible_at}
 use Rattle.session_edit.specs.Cursor.{with_last}

@@ -1,5 +1,5 @@
 -- What is answered to an edit.
-use Rattle.std.specs.Prelude.{◌≡◌, Bool, true, false, IsTrue, IfSome, is_none, Option, option_map, Result, Ok, Err}
+use Rattle.std.specs.Prelude.{◌≡◌, Bool, true, false, IsTrue, IfSome, is_none, option_map, Result, Ok, Err}
 use Rattle.template_tree.specs.declared.tree_fault.TreeFault.{TreeFault}
 use Rattle.template_tree.specs.Edit.{Differs}
 use Rattle.template_tree.specs.PlainTree.{PlainTree, roomless_node, roomless_tree}

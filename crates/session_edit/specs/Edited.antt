@@ -1,6 +1,6 @@
 -- What an edit does at a stop: the tree after it and the stop of the cursor in that, or why it is refused.
 -- The refusals are asked for in this order: what the edit needs doesn't stand at the cursor, then the limits of trees.
-use Rattle.std.specs.Prelude.{ℕ, zero, nat_lt, if◌then◌else◌, List, Option, Some, None}
+use Rattle.std.specs.Prelude.{ℕ, nat_lt, if◌then◌else◌, List, Option, Some, None}
 use Rattle.plcs_grammar.specs.declared.node_kind.NodeKind.{NodeKind}
 use Rattle.plcs_grammar.specs.declared.template.Template.{Template}
 use Rattle.plcs_grammar.specs.PlainPhrase.{PlainPhrase}

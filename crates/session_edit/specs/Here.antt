@@ -1,5 +1,5 @@
 -- What may be done at a stop: which phrase text is wanted there, what can be taken out, and what can be put in.
-use Rattle.std.specs.Prelude.{ℕ, zero, suc, Bool, true, false, ◌&&◌, nat_lt, ◌==◌, if◌then◌else◌, List, [], ◌∷◌, length, take, Option, Some, None, is_some, is_none, option_and_then, slice_get}
+use Rattle.std.specs.Prelude.{ℕ, zero, suc, Bool, true, false, ◌&&◌, nat_lt, ◌==◌, if◌then◌else◌, List, length, take, Option, Some, None, is_some, is_none, option_and_then, slice_get}
 use Rattle.std.specs.Option.{option_map_or}
 use Rattle.plcs_grammar.specs.Template.{program_sections}
 use Rattle.plcs_grammar.specs.declared.category.Category.{Category}

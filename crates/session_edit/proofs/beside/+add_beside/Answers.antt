@@ -1,4 +1,4 @@
-use Rattle.std.specs.Prelude.{◌≡◌, refl, suc, ◌∷◌, [], length, None}
+use Rattle.std.specs.Prelude.{◌≡◌, suc, length, None}
 use Rattle.std.proofs.Common.{ap, sym, ◌∙◌, subst, arith}
 use Rattle.std.proofs.lemmas.Bool.{false≢true}
 use Rattle.template_tree.specs.EditAnswer.{IsListItem, Refuses}
@@ -8,7 +8,7 @@ use Rattle.template_tree.specs.Tree.{IsTree}
 use Rattle.template_tree.specs.TreeEdit.{TreeEdit}
 use Rattle.session_edit.specs.Cursor.{node_stop}
 use Rattle.session_edit.specs.Private.ShownPath.{IsShown}
-use Rattle.session_edit.proofs.BesideCommands.{added_few, answer_outer, beside_applied, beside_nothing, beside_refused, one_longer, outer_shown}
+use Rattle.session_edit.proofs.BesideCommands.{added_few, answer_outer, beside_applied, beside_refused, one_longer, outer_shown}
 use Rattle.session_edit.proofs.beside.+add_beside.Goals as goal
 
 pub beside-requires : goal.beside-requires
@@ -36,12 +36,9 @@ add_beside-requires t c =
     (
       omega (arith, longer),
       (
-        c.requires.stub,
-        (
-          subst IsTree (sym same) c.requires.tree,
-          subst (λ (tree : PlainTree). IsShown tree.items c.pop.new.self.items) (sym same)
-          (outer_shown c.args.tree.now.items c.args.path.items c.pop.new.self.items c.in-Some.field-0 c.in-Some.ensures.items c.requires.seen),
-        ),
+        subst IsTree (sym same) c.requires.tree,
+        subst (λ (tree : PlainTree). IsShown tree.items c.pop.new.self.items) (sym same)
+        (outer_shown c.args.tree.now.items c.args.path.items c.pop.new.self.items c.in-Some.field-0 c.in-Some.ensures.items c.requires.seen),
       ),
     )
 

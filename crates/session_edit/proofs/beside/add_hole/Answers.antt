@@ -1,4 +1,4 @@
-use Rattle.std.specs.Prelude.{◌≡◌, ℕ, List, true}
+use Rattle.std.specs.Prelude.{ℕ, List, true}
 use Rattle.std.proofs.Common.{sym, ◌∙◌, subst, ap}
 use Rattle.template_tree.specs.PlainTree.{roomless_tree}
 use Rattle.template_tree.specs.Stop.{plain_stop}

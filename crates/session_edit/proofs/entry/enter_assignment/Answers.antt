@@ -1,5 +1,3 @@
-use Rattle.std.specs.Prelude.{◌≡◌, refl}
-use Rattle.std.proofs.Common.{ap, sym, ◌∙◌}
 use Rattle.plcs_grammar.specs.PlainPhrase.{plain_phrase}
 use Rattle.template_tree.specs.Stop.{plain_stop}
 use Rattle.session_edit.proofs.PutCommands.{assign_applied, assign_refused, assign_stands}

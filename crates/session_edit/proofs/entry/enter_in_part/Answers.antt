@@ -1,5 +1,4 @@
-use Rattle.std.specs.Prelude.{◌≡◌, refl, Some}
-use Rattle.std.proofs.Common.{ap, sym, ◌∙◌}
+use Rattle.std.specs.Prelude.{Some}
 use Rattle.plcs_grammar.specs.PlainPhrase.{plain_phrase}
 use Rattle.template_tree.specs.Stop.{plain_stop}
 use Rattle.session_edit.proofs.PartCommands.{enter_applied, enter_refused, part_stands}

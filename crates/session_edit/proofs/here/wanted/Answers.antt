@@ -1,4 +1,4 @@
-use Rattle.std.specs.Prelude.{◌≡◌, false, option_and_then}
+use Rattle.std.specs.Prelude.{option_and_then}
 use Rattle.std.proofs.Common.{ap, sym, ◌∙◌}
 use Rattle.template_tree.specs.PlainTree.{PlainNode}
 use Rattle.template_tree.specs.Stop.{plain_stop}

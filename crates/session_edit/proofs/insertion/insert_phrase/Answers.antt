@@ -1,5 +1,5 @@
-use Rattle.std.specs.Prelude.{◌≡◌, refl, Some, None}
-use Rattle.std.proofs.Common.{ap, sym, ◌∙◌}
+use Rattle.std.specs.Prelude.{refl}
+use Rattle.std.proofs.Common.{sym, ◌∙◌}
 use Rattle.plcs_grammar.specs.PlainPhrase.{plain_phrase}
 use Rattle.template_tree.specs.Stop.{plain_stop}
 use Rattle.session_edit.proofs.PartCommands.{insert_applied, insert_full, insert_refused}

@@ -1,7 +1,6 @@
-use Rattle.std.specs.Prelude.{◌≡◌, Some, None}
-use Rattle.std.proofs.Common.{ap, sym, ◌∙◌, subst}
+use Rattle.std.specs.Prelude.{Some, None}
+use Rattle.std.proofs.Common.{◌∙◌}
 use Rattle.template_tree.specs.Stop.{plain_stop}
-use Rattle.cursor_moves.specs.Move.{IsMove, next_stop}
 use Rattle.session_edit.proofs.StopsBehind.{onward_is}
 use Rattle.session_edit.proofs.next_stop.onward.Goals as goal
 

@@ -1,6 +1,5 @@
-use Rattle.std.specs.Prelude.{◌≡◌, refl, Some, None}
-use Rattle.std.proofs.Common.{ap, sym, ◌∙◌}
-use Rattle.plcs_grammar.specs.PlainPhrase.{plain_phrase}
+use Rattle.std.specs.Prelude.{refl}
+use Rattle.std.proofs.Common.{sym, ◌∙◌}
 use Rattle.template_tree.specs.Stop.{plain_stop}
 use Rattle.session_edit.proofs.PartCommands.{empties_there, empty_applied, empty_missing}
 use Rattle.session_edit.proofs.removal.empty_part.Goals as goal

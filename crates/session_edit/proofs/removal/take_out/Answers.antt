@@ -1,6 +1,4 @@
-use Rattle.std.specs.Prelude.{◌≡◌, refl, Some, None}
-use Rattle.std.proofs.Common.{ap, sym, ◌∙◌}
-use Rattle.plcs_grammar.specs.PlainPhrase.{plain_phrase}
+use Rattle.std.proofs.Common.{sym, ◌∙◌}
 use Rattle.template_tree.specs.Stop.{plain_stop}
 use Rattle.session_edit.proofs.PutCommands.{take_applied, take_refused}
 use Rattle.session_edit.proofs.StopTests.{no_part}

@@ -2,7 +2,6 @@ use Rattle.std.specs.Prelude.{◌≡◌, refl, ℕ, List, Option, Some, None, op
 use Rattle.std.proofs.Common.{ap, sym, ◌∙◌}
 use Rattle.template_tree.specs.Path.{node_at}
 use Rattle.template_tree.specs.PlainTree.{PlainTree, roomless_tree}
-use Rattle.template_tree.specs.Stop.{PlainStop}
 use Rattle.session_edit.specs.Cursor.{node_stop}
 use Rattle.session_edit.specs.ShownStop.{shown_at, shown_path}
 use Rattle.session_edit.specs.Private.ShownNumbers.{shown_numbers}
