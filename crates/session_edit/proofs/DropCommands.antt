@@ -249,6 +249,7 @@ stop_left law before after at n receipt tree spare edit = by_sort (has_sort (sor
         → IsStop (roomless after.items) (node_stop path)
     stays path new e =
         stands_after law before after at.path n.node (λ _. []) before.drawn (node_stop path) new tree n.there edit.became e tt
+
     at_number : has_sort (sort_of n.node.label.kind) after.items at.path ≡ true → (l : Forest) → shelf before.items at.path ≡ Some l
         → (found : Option PlainNode) → item_of (last_number at.path) (left_list l (last_number at.path)) ≡ found
         → IsStop (roomless after.items) (node_stop at.path)
@@ -265,6 +266,7 @@ stop_left law before after at n receipt tree spare edit = by_sort (has_sort (sor
         in
         absurd (false≢true (sym (none_left (sort_of n.node.label.kind) (node_at after.items at.path) after_none) ∙ e))
     at_number e l on (Some new) some = stays at.path new (seen_here (λ _. []) before.items at.path l on ∙ some)
+
     by_sort : (b : Bool) → has_sort (sort_of n.node.label.kind) after.items at.path ≡ b
         → IsStop (roomless after.items) (node_stop (if b then at.path else with_last (λ k. k - 1) at.path))
     by_sort true e =

@@ -196,9 +196,11 @@ visible_node items (k ∷ path) node e = in_item path (visible_in path) (slice_g
         → option_and_then (λ item. visible_below item path) found ≡ Some node → option_and_then (λ item. below item path) found ≡ Some node
     in_item path same None node e = absurd (none-some node e)
     in_item path same (Some item) node e = same item node e
+
     shown : (b : Bool) (found : Option PlainNode) (node : PlainNode) → (if b then None else found) ≡ Some node → found ≡ Some node
     shown true found node e = absurd (none-some node e)
     shown false found node e = e
+
     visible_in : (path : List ℕ) (item node : PlainNode) → visible_below item path ≡ Some node → below item path ≡ Some node
     visible_in [] item node e = e
     visible_in (k ∷ path) item node e =

@@ -16,7 +16,12 @@ use std::alloc::Global;
 use template_tree::{PhrasePlace, Stop, Tree, TreeFault, slot_edit_is_path_edit};
 
 /// The hole at the cursor becomes the template, and the cursor goes onward.
-pub(crate) fn fill(alloc: Global, tree: &mut Tree, at: &Stop, template: Template) -> Result<Applied, TreeFault>
+pub(crate) fn fill(
+    alloc: Global,
+    tree: &mut Tree,
+    at: &Stop,
+    template: Template,
+) -> Result<Applied, TreeFault>
     requires tree { IsTree tree.old }
     requires stop { IsStop (roomless_tree tree.old).items (plain_stop at.now) }
     ensures { IsAnswer true (edited (roomless_tree tree.old) (plain_stop at.now) (PlainEdit.fill template)) tree.old tree.new result }
@@ -36,7 +41,12 @@ pub(crate) fn fill(alloc: Global, tree: &mut Tree, at: &Stop, template: Template
 }
 
 /// The phrase comes where its category is wanted, and the cursor goes onward.
-pub(crate) fn enter(alloc: Global, tree: &mut Tree, at: &Stop, phrase: Phrase) -> Result<Applied, TreeFault>
+pub(crate) fn enter(
+    alloc: Global,
+    tree: &mut Tree,
+    at: &Stop,
+    phrase: Phrase,
+) -> Result<Applied, TreeFault>
     requires tree { IsTree tree.old }
     requires stop { IsStop (roomless_tree tree.old).items (plain_stop at.now) }
     requires phrase { IsPlace (Some (plain_phrase phrase)) }
@@ -49,7 +59,12 @@ pub(crate) fn enter(alloc: Global, tree: &mut Tree, at: &Stop, phrase: Phrase) -
 }
 
 /// The node at the cursor becomes the assignment.
-fn enter_assignment(alloc: Global, tree: &mut Tree, at: &Stop, phrase: Phrase) -> Result<Applied, TreeFault>
+fn enter_assignment(
+    alloc: Global,
+    tree: &mut Tree,
+    at: &Stop,
+    phrase: Phrase,
+) -> Result<Applied, TreeFault>
     requires tree { IsTree tree.old }
     requires stop { IsStop (roomless_tree tree.old).items (plain_stop at.now) }
     requires phrase { IsPlace (Some (plain_phrase phrase)) }

@@ -17,6 +17,6 @@ returns-in-Ok c =
 pub returns : goal.returns
 returns c = (
   enter_refused c.args.tree.now (plain_stop c.args.at.now) (plain_phrase c.args.phrase) c.in-Err.fault c.requires.stop c.requires.part
-  c.in-Err.ensures.refused.0 c.in-Err.ensures.refused.1,
+      c.in-Err.ensures.refused.0 c.in-Err.ensures.refused.1,
   c.in-Err.ensures.unchanged.1,
 )

@@ -22,6 +22,6 @@ returns-in-Ok c =
 pub returns-in-Err : goal.returns-in-Err
 returns-in-Err c = (
   fill_refused c.args.tree.now (plain_stop c.args.at.now) c.args.template c.in-Err.fault c.requires.stop
-  (no_part c.args.at.now.part (sym c.is_some.ensures ∙ c.if-is_some.false)) c.in-Err.ensures.refused,
+      (no_part c.args.at.now.part (sym c.is_some.ensures ∙ c.if-is_some.false)) c.in-Err.ensures.refused,
   c.in-Err.ensures.unchanged,
 )

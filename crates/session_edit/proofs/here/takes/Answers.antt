@@ -12,7 +12,7 @@ returns-in_default c =
     ∙ sym (takes_is c.args.tree.now (plain_stop c.args.at.now))
 
 pub returns : goal.returns
-returns c = 
+returns c =
     c.can_take.ensures
     ∙ (ap (λ found. option_map_or (can_take c.args.at.now.part) found false) c.in-Some.ensures.found
     ∙ sym (takes_is c.args.tree.now (plain_stop c.args.at.now)))

@@ -18,6 +18,6 @@ returns-in-Ok c =
 pub returns : goal.returns
 returns c = (
   insert_refused c.args.tree.now (plain_stop c.args.at.now) c.args.node c.in-Err.fault c.requires.stop
-  (no_part c.args.at.now.part (sym c.is_some.ensures ∙ c.if-is_some.false)) c.in-Err.ensures.refused c.in-Err.ensures.no_memory,
+      (no_part c.args.at.now.part (sym c.is_some.ensures ∙ c.if-is_some.false)) c.in-Err.ensures.refused c.in-Err.ensures.no_memory,
   c.in-Err.ensures.unchanged.1,
 )

@@ -13,7 +13,7 @@ returns-in-Ok c =
 pub returns : goal.returns
 returns c = (
   insert_refused c.args.tree.now (plain_stop c.args.at.now) (plain_phrase c.args.phrase) c.in-Err.fault c.requires.stop
-  c.in-Err.ensures.refused.0 c.in-Err.ensures.refused.1,
+      c.in-Err.ensures.refused.0 c.in-Err.ensures.refused.1,
   c.in-Err.ensures.unchanged.1,
 )
 

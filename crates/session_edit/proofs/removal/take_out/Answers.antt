@@ -13,6 +13,6 @@ returns-in-Ok c =
 pub returns-in-Err : goal.returns-in-Err
 returns-in-Err c = (
   take_refused c.args.tree.now (plain_stop c.args.at.now) c.in-Err.fault c.requires.stop
-  (no_part c.args.at.now.part (sym c.is_some.ensures ∙ c.if-is_some.false)) c.in-Err.ensures.refused.0 c.in-Err.ensures.refused.1,
+      (no_part c.args.at.now.part (sym c.is_some.ensures ∙ c.if-is_some.false)) c.in-Err.ensures.refused.0 c.in-Err.ensures.refused.1,
   c.in-Err.ensures.unchanged,
 )
