@@ -19,7 +19,12 @@ use std::alloc::Global;
 use template_tree::{Path, Side, Stop, Tree, TreeFault, slot_edit_is_path_edit};
 
 /// A hole comes on this side of the nearest list item that stands round the cursor, which goes to it.
-pub(crate) fn add_hole(alloc: Global, tree: &mut Tree, at: &Stop, side: Side) -> Result<Applied, TreeFault>
+pub(crate) fn add_hole(
+    alloc: Global,
+    tree: &mut Tree,
+    at: &Stop,
+    side: Side,
+) -> Result<Applied, TreeFault>
     requires tree { IsTree tree.old }
     requires stop { IsStop (roomless_tree tree.old).items (plain_stop at.now) }
     ensures { IsAnswer true (edited (roomless_tree tree.old) (plain_stop at.now) (PlainEdit.beside side)) tree.old tree.new result }

@@ -12,8 +12,6 @@ mod path_copy;
 mod path_last;
 mod removal;
 mod slot_stop;
-#[cfg(test)]
-mod tests;
 
 pub use applied::{Applied, apply};
 pub use edit::Edit;

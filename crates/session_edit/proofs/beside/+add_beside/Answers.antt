@@ -23,7 +23,7 @@ returns-in-Ok t c =
 pub returns-then-not-is_not_here : goal.returns-then-not-is_not_here
 returns-then-not-is_not_here t c = (
   beside_refused c.args.tree.now c.args.side c.args.path.items c.in-Err.fault c.in-Err.ensures.refused
-  (λ e. false≢true (sym c.if-not-is_not_here.true ∙ c.is_not_here.ensures.1 e)),
+      (λ e. false≢true (sym c.if-not-is_not_here.true ∙ c.is_not_here.ensures.1 e)),
   c.in-Err.ensures.unchanged,
 )
 
@@ -32,13 +32,12 @@ add_beside-requires t c =
     let same = c.in-Err.ensures.unchanged in
     let longer : length c.args.path.items ≡ suc (length c.pop.new.self.items) =
     ap length c.in-Some.ensures.items ∙ one_longer c.pop.new.self.items c.in-Some.field-0
-    in
-    (
+    in (
       omega (arith, longer),
       (
         subst IsTree (sym same) c.requires.tree,
         subst (λ (tree : PlainTree). IsShown tree.items c.pop.new.self.items) (sym same)
-        (outer_shown c.args.tree.now.items c.args.path.items c.pop.new.self.items c.in-Some.field-0 c.in-Some.ensures.items c.requires.seen),
+            (outer_shown c.args.tree.now.items c.args.path.items c.pop.new.self.items c.in-Some.field-0 c.in-Some.ensures.items c.requires.seen),
       ),
     )
 
