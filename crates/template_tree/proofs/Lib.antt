@@ -64,8 +64,6 @@ pub mod Assignments
 mod ApartSections
 mod FilledLists
 mod ListTrees
--- the text of a comment that a test sets
-pub mod RemarkText
 -- which list an item stands in, and the items beside it
 mod BesidePaths
 -- a hole that came into a list, or left it, is an edit

@@ -1,13 +1,10 @@
 //! Tests of edits: which holes take which template, the limits, and the walk back.
 ghost use Rattle.std.specs.Prelude.{◌≤◌, IfOk};
 ghost use Rattle.template_tree.specs.Limit.{most_drawn};
-ghost use Rattle.template_tree.specs.Part.{IsPlace};
-ghost use Rattle.template_tree.specs.PlainPlace.{plain_place};
 ghost use Rattle.template_tree.specs.Tree.{IsTree};
 
 use super::*;
-use plcs_base::{ByteOut, Slot};
-use plcs_grammar::{NodeKind, Phrase, Template};
+use plcs_grammar::{NodeKind, Template};
 use std::alloc::Global;
 use std::test::Fail;
 
@@ -156,100 +153,5 @@ fn drawn_fills(alloc: Global, drawn: u32) -> Result<(bool, bool), Fail>
 fn no_slot_is_drawn_past_the_last(rt: HostRuntime) -> Result<(), Fail> {
     assert!(rt; drawn_fills(rt.alloc(), MOST_DRAWN)? == (true, true));
     assert!(rt; drawn_fills(rt.alloc(), MOST_DRAWN - 1)? == (false, false));
-    Ok(())
-}
-
-/// Compares what is put with what is awaited.
-#[derive(Drop)]
-struct Compared<'a> {
-    left: &'a [u8],
-    same: bool,
-}
-
-impl ByteOut for Compared<'_> {
-    ghost puts = { λ _ _ _. Unit {0} };
-
-    fn put(&mut self, byte: u8) {
-        match self.left {
-            [first, rest @ ..] if *first == byte => self.left = rest,
-            _ => self.same = false,
-        }
-    }
-}
-
-/// Whether this is the listing of the tree.
-fn is_listed(tree: &Tree, text: &[u8]) -> bool
-    requires { IsTree tree.now }
-{
-    let mut out = Compared {
-        left: text,
-        same: true,
-    };
-    tree.put_listing(&mut out);
-    out.same && out.left.is_empty()
-}
-
-const NEW: &[u8] =
-    b"main: PROCEDURE OPTIONS ( MAIN );\n  {declaration}\n  {statement}\nEND;\n{procedure}\n";
-
-const WITH_CHOICE: &[u8] =
-    b"main: PROCEDURE OPTIONS ( MAIN );\n  {declaration}\n  IF ( {condition} ) THEN\n    {statement}\n  ELSE\n    {statement}\nEND;\n{procedure}\n";
-
-#[test]
-fn want_of_memory_changes_nothing(rt: HostRuntime) -> Result<(), Fail> {
-    let Ok(mut tree) = Tree::new(rt.alloc()) else {
-        return Ok(());
-    };
-    match tree.fill(rt.alloc(), &path(&[0, 1])?, Template::IfElse) {
-        Ok(_) => assert!(rt; is_listed(&tree, WITH_CHOICE) && tree.slots() == 6),
-        Err(fault) => {
-            assert!(rt; fault == TreeFault::OutOfMemory);
-            assert!(rt; is_listed(&tree, NEW) && tree.slots() == 4);
-        }
-    }
-    Ok(())
-}
-
-/// A comment's text of one letter.
-fn remark(alloc: Global) -> Result<PhrasePlace, Fail>
-    ensures { IfOk result (λ place. IsPlace (plain_place place)) }
-{
-    let mut bytes = Vec::new(alloc);
-    if let Err(_) = bytes.push(b'a') {
-        return Err("a letter".into());
-    }
-    Ok(PhrasePlace::Filled(Phrase::CommentText(bytes)))
-}
-
-const WITH_REMARK: &[u8] =
-    b"main: PROCEDURE OPTIONS ( MAIN );\n  {declaration}\n  /* a */\n    {statement}\nEND;\n{name}: PROCEDURE;\n  {declaration}\n  /* a */\n    {statement}\nEND;\n";
-
-#[test]
-fn a_copy_is_put_into_another_procedure(rt: HostRuntime) -> Result<(), Fail> {
-    let comment = path(&[0, 1])?;
-    let mut tree = filled(rt.alloc(), &[0, 1], Template::Comment)?;
-    let procedure = tree.fill(rt.alloc(), &path(&[1])?, Template::Proc);
-    assert!(rt; procedure.is_ok());
-    let stop = Stop {
-        path: path(&[0, 1])?,
-        part: Some(0),
-    };
-    let set = tree.set_phrase(&stop, remark(rt.alloc())?);
-    assert!(rt; set.is_ok_and(|receipt| receipt.change().what == What::Part(0)));
-    assert!(rt; tree.elide(&comment) == Some(true));
-    let copy = tree.copy_node(rt.alloc(), &comment).map_err(|_| "a copy")?;
-    let there = path(&[1, 1])?;
-    let receipt = tree.insert(&there, copy).map_err(|_| "a hole for it")?;
-    assert!(rt; receipt.change().slot == Slot(6) && receipt.change().procedure == Slot(3));
-    let Some(node) = tree.node(&there) else {
-        return Err("the copy".into());
-    };
-    assert!(rt; !node.is_elided());
-    assert!(rt; is_listed(&tree, WITH_REMARK) && tree.slots() == 8);
-    let refused = tree.take(rt.alloc(), &path(&[0])?);
-    assert!(rt; matches!(refused, Err(TreeFault::NotHere)));
-    let taken = tree.take(rt.alloc(), &there);
-    assert!(rt; taken.is_ok_and(|pair| pair.0.slot() == Slot(6)));
-    assert!(rt; tree.slots() == 7);
     Ok(())
 }
