@@ -2,18 +2,18 @@
 #![tactic(auto, using(crate::specs::Private::PlainNodeLayout::node_layouts_bones))]
 
 mod elided;
-mod line_laws;
 mod lay;
 mod layout;
 #[cfg(test)]
 mod layout_tests;
 mod line;
+mod line_laws;
 mod line_of;
 mod new;
 mod node_layout;
 mod plan;
 mod sections_left;
 
-pub use line_laws::owned_lines_are_lines;
 pub use layout::Layout;
 pub use line::{LONGEST_LINE, Line, LineKind};
+pub use line_laws::owned_lines_are_lines;
