@@ -172,15 +172,15 @@ fn quoted(alloc: Global, letters: u32) -> Result<Vec<u8>, AllocError> {
 #[test]
 fn long_texts_are_cut(rt: HostRuntime) -> Result<(), Fail> {
     let fits = tokens(rt.alloc(), &quoted(rt.alloc(), 256)?)?;
-    assert_eq!(rt; fits.items.len(), 1);
+    assert_eq!(rt; fits.placed.len(), 1);
     assert_eq!(rt; fits.stop, None);
     for letters in [257, 1_000_000] {
         let too_long = tokens(rt.alloc(), &quoted(rt.alloc(), letters)?)?;
-        assert!(rt; too_long.items.is_empty(), "{letters} letters");
+        assert!(rt; too_long.placed.is_empty(), "{letters} letters");
         assert_eq!(rt; too_long.stop, Some(0), "{letters} letters");
     }
     let brackets = tokens(rt.alloc(), &vec![in rt.alloc(); b'('; 1_000_000]?)?;
-    assert_eq!(rt; brackets.items.len(), 1_000_000);
+    assert_eq!(rt; brackets.placed.len(), 1_000_000);
     assert_eq!(rt; brackets.stop, None);
     Ok(())
 }
