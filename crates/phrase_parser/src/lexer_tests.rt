@@ -142,7 +142,7 @@ fn compare(
     for (text, wanted, stop) in texts {
         let found = tokens(alloc, text)?;
         let rows: Vec<Row> = found
-            .items
+            .placed
             .iter()
             .map(|token| (token.kind, token.start, token.end))
             .collect(alloc)?;
