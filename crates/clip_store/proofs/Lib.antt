@@ -8,3 +8,6 @@ pub mod ClipLimits
 pub mod TestFragments
 -- the map's entries as pairs
 pub mod MapPairs
+-- `room_is_not_clipped`, and what a copy is without room
+pub mod RoomlessFragments
+pub mod RoomlessPairs

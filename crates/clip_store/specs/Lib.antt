@@ -3,5 +3,7 @@ pub mod PlainFragment
 pub mod PlainClips
 -- ---- what they may be, and which are refused
 pub mod ClipLimit
+-- ---- the laws
+pub mod ClipRoomLaws
 -- ---- what private contracts alone cite
 pub mod Private

@@ -1,9 +1,9 @@
 -- Clips as plain data: names with their fragments, in order.
-use Rattle.std.specs.Prelude.{ℕ, if◌then◌else◌, List, [], ◌∷◌, Option}
+use Rattle.std.specs.Prelude.{ℕ, if◌then◌else◌, List, [], ◌∷◌, map, Option}
 use Rattle.std.specs.List.{sum_by}
 use Rattle.std.specs.Map.{values_of, lookup, remove_entry}
 use Rattle.std.specs.Str.{bytes_eq}
-use Rattle.clip_store.specs.PlainFragment.{PlainFragment, slots_of}
+use Rattle.clip_store.specs.PlainFragment.{PlainFragment, roomless_fragment, slots_of}
 
 -- a name and the fragment under it
 abbrev pub Pair : Type 0
@@ -31,3 +31,7 @@ with_clip name fragment (pair ∷ pairs) =
 -- how many slots the fragments have together
 abbrev pub slots_held : List Pair → ℕ
 slots_held pairs = sum_by slots_of (values_of pairs)
+
+-- the pairs, each fragment without the room of its lists
+abbrev pub roomless_pairs : List Pair → List Pair
+roomless_pairs pairs = map (λ pair. (pair.0, roomless_fragment pair.1)) pairs

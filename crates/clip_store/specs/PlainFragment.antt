@@ -2,7 +2,8 @@
 use Rattle.std.specs.Prelude.{ℕ, ◌+◌}
 use Rattle.plcs_grammar.specs.PlainPhrase.{PlainPhrase, category_of}
 use Rattle.plcs_grammar.specs.PlainPhrase.{plain_phrase}
-use Rattle.template_tree.specs.PlainTree.{PlainNode}
+use Rattle.template_tree.specs.PlainTree.{PlainNode, roomless_node}
+use Rattle.template_tree.specs.Copy.{whole_node}
 use Rattle.template_tree.specs.Program.{IsPhrase, IsSubtree}
 use Rattle.template_tree.specs.Slots.{count}
 use Rattle.clip_store.specs.declared.fragment.Fragment.{Fragment}
@@ -16,6 +17,16 @@ pub data PlainFragment : Type 0 where
 abbrev pub plain_fragment : Fragment → PlainFragment
 plain_fragment (Fragment.Node n) = PlainFragment.node n
 plain_fragment (Fragment.Phrase p) = PlainFragment.phrase (plain_phrase p)
+
+-- a fragment without the room of its lists
+abbrev pub roomless_fragment : PlainFragment → PlainFragment
+roomless_fragment (PlainFragment.node n) = PlainFragment.node (roomless_node n)
+roomless_fragment (PlainFragment.phrase p) = PlainFragment.phrase p
+
+-- a fragment in which nothing is elided; in a phrase nothing ever is
+abbrev pub whole_fragment : PlainFragment → PlainFragment
+whole_fragment (PlainFragment.node n) = PlainFragment.node (whole_node n)
+whole_fragment (PlainFragment.phrase p) = PlainFragment.phrase p
 
 -- how many slots it counts as: those of its nodes, and one for a phrase
 abbrev pub slots_of : PlainFragment → ℕ

@@ -1,8 +1,10 @@
 //! What a clip holds.
-ghost use Rattle.std.specs.Prelude.{◌≡◌, ◌≤◌};
-ghost use Rattle.clip_store.specs.PlainFragment.{plain_fragment, slots_of};
+ghost use Rattle.std.specs.Prelude.{◌≡◌, ◌≤◌, IfOk};
+ghost use Rattle.clip_store.specs.PlainFragment.{IsFragment, plain_fragment, roomless_fragment, slots_of, whole_fragment};
 
-use plcs_grammar::Phrase;
+use plcs_base::OutOfMemory;
+use plcs_grammar::{Phrase, copy_phrase};
+use std::alloc::Global;
 use template_tree::Node;
 
 /// What was cut or copied.
@@ -15,8 +17,20 @@ pub enum Fragment {
 }
 
 impl Fragment {
-    /// How many slots it counts as: those of its nodes, and one for a phrase.
-    pub(crate) fn slots(&self) -> u32
+    /// An equal fragment, slots and all; nothing in it is elided.
+    pub fn copy(&self, alloc: Global) -> Result<Fragment, OutOfMemory>
+        ensures copied { IfOk result (λ copy. roomless_fragment (plain_fragment copy) ≡ whole_fragment (roomless_fragment (plain_fragment self.now))) }
+        ensures sound { IfOk result (λ copy. IsFragment (plain_fragment self.now) → IsFragment (plain_fragment copy)) }
+        ensures slots { IfOk result (λ copy. slots_of (plain_fragment copy) ≡ slots_of (plain_fragment self.now)) }
+    {
+        match self {
+            Fragment::Node(node) => Ok(Fragment::Node(node.copy(alloc)?)),
+            Fragment::Phrase(phrase) => Ok(Fragment::Phrase(copy_phrase(alloc, phrase)?)),
+        }
+    }
+
+    /// How many slots it counts as: those of its nodes, and one for a phrase. It takes no memory.
+    pub fn slots(&self) -> u32
         requires few { slots_of (plain_fragment self.now) ≤ 4294967295 }
         ensures { result ≡ slots_of (plain_fragment self.now) }
     {

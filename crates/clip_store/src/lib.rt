@@ -1,12 +1,14 @@
 //! The store of clips: nodes and phrases that were cut or copied, each under its name.
 #![tactic(auto)]
 
+mod clip_laws;
 mod clips;
 mod fragment;
 mod limit;
 #[cfg(test)]
 mod tests;
 
+pub use clip_laws::room_is_not_clipped;
 pub use clips::{ClipFault, Clips};
 pub use fragment::Fragment;
 pub use limit::{MOST_CLIP_SLOTS, MOST_CLIPS};

@@ -3,6 +3,8 @@
 pub mod DividedStops
 -- `stops_are_listed`
 pub mod ListedStops
+-- `moved`: where a move goes, as a relation
+pub mod MoveRelation
 -- `moved`: where a move begins, and what stands beside it
 pub mod StopMoves
 -- `moved` of `right` and `down`, over lists
@@ -13,6 +15,8 @@ pub mod PreviousStops
 pub mod AnsweredStops
 -- `first`, `last` and `stop` of `top` and `bottom`
 pub mod EndStops
+-- `moved`, `first` and `last`: the functions that the relations determine, over nodes without room
+pub mod ChosenStops
 -- the two laws below: what holds of stops since it holds of their nodes
 pub mod ApartStops
 -- `stops_are_distinct`

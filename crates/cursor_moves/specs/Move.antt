@@ -1,7 +1,8 @@
 -- Moves of the cursor over the visible stops of a program.
-use Rattle.std.specs.Prelude.{◌≡◌, ℕ, ◌==◌, nat_lt, List, [], ◌∷◌, ◌++◌, filter, find, Option, Some, None, option_and_then, option_map}
-use Rattle.std.specs.Option.{option_or}
-use Rattle.template_tree.specs.Stop.{PlainStop, VisibleStop, plain_stop}
+use Rattle.std.specs.Prelude.{ℕ, ◌==◌, nat_lt, if◌then◌else◌, List, [], ◌∷◌, filter, find, Option, Some, None, option_and_then, option_map}
+use Rattle.std.specs.Option.{option_map_or, option_or}
+use Rattle.template_tree.specs.PlainTree.{Forest}
+use Rattle.template_tree.specs.Stop.{PlainStop, Stops, VisibleStop, listed_stop, node_stop, plain_stop, same_stop}
 use Rattle.cursor_moves.specs.declared.cursor_move.Move.{Move}
 
 -- the first of a list, if there is one
@@ -44,12 +45,45 @@ abbrev pub stop_above : Choice
 stop_above before here behind =
     option_and_then (λ nearest. find (λ stop. stop.line == nearest.line) before) (last_of (above_line here.line before))
 
--- a move from a stop among the visible stops goes where the choice says: the stop stands there, and what is chosen from
--- those before and behind it is where the move goes
-pub record IsMove (choice : Choice) (stops : List VisibleStop) (at : PlainStop) (to : Option PlainStop) : Type 0 where
-  pub before : List VisibleStop
-  pub here : VisibleStop
-  pub behind : List VisibleStop
-  pub stands : stops ≡ before ++ here ∷ behind
-  pub is_at : here.stop ≡ at
-  pub goes : to ≡ option_map (λ chosen. chosen.stop) (choice before here behind)
+-- the listed stops before this one
+abbrev pub stops_before : List VisibleStop → PlainStop → List VisibleStop
+stops_before [] stop = []
+stops_before (listed ∷ others) stop = if same_stop listed.stop stop then [] else listed ∷ stops_before others stop
+
+-- the listed stops behind this one
+abbrev pub stops_behind : List VisibleStop → PlainStop → List VisibleStop
+stops_behind [] stop = []
+stops_behind (listed ∷ others) stop = if same_stop listed.stop stop then others else stops_behind others stop
+
+-- what the choice names at this one of the listed stops
+abbrev pub chosen_among : Choice → List VisibleStop → PlainStop → Option VisibleStop
+chosen_among choice stops stop =
+    option_and_then (λ here. choice (stops_before stops stop) here (stops_behind stops stop)) (listed_stop stops stop)
+
+-- where a move goes from a stop, if it goes: to what the choice names among the visible stops
+abbrev pub moved : Choice → Forest → PlainStop → Option PlainStop
+moved choice items stop = option_map (λ chosen. chosen.stop) (chosen_among choice (Stops items) stop)
+
+-- where the cursor goes from a stop to the right: to the next one
+unfoldable pub stop_right : Forest → PlainStop → Option PlainStop
+stop_right items stop = moved next_stop items stop
+
+-- to the left: to the previous one
+unfoldable pub stop_left : Forest → PlainStop → Option PlainStop
+stop_left items stop = moved previous_stop items stop
+
+-- up: to the first one on the nearest earlier line that has one
+unfoldable pub stop_up : Forest → PlainStop → Option PlainStop
+stop_up items stop = moved stop_above items stop
+
+-- down: to the first one on a later line
+unfoldable pub stop_down : Forest → PlainStop → Option PlainStop
+stop_down items stop = moved stop_below items stop
+
+-- the first visible stop; a program has one
+unfoldable pub first_stop : Forest → PlainStop
+first_stop items = option_map_or (λ listed. listed.stop) (first_of (Stops items)) (node_stop [])
+
+-- the last visible stop
+unfoldable pub last_stop : Forest → PlainStop
+last_stop items = option_map_or (λ listed. listed.stop) (last_of (Stops items)) (node_stop [])

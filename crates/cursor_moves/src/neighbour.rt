@@ -1,23 +1,25 @@
 //! Moves to the next and the previous visible stop.
-ghost use Rattle.std.specs.Prelude.{IfSome};
-ghost use Rattle.template_tree.specs.Stop.{IsStop, Stops, plain_stop};
+ghost use Rattle.std.specs.Prelude.{◌≡◌, IfSome};
+ghost use Rattle.template_tree.specs.PlainTree.{roomless_tree};
+ghost use Rattle.template_tree.specs.Stop.{IsStop, plain_stop};
 ghost use Rattle.template_tree.specs.Tree.{IsTree};
-ghost use Rattle.cursor_moves.specs.Move.{IsMove, moved_to, next_stop, previous_stop};
+ghost use Rattle.cursor_moves.specs.Move.{moved_to, stop_left, stop_right};
 
 use crate::cursor_move::Move;
 use crate::next_node::next_node;
-use crate::part_stops::{last_stop, next_part};
+use crate::part_stops::{last_of_node, next_part};
 use crate::path_copy::copy_of;
 use crate::previous_node::previous_node;
-use template_tree::{Stop, Tree};
+use template_tree::{Stop, Tree, room_is_not_shown};
 
 /// Goes to the next visible stop, in listing order. It takes no memory.
 pub fn right(tree: &Tree, at: &Stop) -> Move
     requires tree { IsTree tree.now }
-    requires stop { IsStop tree.now.items (plain_stop at.now) }
-    ensures moved { IsMove next_stop (Stops tree.now.items) (plain_stop at.now) (moved_to result) }
-    ensures stop { IfSome (moved_to result) (IsStop tree.now.items) }
+    requires stop { IsStop (roomless_tree tree.now).items (plain_stop at.now) }
+    ensures moved { moved_to result ≡ stop_right (roomless_tree tree.now).items (plain_stop at.now) }
+    ensures stop { IfSome (moved_to result) (IsStop (roomless_tree tree.now).items) }
 {
+    room_is_not_shown();
     let Some(node) = tree.node(&at.path) else {
         return Move::AtEdge;
     };
@@ -33,10 +35,11 @@ pub fn right(tree: &Tree, at: &Stop) -> Move
 /// Goes to the previous visible stop, in listing order. It takes no memory.
 pub fn left(tree: &Tree, at: &Stop) -> Move
     requires tree { IsTree tree.now }
-    requires stop { IsStop tree.now.items (plain_stop at.now) }
-    ensures moved { IsMove previous_stop (Stops tree.now.items) (plain_stop at.now) (moved_to result) }
-    ensures stop { IfSome (moved_to result) (IsStop tree.now.items) }
+    requires stop { IsStop (roomless_tree tree.now).items (plain_stop at.now) }
+    ensures moved { moved_to result ≡ stop_left (roomless_tree tree.now).items (plain_stop at.now) }
+    ensures stop { IfSome (moved_to result) (IsStop (roomless_tree tree.now).items) }
 {
+    room_is_not_shown();
     if let Some(part) = at.part {
         return Move::Moved(Stop {
             path: copy_of(&at.path),
@@ -46,5 +49,5 @@ pub fn left(tree: &Tree, at: &Stop) -> Move
     let Some(path) = previous_node(tree, &at.path) else {
         return Move::AtEdge;
     };
-    Move::Moved(last_stop(tree, path))
+    Move::Moved(last_of_node(tree, path))
 }

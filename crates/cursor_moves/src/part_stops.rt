@@ -12,7 +12,7 @@ use plcs_grammar::{NodeKind, Segment};
 use template_tree::{Path, Stop, Tree};
 
 /// The last stop of the node at the path: its last part, or the node itself where none is a stop.
-pub(crate) fn last_stop(tree: &Tree, path: Path) -> Stop
+pub(crate) fn last_of_node(tree: &Tree, path: Path) -> Stop
     requires tree { IsTree tree.now }
     requires there { IsSome (node_at tree.now.items path.items) }
     ensures { IsSomeAnd (node_at tree.now.items path.items) (λ node. plain_stop result ≡ record { path = path.items; part = last_number (number_of_part_stops node.label.kind) }) }

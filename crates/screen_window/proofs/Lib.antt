@@ -22,11 +22,12 @@ pub mod TakenRows
 pub mod PaintedTerminal
 -- `node_line.rt`: the line of a place of a run, looked for item by item
 pub mod PlaceLines
+-- `run_line` and `stop_node`: what is looked for in a tree without the room of its lists
+pub mod RoomlessPlaces
 -- `output_row`: lines of the output, looked for byte by byte
 pub mod OutputLines
 -- `drawn` of compose: rows drawn one after the other, and the row of the cursor, looked for row by row
 pub mod ComposedRows
 pub mod FoundRows
--- tests: the mark that they have, and the nodes that they build
+-- tests: the mark that they have
 pub mod OneMarks
-pub mod BuiltNodes

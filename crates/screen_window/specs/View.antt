@@ -1,14 +1,15 @@
 -- Views as plain data.
 use Rattle.std.specs.Prelude.{map, option_map}
 use Rattle.plcs_base.specs.Mark.{MarkMap}
+use Rattle.template_tree.specs.PlainTree.{roomless}
 use Rattle.template_tree.specs.Stop.{plain_stop}
 use Rattle.screen_window.specs.declared.view.View.{View}
 use Rattle.screen_window.specs.PlainView.{PlainView}
 
--- a view as plain data, where the marks are told so
+-- a view as plain data, where the marks are told so; the room of the program's lists is no part of it
 abbrev pub plain_view : {W M : Type 0} → (M → MarkMap) → View W M → PlainView
 plain_view marks view = record {
-  items = view.tree.now.items;
+  items = roomless view.tree.now.items;
   marks = marks view.marks.now;
   stop = plain_stop view.stop.now;
   top = view.top;

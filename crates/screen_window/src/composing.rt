@@ -2,6 +2,7 @@
 
 ghost use Rattle.std.specs.Prelude.{◌≡◌, ℕ, ◌+◌, ◌-◌, ◌≤◌, ◌<◌, [], Some, map, length, slice_index_or, option_map, nat_lt, if◌then◌else◌, ◌^◌, ◌++◌};
 ghost use Rattle.template_tree.specs.Path.{slot_at};
+ghost use Rattle.template_tree.specs.PlainTree.{roomless};
 ghost use Rattle.template_tree.specs.Tree.{IsTree};
 ghost use Rattle.unparse_layout.specs.Agreement.{IsLayoutOf};
 ghost use Rattle.screen_window.specs.NodeLine.{is_line};
@@ -20,6 +21,7 @@ use crate::grid::Grid;
 use crate::lower_rows::{last_ones, message_row, output_row};
 use crate::node_line::{NodeLine, is_line, place_line};
 use crate::row_text::RowText;
+use crate::stop_node::stop_node;
 use crate::view::View;
 use plcs_base::{Marked, Place, Work};
 use template_tree::{Stop, Tree};
@@ -59,7 +61,7 @@ fn draw_rows<W: Work, M: Marked>(
     requires top { view.now.top + grid.old.rows < 2 ^ 32 }
     ensures drawn { IsDrawn (λ row. shown_row grid.old.cols (screen_row grid.old.rows grid.old.cols (plain_view M.marks view.now) row))
         grid.old.rows grid.old grid.new }
-    ensures found { result ≡ row_from (plain_view M.marks view.now) (slot_at view.now.tree.now.items view.now.stop.now.path.items) 0 (window_rows grid.old.rows) }
+    ensures found { result ≡ row_from (plain_view M.marks view.now) (slot_at (roomless view.now.tree.now.items) view.now.stop.now.path.items) 0 (window_rows grid.old.rows) }
     ensures laid { W.laid work.new ≤ W.laid work.old + window_rows grid.old.rows }
     ensures lays { W.laid work.old ≤ W.laid work.new }
     ensures emitted { W.emitted work.new ≡ W.emitted work.old }
@@ -106,9 +108,9 @@ fn laid_line<W: Work, M: Marked>(
 /// The slot of the node at which the cursor stands, if there is one.
 fn stop_slot(tree: &Tree, stop: &Stop) -> Option<u32>
     requires { IsTree tree.now }
-    ensures { result ≡ slot_at tree.now.items stop.now.path.items }
+    ensures { result ≡ slot_at (roomless tree.now.items) stop.now.path.items }
 {
-    let node = tree.node(&stop.path)?;
+    let node = stop_node(tree, stop)?;
     Some(node.slot().0)
 }
 
@@ -162,7 +164,7 @@ fn cursor_place<W: Work, M: Marked>(
     requires most_rows { rows ≤ 100 }
     requires least_cols { 40 ≤ cols }
     requires most_cols { cols ≤ 160 }
-    requires found { found ≡ row_from (plain_view M.marks view.now) (slot_at view.now.tree.now.items view.now.stop.now.path.items) 0 (window_rows rows) }
+    requires found { found ≡ row_from (plain_view M.marks view.now) (slot_at (roomless view.now.tree.now.items) view.now.stop.now.path.items) 0 (window_rows rows) }
     ensures within { result.0 ≤ rows }
     ensures row { result.0 ≡ (cursor_place rows cols (plain_view M.marks view.now)).row }
     ensures col { result.1 ≡ (cursor_place rows cols (plain_view M.marks view.now)).col }
@@ -170,7 +172,7 @@ fn cursor_place<W: Work, M: Marked>(
     if !view.typed.is_empty() {
         return (rows, typed_col(cols, view.prompt, view.typed));
     }
-    match (view.tree.node(&view.stop.path), found) {
+    match (stop_node(view.tree, view.stop), found) {
         (Some(node), Some(row)) => (row + 1, stop_col(cols, view.stop, node)),
         _ => (1, 1),
     }
@@ -201,7 +203,7 @@ fn draw_row<W: Work, M: Marked>(
 )
     requires tree { IsTree view.now.tree.now }
     requires row { row < grid.old.rows }
-    requires run { run ≡ run_line view.now.tree.now.items view.now.run_place }
+    requires run { run ≡ run_line (roomless view.now.tree.now.items) view.now.run_place }
     requires line { option_map (λ line. line.now) laid ≡ row_line (window_rows grid.old.rows) (plain_view M.marks view.now) row }
     ensures { grid.new ≡ with_row grid.old row (shown_row grid.old.cols (screen_row grid.old.rows grid.old.cols (plain_view M.marks view.now) row)) }
 {
@@ -280,7 +282,7 @@ fn is_run_line<W>(run: Option<NodeLine>, laid: &Line<W>) -> bool
 /// The line of the run's place, if a run stands and its slot is live.
 fn run_line(tree: &Tree, place: Option<Place>) -> Option<NodeLine>
     requires { IsTree tree.now }
-    ensures { result ≡ run_line tree.now.items place }
+    ensures { result ≡ run_line (roomless tree.now.items) place }
 {
     place_line(tree, place?)
 }

@@ -1,67 +1,68 @@
-//! Views drawn on grids of 12 rows and 40 columns.
+//! Views drawn on grids of 12 rows.
 
-ghost use Rattle.std.specs.Prelude.{◌≡◌, ◌∷◌, [], map, replicate, IfOk, None};
-ghost use Rattle.plcs_grammar.specs.declared.node_kind.Sort.{Sort};
-ghost use Rattle.plcs_grammar.specs.Template.{block, list_of, row_of};
-ghost use Rattle.template_tree.specs.PlainPlace.{plain_place};
-ghost use Rattle.template_tree.specs.Program.{AreParts, IsSubtree, parts_of, sort_of};
+ghost use Rattle.std.specs.Prelude.{◌≡◌};
 ghost use Rattle.template_tree.specs.Tree.{IsTree};
 
 use crate::composing::compose;
 use crate::grid::Grid;
+use crate::test_programs::{DEEP, PROCEDURE, Program, STATEMENT, path, tree_of};
 use crate::view::View;
 use plcs_base::{Counts, MarkKind, Marked, PhraseAt, Place, Point, Slot};
-use plcs_grammar::{NodeKind, Template};
 use std::alloc::Global;
 use std::cmp::Ordering;
 use std::test::Fail;
-use template_tree::{Node, Nodes, Path, PhrasePlace, Stop, Tree};
+use template_tree::{Stop, Tree};
 use unparse_layout::Layout;
 
 /// A view of a program, and what a row of its grid and the cursor are.
 #[derive(Drop)]
 struct Case {
-    /// The statement of the program: a comment, or else a counting loop, each around a hole.
-    is_comment: bool,
-    /// Whether the comment's refinement is hidden.
+    program: Program,
+    /// Whether the refinement of the program's comment is hidden.
     is_hidden: bool,
-    /// Where the cursor stands: in the statement or its part, or at the procedure hole.
-    stop: At,
+    /// The stop of the cursor.
+    path: &'static [u32],
+    part: Option<u8>,
     top: u32,
+    /// The slot and the point of the run's place.
     run: Option<(u32, u16)>,
+    /// The slot and the part of the marked phrase.
+    marked: (u32, u8),
     output: &'static [u8],
     message: &'static [u8],
     typed: &'static [u8],
     /// How many rows of code are shown, if code is.
     code: Option<u8>,
-    /// The row that is looked at, and its text.
+    /// Whether the grid has 160 columns, not 40.
+    is_wide: bool,
+    /// The row that is looked at; how many blanks stand before its text, and its text.
     row: u16,
+    blanks: usize,
     text: &'static [u8],
+    /// The columns in negative image, which count from 0: from the first, before the second.
+    negative: (usize, usize),
     cursor: (u16, u16),
 }
 
-/// Where the cursor stands.
-#[derive(Clone, Copy)]
-enum At {
-    Statement,
-    Part(u8),
-    Procedure,
-}
-
-/// The cursor at the comment, nothing else, and the first row.
+/// The cursor at the comment, whose text is marked, and the first row.
 fn quiet() -> Case {
     Case {
-        is_comment: true,
+        program: Program::Comment,
         is_hidden: false,
-        stop: At::Statement,
+        path: STATEMENT,
+        part: None,
         top: 0,
         run: None,
+        marked: (2, 0),
         output: b"",
         message: b"",
         typed: b"",
         code: None,
+        is_wide: false,
         row: 1,
+        blanks: 0,
         text: b"  main: PROCEDURE OPTIONS ( MAIN );",
+        negative: (0, 0),
         cursor: (3, 5),
     }
 }
@@ -85,6 +86,17 @@ fn run(slot: u32, point: u16, row: u16, text: &'static [u8]) -> Case {
     }
 }
 
+/// A row of a procedure where a run stands at a point of it, in a window from main's last line on.
+fn run_in_procedure(point: u16, row: u16, text: &'static [u8]) -> Case {
+    Case {
+        program: Program::Procedure,
+        top: 3,
+        path: PROCEDURE,
+        cursor: (2, 3),
+        ..run(3, point, row, text)
+    }
+}
+
 /// A row under an output.
 fn output(output: &'static [u8], row: u16, text: &'static [u8]) -> Case {
     Case {
@@ -105,28 +117,75 @@ fn code(rows: u8, row: u16, text: &'static [u8]) -> Case {
     }
 }
 
-/// The rows of the program, of the run, of the output and of code.
-fn window_cases() -> [Case; 23] {
+/// The cursor at a part of the comment, and the row of the message.
+fn part(message: &'static [u8], text: &'static [u8]) -> Case {
+    Case {
+        part: Some(0),
+        message,
+        cursor: (3, 8),
+        ..row(11, text)
+    }
+}
+
+/// The cursor at an assignment in which this slot's first part is marked.
+fn assignment(marked: u32, row: u16, text: &'static [u8]) -> Case {
+    Case {
+        program: Program::Assignment,
+        marked: (marked, 0),
+        row,
+        text,
+        ..quiet()
+    }
+}
+
+/// The cursor at the procedure hole, in a window from main's last line on.
+fn window(row: u16, text: &'static [u8]) -> Case {
+    Case {
+        top: 4,
+        path: PROCEDURE,
+        cursor: (2, 3),
+        row,
+        text,
+        ..quiet()
+    }
+}
+
+/// A line that is typed.
+fn typed(typed: &'static [u8], text: &'static [u8], col: u16) -> Case {
+    Case {
+        typed,
+        cursor: (12, col),
+        ..row(12, text)
+    }
+}
+
+/// The deep loop in the window's first row, with the cursor at one of its parts.
+fn deep(part: Option<u8>, col: u16) -> Case {
+    Case {
+        program: Program::DeepLoop,
+        top: 53,
+        path: DEEP,
+        part,
+        marked: (54, 3),
+        cursor: (1, col),
+        ..row(1, b"")
+    }
+}
+
+/// The rows of the program and of code.
+fn window_cases() -> [Case; 12] {
     [
         quiet(),
-        row(3, b"    /* {comment} */"),
+        Case {
+            negative: (7, 16),
+            ..row(3, b"    /* {comment} */")
+        },
         row(4, b"      {statement}"),
         row(6, b"  {procedure}"),
         row(7, b"---------------------------------------"),
         row(12, b"statement> "),
-        run(2, 0, 3, b">   /* {comment} */"),
-        run(3, 0, 4, b">     {statement}"),
-        run(0, 0, 1, b"> main: PROCEDURE OPTIONS ( MAIN );"),
-        run(0, 1, 5, b"> END;"),
-        run(4, 1, 6, b"> {procedure}"),
-        run(9, 0, 1, b"  main: PROCEDURE OPTIONS ( MAIN );"),
-        output(b"", 8, b""),
-        output(b"a", 8, b"a"),
-        output(b"a\nb\nc", 10, b"c"),
-        output(b"a\nb\nc\nd", 8, b"b"),
-        output(b"a\n", 9, b""),
-        output(b"x\ny\nz\n", 9, b"z"),
-        output(b"\ta\x80b\x1b", 8, b" a b"),
+        window(1, b"  END;"),
+        window(3, b""),
         code(2, 2, b"  1 Push 1"),
         code(2, 3, b""),
         code(6, 6, b"  1 Push 1"),
@@ -134,189 +193,105 @@ fn window_cases() -> [Case; 23] {
     ]
 }
 
-/// The cursor and the lower rows, hidden lines and windows.
-fn other_cases() -> [Case; 10] {
+/// The line of a run's place.
+fn run_cases() -> [Case; 12] {
     [
         Case {
+            negative: (7, 16),
+            ..run(2, 0, 3, b">   /* {comment} */")
+        },
+        run(4, 0, 4, b">     {statement}"),
+        run(0, 0, 1, b"> main: PROCEDURE OPTIONS ( MAIN );"),
+        run(0, 1, 5, b"> END;"),
+        run(3, 1, 6, b"> {procedure}"),
+        run(9, 0, 1, b"  main: PROCEDURE OPTIONS ( MAIN );"),
+        run_in_procedure(0, 2, b"> {name}: PROCEDURE;"),
+        run_in_procedure(0, 5, b"  END;"),
+        run_in_procedure(1, 2, b"  {name}: PROCEDURE;"),
+        run_in_procedure(1, 5, b"> END;"),
+        Case {
             is_hidden: true,
-            ..run(3, 0, 4, b">     ...")
+            ..run(4, 0, 4, b">     ...")
         },
         Case {
             is_hidden: true,
             ..row(5, b"  END;")
         },
+    ]
+}
+
+/// The rows of the output.
+fn output_cases() -> [Case; 11] {
+    [
+        output(b"", 8, b""),
+        output(b"a", 8, b"a"),
+        output(b"a\nb\nc", 10, b"c"),
+        output(b"a\nb\nc\nd", 8, b"b"),
+        output(b"a\nb\nc\nd", 10, b"d"),
+        output(b"a\n", 8, b"a"),
+        output(b"a\n", 9, b""),
+        output(b"x\ny\nz\n", 8, b"y"),
+        output(b"x\ny\nz\n", 9, b"z"),
+        output(b"x\ny\nz\n", 10, b""),
+        output(b"\ta\x80b\x1b", 8, b" a b"),
+    ]
+}
+
+/// The rows of the message and of the typed line.
+fn message_cases() -> [Case; 9] {
+    [
+        row(11, b""),
+        part(b"", b"UNDECLARED"),
+        part(b"NOT HERE", b"NOT HERE"),
+        assignment(2, 11, b"UNDECLARED"),
+        assignment(3, 11, b""),
         Case {
-            stop: At::Part(0),
-            cursor: (3, 8),
-            ..row(11, b"UNDECLARED")
+            negative: (4, 9),
+            ..assignment(2, 3, b"    x = y;")
         },
+        assignment(3, 3, b"    x = y;"),
+        typed(b"x = 1", b"statement> x = 1", 17),
+        typed(
+            b"0123456789012345678901234567890123456789",
+            b"statement> 345678901234567890123456789",
+            39,
+        ),
+    ]
+}
+
+/// Lines that are cut.
+fn cut_cases() -> [Case; 5] {
+    [
         Case {
-            stop: At::Part(0),
-            message: b"NOT HERE",
-            cursor: (3, 8),
-            ..row(11, b"NOT HERE")
-        },
-        Case {
-            top: 4,
-            stop: At::Procedure,
-            cursor: (2, 3),
-            ..row(1, b"  END;")
-        },
-        Case {
-            top: 4,
-            stop: At::Procedure,
-            cursor: (2, 3),
-            ..row(3, b"")
-        },
-        Case {
-            typed: b"x = 1",
-            cursor: (12, 17),
-            ..row(12, b"statement> x = 1")
-        },
-        Case {
-            typed: b"0123456789012345678901234567890123456789",
-            cursor: (12, 39),
-            ..row(12, b"statement> 345678901234567890123456789")
-        },
-        Case {
-            is_comment: false,
-            stop: At::Part(3),
+            program: Program::Loop,
+            part: Some(3),
+            marked: (2, 2),
+            negative: (36, 39),
             cursor: (3, 39),
             ..row(3, b"    DO {variable} = {expression} TO {ex")
         },
+        deep(None, 39),
+        Case {
+            is_wide: true,
+            blanks: 106,
+            text: b"DO {variable} = {expression} TO {expression} BY {expr",
+            negative: (154, 159),
+            ..deep(None, 107)
+        },
+        Case {
+            is_wide: true,
+            blanks: 106,
+            text: b"DO {variable} = {expression} TO {expression} BY {expr",
+            negative: (154, 159),
+            ..deep(Some(3), 155)
+        },
         Case {
             code: Some(1),
-            stop: At::Procedure,
+            path: PROCEDURE,
             cursor: (6, 3),
             ..row(12, b"statement> ")
         },
     ]
-}
-
-/// A list of one node.
-fn one(alloc: Global, node: Node) -> Result<Nodes, Fail>
-    ensures { IfOk result (λ list. list.items ≡ node ∷ []) }
-{
-    let mut list = Nodes::new(alloc);
-    list.push(node).map_err(|_| "a node")?;
-    Ok(list)
-}
-
-/// A list of two nodes.
-fn two(alloc: Global, first: Node, second: Node) -> Result<Nodes, Fail>
-    ensures { IfOk result (λ list. list.items ≡ first ∷ (second ∷ [])) }
-{
-    let mut list = one(alloc, first)?;
-    list.push(second).map_err(|_| "a node")?;
-    Ok(list)
-}
-
-/// So many empty parts.
-fn empty_parts(alloc: Global, count: u8) -> Result<Vec<PhrasePlace>, Fail>
-    ensures { IfOk result (λ parts. map plain_place parts.items ≡ replicate count None) }
-{
-    let mut parts = Vec::new(alloc);
-    for _ in 0..count {
-        parts.push(PhrasePlace::Empty).map_err(|_| "a part")?;
-    }
-    Ok(parts)
-}
-
-/// A hole of the kind.
-fn leaf(alloc: Global, kind: NodeKind, count: u8) -> Result<Node, Fail>
-    requires parts { AreParts (parts_of (row_of kind).line) (replicate count None) }
-    requires sections { (row_of kind).sections ≡ [] }
-    ensures { IfOk result (λ node. IsSubtree node × (sort_of node.label.kind ≡ sort_of kind)) }
-{
-    let parts = empty_parts(alloc, count)?;
-    Ok(Node::built(kind, parts, Nodes::new(alloc)))
-}
-
-/// A node of the kind with empty parts around a list of one statement.
-fn around(alloc: Global, kind: NodeKind, count: u8, statement: Node) -> Result<Node, Fail>
-    requires parts { AreParts (parts_of (row_of kind).line) (replicate count None) }
-    requires sections { (row_of kind).sections ≡ list_of Sort.Statement ∷ [] }
-    requires subtree { IsSubtree statement }
-    requires sort { sort_of statement.label.kind ≡ Sort.Statement }
-    ensures { IfOk result (λ node. IsSubtree node × (sort_of node.label.kind ≡ sort_of kind)) }
-{
-    let parts = empty_parts(alloc, count)?;
-    let inner = one(alloc, statement)?;
-    Ok(Node::built(kind, parts, inner))
-}
-
-/// Main around a declaration and a statement.
-fn procedure(
-    alloc: Global,
-    kind: NodeKind,
-    count: u8,
-    declaration: Node,
-    statement: Node,
-) -> Result<Node, Fail>
-    requires parts { AreParts (parts_of (row_of kind).line) (replicate count None) }
-    requires sections { (row_of kind).sections ≡ block }
-    requires declaration { IsSubtree declaration }
-    requires statement { IsSubtree statement }
-    requires declaration_sort { sort_of declaration.label.kind ≡ Sort.Declaration }
-    requires statement_sort { sort_of statement.label.kind ≡ Sort.Statement }
-    ensures { IfOk result (λ node. IsSubtree node × (sort_of node.label.kind ≡ sort_of kind)) }
-{
-    let parts = empty_parts(alloc, count)?;
-    let inner = two(alloc, declaration, statement)?;
-    Ok(Node::built(kind, parts, inner))
-}
-
-/// A program of main and a procedure or a hole for one.
-fn program(alloc: Global, main: Node, other: Node) -> Result<Tree, Fail>
-    requires main { IsSubtree main }
-    requires other { IsSubtree other }
-    requires main_sort { sort_of main.label.kind ≡ Sort.Main }
-    requires other_sort { sort_of other.label.kind ≡ Sort.Procedure }
-    ensures { IfOk result IsTree }
-{
-    let items = two(alloc, main, other)?;
-    let tree = Tree::built(items).map_err(|_| "a tree")?;
-    Ok(tree)
-}
-
-/// A comment, or else a counting loop, each around a hole.
-fn statement_of(alloc: Global, is_comment: bool) -> Result<Node, Fail>
-    ensures { IfOk result (λ node. IsSubtree node × (sort_of node.label.kind ≡ Sort.Statement)) }
-{
-    let hole = leaf(alloc, NodeKind::StatementHole, 0)?;
-    if is_comment {
-        around(alloc, NodeKind::Filled(Template::Comment), 1, hole)
-    } else {
-        around(alloc, NodeKind::Filled(Template::For), 4, hole)
-    }
-}
-
-/// The program of a case.
-fn tree_of(alloc: Global, is_comment: bool) -> Result<Tree, Fail>
-    ensures { IfOk result IsTree }
-{
-    let statement = statement_of(alloc, is_comment)?;
-    let declaration = leaf(alloc, NodeKind::DeclarationHole, 0)?;
-    let main = procedure(alloc, NodeKind::Main, 0, declaration, statement)?;
-    let other = leaf(alloc, NodeKind::ProcedureHole, 0)?;
-    program(alloc, main, other)
-}
-
-/// The stop of a case.
-fn stop_of(at: At) -> Stop {
-    let mut path = Path::new();
-    match at {
-        At::Procedure => path.push(1),
-        _ => {
-            path.push(0);
-            path.push(1);
-        }
-    }
-    let part = match at {
-        At::Part(part) => Some(part),
-        _ => None,
-    };
-    Stop { path, part }
 }
 
 /// So many rows of code.
@@ -328,7 +303,7 @@ fn code_rows(alloc: Global, count: u8) -> Result<Vec<Vec<u8>>, Fail> {
     Ok(rows)
 }
 
-/// The mark of the first part of the node in slot 2.
+/// One marked phrase.
 #[derive(Drop)]
 struct OneMark(PhraseAt);
 
@@ -348,15 +323,16 @@ impl Marked for OneMark {
     }
 }
 
-/// Whether a row of the grid has the text, in either image.
-fn has_text(cells: &[u16], text: &[u8]) -> bool {
+/// Whether the cells are those of the case's row.
+fn has_row(cells: &[u16], case: &Case) -> bool {
     let mut same = true;
     for (k, cell) in cells.iter().enumerate() {
-        let byte = match text.get(k) {
+        let byte = match case.text.get(k.wrapping_sub(case.blanks)) {
             Some(byte) => u16::from(*byte),
             None => 32,
         };
-        same = same && *cell % 256 == byte;
+        let is_negative = case.negative.0 <= k && k < case.negative.1;
+        same = same && *cell == if is_negative { byte + 256 } else { byte };
     }
     same
 }
@@ -366,7 +342,7 @@ fn is_case(grid: &Grid, case: &Case) -> bool
     requires { grid.now.rows ≡ 12 }
 {
     let is_row = match case.row {
-        1..=12 => has_text(grid.cells(case.row), case.text),
+        1..=12 => has_row(grid.cells(case.row), case),
         _ => false,
     };
     is_row && grid.cursor() == case.cursor
@@ -378,12 +354,15 @@ fn is_drawn(alloc: Global, tree: &Tree, case: &Case) -> Result<bool, Fail>
 {
     let layout = Layout::new(alloc, tree).map_err(|_| "a layout")?;
     let marks = OneMark(PhraseAt {
-        slot: Slot(2),
-        part: 0,
+        slot: Slot(case.marked.0),
+        part: case.marked.1,
     });
     let rows = code_rows(alloc, case.code.unwrap_or(0))?;
     let code = code_if(case.code.is_some(), rows.as_slice());
-    let stop = stop_of(case.stop);
+    let stop = Stop {
+        path: path(case.path)?,
+        part: case.part,
+    };
     let view = View {
         tree,
         layout: &layout,
@@ -397,7 +376,8 @@ fn is_drawn(alloc: Global, tree: &Tree, case: &Case) -> Result<bool, Fail>
         typed: case.typed,
         code,
     };
-    let mut grid = Grid::new(alloc, 12, 40).map_err(|_| "a grid")?;
+    let cols = if case.is_wide { 160 } else { 40 };
+    let mut grid = Grid::new(alloc, 12, cols).map_err(|_| "a grid")?;
     let mut work = Counts::default();
     compose(&mut grid, &view, &mut work);
     Ok(is_case(&grid, case) && work.laid == 6)
@@ -419,16 +399,15 @@ fn run_place(run: Option<(u32, u16)>) -> Option<Place> {
 
 /// The program of a case drawn.
 fn is_shown(alloc: Global, case: &Case) -> Result<bool, Fail> {
-    let mut tree = tree_of(alloc, case.is_comment)?;
+    let mut tree = tree_of(alloc, case.program)?;
     if case.is_hidden {
-        let stop = stop_of(At::Statement);
-        tree.elide(&stop.path);
+        tree.elide(&path(STATEMENT)?);
     }
     is_drawn(alloc, &tree, case)
 }
 
 #[test]
-fn the_window_shows_program_run_and_code(rt: HostRuntime) -> Result<(), Fail> {
+fn the_window_shows_program_and_code(rt: HostRuntime) -> Result<(), Fail> {
     for case in &window_cases() {
         assert!(rt; is_shown(rt.alloc(), case)?);
     }
@@ -436,8 +415,32 @@ fn the_window_shows_program_run_and_code(rt: HostRuntime) -> Result<(), Fail> {
 }
 
 #[test]
-fn the_cursor_stands_at_its_stop(rt: HostRuntime) -> Result<(), Fail> {
-    for case in &other_cases() {
+fn a_run_is_marked_on_its_line(rt: HostRuntime) -> Result<(), Fail> {
+    for case in &run_cases() {
+        assert!(rt; is_shown(rt.alloc(), case)?);
+    }
+    Ok(())
+}
+
+#[test]
+fn three_rows_show_the_output(rt: HostRuntime) -> Result<(), Fail> {
+    for case in &output_cases() {
+        assert!(rt; is_shown(rt.alloc(), case)?);
+    }
+    Ok(())
+}
+
+#[test]
+fn message_and_typed_line_have_their_rows(rt: HostRuntime) -> Result<(), Fail> {
+    for case in &message_cases() {
+        assert!(rt; is_shown(rt.alloc(), case)?);
+    }
+    Ok(())
+}
+
+#[test]
+fn lines_are_cut_at_the_margin(rt: HostRuntime) -> Result<(), Fail> {
+    for case in &cut_cases() {
         assert!(rt; is_shown(rt.alloc(), case)?);
     }
     Ok(())

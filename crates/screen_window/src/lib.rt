@@ -17,9 +17,12 @@ mod painting;
 mod painting_tests;
 mod row_text;
 mod sequence;
+mod stop_node;
 mod terminal;
 #[cfg(test)]
 mod terminal_tests;
+#[cfg(test)]
+mod test_programs;
 mod text;
 mod view;
 
@@ -27,6 +30,6 @@ pub use composing::compose;
 pub use grid::Grid;
 pub use limit::{FEWEST_COLS, FEWEST_ROWS, MOST_COLS, MOST_ROWS};
 pub use painted_terminal::painted_terminal_shows;
-pub use painting::paint;
+pub use painting::{paint, write_piece};
 pub use terminal::Terminal;
 pub use view::View;

@@ -3,9 +3,11 @@
 ghost use Rattle.std.specs.Prelude.{◌≡◌, ◌+◌, ◌≤◌, [], length, slice_index_or};
 ghost use Rattle.template_tree.specs.Listing.{split_at_ends};
 ghost use Rattle.template_tree.specs.Path.{node_at};
+ghost use Rattle.template_tree.specs.PlainTree.{roomless};
 ghost use Rattle.template_tree.specs.Tree.{IsTree};
 ghost use Rattle.screen_window.specs.LowerRows.{cursor_mark, cursor_part, last_ones, mark_text, marked_text, message_or, output_row};
 
+use crate::stop_node::stop_node;
 use plcs_base::{MarkKind, Marked, PhraseAt};
 use plcs_grammar::NodeKind;
 use template_tree::{Stop, Tree};
@@ -66,7 +68,7 @@ pub fn message_row<'a, M: Marked>(
     marks: &M,
 ) -> &'a [u8]
     requires { IsTree tree.now }
-    ensures { result.now ≡ message_or message.now (marked_text (cursor_mark (M.marks marks.now) stop.now.part (node_at tree.now.items stop.now.path.items))) }
+    ensures { result.now ≡ message_or message.now (marked_text (cursor_mark (M.marks marks.now) stop.now.part (node_at (roomless tree.now.items) stop.now.path.items))) }
 {
     if !message.is_empty() {
         return message;
@@ -80,9 +82,9 @@ pub fn message_row<'a, M: Marked>(
 /// The mark of the cursor's phrase or assignment, if it has one.
 fn cursor_mark<M: Marked>(tree: &Tree, stop: &Stop, marks: &M) -> Option<MarkKind>
     requires { IsTree tree.now }
-    ensures { result ≡ cursor_mark (M.marks marks.now) stop.now.part (node_at tree.now.items stop.now.path.items) }
+    ensures { result ≡ cursor_mark (M.marks marks.now) stop.now.part (node_at (roomless tree.now.items) stop.now.path.items) }
 {
-    let node = tree.node(&stop.path)?;
+    let node = stop_node(tree, stop)?;
     let part = cursor_part(node.kind(), stop.part)?;
     marks.mark(PhraseAt {
         slot: node.slot(),

@@ -142,8 +142,8 @@ fn visible_len(cells: &[u16]) -> usize
     len
 }
 
-/// Writes a piece; what the sink takes in part is written on.
-fn write_piece<K: Sink>(sink: &mut K, piece: &[u8]) -> Result<(), SinkFault>
+/// Writes a piece of bytes; what the sink takes in part is written on. It takes no memory of its own.
+pub fn write_piece<K: Sink>(sink: &mut K, piece: &[u8]) -> Result<(), SinkFault>
     ensures { Writes piece.now result
         (K.taken sink.old) (K.taken sink.new) (K.faults sink.old) (K.faults sink.new) }
 {

@@ -34,6 +34,10 @@ pub mod DrawnSlots
 pub mod RoomlessEdits
 -- a tree is one with and without room
 pub mod RoomlessTrees
+-- `room_is_not_shown`: nodes at paths, lines and stops, and comments turned are the same with and without room
+pub mod RoomlessNodes
+pub mod RoomlessStops
+pub mod RoomlessTurns
 -- what stands at the path of an edit after it, how deep that is, and in which procedure
 pub mod EditedNodes
 pub mod Procedures

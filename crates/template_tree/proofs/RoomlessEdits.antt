@@ -141,7 +141,7 @@ pub stays : (path : List ℕ) (items : Forest) → edit_at (λ item. item ∷ []
 stays [] items = refl
 stays (k ∷ path) items = stays_in (edit_below (λ item. item ∷ []) path) (stays_below path) k items
 
-roomless_twice : (items : Forest) → roomless (roomless items) ≡ roomless items
+pub roomless_twice : (items : Forest) → roomless (roomless items) ≡ roomless items
 roomless_twice Forest.nil = refl
 roomless_twice (Forest.cons label inner rest) = λ i. Forest.cons (record label { spare = 0 }) (roomless_twice inner i) (roomless_twice rest i)
 

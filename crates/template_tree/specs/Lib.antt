@@ -27,8 +27,10 @@ pub mod Copy
 pub mod Place
 -- ---- the laws
 pub mod TreeLaws
+pub mod RoomLaws
 -- ---- the listing, and what the cursor may stand on
 pub mod Section
+pub mod PlainLeft
 pub mod Line
 pub mod Listing
 pub mod Stop

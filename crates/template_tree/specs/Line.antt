@@ -14,7 +14,7 @@ pub record Line : Type 0 where
   pub level : ℕ
   pub text : List ℕ
 
--- its bytes: the blanks, two for each level, and the text
+-- the bytes of a line: the blanks, two for each level, and the text
 abbrev pub line_bytes : Line → List ℕ
 line_bytes line = replicate (2 * line.level) 32 ++ line.text
 

@@ -31,7 +31,7 @@ template_end Proc = Some 1
 template_end ProcP = Some 1
 template_end other = None
 
--- the same for each kind of node
+-- where a run goes on once what stands inside a node of the kind is done, if not where it goes on behind the node itself
 abbrev pub inner_end : NodeKind → Option ℕ
 inner_end NodeKind.Main = Some 1
 inner_end (NodeKind.Filled template) = template_end template
@@ -48,7 +48,7 @@ passes_in_template Group = true
 passes_in_template Comment = true
 passes_in_template other = false
 
--- the same for each kind of node
+-- whether a run that comes to a node of the kind goes to its first item at once
 abbrev pub passes_in : NodeKind → Bool
 passes_in (NodeKind.Filled template) = passes_in_template template
 passes_in other = false
@@ -123,7 +123,7 @@ has_template_point marked label Proc point = point == 1
 has_template_point marked label ProcP point = point == 1
 has_template_point marked label other point = false
 
--- the same for each kind of node
+-- whether a node of the kind has the point, apart from the start of a statement; a GET whose phrase is marked has none
 abbrev pub has_point : Bool → Label → NodeKind → ℕ → Bool
 has_point marked label NodeKind.Main point = point == 1
 has_point marked label (NodeKind.Filled template) point = has_template_point marked label template point

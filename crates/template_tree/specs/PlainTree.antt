@@ -37,17 +37,17 @@ abbrev pub forest : List PlainNode → Forest
 forest [] = nil
 forest (node ∷ rest) = cons node.label node.inner (forest rest)
 
--- the one undoes the other
+-- nodes put in order and listed again are the list
 pub nodes_forest : (items : List PlainNode) → nodes (forest items) ≡ items
 nodes_forest [] = refl
 nodes_forest (node ∷ rest) = ap (λ items. node ∷ items) (nodes_forest rest)
 
--- and the other the one
+-- nodes listed and put in order again are the nodes
 pub forest_nodes : (items : Forest) → forest (nodes items) ≡ items
 forest_nodes nil = refl
 forest_nodes (cons label inner rest) = ap (λ items. cons label inner items) (forest_nodes rest)
 
--- the ones and then the others
+-- nodes in order, and others behind them
 abbrev pub join : Forest → Forest → Forest
 join nil others = others
 join (cons label inner rest) others = cons label inner (join rest others)

@@ -7,7 +7,6 @@ pub mod NodeView
 pub mod ReceiptCode
 pub mod ReceiptView
 -- ---- the listing while it is put
-pub mod PlainLeft
 pub mod NodeLines
 -- ---- an edit in its steps
 pub mod Exchange

@@ -1,6 +1,8 @@
 -- The stops of the cursor, and the lines on which they stand.
-use Rattle.std.specs.Prelude.{ℕ, ◌+◌, ◌<◌, true, if◌then◌else◌, List, [], ◌∷◌, ◌++◌, length, map, flat_map, Option, Some, None, IsSomeAnd, option_and_then, slice_get}
+use Rattle.std.specs.Prelude.{ℕ, ◌+◌, ◌<◌, Bool, true, ◌&&◌, nat_eq, if◌then◌else◌, List, [], ◌∷◌, ◌++◌, length, map, find, flat_map, Option, Some, None, IsSomeAnd, option_and_then, slice_get}
 use Rattle.std.specs.List.{range_with_len}
+use Rattle.std.specs.Option.{option_eq, option_map_or}
+use Rattle.std.specs.Str.{bytes_eq}
 use Rattle.plcs_grammar.specs.declared.node_kind.NodeKind.{NodeKind}
 use Rattle.plcs_grammar.specs.Template.{PlainSection, row_of, program_sections}
 use Rattle.template_tree.specs.declared.stop.Stop.{Stop}
@@ -23,6 +25,14 @@ pub record PlainStop : Type 0 where
 -- the plain form of a stop
 abbrev pub plain_stop : Stop → PlainStop
 plain_stop stop = record { path = stop.path.items; part = stop.part }
+
+-- the stop of a node itself
+abbrev pub node_stop : List ℕ → PlainStop
+node_stop path = record { path = path; part = None }
+
+-- whether two stops are one
+abbrev pub same_stop : PlainStop → PlainStop → Bool
+same_stop one other = bytes_eq one.path other.path && option_eq nat_eq one.part other.part
 
 -- a visible stop, and the number of its line
 pub record VisibleStop : Type 0 where
@@ -59,6 +69,14 @@ stops_of node =
 -- the visible stops in listing order
 abbrev pub Stops : Forest → List VisibleStop
 Stops items = flat_map stops_of (visible_nodes program_sections 0 0 items)
+
+-- the first of the listed stops that is this one, if there is one
+abbrev pub listed_stop : List VisibleStop → PlainStop → Option VisibleStop
+listed_stop stops stop = find (λ listed. same_stop listed.stop stop) stops
+
+-- the number of the line on which a visible stop stands, counted from 0; it is 0 where the stop isn't visible
+abbrev pub line_at : Forest → PlainStop → ℕ
+line_at items stop = option_map_or (λ listed. listed.line) (listed_stop (Stops items) stop) 0
 
 -- the node at the path below a node, where nothing on the way to it is elided
 abbrev pub visible_below : PlainNode → List ℕ → Option PlainNode

@@ -118,7 +118,7 @@ fn reveal(list: &mut Nodes)
     }
 }
 
-/// The same path.
+/// A copy of the path.
 pub(crate) fn copied(path: &Path) -> Path
     ensures { result.items ≡ path.now.items }
 {

@@ -125,7 +125,7 @@ fn push_hole(list: &mut Nodes, alloc: Global, section: &Section) -> Result<(), O
     Ok(())
 }
 
-/// How many holes that is, as far as the type goes.
+/// How many holes the sections hold at first, as far as the type goes.
 fn hole_count(sections: &[Section]) -> u32
     ensures { result ≡ min (count (section_holes (map plain_section sections.now))) 4294967295 }
 {

@@ -55,11 +55,12 @@ pub use node::{Node, Nodes};
 pub use path::Path;
 pub use phrase_place::PhrasePlace;
 pub use receipt::Receipt;
+pub use sections_left::SectionsLeft;
 pub use side::Side;
 pub use stop::Stop;
 pub use tree::Tree;
 pub use tree_fault::TreeFault;
 pub use tree_laws::{
-    add_keeps_tree, drop_keeps_tree, part_keeps_tree, put_keeps_tree, set_part_keeps_tree,
-    slot_edit_is_path_edit, undo_stays_possible,
+    add_keeps_tree, drop_keeps_tree, part_keeps_tree, put_keeps_tree, room_is_not_shown,
+    set_part_keeps_tree, slot_edit_is_path_edit, undo_stays_possible,
 };

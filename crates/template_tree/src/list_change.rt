@@ -66,7 +66,7 @@ impl Nodes {
         there.inner.add_at(*next as usize, rest, side, node)
     }
 
-    /// Takes the one of this number out, if there is one.
+    /// Takes the node of this number out, if there is one.
     fn take_out(&mut self, k: usize) -> Option<Node>
         ensures taken { result ≡ slice_get self.old.items k }
         ensures others { IfSome result (λ _. self.new ≡ without_item self.old k) }

@@ -72,7 +72,7 @@ pub(crate) fn is_listed(sort: Sort, sections: &[Section]) -> bool
     is_listed(sort, rest)
 }
 
-/// Whether two or more of the nodes are of the sort. It goes no further than to the second.
+/// Whether two or more of the nodes are of the sort. It looks no further than the second of these.
 pub(crate) fn are_two(sort: Sort, nodes: &[Node]) -> bool
     ensures { IsTrue result ↔ (2 ≤ how_many sort (sorts (forest nodes.now))) }
 {

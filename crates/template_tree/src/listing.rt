@@ -8,7 +8,7 @@ ghost use Rattle.template_tree.specs.Listing.{Listing, ListingSplitsInLines, byt
 ghost use Rattle.template_tree.specs.PlainPlace.{plain_place};
 ghost use Rattle.template_tree.specs.PlainTree.{forest};
 ghost use Rattle.template_tree.specs.Private.NodeLines.{node_lines};
-ghost use Rattle.template_tree.specs.Private.PlainLeft.{plain_left};
+ghost use Rattle.template_tree.specs.PlainLeft.{plain_left};
 ghost use Rattle.template_tree.specs.Slots.{depth};
 ghost use Rattle.template_tree.specs.Tree.{IsTree};
 

@@ -132,7 +132,7 @@ impl Node {
 }
 
 impl Nodes {
-    /// None, taking no memory.
+    /// No nodes, which takes no memory.
     pub fn new(alloc: Global) -> Nodes
         ensures { result.items ≡ [] }
     {
@@ -141,21 +141,21 @@ impl Nodes {
         }
     }
 
-    /// How many there are.
+    /// How many nodes there are.
     pub(crate) fn len(&self) -> usize
         ensures { result ≡ length self.now.items }
     {
         self.list.len()
     }
 
-    /// All of them.
+    /// All the nodes.
     pub(crate) fn as_slice(&self) -> &[Node]
         ensures { result.now ≡ self.now.items }
     {
         self.list.as_slice()
     }
 
-    /// The one of this number.
+    /// The node of this number.
     pub(crate) fn get(&self, k: usize) -> Option<&Node>
         ensures { option_map (λ node. node.now) result ≡ slice_get self.now.items k }
     {
@@ -164,7 +164,7 @@ impl Nodes {
 }
 
 impl Nodes {
-    /// Lends the one of this number.
+    /// Lends the node of this number.
     pub(crate) fn get_mut(&mut self, k: usize) -> Option<&mut Node>
         ensures* writes_back { sem 𝓛 (LendsIf list_row.the_row node_row.the_row self.entry result (with_item self.old k) self.old) }
         ensures found { option_map (λ node. node.now) result ≡ slice_get self.old.items k }
@@ -172,7 +172,7 @@ impl Nodes {
         self.list.get_mut(k)
     }
 
-    /// Takes the one of this number out; the others close up, and its room stays.
+    /// Takes the node of this number out; those behind it close up, and its room stays.
     pub(crate) fn remove(&mut self, k: usize) -> Node
         requires there { k < length self.old.items }
         ensures taken { Some result ≡ slice_get self.old.items k }
@@ -181,7 +181,7 @@ impl Nodes {
         self.list.remove(k)
     }
 
-    /// Puts one in before the one of this number, into the room that is there.
+    /// Puts a node in before the one of this number, into the room that is there.
     pub(crate) fn insert_within(&mut self, k: usize, node: Node)
         requires there { k ≤ length self.old.items }
         requires room { 0 < self.old.spare }
@@ -192,7 +192,7 @@ impl Nodes {
 }
 
 impl Nodes {
-    /// Two of them.
+    /// A list of two nodes.
     pub(crate) fn two(alloc: Global, first: Node, second: Node) -> Result<Nodes, OutOfMemory>
         ensures { IfOk result (λ list. list.items ≡ first ∷ (second ∷ [])) }
     {
@@ -206,7 +206,7 @@ impl Nodes {
         Ok(list)
     }
 
-    /// Takes memory for one more.
+    /// Takes memory for one node more.
     pub(crate) fn reserve_one(&mut self) -> Result<(), OutOfMemory>
         ensures room { OnOk result (0 < self.new.spare) }
         ensures items { self.new.items ≡ self.old.items }
@@ -218,7 +218,7 @@ impl Nodes {
         Ok(())
     }
 
-    /// Puts one at the end, or gives it back where there is no memory for it.
+    /// Puts a node at the end, or gives it back where there is no memory for it.
     pub fn push(&mut self, node: Node) -> Result<(), Node>
         ensures put { OnOk result (self.new.items ≡ self.old.items ++ node ∷ []) }
         ensures refused { IfErr result (λ back. (back ≡ node) × (self.new ≡ self.old)) }

@@ -42,7 +42,7 @@ fn path_in(nodes: &[Node], slot: Slot) -> Option<Path>
     None
 }
 
-/// The path of the node in the slot, from the node on, which may be the one.
+/// The path of the node in the slot, from the node on; it has no numbers where the slot is the node's own.
 #[cycle(find)]
 fn path_below(node: &Node, slot: Slot) -> Option<Path>
     requires shallow { depth node.now.inner < deepest_path }

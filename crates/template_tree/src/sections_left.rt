@@ -1,7 +1,7 @@
 //! Which section of a node's row the next item stands in.
 ghost use Rattle.std.specs.Prelude.{◌≡◌, map, option_map};
 ghost use Rattle.plcs_grammar.specs.Template.{plain_section};
-ghost use Rattle.template_tree.specs.Private.PlainLeft.{plain_left};
+ghost use Rattle.template_tree.specs.PlainLeft.{plain_left};
 ghost use Rattle.template_tree.specs.Section.{left_after, left_for, next_lead};
 
 use plcs_grammar::{Amount, Section, Sort};
@@ -9,14 +9,14 @@ use plcs_grammar::{Amount, Section, Sort};
 /// The sections of a row that are left for the next items, and whether the first of them has items
 /// already.
 #[derive(Clone, Copy)]
-pub(crate) struct SectionsLeft {
+pub struct SectionsLeft {
     sections: &'static [Section],
     begun: bool,
 }
 
 impl SectionsLeft {
-    /// All of them.
-    pub(crate) fn of(sections: &'static [Section]) -> SectionsLeft
+    /// All the sections of a row.
+    pub fn of(sections: &'static [Section]) -> SectionsLeft
         ensures { plain_left result ≡ map plain_section sections.now }
     {
         SectionsLeft {
@@ -25,8 +25,8 @@ impl SectionsLeft {
         }
     }
 
-    /// Those that are left for an item of the sort and the items after it.
-    pub(crate) fn at(self, sort: Sort) -> SectionsLeft
+    /// The sections that are left for an item of the sort and the items after it.
+    pub fn at(self, sort: Sort) -> SectionsLeft
         ensures { plain_left result ≡ left_for sort (plain_left self) }
     {
         let Some((section, others)) = self.sections.split_first() else {
@@ -39,7 +39,7 @@ impl SectionsLeft {
     }
 
     /// The line before the next item, if there is one.
-    pub(crate) fn lead(self) -> Option<&'static [u8]>
+    pub fn lead(self) -> Option<&'static [u8]>
         ensures { option_map (λ bytes. bytes.now) result ≡ next_lead (plain_left self) }
     {
         if self.begun {
@@ -51,8 +51,8 @@ impl SectionsLeft {
         section.lead
     }
 
-    /// Those that are left after an item of the first.
-    pub(crate) fn after(self) -> SectionsLeft
+    /// The sections that are left after an item of the first.
+    pub fn after(self) -> SectionsLeft
         ensures { plain_left result ≡ left_after (plain_left self) }
     {
         let Some((section, others)) = self.sections.split_first() else {

@@ -1,22 +1,25 @@
--- how many lines nodes have, and how many nodes there are
+-- bounds that each push, sum and cast asks for: how many lines nodes have, and how many nodes there are
 pub mod Heights
--- what is kept in a node of a layout in memory
+-- `lines_inside`, `height` and `plan`: the heights that a node of a layout in memory keeps
 pub mod Opened
--- a layout while it is made
+-- `new` of Layout: a layout while it is made, item by item
 pub mod MadeBones
--- the lines of nodes and their number
+-- `owned_lines_are_lines`, and `lines` of Layout::lines: the lines of nodes, and their number
 pub mod LineNumbers
--- the line of a number
+-- `line` of Layout::line: the line of a number, the plan of it, and the line before an item
 pub mod FoundLines
 pub mod PlanLines
 pub mod Leads
--- the line of a stop
+-- `line` and `below` of Layout::line_of: where a stop stands among the stops, and on which line it is listed
 pub mod StopLines
--- a layout after a refinement was hidden or shown
+pub mod ListedLines
+-- `layouts_ignore_room`, and each clause that speaks of a tree without the room of its lists
+pub mod RoomlessLines
+-- Layout::elided: a layout after a refinement was hidden or shown
 pub mod TurnedBones
--- the cells of a line while they are put
+-- `lay`: the cells of a line while they are put
 pub mod PutCells
--- the mark that a test has
+-- tests: the mark that they have, the phrase that they put into a part, and the stops whose lines they ask for
 pub mod OneMarks
--- the nodes that tests build
-pub mod BuiltNodes
+pub mod TestPhrases
+pub mod TestStops

@@ -13,9 +13,8 @@ use Rattle.template_tree.specs.PlainTree.{Forest, PlainNode, nodes}
 use Rattle.template_tree.specs.Program.{sort_of}
 use Rattle.template_tree.specs.Section.{left_for, left_after, next_lead}
 use Rattle.template_tree.specs.Line.{Lines, fixed_line, lines}
-use Rattle.template_tree.specs.Stop.{VisibleNode, VisibleStop, PlainStop, IsStop, MayStand, inside, part_stops, stops_of, visible_at, visible_below, visible_nodes}
+use Rattle.template_tree.specs.Stop.{VisibleNode, VisibleStop, PlainStop, IsStop, MayStand, Stops, inside, part_stops, stops_of, visible_at, visible_below, visible_nodes}
 use Rattle.unparse_layout.specs.OwnedLine.{bare_line, owned_lines}
-use Rattle.unparse_layout.specs.StopLine.{StandsOn}
 use Rattle.unparse_layout.specs.Bones.{Bone, Bones, bones_of}
 use Rattle.unparse_layout.specs.Private.PlainNodeLayout.{PlainNodeLayout, node_layouts, node_layout_of}
 use Rattle.unparse_layout.specs.Private.Height.{one_if, height_around, height, heights, bone_count}
@@ -222,7 +221,7 @@ stop_among all node part m s = record {
 
 -- what is known of the line of a visible stop
 pub record HasLine (items : Forest) (stop : PlainStop) (line : ℕ) : Type 0 where
-  pub stands : StandsOn items stop line
+  pub stands : IsStopAmong (Stops items) record { stop = stop; line = line }
   pub within : line < heights (bones_of program_sections items)
 
 pub stop_line : (items : Forest) (stop : PlainStop) (k : ℕ) (rest : List ℕ) → stop.path ≡ k ∷ rest → IsStop items stop

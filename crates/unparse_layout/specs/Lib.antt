@@ -4,7 +4,5 @@ pub mod LaidLine
 -- ---- the layout of a tree
 pub mod Bones
 pub mod Agreement
--- ---- the line of a stop
-pub mod StopLine
 -- ---- what private contracts alone cite
 pub mod Private

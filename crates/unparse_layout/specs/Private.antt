@@ -8,8 +8,6 @@ pub mod Height
 pub mod ItemLines
 pub mod NodeLayoutView
 pub mod NodeLayoutLend
--- ---- the sections that are left while a layout is made
-pub mod PlainLeft
 -- ---- a line before it is laid, and its cells while they are put
 pub mod PlainPlan
 pub mod Cells

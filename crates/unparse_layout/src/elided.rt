@@ -12,7 +12,7 @@ use plcs_base::Work;
 use template_tree::{Path, Tree};
 
 impl<W: Work> Layout<W> {
-    /// Makes it the layout of the tree again, after `Tree::elide` turned the comment at the path. It
+    /// Makes this the layout of the tree again, after `Tree::elide` turned the comment at the path. It
     /// takes no memory.
     pub fn elided(&mut self, tree: &Tree, path: &Path)
         requires tree { IsTree tree.now }
@@ -29,6 +29,7 @@ impl<W: Work> Layout<W> {
 impl NodeLayout {
     /// Notes whether the refinement of the node at the path is hidden, and how many lines the nodes on the
     /// way have then.
+    #[tactic(auto, using(crate::specs::Private::PlainNodeLayout::node_layouts_bones))]
     fn set_elision(&mut self, path: &[u32], elided: bool)
         requires few { bone_count self.old.inner ≤ most_slots }
         ensures { self.new ≡ with_elision path.now elided self.old }

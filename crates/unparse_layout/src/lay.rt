@@ -119,7 +119,8 @@ fn put_part<M: Marked>(category: Category, node: &Node, part: u8, marks: &M, out
     out.negative = false;
 }
 
-/// Puts the phrase that stands in a part, or the placeholder of its category.
+/// Puts the phrase that stands in a part, or the placeholder of its category, also where the node has no
+/// such part.
 fn put_place<O: ByteOut>(category: Category, place: Option<&PhrasePlace>, out: &mut O)
     ensures { PutsAll O.puts out.old (part_text category (option_and_then (λ phrase. phrase) (option_map (λ place. plain_place place.now) place.entry))) out.new }
 {
@@ -129,7 +130,7 @@ fn put_place<O: ByteOut>(category: Category, place: Option<&PhrasePlace>, out: &
     }
 }
 
-/// The same where the node has the part.
+/// Puts the phrase that stands in a place, or the placeholder of the category where it is empty.
 fn put_filled<O: ByteOut>(category: Category, place: &PhrasePlace, out: &mut O)
     ensures { PutsAll O.puts out.old (part_text category (plain_place place.now)) out.new }
 {

@@ -3,7 +3,7 @@ ghost use Rattle.std.specs.Prelude.{◌≡◌, ◌≤◌, ◌*◌, length, slice
 ghost use Rattle.plcs_base.specs.Count.{raised};
 ghost use Rattle.template_tree.specs.Limit.{most_slots};
 ghost use Rattle.template_tree.specs.Line.{Lines};
-ghost use Rattle.template_tree.specs.PlainTree.{PlainTree};
+ghost use Rattle.template_tree.specs.PlainTree.{PlainTree, roomless_tree};
 ghost use Rattle.template_tree.specs.Tree.{IsTree};
 ghost use Rattle.unparse_layout.specs.Agreement.{IsLayoutOf};
 ghost use Rattle.unparse_layout.specs.LaidLine.{LaidLines};
@@ -15,8 +15,8 @@ use plcs_base::{Marked, Work};
 use std::marker::{Model, PhantomData};
 use template_tree::Tree;
 
-/// The layout of a tree: how many lines of the screen each of its nodes has. Contracts see it as what is
-/// left of the tree without its phrases.
+/// The layout of a tree: how many lines of the screen each of its nodes has. Contracts see it as the
+/// tree's nodes without their phrases.
 ///
 /// Main and the procedures stand inside a node of its own, so that they have a list like every other.
 #[derive(Drop)]
@@ -39,7 +39,7 @@ impl<W> Model for Layout<W> {
 impl<W: Work> Layout<W> {
     /// How many lines of the screen there are. It takes no memory.
     pub fn lines(&self) -> u32
-        ensures lines { (tree : PlainTree) → IsLayoutOf self.now tree → result ≡ length (Lines tree.items) }
+        ensures lines { (tree : PlainTree) → IsLayoutOf self.now tree → result ≡ length (Lines (roomless_tree tree).items) }
         ensures few { (tree : PlainTree) → IsLayoutOf self.now tree → IsTree tree → result ≤ 4 * most_slots }
     {
         self.root.lines_inside()
@@ -50,7 +50,7 @@ impl<W: Work> Layout<W> {
     pub fn line<M: Marked>(&self, tree: &Tree, marks: &M, k: u32, work: &mut W) -> Option<Line<W>>
         requires tree { IsTree tree.now }
         requires agrees { IsLayoutOf self.now tree.now }
-        ensures line { result ≡ slice_get (LaidLines (M.marks marks.now) tree.now.items) k }
+        ensures line { result ≡ slice_get (LaidLines (M.marks marks.now) (roomless_tree tree.now).items) k }
         ensures laid { W.laid work.new ≡ raised (W.laid work.old) }
         ensures emitted { W.emitted work.new ≡ W.emitted work.old }
         ensures checked { W.checked work.new ≡ W.checked work.old }

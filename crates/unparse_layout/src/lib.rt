@@ -1,5 +1,5 @@
 //! The layout of a tree: the lines of the screen, found by number, and the lines of stops.
-#![tactic(auto, using(crate::specs::Private::PlainNodeLayout::node_layouts_bones))]
+#![tactic(auto)]
 
 mod elided;
 mod lay;
@@ -12,8 +12,7 @@ mod line_of;
 mod new;
 mod node_layout;
 mod plan;
-mod sections_left;
 
 pub use layout::Layout;
 pub use line::{LONGEST_LINE, Line, LineKind};
-pub use line_laws::owned_lines_are_lines;
+pub use line_laws::{layouts_ignore_room, owned_lines_are_lines};

@@ -2,10 +2,10 @@
 ghost use Rattle.std.specs.Prelude.{◌≡◌, ◌<◌, ◌≤◌, ◌*◌, length};
 ghost use Rattle.template_tree.specs.Limit.{most_slots};
 ghost use Rattle.template_tree.specs.Line.{Lines};
-ghost use Rattle.template_tree.specs.Stop.{IsStop, plain_stop};
+ghost use Rattle.template_tree.specs.PlainTree.{roomless_tree};
+ghost use Rattle.template_tree.specs.Stop.{IsStop, line_at, plain_stop};
 ghost use Rattle.template_tree.specs.Tree.{IsTree};
 ghost use Rattle.unparse_layout.specs.Agreement.{IsLayoutOf};
-ghost use Rattle.unparse_layout.specs.StopLine.{StandsOn};
 ghost use Rattle.unparse_layout.specs.Private.Height.{bone_count};
 ghost use Rattle.unparse_layout.specs.Private.ItemLines.{lines_before};
 
@@ -19,9 +19,9 @@ impl<W: Work> Layout<W> {
     pub fn line_of(&self, tree: &Tree, stop: &Stop) -> u32
         requires tree { IsTree tree.now }
         requires agrees { IsLayoutOf self.now tree.now }
-        requires stop { IsStop tree.now.items (plain_stop stop.now) }
-        ensures stands { StandsOn tree.now.items (plain_stop stop.now) result }
-        ensures below { result < length (Lines tree.now.items) }
+        requires stop { IsStop (roomless_tree tree.now).items (plain_stop stop.now) }
+        ensures line { result ≡ line_at (roomless_tree tree.now).items (plain_stop stop.now) }
+        ensures below { result < length (Lines (roomless_tree tree.now).items) }
         ensures few { result < 4 * most_slots }
     {
         let Some((k, rest)) = stop.path.split_first() else {
@@ -32,8 +32,8 @@ impl<W: Work> Layout<W> {
 }
 
 impl NodeLayout {
-    /// How many lines stand before the first line of the node at the path below the item of this number
-    /// inside it.
+    /// How many lines inside this node stand before the first line of the node at a path, which begins
+    /// with this number.
     fn lines_before(&self, k: usize, rest: &[u32]) -> u32
         requires few { bone_count self.now.inner ≤ most_slots }
         ensures { result ≡ lines_before self.now.inner k rest.now }

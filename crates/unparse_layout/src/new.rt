@@ -8,12 +8,11 @@ ghost use Rattle.unparse_layout.specs.Private.PlainNodeLayout.{node_layout_of};
 
 use crate::layout::Layout;
 use crate::node_layout::NodeLayout;
-use crate::sections_left::SectionsLeft;
 use plcs_base::{OutOfMemory, Slot, Work};
 use plcs_grammar::{NodeKind, program_sections};
 use std::alloc::Global;
 use std::marker::PhantomData;
-use template_tree::{Node, Path, Tree};
+use template_tree::{Node, Path, SectionsLeft, Tree};
 
 impl<W: Work> Layout<W> {
     /// The layout of the tree.
@@ -47,7 +46,7 @@ pub(crate) fn path_of_item(k: u32) -> Path
 }
 
 impl NodeLayout {
-    /// What is kept of the node, before which a line of the table stands or doesn't.
+    /// The node of a layout for a node of the tree, before which a line of the table stands where `led`.
     fn of(alloc: Global, node: &Node, led: bool) -> Result<NodeLayout, OutOfMemory>
         requires few { count node.now.inner < most_slots }
         ensures { IfOk result (λ node_layout. node_layout ≡ node_layout_of led node.now) }

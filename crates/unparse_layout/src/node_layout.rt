@@ -93,7 +93,8 @@ impl NodeLayout {
         }
     }
 
-    /// Puts one more behind those inside it.
+    /// Puts an item behind the nodes inside it.
+    #[tactic(auto, using(crate::specs::Private::PlainNodeLayout::node_layouts_bones))]
     pub(crate) fn push(&mut self, item: NodeLayout) -> Result<(), OutOfMemory>
         requires few { length (node_layouts self.old.inner) < 2 ^ 32 }
         requires fits { heights self.old.inner + height item < 2 ^ 32 }
@@ -106,7 +107,7 @@ impl NodeLayout {
         Ok(())
     }
 
-    /// How many lines what stands inside it has.
+    /// How many lines the nodes inside it have.
     pub(crate) fn lines_inside(&self) -> u32
         ensures { result ≡ heights self.now.inner }
     {
@@ -126,7 +127,7 @@ impl NodeLayout {
     }
 }
 
-/// How many lines a line of the table is that is there or not.
+/// How many lines an entry of the table takes: one where it is there.
 pub(crate) fn line_count(line: Option<&[u8]>) -> u32
     ensures { result ≡ line_count (option_map (λ bytes. bytes.now) line.entry) }
 {
@@ -137,7 +138,7 @@ pub(crate) fn line_count(line: Option<&[u8]>) -> u32
 }
 
 impl NodeLayouts {
-    /// None, taking no memory.
+    /// An empty list, which takes no memory.
     fn new(alloc: Global) -> NodeLayouts
         ensures { result.items ≡ [] }
     {
@@ -146,7 +147,7 @@ impl NodeLayouts {
         }
     }
 
-    /// Puts one more behind them.
+    /// Puts a node behind those of the list.
     fn push(&mut self, item: NodeLayout) -> Result<(), OutOfMemory>
         ensures put { OnOk result (self.new.items ≡ self.old.items ++ item ∷ []) }
         ensures same { OnErr result (self.new.items ≡ self.old.items) }
@@ -155,14 +156,14 @@ impl NodeLayouts {
         Ok(())
     }
 
-    /// The one of this number.
+    /// The node of this number.
     pub(crate) fn get(&self, k: usize) -> Option<&NodeLayout>
         ensures { option_map (λ node_layout. node_layout.now) result ≡ slice_get self.now.items k }
     {
         self.list.get(k)
     }
 
-    /// Lends the one of this number.
+    /// Lends the node of this number.
     pub(crate) fn get_mut(&mut self, k: usize) -> Option<&mut NodeLayout>
         ensures* writes_back { sem 𝓛 (LendsIf list_row.the_row node_layout_row.the_row self.entry result (with_item self.old k) self.old) }
         ensures found { option_map (λ node_layout. node_layout.now) result ≡ slice_get self.old.items k }

@@ -9,14 +9,13 @@ ghost use Rattle.plcs_grammar.specs.Template.{row_of};
 ghost use Rattle.unparse_layout.specs.Private.ItemLines.{lead_at, node_lines};
 ghost use Rattle.unparse_layout.specs.Private.PlainNodeLayout.{node_layout_of};
 ghost use Rattle.unparse_layout.specs.Private.PlainPlan.{planned};
-ghost use Rattle.template_tree.specs.PlainTree.{PlainTree};
+ghost use Rattle.template_tree.specs.PlainTree.{PlainTree, roomless};
 
 use crate::line::LineKind;
 use crate::new::path_of_item;
 use crate::node_layout::NodeLayout;
-use crate::sections_left::SectionsLeft;
 use plcs_base::Slot;
-use template_tree::{Node, Tree};
+use template_tree::{Node, SectionsLeft, Tree};
 
 /// A line that is found but not laid.
 #[derive(Drop)]
@@ -32,7 +31,7 @@ impl NodeLayout {
     pub(crate) fn plan_of<'a>(&self, tree: &'a Tree, k: u32) -> Option<Plan<'a>>
         requires tree { IsTree tree.now }
         requires agrees { IsLayoutOf self.now.inner tree.now }
-        ensures { option_map planned result ≡ slice_get (OwnedLines tree.now.items) k }
+        ensures { option_map planned result ≡ slice_get (OwnedLines (roomless tree.now.items)) k }
     {
         let Some(position) = self.heights.find(k) else {
             return None;

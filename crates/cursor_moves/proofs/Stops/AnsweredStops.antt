@@ -9,8 +9,8 @@ use Rattle.plcs_grammar.specs.Template.{program_sections}
 use Rattle.plcs_grammar.specs.declared.node_kind.NodeKind.{NodeKind}
 use Rattle.template_tree.specs.Path.{node_at}
 use Rattle.template_tree.specs.PlainTree.{Forest, PlainNode}
-use Rattle.template_tree.specs.Stop.{IsStop, MayStand, PlainStop, Stops, part_stops, visible_at}
-use Rattle.cursor_moves.specs.Move.{IsMove, next_stop, previous_stop, stop_above, stop_below}
+use Rattle.template_tree.specs.Stop.{IsStop, MayStand, PlainStop, Stops, node_stop, part_stops, visible_at}
+use Rattle.cursor_moves.specs.Move.{next_stop, previous_stop, stop_above, stop_below}
 use Rattle.cursor_moves.specs.Private.Number.{last_number, next_number, number_behind}
 use Rattle.cursor_moves.specs.Private.NextPath.{next_of}
 use Rattle.cursor_moves.proofs.ListEnds.{map_map}
@@ -19,9 +19,10 @@ use Rattle.cursor_moves.proofs.Nodes.NextPaths.{visible_is}
 use Rattle.cursor_moves.proofs.Nodes.PathSteps.{seen}
 use Rattle.cursor_moves.proofs.Nodes.VisibleNodes.{IsListedFrom, all_listed}
 use Rattle.cursor_moves.proofs.Stops.ListedStops.{contains_at, from_zero, there_is}
-use Rattle.cursor_moves.proofs.Stops.NextStops.{move_below, next_move, node_stop}
+use Rattle.cursor_moves.proofs.Stops.NextStops.{move_below, next_move}
 use Rattle.cursor_moves.proofs.Stops.PreviousStops.{begins_with, move_above, move_above_first, move_from_first, move_from_node, move_from_part, next_visible}
 use Rattle.cursor_moves.proofs.Stops.StopMoves.{all_nodes, place_of}
+use Rattle.cursor_moves.proofs.Stops.MoveRelation.{IsMove}
 
 -- the node at which a stop is
 pub node_of : (items : Forest) (stop : PlainStop) → IsStop items stop

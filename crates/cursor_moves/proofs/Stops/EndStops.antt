@@ -6,7 +6,7 @@ use Rattle.plcs_grammar.specs.declared.node_kind.Sort.{Sort}
 use Rattle.template_tree.specs.PlainTree.{Forest, PlainNode, nodes}
 use Rattle.template_tree.specs.Path.{node_at}
 use Rattle.template_tree.specs.Program.{IsProgram}
-use Rattle.template_tree.specs.Stop.{IsStop, PlainStop, Stops, VisibleNode, part_stops, stops_of, visible_at}
+use Rattle.template_tree.specs.Stop.{IsStop, PlainStop, Stops, VisibleNode, node_stop, part_stops, stops_of, visible_at}
 use Rattle.cursor_moves.specs.Move.{first_of, last_of}
 use Rattle.cursor_moves.specs.Private.Number.{last_number}
 use Rattle.cursor_moves.specs.Private.NextPath.{IsLastBelow, next_of}
@@ -14,7 +14,6 @@ use Rattle.cursor_moves.proofs.FoundNodes.{holds}
 use Rattle.cursor_moves.proofs.Nodes.PathSteps.{seen}
 use Rattle.cursor_moves.proofs.Nodes.PreviousNodes.{last_from, last_of_all}
 use Rattle.cursor_moves.proofs.Stops.ListedStops.{there_is}
-use Rattle.cursor_moves.proofs.Stops.NextStops.{node_stop}
 use Rattle.cursor_moves.proofs.Stops.PreviousStops.{first_node, last_flat}
 use Rattle.cursor_moves.proofs.Stops.StopMoves.{all_nodes, place_of}
 
@@ -25,9 +24,9 @@ has_first Forest.nil p =
 has_first (Forest.cons label inner rest) p = (record { label = label; inner = inner }, refl)
 
 -- its own stop is the first one
-pub first_stop : (items : Forest) (way : List ℕ) → IsProgram items → way ≡ 0 ∷ []
+pub first_listed : (items : Forest) (way : List ℕ) → IsProgram items → way ≡ 0 ∷ []
     → option_map (λ listed. listed.stop) (first_of (Stops items)) ≡ Some (node_stop way)
-first_stop items way p way_is =
+first_listed items way p way_is =
     let node = has_first items p in
     let place = first_node items node.0 node.1 in
     ap (λ nodes. option_map (λ listed. listed.stop) (first_of (flat_map stops_of nodes))) place.stands
@@ -63,10 +62,10 @@ end_at items k begin way rest last_is begin_is way_is below =
     }
 
 -- its last stop is the last of all
-pub last_stop : (items : Forest) (way : List ℕ) (to : PlainStop) → IsEnd items way
+pub last_listed : (items : Forest) (way : List ℕ) (to : PlainStop) → IsEnd items way
     → IsSomeAnd (node_at items way) (λ node. to ≡ record { path = way; part = last_number (part_stops node.label.kind) })
     → option_map (λ listed. listed.stop) (last_of (Stops items)) ≡ Some to
-last_stop items way to end last =
+last_listed items way to end last =
     let there = there_is (λ node. to ≡ record { path = way; part = last_number (part_stops node.label.kind) }) (node_at items way) last in
     let same : there.0 ≡ end.node = same_Some there.0 end.node (sym there.1 ∙ seen items way end.node end.visible) in
     let place = place_of items way end.node end.visible in

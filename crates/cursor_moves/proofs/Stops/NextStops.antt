@@ -7,8 +7,8 @@ use Rattle.std.proofs.lemmas.List.Folds.{find-append}
 use Rattle.template_tree.specs.PlainTree.{Forest, PlainNode}
 use Rattle.plcs_grammar.specs.Template.{program_sections}
 use Rattle.template_tree.specs.Line.{lines}
-use Rattle.template_tree.specs.Stop.{MayStand, PlainStop, Stops, VisibleNode, VisibleStop, part_stops, stops_of, visible_at}
-use Rattle.cursor_moves.specs.Move.{IsMove, first_of, next_stop, stop_below}
+use Rattle.template_tree.specs.Stop.{MayStand, PlainStop, Stops, VisibleNode, VisibleStop, node_stop, part_stops, stops_of, visible_at}
+use Rattle.cursor_moves.specs.Move.{first_of, next_stop, stop_below}
 use Rattle.cursor_moves.specs.Private.Number.{next_number}
 use Rattle.cursor_moves.specs.Private.NextPath.{next_of}
 use Rattle.cursor_moves.proofs.ListEnds.{first_append, map_map, map_or}
@@ -16,10 +16,7 @@ use Rattle.cursor_moves.proofs.Nodes.RisingLines.{Rises, rises, rises_behind}
 use Rattle.cursor_moves.proofs.Stops.DividedStops.{rear, stop_of}
 use Rattle.cursor_moves.proofs.Stops.ListedStops.{within}
 use Rattle.cursor_moves.proofs.Stops.StopMoves.{find_none, first_rear, move_at, place_of, rear_line}
-
--- the stop of a node itself
-abbrev pub node_stop : List ℕ → PlainStop
-node_stop path = record { path = path; part = None }
+use Rattle.cursor_moves.proofs.Stops.MoveRelation.{IsMove}
 
 -- the first of the stops of all nodes is the first node's own
 first_flat : (nodes : List VisibleNode) → first_of (flat_map stops_of nodes) ≡ option_map (λ node. stop_of node None) (first_of nodes)

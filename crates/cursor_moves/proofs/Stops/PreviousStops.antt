@@ -11,8 +11,8 @@ use Rattle.std.proofs.lemmas.List.Folds.{find-append}
 use Rattle.plcs_grammar.specs.Template.{program_sections}
 use Rattle.template_tree.specs.Line.{lines}
 use Rattle.template_tree.specs.PlainTree.{Forest, PlainNode}
-use Rattle.template_tree.specs.Stop.{MayStand, PlainStop, Stops, VisibleNode, VisibleStop, part_stops, stops_of, visible_at}
-use Rattle.cursor_moves.specs.Move.{IsMove, above_line, first_of, last_of, previous_stop, stop_above}
+use Rattle.template_tree.specs.Stop.{MayStand, PlainStop, Stops, VisibleNode, VisibleStop, node_stop, part_stops, stops_of, visible_at}
+use Rattle.cursor_moves.specs.Move.{above_line, first_of, last_of, previous_stop, stop_above}
 use Rattle.cursor_moves.specs.Private.Number.{last_number}
 use Rattle.cursor_moves.specs.Private.NextPath.{first_inside, next_of, next_with}
 use Rattle.cursor_moves.proofs.ListEnds.{last_append}
@@ -20,8 +20,8 @@ use Rattle.cursor_moves.proofs.Nodes.RisingLines.{Rises, rises, rises_before, ri
 use Rattle.cursor_moves.proofs.Nodes.VisibleNodes.{IsListedFrom, all_listed}
 use Rattle.cursor_moves.proofs.Stops.DividedStops.{ahead, stop_of}
 use Rattle.cursor_moves.proofs.Stops.ListedStops.{all_flat, contains_at, from_zero, within}
-use Rattle.cursor_moves.proofs.Stops.NextStops.{node_stop}
 use Rattle.cursor_moves.proofs.Stops.StopMoves.{ahead_line, all_nodes, filter_all, filter_none, find_none, last_own, move_at, own_line, place_of}
+use Rattle.cursor_moves.proofs.Stops.MoveRelation.{IsMove}
 
 -- a visible node and the one before it have their places among all
 pub record IsBehind (items : Forest) (way : List ℕ) (before_parts : ℕ) (path : List ℕ) (parts : ℕ) : Type 0 where

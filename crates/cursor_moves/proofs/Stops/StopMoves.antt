@@ -11,13 +11,14 @@ use Rattle.std.proofs.lemmas.List.FromFn.{map-range_with_len_more}
 use Rattle.plcs_grammar.specs.Template.{program_sections}
 use Rattle.template_tree.specs.PlainTree.{Forest, PlainNode}
 use Rattle.template_tree.specs.Stop.{PlainStop, Stops, VisibleNode, VisibleStop, part_stops, stops_of, visible_at, visible_nodes}
-use Rattle.cursor_moves.specs.Move.{Choice, IsMove, first_of, last_of}
+use Rattle.cursor_moves.specs.Move.{Choice, first_of, last_of}
 use Rattle.cursor_moves.specs.Private.Number.{last_number, next_number}
 use Rattle.cursor_moves.specs.Private.NextPath.{first_inside, next_of, next_with}
 use Rattle.cursor_moves.proofs.ListEnds.{last_append}
 use Rattle.cursor_moves.proofs.Nodes.NextNodes.{IsPlaced, from_none, placed}
 use Rattle.cursor_moves.proofs.Stops.DividedStops.{IsWithin, ahead, rear, stop_of, stops_divided}
 use Rattle.cursor_moves.proofs.Stops.ListedStops.{from_zero}
+use Rattle.cursor_moves.proofs.Stops.MoveRelation.{IsMove}
 
 -- the visible nodes
 abbrev pub all_nodes : Forest → List VisibleNode

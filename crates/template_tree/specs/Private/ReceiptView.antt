@@ -4,7 +4,7 @@ use Rattle.template_tree.specs.PlainPlace.{plain_place}
 use Rattle.template_tree.specs.PlainTree.{roomless_node}
 use Rattle.template_tree.specs.Receipt.{PlainUndoing}
 
--- the same in plain form, without the room of lists
+-- the plain form of an undoing, without the room of lists
 abbrev pub plain_undoing : Undoing → PlainUndoing
 plain_undoing (Undoing.Put node) = PlainUndoing.put (roomless_node node)
 plain_undoing Undoing.PutBack = PlainUndoing.put_back

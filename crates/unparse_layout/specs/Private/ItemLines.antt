@@ -22,12 +22,12 @@ lines_below level node =
 abbrev pub node_lines : ℕ → PlainNode → List OwnedLine
 node_lines level node = first_line level node.label ∷ lines_below level node
 
--- the lines of a node inside the one in a slot, the line before it among them, if there is one
+-- the lines of an item of the node in a slot: the line of the table before it, if there is one, and its own
 abbrev pub item_lines : (owner level : ℕ) (lead : Option (List ℕ)) → PlainNode → List OwnedLine
 item_lines owner level lead node =
     table_line owner LineKind.Lead (level - 1) lead ++ node_lines level node
 
--- how many lines stand before the first line of the node at the path, where the path begins with this number
+-- how many lines stand before the first line of the node at a path, which begins with this number
 abbrev pub lines_before : Bones → (k : ℕ) (rest : List ℕ) → ℕ
 lines_before items k [] =
     sum (take k (map height (node_layouts items)))

@@ -2,11 +2,11 @@
 use Rattle.std.specs.Prelude.{ℕ, Bool, List, [], ◌∷◌, option_map, unwrap_or, slice_get, slice_set}
 use Rattle.unparse_layout.specs.Private.PlainNodeLayout.{PlainNodeLayout, PlainNodeLayouts, bones, node_layouts}
 
--- the list with another item in this place
+-- a list of nodes of a layout with another node in this place
 abbrev pub with_item : PlainNodeLayouts → ℕ → PlainNodeLayout → PlainNodeLayouts
 with_item list k item = record list { items = slice_set list.items k item }
 
--- a node in which the one at the path is elided or not
+-- a node of a layout after the elision of the node at the path below it was set
 abbrev pub with_elision : List ℕ → Bool → PlainNodeLayout → PlainNodeLayout
 with_elision [] elided node_layout = record node_layout { bone = record node_layout.bone { elided = elided } }
 with_elision (k ∷ path) elided node_layout =

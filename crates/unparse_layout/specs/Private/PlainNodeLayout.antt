@@ -5,37 +5,37 @@ use Rattle.plcs_grammar.specs.Template.{row_of}
 use Rattle.template_tree.specs.PlainTree.{PlainNode}
 use Rattle.unparse_layout.specs.Bones.{Bone, Bones, bones_of}
 
--- what is kept of a node, and of what stands inside it
+-- a node of a layout: what is kept of a node of the tree, and of the nodes inside it
 pub record PlainNodeLayout : Type 0 where
   pub bone : Bone
   pub inner : Bones
 
--- a list of nodes, with how many more it has room for
+-- a list of nodes of a layout, with how many more it has room for
 pub record PlainNodeLayouts : Type 0 where
   pub items : List PlainNodeLayout
   pub spare : ℕ
 
--- nodes in order as a list
+-- nodes of a layout in order as a list
 abbrev pub node_layouts : Bones → List PlainNodeLayout
 node_layouts Bones.nil = []
 node_layouts (Bones.cons bone inner rest) = record { bone = bone; inner = inner } ∷ node_layouts rest
 
--- a list as nodes in order
+-- a list of nodes of a layout as nodes in order
 abbrev pub bones : List PlainNodeLayout → Bones
 bones [] = Bones.nil
 bones (node_layout ∷ rest) = Bones.cons node_layout.bone node_layout.inner (bones rest)
 
--- the one undoes the other
+-- a list made nodes in order, and these a list again, is that list
 pub node_layouts_bones : (items : List PlainNodeLayout) → node_layouts (bones items) ≡ items
 node_layouts_bones [] = refl
 node_layouts_bones (node_layout ∷ rest) = ap (λ items. node_layout ∷ items) (node_layouts_bones rest)
 
--- and the other the one
+-- nodes in order made a list, and that nodes in order again, are those nodes
 pub bones_node_layouts : (items : Bones) → bones (node_layouts items) ≡ items
 bones_node_layouts Bones.nil = refl
 bones_node_layouts (Bones.cons bone inner rest) = ap (λ items. Bones.cons bone inner items) (bones_node_layouts rest)
 
--- what is kept of a node before which a line of the table stands or doesn't
+-- the node of a layout for a node of the tree, before which a line of the table stands where it is led
 abbrev pub node_layout_of : Bool → PlainNode → PlainNodeLayout
 node_layout_of led node =
     record {
@@ -45,6 +45,6 @@ node_layout_of led node =
       inner = bones_of (row_of node.label.kind).sections node.inner;
     }
 
--- a node with one more behind those inside it
+-- a node of a layout with an item behind the nodes inside it
 abbrev pub with_last : PlainNodeLayout → PlainNodeLayout → PlainNodeLayout
 with_last node_layout item = record node_layout { inner = bones (node_layouts node_layout.inner ++ (item ∷ [])) }

@@ -1,5 +1,6 @@
 use Rattle.std.proofs.Common.{◌≡◌, ◌≤◌, ◌+◌, ◌-◌, min, length}
 use Rattle.template_tree.specs.Path.{slot_at}
+use Rattle.template_tree.specs.PlainTree.{roomless}
 use Rattle.screen_window.specs.Screen.{screen_row, window_rows}
 use Rattle.screen_window.specs.ShownRow.{shown_row}
 use Rattle.screen_window.specs.View.{plain_view}
@@ -12,9 +13,9 @@ invariant-loop-row g l = record {
   drawn : IsDrawn
       (λ row. shown_row l.fn.grid.cols (screen_row l.fn.grid.rows l.fn.grid.cols (plain_view g.M.Marked.marks l.view) row)) l.row l.fn.grid l.grid;
   count : length l.grid.lines ≡ l.fn.grid.rows;
-  found : row_from (plain_view g.M.Marked.marks l.view) (slot_at l.view.tree.now.items l.view.stop.now.path.items) 0 (window_rows l.fn.grid.rows)
+  found : row_from (plain_view g.M.Marked.marks l.view) (slot_at (roomless l.view.tree.now.items) l.view.stop.now.path.items) 0 (window_rows l.fn.grid.rows)
       ≡ found_before l.found
-      (row_from (plain_view g.M.Marked.marks l.view) (slot_at l.view.tree.now.items l.view.stop.now.path.items) l.row (window_rows l.fn.grid.rows - l.row));
+      (row_from (plain_view g.M.Marked.marks l.view) (slot_at (roomless l.view.tree.now.items) l.view.stop.now.path.items) l.row (window_rows l.fn.grid.rows - l.row));
   laid : g.W.Work.laid l.work ≤ g.W.Work.laid l.fn.work + min l.row (window_rows l.fn.grid.rows);
   lays : g.W.Work.laid l.fn.work ≤ g.W.Work.laid l.work;
   emitted : g.W.Work.emitted l.work ≡ g.W.Work.emitted l.fn.work;

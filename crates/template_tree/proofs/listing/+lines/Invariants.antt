@@ -3,7 +3,7 @@ use Rattle.template_tree.specs.PlainTree.{forest}
 use Rattle.template_tree.specs.Line.{lines}
 use Rattle.template_tree.specs.Listing.{bytes_of}
 use Rattle.template_tree.specs.Private.NodeLines.{Lacks}
-use Rattle.template_tree.specs.Private.PlainLeft.{plain_left}
+use Rattle.template_tree.specs.PlainLeft.{plain_left}
 use Rattle.template_tree.specs.Private.Weight.{forest_weight, weight}
 use Rattle.template_tree.proofs.listing.+lines.Given as goal
 

@@ -2,7 +2,7 @@ use Rattle.std.proofs.Common.{arith, ap, sym, ◌∙◌}
 use Rattle.plcs_grammar.specs.Template.{PlainRow, row_of}
 use Rattle.template_tree.specs.PlainTree.{nodes}
 use Rattle.template_tree.specs.Section.{left_for}
-use Rattle.unparse_layout.specs.Private.PlainLeft.{plain_left}
+use Rattle.template_tree.specs.PlainLeft.{plain_left}
 use Rattle.unparse_layout.proofs.Leads.{lead_first, lead_next, lead_here, lead_past}
 use Rattle.unparse_layout.proofs.PlanLines.{past_where_none}
 use Rattle.unparse_layout.proofs.plan.lead_before.Goals as goal

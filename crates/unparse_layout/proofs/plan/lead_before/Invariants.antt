@@ -2,7 +2,7 @@ use Rattle.std.specs.Prelude.{◌≡◌, ◌-◌, drop}
 use Rattle.plcs_grammar.specs.Template.{row_of}
 use Rattle.template_tree.specs.PlainTree.{forest, nodes}
 use Rattle.unparse_layout.specs.Private.ItemLines.{lead_at}
-use Rattle.unparse_layout.specs.Private.PlainLeft.{plain_left}
+use Rattle.template_tree.specs.PlainLeft.{plain_left}
 use Rattle.unparse_layout.proofs.plan.lead_before.Given as goal
 
 abbrev pub invariant-loop-i : goal.invariant-loop-i

@@ -1,13 +1,15 @@
 use Rattle.std.specs.Prelude.{◌≡◌}
-use Rattle.std.proofs.Common.{arith, ap, sym, ◌∙◌, subst}
+use Rattle.std.proofs.Common.{arith, ap, sym, ◌∙◌}
 use Rattle.plcs_grammar.specs.Template.{program_sections}
+use Rattle.template_tree.specs.PlainTree.{roomless}
 use Rattle.template_tree.specs.Stop.{plain_stop}
 use Rattle.unparse_layout.specs.Bones.{Bones, bones_of}
-use Rattle.unparse_layout.specs.StopLine.{StandsOn}
 use Rattle.unparse_layout.specs.Private.Height.{bone_count}
 use Rattle.unparse_layout.specs.Private.ItemLines.{lines_before}
 use Rattle.unparse_layout.proofs.Heights.{count_bones, heights_le}
-use Rattle.unparse_layout.proofs.StopLines.{shown_length, stop_line}
+use Rattle.unparse_layout.proofs.ListedLines.{line_of_stop}
+use Rattle.unparse_layout.proofs.RoomlessLines.{bones_roomless}
+use Rattle.unparse_layout.proofs.StopLines.{shown_length}
 use Rattle.unparse_layout.proofs.layout.Layout.line_of.Goals as goal
 
 pub lines_before-requires : goal.lines_before-requires
@@ -15,26 +17,33 @@ lines_before-requires g c =
     let same : bone_count c.self.inside.root.inner ≡ bone_count (bones_of program_sections c.args.tree.now.items) = ap bone_count (c.self.view_is ∙ c.requires.agrees) in
     record { few = omega (arith, same, count_bones program_sections c.args.tree.now.items, c.requires.tree.few) }
 
-pub returns-clause-stands : goal.returns-clause-stands
-returns-clause-stands g c =
-    let items = c.args.tree.now.items in
-    let all = stop_line items (plain_stop c.args.stop.now) c.in-Some.k.now c.in-Some.rest.now (sym c.deref.ensures.0 ∙ c.in-Some.ensures.cases.0) c.requires.stop in
-    let same : lines_before (bones_of program_sections items) c.in-Some.k.now c.in-Some.rest.now ≡ c.lines_before.result =
-    sym (c.lines_before.ensures ∙ ap (λ (b : Bones). lines_before b c.in-Some.k.now c.in-Some.rest.now) (c.self.view_is ∙ c.requires.agrees)) in
-    subst (StandsOn items (plain_stop c.args.stop.now)) same all.stands
+pub returns-clause-line : goal.returns-clause-line
+returns-clause-line g c =
+    let items = roomless c.args.tree.now.items in
+    let all = line_of_stop items (plain_stop c.args.stop.now) c.in-Some.k.now c.in-Some.rest.now (sym c.deref.ensures.0 ∙ c.in-Some.ensures.cases.0) c.requires.stop in
+    c.lines_before.ensures
+    ∙ ap (λ (b : Bones). lines_before b c.in-Some.k.now c.in-Some.rest.now)
+    (c.self.view_is ∙ c.requires.agrees ∙ sym (bones_roomless program_sections c.args.tree.now.items))
+    ∙ all.is
 
 pub returns-clause-below : goal.returns-clause-below
 returns-clause-below g c =
-    let items = c.args.tree.now.items in
-    let all = stop_line items (plain_stop c.args.stop.now) c.in-Some.k.now c.in-Some.rest.now (sym c.deref.ensures.0 ∙ c.in-Some.ensures.cases.0) c.requires.stop in
+    let items = roomless c.args.tree.now.items in
+    let all = line_of_stop items (plain_stop c.args.stop.now) c.in-Some.k.now c.in-Some.rest.now (sym c.deref.ensures.0 ∙ c.in-Some.ensures.cases.0) c.requires.stop in
     let same : lines_before (bones_of program_sections items) c.in-Some.k.now c.in-Some.rest.now ≡ c.lines_before.result =
-    sym (c.lines_before.ensures ∙ ap (λ (b : Bones). lines_before b c.in-Some.k.now c.in-Some.rest.now) (c.self.view_is ∙ c.requires.agrees)) in
+    sym (c.lines_before.ensures
+    ∙ ap (λ (b : Bones). lines_before b c.in-Some.k.now c.in-Some.rest.now)
+    (c.self.view_is ∙ c.requires.agrees ∙ sym (bones_roomless program_sections c.args.tree.now.items))) in
     omega (arith, all.within, same, shown_length items)
 
 pub returns-clause-few : goal.returns-clause-few
 returns-clause-few g c =
-    let items = c.args.tree.now.items in
-    let all = stop_line items (plain_stop c.args.stop.now) c.in-Some.k.now c.in-Some.rest.now (sym c.deref.ensures.0 ∙ c.in-Some.ensures.cases.0) c.requires.stop in
+    let items = roomless c.args.tree.now.items in
+    let all = line_of_stop items (plain_stop c.args.stop.now) c.in-Some.k.now c.in-Some.rest.now (sym c.deref.ensures.0 ∙ c.in-Some.ensures.cases.0) c.requires.stop in
+    let kept = sym (bones_roomless program_sections c.args.tree.now.items) in
     let same : lines_before (bones_of program_sections items) c.in-Some.k.now c.in-Some.rest.now ≡ c.lines_before.result =
-    sym (c.lines_before.ensures ∙ ap (λ (b : Bones). lines_before b c.in-Some.k.now c.in-Some.rest.now) (c.self.view_is ∙ c.requires.agrees)) in
-    omega (arith, all.within, same, heights_le (bones_of program_sections items), count_bones program_sections items, c.requires.tree.few)
+    sym (c.lines_before.ensures
+    ∙ ap (λ (b : Bones). lines_before b c.in-Some.k.now c.in-Some.rest.now)
+    (c.self.view_is ∙ c.requires.agrees ∙ kept)) in
+    let count : bone_count (bones_of program_sections c.args.tree.now.items) ≡ bone_count (bones_of program_sections items) = ap bone_count kept in
+    omega (arith, all.within, same, count, heights_le (bones_of program_sections items), count_bones program_sections c.args.tree.now.items, c.requires.tree.few)

@@ -2,7 +2,7 @@ use Rattle.std.specs.Prelude.{◌-◌, ◌≤◌, drop, length}
 use Rattle.plcs_grammar.specs.Template.{program_sections}
 use Rattle.template_tree.specs.PlainTree.{nodes}
 use Rattle.unparse_layout.specs.Bones.{bones_of}
-use Rattle.unparse_layout.specs.Private.PlainLeft.{plain_left}
+use Rattle.template_tree.specs.PlainLeft.{plain_left}
 use Rattle.unparse_layout.proofs.MadeBones.{IsMade}
 use Rattle.unparse_layout.proofs.layout.Layout.new.Given as goal
 

@@ -3,7 +3,7 @@ use Rattle.plcs_grammar.specs.Template.{row_of}
 use Rattle.template_tree.specs.PlainTree.{nodes}
 use Rattle.template_tree.specs.Slots.{count}
 use Rattle.unparse_layout.specs.Bones.{bones_of}
-use Rattle.unparse_layout.specs.Private.PlainLeft.{plain_left}
+use Rattle.template_tree.specs.PlainLeft.{plain_left}
 use Rattle.unparse_layout.proofs.MadeBones.{IsMade}
 use Rattle.unparse_layout.proofs.node_layout.NodeLayout.+of.Given as goal
 

@@ -10,13 +10,15 @@ use Rattle.unparse_layout.specs.Private.ItemLines.{lead_at}
 use Rattle.unparse_layout.proofs.FoundLines.{item_kept, no_line}
 use Rattle.unparse_layout.proofs.Heights.{nodes_few}
 use Rattle.unparse_layout.proofs.Opened.{numbers_are}
+use Rattle.unparse_layout.proofs.RoomlessLines.{program_roomless}
 use Rattle.unparse_layout.proofs.PlanLines.{at_one, item_shallow, led_again, number_within, past_where_none, program_line}
 use Rattle.unparse_layout.proofs.node_layout.NodeLayout.plan_of.Goals as goal
 
 pub returns-in_default : goal.returns-in_default
 returns-in_default c =
     let same = numbers_are c.self.inside c.args.self.now c.self.view_is c.self.invariant ∙ ap (λ b. map height (node_layouts b)) c.requires.agrees in
-    sym (no_line c.args.tree.now.items program_sections 0 0 c.args.k (rw (← same) c.in_default.ensures))
+    sym (ap (λ lines. slice_get lines c.args.k) (program_roomless c.args.tree.now.items)
+    ∙ no_line c.args.tree.now.items program_sections 0 0 c.args.k (rw (← same) c.in_default.ensures))
 
 pub returns-in_default-get : goal.returns-in_default-get
 returns-in_default-get c =
@@ -70,3 +72,4 @@ returns c =
     sym (at_one c.args.tree.now.items c.path_of_item.result.items i c.path_of_item.ensures) ∙ sym c.in-Some-node.ensures.found in
     c.plan.ensures
     ∙ program_line c.args.tree.now.items c.args.k i c.in-Some.position.rest node c.self.inside.heights.numbers same there c.in-Some.ensures.1 c.in-Some.ensures.2
+    ∙ ap (λ lines. slice_get lines c.args.k) (sym (program_roomless c.args.tree.now.items))

@@ -1,0 +1,61 @@
+-- The laws of room: what a tree is, what stands at a path, and what is shown of it don't depend on the room of its lists.
+use Rattle.std.specs.Prelude.{◌≡◌, ◌↔◌, ℕ, List, option_and_then, option_map}
+use Rattle.template_tree.specs.Elision.{hidden_after_turn, with_turn_at}
+use Rattle.template_tree.specs.Line.{Lines}
+use Rattle.template_tree.specs.Listing.{Listing}
+use Rattle.template_tree.specs.Path.{node_at, slot_at}
+use Rattle.template_tree.specs.PlainTree.{Forest, PlainTree, roomless, roomless_node, roomless_tree}
+use Rattle.template_tree.specs.Slots.{count}
+use Rattle.template_tree.specs.Stop.{IsStop, PlainStop, Stops, visible_at}
+use Rattle.template_tree.specs.Tree.{IsTree}
+
+-- nodes without room are the same without room
+abbrev pub RoomGoesOnce : Type 0
+RoomGoesOnce = (items : Forest) → roomless (roomless items) ≡ roomless items
+
+-- a tree is one without room, and is one with it where it is one without
+abbrev pub TreesIgnoreRoom : Type 0
+TreesIgnoreRoom = (tree : PlainTree) → IsTree tree ↔ IsTree (roomless_tree tree)
+
+-- as many nodes stand there without room
+abbrev pub CountsIgnoreRoom : Type 0
+CountsIgnoreRoom = (items : Forest) → count (roomless items) ≡ count items
+
+-- the node at a path is that node without room
+abbrev pub NodesIgnoreRoom : Type 0
+NodesIgnoreRoom = (items : Forest) (path : List ℕ) → node_at (roomless items) path ≡ option_map roomless_node (node_at items path)
+
+-- the slot at a path is that slot
+abbrev pub SlotsIgnoreRoom : Type 0
+SlotsIgnoreRoom = (items : Forest) (path : List ℕ) → slot_at (roomless items) path ≡ slot_at items path
+
+-- the visible node at a path is that node without room
+abbrev pub VisibleNodesIgnoreRoom : Type 0
+VisibleNodesIgnoreRoom =
+    (items : Forest) (path : List ℕ) → visible_at (roomless items) path ≡ option_map roomless_node (visible_at items path)
+
+-- the cursor may stand without room where it may stand with it
+abbrev pub StandingIgnoresRoom : Type 0
+StandingIgnoresRoom = (items : Forest) (stop : PlainStop) → IsStop (roomless items) stop ↔ IsStop items stop
+
+-- the visible stops, and their lines, are those with room
+abbrev pub StopsIgnoreRoom : Type 0
+StopsIgnoreRoom = (items : Forest) → Stops (roomless items) ≡ Stops items
+
+-- the lines that are shown are those with room
+abbrev pub LinesIgnoreRoom : Type 0
+LinesIgnoreRoom = (items : Forest) → Lines (roomless items) ≡ Lines items
+
+-- the listing is the one with room
+abbrev pub ListingIgnoresRoom : Type 0
+ListingIgnoresRoom = (items : Forest) → Listing (roomless items) ≡ Listing items
+
+-- the roomless tree with the comment at a path turned is the turned tree without room
+abbrev pub TurnsIgnoreRoom : Type 0
+TurnsIgnoreRoom = (tree : PlainTree) (path : List ℕ) → with_turn_at path (roomless_tree tree) ≡ roomless_tree (with_turn_at path tree)
+
+-- whether a comment stands at a path, and is hidden once it is turned, is told as with room
+abbrev pub HidingIgnoresRoom : Type 0
+HidingIgnoresRoom =
+    (items : Forest) (path : List ℕ)
+    → option_and_then hidden_after_turn (node_at (roomless items) path) ≡ option_and_then hidden_after_turn (node_at items path)
