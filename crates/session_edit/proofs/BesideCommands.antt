@@ -21,26 +21,26 @@ use Rattle.template_tree.specs.PlainTree.{Forest, PlainNode, PlainTree, nodes, r
 use Rattle.template_tree.specs.Program.{sort_of}
 use Rattle.template_tree.specs.Receipt.{PlainReceipt}
 use Rattle.template_tree.specs.Slots.{count}
-use Rattle.template_tree.specs.Stop.{IsStop, PlainStop, plain_stop, visible_at, visible_below}
+use Rattle.template_tree.specs.Stop.{IsStop, PlainStop, plain_stop, visible_at, visible_below, node_stop}
 use Rattle.template_tree.specs.Tree.{IsTree}
-use Rattle.template_tree.specs.TreeEdit.{TreeEdit, tree_after}
+use Rattle.template_tree.specs.TreeEdit.{TreeEdit}
 use Rattle.template_tree.specs.TreeLaws.{SlotEditIsPathEdit}
 use Rattle.session_edit.specs.declared.applied.Applied.{Applied}
 use Rattle.session_edit.specs.AppliedEdit.{IsAnswer, IsApplied, IsRefused}
-use Rattle.session_edit.specs.Cursor.{beside_path, node_stop, with_last}
-use Rattle.session_edit.specs.Edited.{Edited, at_node, comes, edited, hole_beside, not_here}
+use Rattle.session_edit.specs.Cursor.{beside_path, with_last}
+use Rattle.session_edit.specs.Edited.{Edited, at_node, comes, edited, outcome_of_hole_beside, not_here}
 use Rattle.session_edit.specs.Here.{enclosing_item, is_item, nearest_item}
 use Rattle.session_edit.specs.PlainEdit.{PlainEdit}
 use Rattle.session_edit.specs.Private.ShownPath.{IsShown}
 use Rattle.session_edit.proofs.DropCommands.{item_listed, item_roomless_is, item_true}
 use Rattle.session_edit.proofs.Outcomes.{applied_is, edited_is, node_there, refused_is, stands_after}
 use Rattle.session_edit.proofs.PutCommands.{edit_there}
-use Rattle.session_edit.proofs.RoomlessEdits.{add_roomless}
-use Rattle.session_edit.proofs.RoomlessNodes.{node_roomless}
+use Rattle.session_edit.proofs.RoomlessEdits.{add_same}
+use Rattle.session_edit.specs.Private.RoomLaws.{RoomLaws}
 use Rattle.session_edit.proofs.StopTests.{is_false}
 use Rattle.session_edit.proofs.VisibleEdits.{first_comes, last_number, second_comes, seen_beside, seen_here, shelf_of, visible_node}
 
--- how many nodes stand in it, if it is there
+-- how many nodes stand in a node, if it is there
 abbrev count_in : Option PlainNode → ℕ
 count_in None = 0
 count_in (Some node) = count node.inner
@@ -78,7 +78,7 @@ numbers_few tree [] node t e = absurd (none-some node e)
 numbers_few tree (k ∷ path) node t e =
     few_item most_slots k path tree.items t.few (few_below most_slots path) (slice_get (nodes tree.items) k) refl node e
 
--- the nearest item
+-- the nearest item of a list round a node, by the numbers of its path
 take_all : (path : List ℕ) → take (length path) path ≡ path
 take_all [] = refl
 take_all (k ∷ path) = ap (λ rest. k ∷ rest) (take_all path)
@@ -109,30 +109,30 @@ enclosing_outer items path k h =
     ∙ (ap (λ (b : Bool). if b then Some longer else nearest_item items longer (length path)) h
     ∙ nearest_front items path (k ∷ []) (length path) (omega arith)))
 
-nearest_roomless : (items : Forest) (path : List ℕ) (n : ℕ) → nearest_item (roomless items) path n ≡ nearest_item items path n
-nearest_roomless items path zero = refl
-nearest_roomless items path (suc n) =
-    λ i. if item_roomless_is items (take (suc n) path) i then Some (take (suc n) path) else nearest_roomless items path n i
+nearest_roomless : RoomLaws → (items : Forest) (path : List ℕ) (n : ℕ) → nearest_item (roomless items) path n ≡ nearest_item items path n
+nearest_roomless room items path zero = refl
+nearest_roomless room items path (suc n) =
+    λ i. if item_roomless_is room items (take (suc n) path) i then Some (take (suc n) path) else nearest_roomless room items path n i
 
-pub enclosing_roomless : (items : Forest) (path : List ℕ) → enclosing_item (roomless items) path ≡ enclosing_item items path
-enclosing_roomless items path = nearest_roomless items path (length path)
+pub enclosing_roomless : RoomLaws → (items : Forest) (path : List ℕ) → enclosing_item (roomless items) path ≡ enclosing_item items path
+enclosing_roomless room items path = nearest_roomless room items path (length path)
 
 -- what comes of a hole beside the item at a path
 abbrev pub beside_outcome : PlainTree → Side → List ℕ → Edited
-beside_outcome tree side path = hole_beside (roomless_tree tree) side (enclosing_item (roomless_tree tree).items path)
+beside_outcome tree side path = outcome_of_hole_beside (roomless_tree tree) side (enclosing_item (roomless_tree tree).items path)
 
-comes_beside : (tree : PlainTree) (side : Side) (path : List ℕ) (node : PlainNode) → node_at tree.items path ≡ Some node
+comes_beside : RoomLaws → (tree : PlainTree) (side : Side) (path : List ℕ) (node : PlainNode) → node_at tree.items path ≡ Some node
     → IsListItem tree.items path node
     → beside_outcome tree side path
-    ≡ comes (roomless_tree (tree_after (TreeEdit.add side) (roomless_tree tree) node.label.slot)) (node_stop (beside_path side path)) None
-comes_beside tree side path node e h =
-    ap (hole_beside (roomless_tree tree) side)
-    (enclosing_roomless tree.items path ∙ enclosing_here tree.items path (item_true tree.items path node e h))
+    ≡ comes (TreeEdit.add side) (roomless_tree tree) node.label.slot (node_stop (beside_path side path)) None
+comes_beside room tree side path node e h =
+    ap (outcome_of_hole_beside (roomless_tree tree) side)
+    (enclosing_roomless room tree.items path ∙ enclosing_here tree.items path (item_true tree.items path node e h))
     ∙ ap
     (at_node
     (λ (n : PlainNode).
-    comes (roomless_tree (tree_after (TreeEdit.add side) (roomless_tree tree) n.label.slot)) (node_stop (beside_path side path)) None))
-    (node_roomless tree.items path ∙ ap (option_map roomless_node) e)
+    comes (TreeEdit.add side) (roomless_tree tree) n.label.slot (node_stop (beside_path side path)) None))
+    (room.nodes tree.items path ∙ ap (option_map roomless_node) e)
 
 held_node : (found : Option PlainNode) (P : PlainNode → Type 0) → IsSomeAnd found P → (node : PlainNode) × (found ≡ Some node) × P node
 held_node None P h = absurd h
@@ -192,25 +192,25 @@ shown_node items (k ∷ path) node shown e =
     let seen = held_node (visible_at items (k ∷ path)) (λ _. Unit {0}) shown in
     seen.1 ∙ (sym (visible_node items (k ∷ path) seen.0 seen.1) ∙ e)
 
--- the cursor may stand on the hole
-hole_stands : SlotEditIsPathEdit → (before after : PlainTree) (side : Side) (path : List ℕ) (node : PlainNode) (receipt : PlainReceipt)
+-- the cursor may stand on the hole that comes beside an item
+hole_stands : RoomLaws → SlotEditIsPathEdit → (before after : PlainTree) (side : Side) (path : List ℕ) (node : PlainNode) (receipt : PlainReceipt)
     → IsTree before → IsShown before.items path → node_at before.items path ≡ Some node → IsListItem before.items path node
     → IsEdit (TreeEdit.add side) node.label.slot before after receipt None
     → IsStop (roomless after.items) (node_stop (beside_path side path))
-hole_stands law before after Side.Before path node receipt tree shown there listed edit =
+hole_stands room law before after Side.Before path node receipt tree shown there listed edit =
     let change : PlainNode → List PlainNode = with_hole before.drawn Side.Before in
     let shelf = shelf_of before.items path node (shown_node before.items path node shown there) in
     let hole = hole_by (sort_of node.label.kind) (sections_at program_sections before.items path) (main_at program_sections before.items path refl) listed in
-    stands_after law before after path node change (before.drawn + 1) (node_stop path) (lone before.drawn hole.0) tree there edit.became
+    stands_after room law before after path node change (before.drawn + 1) (node_stop path) (lone before.drawn hole.0) tree there edit.became
     (seen_here change before.items path shelf.0 shelf.1
     ∙ first_comes change (last_number path) shelf.0 node (lone before.drawn hole.0) (node ∷ []) shelf.2
     (ap (λ kind. hole_list before.drawn kind ++ node ∷ []) hole.1))
     tt
-hole_stands law before after Side.After path node receipt tree shown there listed edit =
+hole_stands room law before after Side.After path node receipt tree shown there listed edit =
     let change : PlainNode → List PlainNode = with_hole before.drawn Side.After in
     let shelf = shelf_of before.items path node (shown_node before.items path node shown there) in
     let hole = hole_by (sort_of node.label.kind) (sections_at program_sections before.items path) (main_at program_sections before.items path refl) listed in
-    stands_after law before after path node change (before.drawn + 1) (node_stop (with_last suc path)) (lone before.drawn hole.0) tree there edit.became
+    stands_after room law before after path node change (before.drawn + 1) (node_stop (with_last suc path)) (lone before.drawn hole.0) tree there edit.became
     (seen_beside change suc before.items path shelf.0 shelf.1
     ∙ second_comes change (last_number path) shelf.0 node node (lone before.drawn hole.0) shelf.2
     (ap (λ kind. node ∷ hole_list before.drawn kind) hole.1))
@@ -234,16 +234,16 @@ added_few tree after side path receipt t adds =
     in
     numbers_few tree path made.0 t made.1
 
-pub beside_applied : SlotEditIsPathEdit → (tree after : PlainTree) (side : Side) (path : List ℕ) (receipt : PlainReceipt) (stop_after : Stop)
+pub beside_applied : RoomLaws → SlotEditIsPathEdit → (tree after : PlainTree) (side : Side) (path : List ℕ) (receipt : PlainReceipt) (stop_after : Stop)
     → IsTree tree → IsShown tree.items path → AddsHole side path tree after receipt → plain_stop stop_after ≡ node_stop (beside_path side path)
-    → IsApplied (hole_beside (roomless_tree tree) side (enclosing_item (roomless_tree tree).items path)) tree after
+    → IsApplied (outcome_of_hole_beside (roomless_tree tree) side (enclosing_item (roomless_tree tree).items path)) tree after
     record { receipt = receipt; taken = None; stop = stop_after }
-beside_applied law tree after side path receipt stop_after t shown adds there =
+beside_applied room law tree after side path receipt stop_after t shown adds there =
     let made = held_edit tree after side path receipt adds
     in
-    applied_is (beside_outcome tree side path) (TreeEdit.add side) (TreeEdit.add side) made.0.label.slot tree after receipt None stop_after
-    (node_stop (beside_path side path)) made.2.1 (add_roomless tree made.0.label.slot side) (comes_beside tree side path made.0 made.1 made.2.0) there
-    (subst (λ s. IsStop (roomless after.items) s) (sym there) (hole_stands law tree after side path made.0 receipt t shown made.1 made.2.0 made.2.1)) tt
+    applied_is room (beside_outcome tree side path) (TreeEdit.add side) (TreeEdit.add side) made.0.label.slot tree after receipt None stop_after
+    (node_stop (beside_path side path)) made.2.1 (add_same room tree made.0.label.slot side) (comes_beside room tree side path made.0 made.1 made.2.0) there
+    (subst (λ s. IsStop (roomless after.items) s) (sym there) (hole_stands room law tree after side path made.0 receipt t shown made.1 made.2.0 made.2.1)) tt
 
 not_item : (items : Forest) (path : List ℕ) → (IsSomeAnd (node_at items path) (IsListItem items path) → ⊥) → is_item items path ≡ false
 not_item items path missing =
@@ -254,20 +254,20 @@ not_item items path missing =
         absurd (false≢true (sym (ap (λ o. option_map_or (λ (n : PlainNode). is_listed (sort_of n.label.kind) (sections_at program_sections items path)) o false) same) ∙ e))
     found (Some node) same e = item_listed items path node same e
 
--- where no item of a list stands, it is as for the node round it
-pub beside_outer : (tree : PlainTree) (side : Side) (path outer : List ℕ) (k : ℕ) → path ≡ outer ++ k ∷ []
+-- where no item of a list stands at a path, a hole comes as for the node round it
+pub beside_outer : RoomLaws → (tree : PlainTree) (side : Side) (path outer : List ℕ) (k : ℕ) → path ≡ outer ++ k ∷ []
     → (IsSomeAnd (node_at tree.items path) (IsListItem tree.items path) → ⊥)
-    → hole_beside (roomless_tree tree) side (enclosing_item (roomless_tree tree).items path)
-    ≡ hole_beside (roomless_tree tree) side (enclosing_item (roomless_tree tree).items outer)
-beside_outer tree side path outer k way missing =
-    ap (hole_beside (roomless_tree tree) side)
+    → outcome_of_hole_beside (roomless_tree tree) side (enclosing_item (roomless_tree tree).items path)
+    ≡ outcome_of_hole_beside (roomless_tree tree) side (enclosing_item (roomless_tree tree).items outer)
+beside_outer room tree side path outer k way missing =
+    ap (outcome_of_hole_beside (roomless_tree tree) side)
     (ap (enclosing_item (roomless tree.items)) way
     ∙ enclosing_outer (roomless tree.items) outer k
-    (item_roomless_is tree.items (outer ++ k ∷ []) ∙ (ap (is_item tree.items) (sym way) ∙ not_item tree.items path missing)))
+    (item_roomless_is room tree.items (outer ++ k ∷ []) ∙ (ap (is_item tree.items) (sym way) ∙ not_item tree.items path missing)))
 
 pub beside_nothing : (tree : PlainTree) (side : Side) (path : List ℕ) → path ≡ []
-    → hole_beside (roomless_tree tree) side (enclosing_item (roomless_tree tree).items path) ≡ not_here
-beside_nothing tree side path e = ap (λ p. hole_beside (roomless_tree tree) side (enclosing_item (roomless tree.items) p)) e
+    → outcome_of_hole_beside (roomless_tree tree) side (enclosing_item (roomless_tree tree).items path) ≡ not_here
+beside_nothing tree side path e = ap (λ p. outcome_of_hole_beside (roomless_tree tree) side (enclosing_item (roomless tree.items) p)) e
 
 abbrev IsSeen : Option PlainNode → Type 0
 IsSeen found = IsSomeAnd found (λ _. Unit {0})
@@ -305,26 +305,26 @@ here_of edit node Here before TreeFault.TooLarge other h = h.0
 here_of edit node Here before TreeFault.SlotsUsedUp other h = h.0
 here_of edit node Here before TreeFault.OutOfMemory other h = h.0
 
--- the answer for the node round it, where the tree is as before
-pub answer_outer : (tree same after : PlainTree) (side : Side) (path outer : List ℕ) (k : ℕ) (result : Result Applied TreeFault)
+-- the answer for the node round the one at a path, where the tree is as before
+pub answer_outer : RoomLaws → (tree same after : PlainTree) (side : Side) (path outer : List ℕ) (k : ℕ) (result : Result Applied TreeFault)
     → same ≡ tree → path ≡ outer ++ k ∷ []
     → (IsSomeAnd (node_at tree.items path) (IsListItem tree.items path) → ⊥)
-    → IsAnswer true (hole_beside (roomless_tree same) side (enclosing_item (roomless_tree same).items outer)) same after result
-    → IsAnswer true (hole_beside (roomless_tree tree) side (enclosing_item (roomless_tree tree).items path)) tree after result
-answer_outer tree same after side path outer k result e way missing answer =
-    subst (λ outcome. IsAnswer true outcome tree after result) (sym (beside_outer tree side path outer k way missing))
+    → IsAnswer true (outcome_of_hole_beside (roomless_tree same) side (enclosing_item (roomless_tree same).items outer)) same after result
+    → IsAnswer true (outcome_of_hole_beside (roomless_tree tree) side (enclosing_item (roomless_tree tree).items path)) tree after result
+answer_outer room tree same after side path outer k result e way missing answer =
+    subst (λ outcome. IsAnswer true outcome tree after result) (sym (beside_outer room tree side path outer k way missing))
     (subst
-    (λ (t : PlainTree). IsAnswer true (hole_beside (roomless_tree t) side (enclosing_item (roomless_tree t).items outer)) t after result) e answer)
+    (λ (t : PlainTree). IsAnswer true (outcome_of_hole_beside (roomless_tree t) side (enclosing_item (roomless_tree t).items outer)) t after result) e answer)
 
-pub beside_refused : (tree : PlainTree) (side : Side) (path : List ℕ) (fault : TreeFault)
+pub beside_refused : RoomLaws → (tree : PlainTree) (side : Side) (path : List ℕ) (fault : TreeFault)
     → Refuses (TreeEdit.add side) (node_at tree.items path) (IsListItem tree.items path) tree fault → (fault ≡ TreeFault.NotHere → ⊥)
-    → IsRefused true (hole_beside (roomless_tree tree) side (enclosing_item (roomless_tree tree).items path)) fault
-beside_refused tree side path fault refuses other =
+    → IsRefused true (outcome_of_hole_beside (roomless_tree tree) side (enclosing_item (roomless_tree tree).items path)) fault
+beside_refused room tree side path fault refuses other =
     on_node (node_at tree.items path) refl refuses
   where
     on_node : (there : Option PlainNode) → node_at tree.items path ≡ there
         → Refuses (TreeEdit.add side) there (IsListItem tree.items path) tree fault
-        → IsRefused true (hole_beside (roomless_tree tree) side (enclosing_item (roomless_tree tree).items path)) fault
+        → IsRefused true (outcome_of_hole_beside (roomless_tree tree) side (enclosing_item (roomless_tree tree).items path)) fault
     on_node None same h = absurd (nothing fault other h)
       where
         nothing : (fault : TreeFault) → (fault ≡ TreeFault.NotHere → ⊥) → Refuses (TreeEdit.add side) None (IsListItem tree.items path) tree fault → ⊥
@@ -335,19 +335,19 @@ beside_refused tree side path fault refuses other =
         nothing TreeFault.OutOfMemory other h = h
     on_node (Some node) same h =
         refused_is (TreeEdit.add side) (TreeEdit.add side) tree node (IsListItem tree.items path) (beside_outcome tree side path)
-        (node_stop (beside_path side path)) None (add_roomless tree node.label.slot side)
-        (λ listed. comes_beside tree side path node same listed)
+        (node_stop (beside_path side path)) None (add_same room tree node.label.slot side)
+        (λ listed. comes_beside room tree side path node same listed)
         (λ missing. absurd (missing (here_of (TreeEdit.add side) node (IsListItem tree.items path) tree fault other h))) fault h
 
 -- what comes of a hole beside the item round the cursor
-pub beside_is : (tree : PlainTree) (at : PlainStop) (side : Side) → IsStop (roomless_tree tree).items at
-    → edited (roomless_tree tree) at (PlainEdit.beside side) ≡ hole_beside (roomless_tree tree) side (enclosing_item (roomless_tree tree).items at.path)
-beside_is tree at side stop =
-    let n = node_there tree at stop in edited_is tree at (PlainEdit.beside side) n.node n.there
+pub beside_is : RoomLaws → (tree : PlainTree) (at : PlainStop) (side : Side) → IsStop (roomless_tree tree).items at
+    → edited (roomless_tree tree) at (PlainEdit.beside side) ≡ outcome_of_hole_beside (roomless_tree tree) side (enclosing_item (roomless_tree tree).items at.path)
+beside_is room tree at side stop =
+    let n = node_there room tree at stop in edited_is room tree at (PlainEdit.beside side) n.node n.there
 
 -- the way to the cursor's node is shown
-pub shown_there : (tree : PlainTree) (at : PlainStop) → IsStop (roomless_tree tree).items at → IsShown tree.items at.path
-shown_there tree at stop = let n = node_there tree at stop in shown at.path n.node n.seen
+pub shown_there : RoomLaws → (tree : PlainTree) (at : PlainStop) → IsStop (roomless_tree tree).items at → IsShown tree.items at.path
+shown_there room tree at stop = let n = node_there room tree at stop in shown at.path n.node n.seen
   where
     shown : (path : List ℕ) (node : PlainNode) → visible_at tree.items path ≡ Some node → IsShown tree.items path
     shown [] node e = tt

@@ -16,20 +16,21 @@ use Rattle.template_tree.specs.PlainTree.{Forest, PlainNode, PlainTree, nodes, r
 use Rattle.template_tree.specs.Program.{sort_of, sorts}
 use Rattle.template_tree.specs.Receipt.{PlainReceipt}
 use Rattle.template_tree.specs.Section.{same_sort}
-use Rattle.template_tree.specs.Stop.{IsStop, PlainStop, plain_stop, visible_at}
+use Rattle.template_tree.specs.Stop.{IsStop, PlainStop, plain_stop, visible_at, node_stop}
 use Rattle.template_tree.specs.Tree.{IsTree}
 use Rattle.template_tree.specs.TreeEdit.{TreeEdit, tree_after}
 use Rattle.template_tree.specs.TreeLaws.{SlotEditIsPathEdit}
 use Rattle.template_tree.specs.Edit.{edit_at, give_way}
 use Rattle.session_edit.specs.AppliedEdit.{IsApplied}
-use Rattle.session_edit.specs.Cursor.{has_sort, node_stop, path_after_drop, with_last}
-use Rattle.session_edit.specs.Edited.{dropped, edited, taken_out}
+use Rattle.session_edit.specs.Cursor.{has_sort, path_after_drop, with_last}
+use Rattle.session_edit.specs.Edited.{outcome_of_drop, edited, outcome_of_taking}
 use Rattle.session_edit.specs.Here.{is_item, is_spare_hole}
 use Rattle.session_edit.specs.PlainEdit.{PlainEdit}
 use Rattle.session_edit.proofs.Outcomes.{Node, applied_is, edited_is, items_after, node_there, stands_after}
 use Rattle.session_edit.proofs.PutCommands.{edit_there, of_found}
-use Rattle.session_edit.proofs.RoomlessEdits.{drop_roomless}
-use Rattle.session_edit.proofs.RoomlessNodes.{item_roomless, node_roomless}
+use Rattle.session_edit.proofs.RoomlessEdits.{drop_same}
+use Rattle.session_edit.specs.Private.RoomLaws.{RoomLaws}
+use Rattle.session_edit.proofs.Room.{item_roomless, itself}
 use Rattle.session_edit.proofs.StopTests.{is_false}
 use Rattle.session_edit.proofs.VisibleEdits.{item_of, last_number, other_stays, seen_beside, seen_here, shelf, shelf_after, shelf_of}
 
@@ -42,13 +43,13 @@ sections_found : (path : List ℕ) (j : ℕ)
 sections_found path j same None = refl
 sections_found path j same (Some node) = same (row_of node.label.kind).sections node.inner
 
-pub sections_roomless : (sections : List PlainSection) (items : Forest) (path : List ℕ)
+pub sections_roomless : RoomLaws → (sections : List PlainSection) (items : Forest) (path : List ℕ)
     → sections_at sections (roomless items) path ≡ sections_at sections items path
-sections_roomless sections items [] = refl
-sections_roomless sections items (k ∷ []) = refl
-sections_roomless sections items (k ∷ (j ∷ path)) =
-    ap (λ found. option_map_or (λ (node : PlainNode). sections_at (row_of node.label.kind).sections node.inner (j ∷ path)) found []) (item_roomless items k)
-    ∙ sections_found path j (λ s i. sections_roomless s i (j ∷ path)) (slice_get (nodes items) k)
+sections_roomless room sections items [] = refl
+sections_roomless room sections items (k ∷ []) = refl
+sections_roomless room sections items (k ∷ (j ∷ path)) =
+    ap (λ found. option_map_or (λ (node : PlainNode). sections_at (row_of node.label.kind).sections node.inner (j ∷ path)) found []) (item_roomless room items k)
+    ∙ sections_found path j (λ s i. sections_roomless room s i (j ∷ path)) (slice_get (nodes items) k)
 
 siblings_found : (path : List ℕ) (j : ℕ)
     → ((items : Forest) → siblings_at (roomless items) (j ∷ path) ≡ roomless (siblings_at items (j ∷ path)))
@@ -58,12 +59,12 @@ siblings_found : (path : List ℕ) (j : ℕ)
 siblings_found path j same None = refl
 siblings_found path j same (Some node) = same node.inner
 
-siblings_roomless : (items : Forest) (path : List ℕ) → siblings_at (roomless items) path ≡ roomless (siblings_at items path)
-siblings_roomless items [] = refl
-siblings_roomless items (k ∷ []) = refl
-siblings_roomless items (k ∷ (j ∷ path)) =
-    ap (λ found. option_map_or (λ (node : PlainNode). siblings_at node.inner (j ∷ path)) found Forest.nil) (item_roomless items k)
-    ∙ siblings_found path j (λ i. siblings_roomless i (j ∷ path)) (slice_get (nodes items) k)
+siblings_roomless : RoomLaws → (items : Forest) (path : List ℕ) → siblings_at (roomless items) path ≡ roomless (siblings_at items path)
+siblings_roomless room items [] = refl
+siblings_roomless room items (k ∷ []) = refl
+siblings_roomless room items (k ∷ (j ∷ path)) =
+    ap (λ found. option_map_or (λ (node : PlainNode). siblings_at node.inner (j ∷ path)) found Forest.nil) (item_roomless room items k)
+    ∙ siblings_found path j (λ i. siblings_roomless room i (j ∷ path)) (slice_get (nodes items) k)
 
 sorts_roomless : (items : Forest) → sorts (roomless items) ≡ sorts items
 sorts_roomless Forest.nil = refl
@@ -75,13 +76,13 @@ listed_found : (sections : List PlainSection) (found : Option PlainNode)
 listed_found sections None = refl
 listed_found sections (Some node) = refl
 
--- whether an item of a list stands there
-pub item_roomless_is : (items : Forest) (path : List ℕ) → is_item (roomless items) path ≡ is_item items path
-item_roomless_is items path =
+-- whether an item of a list stands at a path, with and without room
+pub item_roomless_is : RoomLaws → (items : Forest) (path : List ℕ) → is_item (roomless items) path ≡ is_item items path
+item_roomless_is room items path =
     ap (λ s. option_map_or (λ (node : PlainNode). is_listed (sort_of node.label.kind) s) (node_at (roomless items) path) false)
-    (sections_roomless program_sections items path)
+    (sections_roomless room program_sections items path)
     ∙ (ap (λ found. option_map_or (λ (node : PlainNode). is_listed (sort_of node.label.kind) (sections_at program_sections items path)) found false)
-    (node_roomless items path)
+    (room.nodes items path)
     ∙ listed_found (sections_at program_sections items path) (node_at items path))
 
 pub item_true : (items : Forest) (path : List ℕ) (node : PlainNode) → node_at items path ≡ Some node → IsListItem items path node → is_item items path ≡ true
@@ -92,26 +93,26 @@ pub item_listed : (items : Forest) (path : List ℕ) (node : PlainNode) → node
 item_listed items path node e h =
     sym (ap (λ found. option_map_or (λ (n : PlainNode). is_listed (sort_of n.label.kind) (sections_at program_sections items path)) found false) e) ∙ h
 
-many_is : (tree : PlainTree) (path : List ℕ) (sort : Sort)
+many_is : RoomLaws → (tree : PlainTree) (path : List ℕ) (sort : Sort)
     → how_many sort (sorts (siblings_at (roomless tree.items) path)) ≡ how_many sort (sorts (siblings_at tree.items path))
-many_is tree path sort =
-    ap (how_many sort) (ap sorts (siblings_roomless tree.items path) ∙ sorts_roomless (siblings_at tree.items path))
+many_is room tree path sort =
+    ap (how_many sort) (ap sorts (siblings_roomless room tree.items path) ∙ sorts_roomless (siblings_at tree.items path))
 
-spare_true : (tree : PlainTree) (at : PlainStop) (n : Node tree at) → at.part ≡ None → IsSpareHole tree.items at.path n.node
+spare_true : RoomLaws → (tree : PlainTree) (at : PlainStop) (n : Node tree at) → at.part ≡ None → IsSpareHole tree.items at.path n.node
     → is_spare_hole (roomless_tree tree).items at (roomless_node n.node) ≡ true
-spare_true tree at n part h =
+spare_true room tree at n part h =
     rw part
     (rw h.hole
-    (rw (item_roomless_is tree.items at.path ∙ item_true tree.items at.path n.node n.there h.listed)
-    (ap (nat_lt 1) (many_is tree at.path (sort_of n.node.label.kind)) ∙ (Decides-ltb 1 (how_many (sort_of n.node.label.kind) (sorts (siblings_at tree.items at.path)))).1 (omega (arith, h.others)))))
+    (rw (item_roomless_is room tree.items at.path ∙ item_true tree.items at.path n.node n.there h.listed)
+    (ap (nat_lt 1) (many_is room tree at.path (sort_of n.node.label.kind)) ∙ (Decides-ltb 1 (how_many (sort_of n.node.label.kind) (sorts (siblings_at tree.items at.path)))).1 (omega (arith, h.others)))))
 
 both : (a b : Bool) → (a && b) ≡ true → (a ≡ true) × (b ≡ true)
 both true b e = (refl, e)
 both false b e = absurd (false≢true e)
 
-spare_false : (tree : PlainTree) (at : PlainStop) (n : Node tree at) → (IsSpareHole tree.items at.path n.node → ⊥)
+spare_false : RoomLaws → (tree : PlainTree) (at : PlainStop) (n : Node tree at) → (IsSpareHole tree.items at.path n.node → ⊥)
     → is_spare_hole (roomless_tree tree).items at (roomless_node n.node) ≡ false
-spare_false tree at n wrong =
+spare_false room tree at n wrong =
     is_false (is_spare_hole (roomless_tree tree).items at (roomless_node n.node))
     (λ e.
     let halves = both (is_none at.part && is_hole n.node.label.kind)
@@ -125,62 +126,58 @@ spare_false tree at n wrong =
     wrong
     record {
       hole = first.1;
-      listed = item_listed tree.items at.path n.node n.there (sym (item_roomless_is tree.items at.path) ∙ rest.0);
+      listed = item_listed tree.items at.path n.node n.there (sym (item_roomless_is room tree.items at.path) ∙ rest.0);
       others =
           let more = (Decides-ltb 1 (how_many (sort_of n.node.label.kind) (sorts (siblings_at tree.items at.path)))).0
-          (ap (nat_lt 1) (sym (many_is tree at.path (sort_of n.node.label.kind))) ∙ rest.1)
+          (ap (nat_lt 1) (sym (many_is room tree at.path (sort_of n.node.label.kind))) ∙ rest.1)
           in
           omega (arith, more);
     })
 
-delete_if : (tree : PlainTree) (at : PlainStop) (n : Node tree at) (b : Bool)
+delete_if : RoomLaws → (tree : PlainTree) (at : PlainStop) (n : Node tree at) (b : Bool)
     → is_spare_hole (roomless_tree tree).items at (roomless_node n.node) ≡ b
     → edited (roomless_tree tree) at PlainEdit.delete
-    ≡ (if b then dropped (roomless_tree tree) at (roomless_node n.node) else taken_out (roomless_tree tree) at at.part (roomless_node n.node))
-delete_if tree at n b e =
-    edited_is tree at PlainEdit.delete n.node n.there
+    ≡ (if b then outcome_of_drop (roomless_tree tree) at (roomless_node n.node) else outcome_of_taking (roomless_tree tree) at at.part (roomless_node n.node))
+delete_if room tree at n b e =
+    edited_is room tree at PlainEdit.delete n.node n.there
     ∙ ap
     (λ (b : Bool).
-    if b then dropped (roomless_tree tree) at (roomless_node n.node) else taken_out (roomless_tree tree) at at.part (roomless_node n.node))
+    if b then outcome_of_drop (roomless_tree tree) at (roomless_node n.node) else outcome_of_taking (roomless_tree tree) at at.part (roomless_node n.node))
     e
 
 -- what isn't a hole in a list of two or more is taken out
-pub deletes_as_take : (tree : PlainTree) (at : PlainStop) (n : Node tree at) → is_spare_hole (roomless_tree tree).items at (roomless_node n.node) ≡ false
+pub deletes_as_take : RoomLaws → (tree : PlainTree) (at : PlainStop) (n : Node tree at) → is_spare_hole (roomless_tree tree).items at (roomless_node n.node) ≡ false
     → edited (roomless_tree tree) at PlainEdit.delete ≡ edited (roomless_tree tree) at PlainEdit.take
-deletes_as_take tree at n e = delete_if tree at n false e ∙ sym (edited_is tree at PlainEdit.take n.node n.there)
+deletes_as_take room tree at n e = delete_if room tree at n false e ∙ sym (edited_is room tree at PlainEdit.take n.node n.there)
 
 part_spares_none : (part : Option ℕ) (a b : Bool) → is_some part ≡ true → ((is_none part && a) && b) ≡ false
 part_spares_none None a b e = absurd (false≢true e)
 part_spares_none (Some k) a b e = refl
 
-pub part_not_dropped : (tree : PlainTree) (at : PlainStop) → IsStop (roomless_tree tree).items at → is_some at.part ≡ true
+pub part_not_dropped : RoomLaws → (tree : PlainTree) (at : PlainStop) → IsStop (roomless_tree tree).items at → is_some at.part ≡ true
     → edited (roomless_tree tree) at PlainEdit.delete ≡ edited (roomless_tree tree) at PlainEdit.take
-part_not_dropped tree at stop e =
-    let n = node_there tree at stop in
-    deletes_as_take tree at n
+part_not_dropped room tree at stop e =
+    let n = node_there room tree at stop in
+    deletes_as_take room tree at n
     (part_spares_none at.part (is_hole n.node.label.kind)
     (is_item (roomless tree.items) at.path
     && nat_lt 1 (how_many (sort_of n.node.label.kind) (sorts (siblings_at (roomless tree.items) at.path)))) e)
 
-pub not_dropped : (tree : PlainTree) (at : PlainStop) → IsStop (roomless_tree tree).items at
+pub not_dropped : RoomLaws → (tree : PlainTree) (at : PlainStop) → IsStop (roomless_tree tree).items at
     → (IsSomeAnd (node_at tree.items at.path) (IsSpareHole tree.items at.path) → ⊥)
     → edited (roomless_tree tree) at PlainEdit.delete ≡ edited (roomless_tree tree) at PlainEdit.take
-not_dropped tree at stop missing =
-    let n = node_there tree at stop in
-    deletes_as_take tree at n
-    (spare_false tree at n (λ h. missing (of_found (node_at tree.items at.path) (IsSpareHole tree.items at.path) n.node n.there h)))
+not_dropped room tree at stop missing =
+    let n = node_there room tree at stop in
+    deletes_as_take room tree at n
+    (spare_false room tree at n (λ h. missing (of_found (node_at tree.items at.path) (IsSpareHole tree.items at.path) n.node n.there h)))
 
 -- a node stands where the cursor does
-pub no_node : (A : Type 0) (f : PlainNode → A) (tree : PlainTree) (at : PlainStop) → IsStop (roomless_tree tree).items at
+pub no_node : RoomLaws → (A : Type 0) (f : PlainNode → A) (tree : PlainTree) (at : PlainStop) → IsStop (roomless_tree tree).items at
     → None ≡ option_map f (node_at tree.items at.path) → ⊥
-no_node A f tree at stop e =
-    let n = node_there tree at stop in none-some (f n.node) (e ∙ ap (option_map f) n.there)
+no_node room A f tree at stop e =
+    let n = node_there room tree at stop in none-some (f n.node) (e ∙ ap (option_map f) n.there)
 
 -- the node at a path, and its neighbours, among the visible ones
-itself : (found : Option PlainNode) → option_and_then (λ item. below item []) found ≡ found
-itself None = refl
-itself (Some node) = refl
-
 held_below : (b : Bool) (shelf_in : Option Forest) (list : Forest) → (if b then None else shelf_in) ≡ Some list → shelf_in ≡ Some list
 held_below true shelf_in list e = absurd (none-some list e)
 held_below false shelf_in list e = e
@@ -231,24 +228,24 @@ sort_found : (sort : Sort) (found : Option PlainNode)
 sort_found sort None = refl
 sort_found sort (Some node) = refl
 
-sort_roomless : (sort : Sort) (items : Forest) (path : List ℕ) → has_sort sort (roomless items) path ≡ has_sort sort items path
-sort_roomless sort items path =
-    ap (λ found. option_map_or (λ (node : PlainNode). same_sort (sort_of node.label.kind) sort) found false) (node_roomless items path)
+sort_roomless : RoomLaws → (sort : Sort) (items : Forest) (path : List ℕ) → has_sort sort (roomless items) path ≡ has_sort sort items path
+sort_roomless room sort items path =
+    ap (λ found. option_map_or (λ (node : PlainNode). same_sort (sort_of node.label.kind) sort) found false) (room.nodes items path)
     ∙ sort_found sort (node_at items path)
 
 abbrev left_list : Forest → ℕ → Forest
 left_list list k = give_way (λ _. []) k list
 
--- where the cursor may stand after the drop
-stop_left : SlotEditIsPathEdit → (before after : PlainTree) (at : PlainStop) (n : Node before at) (receipt : PlainReceipt)
+-- where the cursor may stand after a hole was dropped
+stop_left : RoomLaws → SlotEditIsPathEdit → (before after : PlainTree) (at : PlainStop) (n : Node before at) (receipt : PlainReceipt)
     → IsTree before → IsSpareHole before.items at.path n.node → IsEdit TreeEdit.drop n.node.label.slot before after receipt None
     → IsStop (roomless after.items) (node_stop (path_after_drop (sort_of n.node.label.kind) after.items at.path))
-stop_left law before after at n receipt tree spare edit = by_sort (has_sort (sort_of n.node.label.kind) after.items at.path) refl
+stop_left room law before after at n receipt tree spare edit = by_sort (has_sort (sort_of n.node.label.kind) after.items at.path) refl
   where
     stays : (path : List ℕ) (new : PlainNode) → visible_at (edit_at (λ _. []) at.path before.items) path ≡ Some new
         → IsStop (roomless after.items) (node_stop path)
     stays path new e =
-        stands_after law before after at.path n.node (λ _. []) before.drawn (node_stop path) new tree n.there edit.became e tt
+        stands_after room law before after at.path n.node (λ _. []) before.drawn (node_stop path) new tree n.there edit.became e tt
 
     at_number : has_sort (sort_of n.node.label.kind) after.items at.path ≡ true → (l : Forest) → shelf before.items at.path ≡ Some l
         → (found : Option PlainNode) → item_of (last_number at.path) (left_list l (last_number at.path)) ≡ found
@@ -260,9 +257,9 @@ stop_left law before after at n receipt tree spare edit = by_sort (has_sort (sor
         ∙ none
         in
         let after_none : option_map roomless_node (node_at after.items at.path) ≡ None =
-        sym (node_roomless after.items at.path)
+        sym (room.nodes after.items at.path)
         ∙ (ap (λ items. node_at items at.path) (items_after law before after at.path n.node (λ _. []) before.drawn tree n.there edit.became)
-        ∙ (node_roomless (edit_at (λ _. []) at.path before.items) at.path ∙ ap (option_map roomless_node) gone))
+        ∙ (room.nodes (edit_at (λ _. []) at.path before.items) at.path ∙ ap (option_map roomless_node) gone))
         in
         absurd (false≢true (sym (none_left (sort_of n.node.label.kind) (node_at after.items at.path) after_none) ∙ e))
     at_number e l on (Some new) some = stays at.path new (seen_here (λ _. []) before.items at.path l on ∙ some)
@@ -282,23 +279,23 @@ stop_left law before after at n receipt tree spare edit = by_sort (has_sort (sor
         stays (with_last (λ k. k - 1) at.path) other.0
         (seen_beside (λ _. []) (λ k. k - 1) before.items at.path l.0 l.1 ∙ other.1)
 
--- the tree after a drop is one
-pub drop_is_tree : (tree after : PlainTree) (at : PlainStop) (receipt : PlainReceipt) → IsStop (roomless_tree tree).items at
+-- what is left where a hole was dropped is a tree
+pub drop_is_tree : RoomLaws → (tree after : PlainTree) (at : PlainStop) (receipt : PlainReceipt) → IsStop (roomless_tree tree).items at
     → Edits TreeEdit.drop (node_at tree.items at.path) (IsSpareHole tree.items at.path) tree after receipt → IsTree after
-drop_is_tree tree after at receipt stop edits =
-    let n = node_there tree at stop in
+drop_is_tree room tree after at receipt stop edits =
+    let n = node_there room tree at stop in
     let made = edit_there TreeEdit.drop (node_at tree.items at.path) (IsSpareHole tree.items at.path) tree after receipt n.node n.there edits
     in
     made.1.tree
 
-pub drop_applied : SlotEditIsPathEdit → (tree after : PlainTree) (at : PlainStop) (receipt : PlainReceipt) (stop_after : Stop) (sort : Sort)
+pub drop_applied : RoomLaws → SlotEditIsPathEdit → (tree after : PlainTree) (at : PlainStop) (receipt : PlainReceipt) (stop_after : Stop) (sort : Sort)
     → IsTree tree → IsStop (roomless_tree tree).items at → at.part ≡ None
     → Edits TreeEdit.drop (node_at tree.items at.path) (IsSpareHole tree.items at.path) tree after receipt
     → Some sort ≡ option_map (λ (node : PlainNode). sort_of node.label.kind) (node_at tree.items at.path)
     → plain_stop stop_after ≡ node_stop (path_after_drop sort after.items at.path)
     → IsApplied (edited (roomless_tree tree) at PlainEdit.delete) tree after record { receipt = receipt; taken = None; stop = stop_after }
-drop_applied law tree after at receipt stop_after sort is_tree stop part edits sort_is there =
-    let n = node_there tree at stop in
+drop_applied room law tree after at receipt stop_after sort is_tree stop part edits sort_is there =
+    let n = node_there room tree at stop in
     let made = edit_there TreeEdit.drop (node_at tree.items at.path) (IsSpareHole tree.items at.path) tree after receipt n.node n.there edits
     in
     let kind : Sort = sort_of n.node.label.kind in
@@ -306,15 +303,15 @@ drop_applied law tree after at receipt stop_after sort is_tree stop part edits s
     same_Some sort kind (sort_is ∙ ap (option_map (λ (node : PlainNode). sort_of node.label.kind)) n.there)
     in
     let left : PlainTree = roomless_tree (tree_after TreeEdit.drop (roomless_tree tree) n.node.label.slot) in
-    let left_is : roomless_tree after ≡ left = made.1.became ∙ drop_roomless tree n.node.label.slot in
+    let left_is : roomless_tree after ≡ left = made.1.became ∙ (drop_same room tree n.node.label.slot).tree in
     let stop_is : plain_stop stop_after ≡ node_stop (path_after_drop kind after.items at.path) =
     there ∙ ap (λ s. node_stop (path_after_drop s after.items at.path)) same_kind
     in
     let in_left : path_after_drop kind after.items at.path ≡ path_after_drop kind left.items at.path =
     ap (λ (b : Bool). if b then at.path else with_last (λ k. k - 1) at.path)
-    (sym (sort_roomless kind after.items at.path) ∙ ap (λ (t : PlainTree). has_sort kind t.items at.path) left_is)
+    (sym (sort_roomless room kind after.items at.path) ∙ ap (λ (t : PlainTree). has_sort kind t.items at.path) left_is)
     in
-    applied_is (edited (roomless_tree tree) at PlainEdit.delete) TreeEdit.drop TreeEdit.drop n.node.label.slot tree after receipt None stop_after
-    (node_stop (path_after_drop kind left.items at.path)) made.1 (drop_roomless tree n.node.label.slot)
-    (delete_if tree at n true (spare_true tree at n part made.0)) (stop_is ∙ ap node_stop in_left)
-    (subst (λ s. IsStop (roomless after.items) s) (sym stop_is) (stop_left law tree after at n receipt is_tree made.0 made.1)) tt
+    applied_is room (edited (roomless_tree tree) at PlainEdit.delete) TreeEdit.drop TreeEdit.drop n.node.label.slot tree after receipt None stop_after
+    (node_stop (path_after_drop kind left.items at.path)) made.1 (drop_same room tree n.node.label.slot)
+    (delete_if room tree at n true (spare_true room tree at n part made.0)) (stop_is ∙ ap node_stop in_left)
+    (subst (λ s. IsStop (roomless after.items) s) (sym stop_is) (stop_left room law tree after at n receipt is_tree made.0 made.1)) tt

@@ -1,13 +1,10 @@
 -- ---- the room of lists makes no difference: `wanted` and `takes`, and all edits
-pub mod RoomlessNodes
+pub mod Room
 pub mod RoomlessEdits
 -- ---- what may be done at a stop: `wanted` and `takes`
 pub mod StopNodes
 -- ---- paths to slots: `shown_stop`
 pub mod ShownPaths
--- ---- the next stop: `apply`
-pub mod RoomlessStops
-pub mod StopsBehind
 -- ---- where the cursor stands after an edit: `apply`
 pub mod VisibleEdits
 -- ---- what is answered to edits: `apply`

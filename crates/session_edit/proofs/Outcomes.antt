@@ -14,15 +14,15 @@ use Rattle.template_tree.specs.Receipt.{PlainReceipt}
 use Rattle.template_tree.specs.Slots.{depth}
 use Rattle.template_tree.specs.Stop.{IsStop, MayStand, PlainStop, plain_stop, visible_at}
 use Rattle.template_tree.specs.Tree.{IsTree}
-use Rattle.template_tree.specs.TreeEdit.{TreeEdit, tree_after}
+use Rattle.template_tree.specs.TreeEdit.{TreeEdit, changed_slot, tree_after, what_of}
 use Rattle.template_tree.specs.TreeLaws.{SlotEditIsPathEdit}
 use Rattle.session_edit.specs.AppliedEdit.{IsApplied, IsRefused, is_made}
-use Rattle.session_edit.specs.Cursor.{onward, onward_among}
-use Rattle.session_edit.specs.Edited.{Edited, comes, comes_onward, edited, edited_at, at_node, limit_reached, not_here, unless}
+use Rattle.session_edit.specs.Cursor.{onward}
+use Rattle.session_edit.specs.Edited.{Edited, comes, comes_onward, edited, outcome_at_node, at_node, limit_reached, not_here, unless}
 use Rattle.session_edit.specs.PlainEdit.{PlainEdit}
-use Rattle.session_edit.proofs.RoomlessNodes.{node_roomless, stop_roomless, stop_with_room}
-use Rattle.session_edit.proofs.RoomlessEdits.{depth_roomless, differs_roomless}
-use Rattle.session_edit.proofs.RoomlessStops.{stops_roomless}
+use Rattle.session_edit.specs.Private.RoomLaws.{RoomLaws}
+use Rattle.session_edit.proofs.Room.{stop_roomless, stop_with_room}
+use Rattle.session_edit.proofs.RoomlessEdits.{IsSameAfter, depth_roomless, differs_roomless}
 use Rattle.session_edit.proofs.VisibleEdits.{visible_node}
 
 is_false : (b : Bool) → (b ≡ true → ⊥) → b ≡ false
@@ -43,7 +43,7 @@ pub within_is : (tree : PlainTree) → IsWithin tree → limit_reached (roomless
 within_is tree h =
     rw (within_depth tree h.shallow) (rw (not_above most_slots tree.live h.few) (rw (not_above most_drawn tree.drawn h.drawn_few) refl))
 
--- a tree is over none
+-- a tree is within the limits
 tree_within : (tree : PlainTree) → IsTree tree → IsWithin tree
 tree_within tree t = record { shallow = t.shallow; few = omega (arith, t.live, t.few); drawn_few = t.drawn_few }
 
@@ -57,73 +57,76 @@ pub used_up : (tree : PlainTree) → IsOver TreeFault.SlotsUsedUp tree → limit
 used_up tree h =
     rw (within_depth tree h.0) (rw (not_above most_slots tree.live h.1) (rw (above most_drawn tree.drawn h.2) refl))
 
--- the tree after an edit is the same whether it is made with or without the room of lists
-abbrev pub IsSameAfter : TreeEdit → TreeEdit → PlainTree → ℕ → Type 0
-IsSameAfter one other before slot =
-    roomless_tree (tree_after one before slot) ≡ roomless_tree (tree_after other (roomless_tree before) slot)
+-- what comes of an edit where this is the tree after it
+abbrev outcome_with : TreeEdit → PlainTree → ℕ → PlainTree → PlainStop → Option PlainNode → Edited
+outcome_with edit before slot tree stop taken =
+    Edited.became tree stop taken (what_of edit) (changed_slot edit (roomless_tree before) slot)
+
+-- what comes of an edit where this is the tree after it, unless that is over a limit
+abbrev made_with : TreeEdit → PlainTree → ℕ → PlainTree → PlainStop → Option PlainNode → Edited
+made_with edit before slot tree stop taken = unless (limit_reached tree) (outcome_with edit before slot tree stop taken)
 
 -- an edit that was made is what was to come
-pub applied_is : (outcome : Edited) (one other : TreeEdit) (slot : ℕ) (before after : PlainTree) (receipt : PlainReceipt)
+pub applied_is : RoomLaws → (outcome : Edited) (one other : TreeEdit) (slot : ℕ) (before after : PlainTree) (receipt : PlainReceipt)
     (back : Option PlainNode) (stop : Stop) (at : PlainStop)
     → IsEdit one slot before after receipt back → IsSameAfter one other before slot
-    → outcome ≡ comes (roomless_tree (tree_after other (roomless_tree before) slot)) at (option_map roomless_node back)
+    → outcome ≡ comes other (roomless_tree before) slot at (option_map roomless_node back)
     → plain_stop stop ≡ at → IsStop (roomless after.items) (plain_stop stop) → IfSome back IsSubtree
     → IsApplied outcome before after record { receipt = receipt; taken = back; stop = stop }
-applied_is outcome one other slot before after receipt back stop at edit same e at_is seen sound =
-    let tree : roomless_tree (tree_after other (roomless_tree before) slot) ≡ roomless_tree after = sym (edit.became ∙ same) in
-    let made : Edited = Edited.became (roomless_tree after) at (option_map roomless_node back) in
+applied_is room outcome one other slot before after receipt back stop at edit same e at_is seen sound =
+    let tree : roomless_tree (tree_after other (roomless_tree before) slot) ≡ roomless_tree after = sym (edit.became ∙ same.tree) in
+    let what : what_of other ≡ receipt.change.what = sym (edit.what ∙ same.what) in
+    let changed : changed_slot other (roomless_tree before) slot ≡ receipt.change.slot.0 = sym (edit.slot_is ∙ same.slot_is) in
+    let there : at ≡ plain_stop stop = sym at_is in
     record {
       became =
-          e ∙ (ap (λ t. comes t at (option_map roomless_node back)) tree
-          ∙ (ap (λ limit. unless limit made) (within_is after (tree_within after edit.tree))
-          ∙ ap (λ s. Edited.became (roomless_tree after) s (option_map roomless_node back)) (sym at_is)));
+          e ∙ (ap (λ t. made_with other before slot t at (option_map roomless_node back)) tree
+          ∙ (ap (λ limit. unless limit (outcome_with other before slot (roomless_tree after) at (option_map roomless_node back)))
+          (within_is after (tree_within after edit.tree))
+          ∙ (λ i. Edited.became (roomless_tree after) (there i) (option_map roomless_node back) (what i) (changed i))));
       tree = edit.tree;
       stop = seen;
-      change = differs_roomless before after receipt.change edit.differs;
+      change = differs_roomless room before after receipt.change edit.differs;
       undoes = edit.undoes;
       can_undo = edit.can_undo;
       subtree = sound;
     }
 
 -- an edit that was made is what was to come, with the cursor onward
-pub onward_applied : (outcome : Edited) (one other : TreeEdit) (slot : ℕ) (before after : PlainTree) (receipt : PlainReceipt)
+pub onward_applied : RoomLaws → (outcome : Edited) (one other : TreeEdit) (slot : ℕ) (before after : PlainTree) (receipt : PlainReceipt)
     (stop : Stop) (at : PlainStop)
     → IsEdit one slot before after receipt None → IsSameAfter one other before slot
-    → outcome ≡ comes_onward (roomless_tree (tree_after other (roomless_tree before) slot)) at
-    → plain_stop stop ≡ onward after.items at → IsStop after.items (plain_stop stop)
+    → outcome ≡ comes_onward other (roomless_tree before) slot at
+    → plain_stop stop ≡ onward (roomless after.items) at → IsStop (roomless after.items) (plain_stop stop)
     → IsApplied outcome before after record { receipt = receipt; taken = None; stop = stop }
-onward_applied outcome one other slot before after receipt stop at edit same e stop_is seen =
+onward_applied room outcome one other slot before after receipt stop at edit same e stop_is seen =
     let new = roomless_tree (tree_after other (roomless_tree before) slot) in
-    let tree : roomless_tree after ≡ new = edit.became ∙ same in
-    let there : plain_stop stop ≡ onward new.items at =
-    stop_is
-    ∙ (ap (λ stops. onward_among stops at) (sym (stops_roomless after.items))
-    ∙ ap (λ (t : PlainTree). onward t.items at) tree)
-    in
-    applied_is outcome one other slot before after receipt None stop (onward new.items at) edit same e there
-    (stop_roomless after.items (plain_stop stop) seen) tt
+    let tree : roomless_tree after ≡ new = edit.became ∙ same.tree in
+    let there : plain_stop stop ≡ onward new.items at = stop_is ∙ ap (λ (t : PlainTree). onward t.items at) tree in
+    applied_is room outcome one other slot before after receipt None stop (onward new.items at) edit same e there
+    seen tt
 
 -- why an edit is refused
 pub refused_is : (one other : TreeEdit) (before : PlainTree) (node : PlainNode) (Here : PlainNode → Type 0) (outcome : Edited)
     (at : PlainStop) (taken : Option PlainNode)
     → IsSameAfter one other before node.label.slot
-    → (Here node → outcome ≡ comes (roomless_tree (tree_after other (roomless_tree before) node.label.slot)) at taken)
+    → (Here node → outcome ≡ comes other (roomless_tree before) node.label.slot at taken)
     → ((Here node → ⊥) → outcome ≡ not_here)
     → (fault : TreeFault) → Refuses one (Some node) Here before fault → IsRefused true outcome fault
 refused_is one other before node Here outcome at taken same e missing TreeFault.NotHere h = missing h
 refused_is one other before node Here outcome at taken same e missing TreeFault.TooDeep h =
-    e h.0 ∙ (ap (λ t. comes t at taken) (sym same)
-    ∙ ap (λ limit. unless limit (Edited.became (roomless_tree (tree_after one before node.label.slot)) at taken)) (too_deep (tree_after one before node.label.slot) h.1))
+    e h.0 ∙ (ap (λ t. made_with other before node.label.slot t at taken) (sym same.tree)
+    ∙ ap (λ limit. unless limit (outcome_with other before node.label.slot (roomless_tree (tree_after one before node.label.slot)) at taken)) (too_deep (tree_after one before node.label.slot) h.1))
 refused_is one other before node Here outcome at taken same e missing TreeFault.TooLarge h =
-    e h.0 ∙ (ap (λ t. comes t at taken) (sym same)
-    ∙ ap (λ limit. unless limit (Edited.became (roomless_tree (tree_after one before node.label.slot)) at taken)) (too_large (tree_after one before node.label.slot) h.1))
+    e h.0 ∙ (ap (λ t. made_with other before node.label.slot t at taken) (sym same.tree)
+    ∙ ap (λ limit. unless limit (outcome_with other before node.label.slot (roomless_tree (tree_after one before node.label.slot)) at taken)) (too_large (tree_after one before node.label.slot) h.1))
 refused_is one other before node Here outcome at taken same e missing TreeFault.SlotsUsedUp h =
-    e h.0 ∙ (ap (λ t. comes t at taken) (sym same)
-    ∙ ap (λ limit. unless limit (Edited.became (roomless_tree (tree_after one before node.label.slot)) at taken)) (used_up (tree_after one before node.label.slot) h.1))
+    e h.0 ∙ (ap (λ t. made_with other before node.label.slot t at taken) (sym same.tree)
+    ∙ ap (λ limit. unless limit (outcome_with other before node.label.slot (roomless_tree (tree_after one before node.label.slot)) at taken)) (used_up (tree_after one before node.label.slot) h.1))
 refused_is one other before node Here outcome at taken same e missing TreeFault.OutOfMemory h =
-    let made : outcome ≡ Edited.became (roomless_tree (tree_after one before node.label.slot)) at taken =
-    e h.0 ∙ (ap (λ t. comes t at taken) (sym same)
-    ∙ ap (λ limit. unless limit (Edited.became (roomless_tree (tree_after one before node.label.slot)) at taken)) (within_is (tree_after one before node.label.slot) h.1))
+    let made : outcome ≡ outcome_with other before node.label.slot (roomless_tree (tree_after one before node.label.slot)) at taken =
+    e h.0 ∙ (ap (λ t. made_with other before node.label.slot t at taken) (sym same.tree)
+    ∙ ap (λ limit. unless limit (outcome_with other before node.label.slot (roomless_tree (tree_after one before node.label.slot)) at taken)) (within_is (tree_after one before node.label.slot) h.1))
     in
     (refl, ap is_made made)
 
@@ -136,7 +139,7 @@ without_memory outcome TreeFault.TooLarge h wants = h
 without_memory outcome TreeFault.SlotsUsedUp h wants = h
 without_memory outcome TreeFault.OutOfMemory h wants = absurd (wants refl)
 
--- refused, as it isn't here
+-- an edit is refused where what it needs isn't there
 pub not_here_is : (memory : Bool) (outcome : Edited) (fault : TreeFault) → fault ≡ TreeFault.NotHere → outcome ≡ not_here
     → IsRefused memory outcome fault
 not_here_is memory outcome fault e same = subst (IsRefused memory outcome) (sym e) same
@@ -148,8 +151,8 @@ pub record Node (tree : PlainTree) (at : PlainStop) : Type 0 where
   pub there : node_at tree.items at.path ≡ Some node
   pub stands : MayStand at.part node.label.kind
 
-pub node_there : (tree : PlainTree) (at : PlainStop) → IsStop (roomless_tree tree).items at → Node tree at
-node_there tree at stop = on_found (visible_at tree.items at.path) refl (stop_with_room tree.items at stop)
+pub node_there : RoomLaws → (tree : PlainTree) (at : PlainStop) → IsStop (roomless_tree tree).items at → Node tree at
+node_there room tree at stop = on_found (visible_at tree.items at.path) refl (stop_with_room room tree.items at stop)
   where
     on_found : (found : Option PlainNode) → visible_at tree.items at.path ≡ found
         → IsSomeAnd found (λ node. MayStand at.part node.label.kind) → Node tree at
@@ -157,11 +160,11 @@ node_there tree at stop = on_found (visible_at tree.items at.path) refl (stop_wi
     on_found (Some node) e h = record { node = node; seen = e; there = visible_node tree.items at.path node e; stands = h }
 
 -- what comes of an edit, by the node at the stop
-pub edited_is : (tree : PlainTree) (at : PlainStop) (edit : PlainEdit) (node : PlainNode) → node_at tree.items at.path ≡ Some node
-    → edited (roomless_tree tree) at edit ≡ edited_at (roomless_tree tree) at edit (roomless_node node)
+pub edited_is : RoomLaws → (tree : PlainTree) (at : PlainStop) (edit : PlainEdit) (node : PlainNode) → node_at tree.items at.path ≡ Some node
+    → edited (roomless_tree tree) at edit ≡ outcome_at_node (roomless_tree tree) at edit (roomless_node node)
 unfolding edited
-edited_is tree at edit node e =
-    ap (at_node (edited_at (roomless_tree tree) at edit)) (node_roomless tree.items at.path ∙ ap (option_map roomless_node) e)
+edited_is room tree at edit node e =
+    ap (at_node (outcome_at_node (roomless_tree tree) at edit)) (room.nodes tree.items at.path ∙ ap (option_map roomless_node) e)
 
 -- the nodes after an edit by slot are those after the edit at the path
 pub items_after : SlotEditIsPathEdit → (before after : PlainTree) (path : List ℕ) (node : PlainNode) (change : PlainNode → List PlainNode)
@@ -173,13 +176,13 @@ items_after law before after path node change drawn tree there became =
     ap (λ (t : PlainTree). t.items) became ∙ ap roomless (law change before.items path node (tree.once node.label.slot) there)
 
 -- the cursor may stand where a visible node stands after the edit
-pub stands_after : SlotEditIsPathEdit → (before after : PlainTree) (path : List ℕ) (node : PlainNode) (change : PlainNode → List PlainNode)
+pub stands_after : RoomLaws → SlotEditIsPathEdit → (before after : PlainTree) (path : List ℕ) (node : PlainNode) (change : PlainNode → List PlainNode)
     (drawn : ℕ) (at : PlainStop) (new : PlainNode)
     → IsTree before → node_at before.items path ≡ Some node
     → roomless_tree after ≡ roomless_tree (with_items before (edit_slot node.label.slot change before.items) drawn)
     → visible_at (edit_at change path before.items) at.path ≡ Some new → MayStand at.part new.label.kind
     → IsStop (roomless after.items) at
-stands_after law before after path node change drawn at new tree there became seen stands =
+stands_after room law before after path node change drawn at new tree there became seen stands =
     subst (λ items. IsStop items at) (sym (items_after law before after path node change drawn tree there became))
-    (stop_roomless (edit_at change path before.items) at
+    (stop_roomless room (edit_at change path before.items) at
     (subst (λ found. IsSomeAnd found (λ (n : PlainNode). MayStand at.part n.label.kind)) (sym seen) stands))

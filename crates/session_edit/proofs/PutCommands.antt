@@ -23,12 +23,12 @@ use Rattle.template_tree.specs.TreeLaws.{SlotEditIsPathEdit}
 use Rattle.clip_store.specs.PlainFragment.{PlainFragment}
 use Rattle.session_edit.specs.AppliedEdit.{IsApplied, IsRefused}
 use Rattle.session_edit.specs.Cursor.{onward}
-use Rattle.session_edit.specs.Edited.{Edited, comes, comes_onward, edited, entry, node_taken, not_here, taken_out}
+use Rattle.session_edit.specs.Edited.{Edited, comes, comes_onward, edited, entry, outcome_of_node_taking, not_here, outcome_of_taking}
 use Rattle.session_edit.specs.Here.{category_in, is_wanted, takes_nodes}
 use Rattle.session_edit.specs.PlainEdit.{PlainEdit}
 use Rattle.session_edit.proofs.Outcomes.{Node, applied_is, edited_is, node_there, not_here_is, onward_applied, refused_is, stands_after, without_memory}
-use Rattle.session_edit.proofs.RoomlessEdits.{put_roomless, roomless_twice}
-use Rattle.session_edit.proofs.RoomlessNodes.{stop_with_room}
+use Rattle.session_edit.proofs.RoomlessEdits.{put_same}
+use Rattle.session_edit.specs.Private.RoomLaws.{RoomLaws}
 use Rattle.session_edit.proofs.StopTests.{assignment_true, is_false, takes_assignment, takes_at_part, takes_false, takes_true}
 use Rattle.session_edit.proofs.VisibleEdits.{first_comes, last_number, seen_here, shelf_of}
 
@@ -46,242 +46,242 @@ edit_there edit found Here before after receipt node e edits =
     (at_found found Here node e edits.here, subst (λ o. IsEdit edit (slot_in o) before after receipt None) e edits.is_edit)
 
 -- the cursor may stand on the node that came
-pub put_stands : SlotEditIsPathEdit → (before after : PlainTree) (at : PlainStop) (n : Node before at) (new : PlainNode) (receipt : PlainReceipt)
+pub put_stands : RoomLaws → SlotEditIsPathEdit → (before after : PlainTree) (at : PlainStop) (n : Node before at) (new : PlainNode) (receipt : PlainReceipt)
     (back : Option PlainNode)
     → at.part ≡ None → IsTree before → IsEdit (TreeEdit.put new) n.node.label.slot before after receipt back → IsStop (roomless_tree after).items at
-put_stands law before after at n new receipt back part tree edit =
+put_stands room law before after at n new receipt back part tree edit =
     let placed : PlainNode = node_in_slot n.node.label.slot before.drawn new in
     let change : PlainNode → List PlainNode = λ _. placed ∷ [] in
     let shelf = shelf_of before.items at.path n.node n.seen in
-    stands_after law before after at.path n.node change (before.drawn + count new.inner) at placed tree n.there edit.became
+    stands_after room law before after at.path n.node change (before.drawn + count new.inner) at placed tree n.there edit.became
     (seen_here change before.items at.path shelf.0 shelf.1
     ∙ first_comes change (last_number at.path) shelf.0 n.node placed [] shelf.2 refl)
     (subst (λ p. MayStand p placed.label.kind) (sym part) tt)
 
--- templates
-fill_comes : (tree : PlainTree) (at : PlainStop) (n : Node tree at) (template : Template) → at.part ≡ None
+-- templates that fill holes
+fill_comes : RoomLaws → (tree : PlainTree) (at : PlainStop) (n : Node tree at) (template : Template) → at.part ≡ None
     → IsHoleFor (NodeKind.Filled template) n.node
     → edited (roomless_tree tree) at (PlainEdit.fill template)
-    ≡ comes_onward (roomless_tree (tree_after (TreeEdit.put (fresh_node (NodeKind.Filled template))) (roomless_tree tree) n.node.label.slot)) at
-fill_comes tree at n template part here =
-    edited_is tree at (PlainEdit.fill template) n.node n.there
+    ≡ comes_onward (TreeEdit.put (fresh_node (NodeKind.Filled template))) (roomless_tree tree) n.node.label.slot at
+fill_comes room tree at n template part here =
+    edited_is room tree at (PlainEdit.fill template) n.node n.there
     ∙ ap
     (λ (b : Bool).
     if b
-    then comes_onward (roomless_tree (tree_after (TreeEdit.put (fresh_node (NodeKind.Filled template))) (roomless_tree tree) n.node.label.slot)) at
+    then comes_onward (TreeEdit.put (fresh_node (NodeKind.Filled template))) (roomless_tree tree) n.node.label.slot at
     else not_here)
     (takes_true (NodeKind.Filled template) at.part (roomless_node n.node) part here)
 
-fill_missing : (tree : PlainTree) (at : PlainStop) (n : Node tree at) (template : Template)
+fill_missing : RoomLaws → (tree : PlainTree) (at : PlainStop) (n : Node tree at) (template : Template)
     → takes_nodes (NodeKind.Filled template) at.part (roomless_node n.node) ≡ false
     → edited (roomless_tree tree) at (PlainEdit.fill template) ≡ not_here
-fill_missing tree at n template e =
-    edited_is tree at (PlainEdit.fill template) n.node n.there
+fill_missing room tree at n template e =
+    edited_is room tree at (PlainEdit.fill template) n.node n.there
     ∙ ap
     (λ (b : Bool).
     if b
-    then comes_onward (roomless_tree (tree_after (TreeEdit.put (fresh_node (NodeKind.Filled template))) (roomless_tree tree) n.node.label.slot)) at
+    then comes_onward (TreeEdit.put (fresh_node (NodeKind.Filled template))) (roomless_tree tree) n.node.label.slot at
     else not_here)
     e
 
-pub fill_at_part : (tree : PlainTree) (at : PlainStop) (template : Template) → IsStop (roomless_tree tree).items at → is_some at.part ≡ true
+pub fill_at_part : RoomLaws → (tree : PlainTree) (at : PlainStop) (template : Template) → IsStop (roomless_tree tree).items at → is_some at.part ≡ true
     → edited (roomless_tree tree) at (PlainEdit.fill template) ≡ not_here
-fill_at_part tree at template stop e =
-    let n = node_there tree at stop in
-    fill_missing tree at n template (takes_at_part (NodeKind.Filled template) at.part (roomless_node n.node) e)
+fill_at_part room tree at template stop e =
+    let n = node_there room tree at stop in
+    fill_missing room tree at n template (takes_at_part (NodeKind.Filled template) at.part (roomless_node n.node) e)
 
-pub fill_refused : (tree : PlainTree) (at : PlainStop) (template : Template) (fault : TreeFault)
+pub fill_refused : RoomLaws → (tree : PlainTree) (at : PlainStop) (template : Template) (fault : TreeFault)
     → IsStop (roomless_tree tree).items at → at.part ≡ None
     → Refuses (TreeEdit.put (fresh_node (NodeKind.Filled template))) (node_at tree.items at.path) (IsHoleFor (NodeKind.Filled template)) tree fault
     → IsRefused true (edited (roomless_tree tree) at (PlainEdit.fill template)) fault
-fill_refused tree at template fault stop part refuses =
-    let n = node_there tree at stop in
+fill_refused room tree at template fault stop part refuses =
+    let n = node_there room tree at stop in
     let new : PlainNode = fresh_node (NodeKind.Filled template) in
     let to : PlainTree = roomless_tree (tree_after (TreeEdit.put new) (roomless_tree tree) n.node.label.slot) in
     refused_is (TreeEdit.put new) (TreeEdit.put new) tree n.node (IsHoleFor (NodeKind.Filled template))
     (edited (roomless_tree tree) at (PlainEdit.fill template)) (onward to.items at) None
-    (put_roomless tree n.node.label.slot new new refl)
-    (λ here. fill_comes tree at n template part here)
-    (λ missing. fill_missing tree at n template (takes_false (NodeKind.Filled template) at.part (roomless_node n.node) missing))
+    (put_same room tree n.node.label.slot new new refl)
+    (λ here. fill_comes room tree at n template part here)
+    (λ missing. fill_missing room tree at n template (takes_false (NodeKind.Filled template) at.part (roomless_node n.node) missing))
     fault
     (subst (λ there. Refuses (TreeEdit.put new) there (IsHoleFor (NodeKind.Filled template)) tree fault) n.there refuses)
 
-pub fill_stands : SlotEditIsPathEdit → (tree after : PlainTree) (at : PlainStop) (template : Template) (receipt : PlainReceipt)
+pub fill_stands : RoomLaws → SlotEditIsPathEdit → (tree after : PlainTree) (at : PlainStop) (template : Template) (receipt : PlainReceipt)
     → IsTree tree → IsStop (roomless_tree tree).items at → at.part ≡ None
     → Edits (TreeEdit.put (fresh_node (NodeKind.Filled template))) (node_at tree.items at.path) (IsHoleFor (NodeKind.Filled template)) tree after receipt
-    → IsStop after.items at
-fill_stands law tree after at template receipt is_tree stop part edits =
-    let n = node_there tree at stop in
+    → IsStop (roomless_tree after).items at
+fill_stands room law tree after at template receipt is_tree stop part edits =
+    let n = node_there room tree at stop in
     let new : PlainNode = fresh_node (NodeKind.Filled template) in
     let made = edit_there (TreeEdit.put new) (node_at tree.items at.path) (IsHoleFor (NodeKind.Filled template)) tree after receipt n.node n.there edits in
-    stop_with_room after.items at (put_stands law tree after at n new receipt None part is_tree made.1)
+    put_stands room law tree after at n new receipt None part is_tree made.1
 
-pub fill_applied : (tree after : PlainTree) (at : PlainStop) (template : Template) (receipt : PlainReceipt) (stop_after : Stop)
+pub fill_applied : RoomLaws → (tree after : PlainTree) (at : PlainStop) (template : Template) (receipt : PlainReceipt) (stop_after : Stop)
     → IsStop (roomless_tree tree).items at → at.part ≡ None
     → Edits (TreeEdit.put (fresh_node (NodeKind.Filled template))) (node_at tree.items at.path) (IsHoleFor (NodeKind.Filled template)) tree after receipt
-    → plain_stop stop_after ≡ onward after.items at → IsStop after.items (plain_stop stop_after)
+    → plain_stop stop_after ≡ onward (roomless_tree after).items at → IsStop (roomless_tree after).items (plain_stop stop_after)
     → IsApplied (edited (roomless_tree tree) at (PlainEdit.fill template)) tree after record { receipt = receipt; taken = None; stop = stop_after }
-fill_applied tree after at template receipt stop_after stop part edits there seen =
-    let n = node_there tree at stop in
+fill_applied room tree after at template receipt stop_after stop part edits there seen =
+    let n = node_there room tree at stop in
     let new : PlainNode = fresh_node (NodeKind.Filled template) in
     let made = edit_there (TreeEdit.put new) (node_at tree.items at.path) (IsHoleFor (NodeKind.Filled template)) tree after receipt n.node n.there edits in
-    onward_applied (edited (roomless_tree tree) at (PlainEdit.fill template)) (TreeEdit.put new) (TreeEdit.put new) n.node.label.slot tree after receipt
-    stop_after at made.1 (put_roomless tree n.node.label.slot new new refl) (fill_comes tree at n template part made.0) there seen
+    onward_applied room (edited (roomless_tree tree) at (PlainEdit.fill template)) (TreeEdit.put new) (TreeEdit.put new) n.node.label.slot tree after receipt
+    stop_after at made.1 (put_same room tree n.node.label.slot new new refl) (fill_comes room tree at n template part made.0) there seen
 
--- assignments
-assign_if : (tree : PlainTree) (at : PlainStop) (n : Node tree at) (phrase : PlainPhrase) (b : Bool) → at.part ≡ None
+-- assignments at holes and over others
+assign_if : RoomLaws → (tree : PlainTree) (at : PlainStop) (n : Node tree at) (phrase : PlainPhrase) (b : Bool) → at.part ≡ None
     → is_wanted phrase (category_in None n.node.label.kind) ≡ b
     → edited (roomless_tree tree) at (PlainEdit.enter phrase)
     ≡ (if b
-    then comes_onward (roomless_tree (tree_after (TreeEdit.put (assignment_node phrase)) (roomless_tree tree) n.node.label.slot)) at
+    then comes_onward (TreeEdit.put (assignment_node phrase)) (roomless_tree tree) n.node.label.slot at
     else not_here)
-assign_if tree at n phrase b part e =
-    edited_is tree at (PlainEdit.enter phrase) n.node n.there
+assign_if room tree at n phrase b part e =
+    edited_is room tree at (PlainEdit.enter phrase) n.node n.there
     ∙ (ap
     (λ (p : Option ℕ).
     if is_wanted phrase (category_in p n.node.label.kind)
-    then comes_onward (roomless_tree (tree_after (entry p phrase) (roomless_tree tree) n.node.label.slot)) at
+    then comes_onward (entry p phrase) (roomless_tree tree) n.node.label.slot at
     else not_here)
     part
     ∙ ap
     (λ (b : Bool).
     if b
-    then comes_onward (roomless_tree (tree_after (TreeEdit.put (assignment_node phrase)) (roomless_tree tree) n.node.label.slot)) at
+    then comes_onward (TreeEdit.put (assignment_node phrase)) (roomless_tree tree) n.node.label.slot at
     else not_here)
     e)
 
-pub assign_refused : (tree : PlainTree) (at : PlainStop) (phrase : PlainPhrase) (fault : TreeFault)
+pub assign_refused : RoomLaws → (tree : PlainTree) (at : PlainStop) (phrase : PlainPhrase) (fault : TreeFault)
     → IsStop (roomless_tree tree).items at → at.part ≡ None
     → Refuses (TreeEdit.put (assignment_node phrase)) (node_at tree.items at.path) (TakesAssignment phrase) tree fault
     → IsRefused true (edited (roomless_tree tree) at (PlainEdit.enter phrase)) fault
-assign_refused tree at phrase fault stop part refuses =
-    let n = node_there tree at stop in
+assign_refused room tree at phrase fault stop part refuses =
+    let n = node_there room tree at stop in
     let new : PlainNode = assignment_node phrase in
     let to : PlainTree = roomless_tree (tree_after (TreeEdit.put new) (roomless_tree tree) n.node.label.slot) in
     refused_is (TreeEdit.put new) (TreeEdit.put new) tree n.node (TakesAssignment phrase)
     (edited (roomless_tree tree) at (PlainEdit.enter phrase)) (onward to.items at) None
-    (put_roomless tree n.node.label.slot new new refl)
-    (λ here. assign_if tree at n phrase true part (assignment_true phrase n.node here))
-    (λ missing. assign_if tree at n phrase false part
+    (put_same room tree n.node.label.slot new new refl)
+    (λ here. assign_if room tree at n phrase true part (assignment_true phrase n.node here))
+    (λ missing. assign_if room tree at n phrase false part
     (is_false (is_wanted phrase (category_in None n.node.label.kind)) (λ e. missing (takes_assignment phrase n.node e))))
     fault
     (subst (λ there. Refuses (TreeEdit.put new) there (TakesAssignment phrase) tree fault) n.there refuses)
 
-pub assign_stands : SlotEditIsPathEdit → (tree after : PlainTree) (at : PlainStop) (phrase : PlainPhrase) (receipt : PlainReceipt)
+pub assign_stands : RoomLaws → SlotEditIsPathEdit → (tree after : PlainTree) (at : PlainStop) (phrase : PlainPhrase) (receipt : PlainReceipt)
     → IsTree tree → IsStop (roomless_tree tree).items at → at.part ≡ None
     → Edits (TreeEdit.put (assignment_node phrase)) (node_at tree.items at.path) (TakesAssignment phrase) tree after receipt
-    → IsStop after.items at
-assign_stands law tree after at phrase receipt is_tree stop part edits =
-    let n = node_there tree at stop in
+    → IsStop (roomless_tree after).items at
+assign_stands room law tree after at phrase receipt is_tree stop part edits =
+    let n = node_there room tree at stop in
     let new : PlainNode = assignment_node phrase in
     let made = edit_there (TreeEdit.put new) (node_at tree.items at.path) (TakesAssignment phrase) tree after receipt n.node n.there edits in
-    stop_with_room after.items at (put_stands law tree after at n new receipt None part is_tree made.1)
+    put_stands room law tree after at n new receipt None part is_tree made.1
 
-pub assign_applied : (tree after : PlainTree) (at : PlainStop) (phrase : PlainPhrase) (receipt : PlainReceipt) (stop_after : Stop)
+pub assign_applied : RoomLaws → (tree after : PlainTree) (at : PlainStop) (phrase : PlainPhrase) (receipt : PlainReceipt) (stop_after : Stop)
     → IsStop (roomless_tree tree).items at → at.part ≡ None
     → Edits (TreeEdit.put (assignment_node phrase)) (node_at tree.items at.path) (TakesAssignment phrase) tree after receipt
-    → plain_stop stop_after ≡ onward after.items at → IsStop after.items (plain_stop stop_after)
+    → plain_stop stop_after ≡ onward (roomless_tree after).items at → IsStop (roomless_tree after).items (plain_stop stop_after)
     → IsApplied (edited (roomless_tree tree) at (PlainEdit.enter phrase)) tree after record { receipt = receipt; taken = None; stop = stop_after }
-assign_applied tree after at phrase receipt stop_after stop part edits there seen =
-    let n = node_there tree at stop in
+assign_applied room tree after at phrase receipt stop_after stop part edits there seen =
+    let n = node_there room tree at stop in
     let new : PlainNode = assignment_node phrase in
     let made = edit_there (TreeEdit.put new) (node_at tree.items at.path) (TakesAssignment phrase) tree after receipt n.node n.there edits in
-    onward_applied (edited (roomless_tree tree) at (PlainEdit.enter phrase)) (TreeEdit.put new) (TreeEdit.put new) n.node.label.slot tree after receipt
-    stop_after at made.1 (put_roomless tree n.node.label.slot new new refl)
-    (assign_if tree at n phrase true part (assignment_true phrase n.node made.0)) there seen
+    onward_applied room (edited (roomless_tree tree) at (PlainEdit.enter phrase)) (TreeEdit.put new) (TreeEdit.put new) n.node.label.slot tree after receipt
+    stop_after at made.1 (put_same room tree n.node.label.slot new new refl)
+    (assign_if room tree at n phrase true part (assignment_true phrase n.node made.0)) there seen
 
 -- nodes inserted
-insert_if : (tree : PlainTree) (at : PlainStop) (n : Node tree at) (new : PlainNode) (b : Bool)
+insert_if : RoomLaws → (tree : PlainTree) (at : PlainStop) (n : Node tree at) (new : PlainNode) (b : Bool)
     → takes_nodes new.label.kind at.part (roomless_node n.node) ≡ b
     → edited (roomless_tree tree) at (PlainEdit.insert (PlainFragment.node (roomless_node new)))
     ≡ (if b
-    then comes (roomless_tree (tree_after (TreeEdit.put (roomless_node new)) (roomless_tree tree) n.node.label.slot)) at None
+    then comes (TreeEdit.put (roomless_node new)) (roomless_tree tree) n.node.label.slot at None
     else not_here)
-insert_if tree at n new b e =
-    edited_is tree at (PlainEdit.insert (PlainFragment.node (roomless_node new))) n.node n.there
+insert_if room tree at n new b e =
+    edited_is room tree at (PlainEdit.insert (PlainFragment.node (roomless_node new))) n.node n.there
     ∙ ap
     (λ (b : Bool).
     if b
-    then comes (roomless_tree (tree_after (TreeEdit.put (roomless_node new)) (roomless_tree tree) n.node.label.slot)) at None
+    then comes (TreeEdit.put (roomless_node new)) (roomless_tree tree) n.node.label.slot at None
     else not_here)
     e
 
--- a node without room has none
-pub node_twice : (node : PlainNode) → roomless_node (roomless_node node) ≡ roomless_node node
-node_twice node = λ i. record { label = record node.label { spare = 0 }; inner = roomless_twice node.inner i }
+-- a node without room is the same without room
+pub node_twice : RoomLaws → (node : PlainNode) → roomless_node (roomless_node node) ≡ roomless_node node
+node_twice room node = λ i. record { label = record node.label { spare = 0 }; inner = room.once node.inner i }
 
-pub insert_at_part : (tree : PlainTree) (at : PlainStop) (new : PlainNode) → IsStop (roomless_tree tree).items at → is_some at.part ≡ true
+pub insert_at_part : RoomLaws → (tree : PlainTree) (at : PlainStop) (new : PlainNode) → IsStop (roomless_tree tree).items at → is_some at.part ≡ true
     → edited (roomless_tree tree) at (PlainEdit.insert (PlainFragment.node (roomless_node new))) ≡ not_here
-insert_at_part tree at new stop e =
-    let n = node_there tree at stop in
-    insert_if tree at n new false (takes_at_part new.label.kind at.part (roomless_node n.node) e)
+insert_at_part room tree at new stop e =
+    let n = node_there room tree at stop in
+    insert_if room tree at n new false (takes_at_part new.label.kind at.part (roomless_node n.node) e)
 
-pub insert_refused : (tree : PlainTree) (at : PlainStop) (new : PlainNode) (fault : TreeFault)
+pub insert_refused : RoomLaws → (tree : PlainTree) (at : PlainStop) (new : PlainNode) (fault : TreeFault)
     → IsStop (roomless_tree tree).items at → at.part ≡ None
     → Refuses (TreeEdit.put new) (node_at tree.items at.path) (IsHoleFor new.label.kind) tree fault
     → (fault ≡ TreeFault.OutOfMemory → ⊥)
     → IsRefused false (edited (roomless_tree tree) at (PlainEdit.insert (PlainFragment.node (roomless_node new)))) fault
-insert_refused tree at new fault stop part refuses wants =
-    let n = node_there tree at stop in
+insert_refused room tree at new fault stop part refuses wants =
+    let n = node_there room tree at stop in
     let outcome : Edited = edited (roomless_tree tree) at (PlainEdit.insert (PlainFragment.node (roomless_node new))) in
     without_memory outcome fault
     (refused_is (TreeEdit.put new) (TreeEdit.put (roomless_node new)) tree n.node (IsHoleFor new.label.kind) outcome at None
-    (put_roomless tree n.node.label.slot new (roomless_node new) (sym (node_twice new)))
-    (λ here. insert_if tree at n new true (takes_true new.label.kind at.part (roomless_node n.node) part here))
-    (λ missing. insert_if tree at n new false (takes_false new.label.kind at.part (roomless_node n.node) missing))
+    (put_same room tree n.node.label.slot new (roomless_node new) (sym (node_twice room new)))
+    (λ here. insert_if room tree at n new true (takes_true new.label.kind at.part (roomless_node n.node) part here))
+    (λ missing. insert_if room tree at n new false (takes_false new.label.kind at.part (roomless_node n.node) missing))
     fault
     (subst (λ there. Refuses (TreeEdit.put new) there (IsHoleFor new.label.kind) tree fault) n.there refuses))
     wants
 
-pub insert_applied : SlotEditIsPathEdit → (tree after : PlainTree) (at : PlainStop) (new : PlainNode) (receipt : PlainReceipt) (stop_after : Stop)
+pub insert_applied : RoomLaws → SlotEditIsPathEdit → (tree after : PlainTree) (at : PlainStop) (new : PlainNode) (receipt : PlainReceipt) (stop_after : Stop)
     → IsTree tree → IsStop (roomless_tree tree).items at → at.part ≡ None
     → Edits (TreeEdit.put new) (node_at tree.items at.path) (IsHoleFor new.label.kind) tree after receipt
     → plain_stop stop_after ≡ at
     → IsApplied (edited (roomless_tree tree) at (PlainEdit.insert (PlainFragment.node (roomless_node new)))) tree after
     record { receipt = receipt; taken = None; stop = stop_after }
-insert_applied law tree after at new receipt stop_after is_tree stop part edits there =
-    let n = node_there tree at stop in
+insert_applied room law tree after at new receipt stop_after is_tree stop part edits there =
+    let n = node_there room tree at stop in
     let made = edit_there (TreeEdit.put new) (node_at tree.items at.path) (IsHoleFor new.label.kind) tree after receipt n.node n.there edits in
-    applied_is (edited (roomless_tree tree) at (PlainEdit.insert (PlainFragment.node (roomless_node new)))) (TreeEdit.put new)
+    applied_is room (edited (roomless_tree tree) at (PlainEdit.insert (PlainFragment.node (roomless_node new)))) (TreeEdit.put new)
     (TreeEdit.put (roomless_node new)) n.node.label.slot tree after receipt None stop_after at made.1
-    (put_roomless tree n.node.label.slot new (roomless_node new) (sym (node_twice new)))
-    (insert_if tree at n new true (takes_true new.label.kind at.part (roomless_node n.node) part made.0)) there
-    (subst (λ s. IsStop (roomless_tree after).items s) (sym there) (put_stands law tree after at n new receipt None part is_tree made.1)) tt
+    (put_same room tree n.node.label.slot new (roomless_node new) (sym (node_twice room new)))
+    (insert_if room tree at n new true (takes_true new.label.kind at.part (roomless_node n.node) part made.0)) there
+    (subst (λ s. IsStop (roomless_tree after).items s) (sym there) (put_stands room law tree after at n new receipt None part is_tree made.1)) tt
 
 -- nodes taken out
-take_if : (tree : PlainTree) (at : PlainStop) (n : Node tree at) (hole : Option NodeKind) → at.part ≡ None
+take_if : RoomLaws → (tree : PlainTree) (at : PlainStop) (n : Node tree at) (hole : Option NodeKind) → at.part ≡ None
     → hole_left n.node.label.kind ≡ hole
-    → edited (roomless_tree tree) at PlainEdit.take ≡ node_taken (roomless_tree tree) at hole (roomless_node n.node)
-take_if tree at n hole part e =
-    edited_is tree at PlainEdit.take n.node n.there
-    ∙ (ap (λ (p : Option ℕ). taken_out (roomless_tree tree) at p (roomless_node n.node)) part
-    ∙ ap (λ (h : Option NodeKind). node_taken (roomless_tree tree) at h (roomless_node n.node)) e)
+    → edited (roomless_tree tree) at PlainEdit.take ≡ outcome_of_node_taking (roomless_tree tree) at hole (roomless_node n.node)
+take_if room tree at n hole part e =
+    edited_is room tree at PlainEdit.take n.node n.there
+    ∙ (ap (λ (p : Option ℕ). outcome_of_taking (roomless_tree tree) at p (roomless_node n.node)) part
+    ∙ ap (λ (h : Option NodeKind). outcome_of_node_taking (roomless_tree tree) at h (roomless_node n.node)) e)
 
 no_hole : (hole : Option NodeKind) → (IsSome hole → ⊥) → hole ≡ None
 no_hole None wrong = refl
 no_hole (Some kind) wrong = absurd (wrong refl)
 
-pub take_refused : (tree : PlainTree) (at : PlainStop) (fault : TreeFault)
+pub take_refused : RoomLaws → (tree : PlainTree) (at : PlainStop) (fault : TreeFault)
     → IsStop (roomless_tree tree).items at → at.part ≡ None → fault ≡ TreeFault.NotHere
     → (IsSomeAnd (node_at tree.items at.path) MayTake → ⊥)
     → IsRefused false (edited (roomless_tree tree) at PlainEdit.take) fault
-take_refused tree at fault stop part e missing =
-    let n = node_there tree at stop in
+take_refused room tree at fault stop part e missing =
+    let n = node_there room tree at stop in
     not_here_is false (edited (roomless_tree tree) at PlainEdit.take) fault e
-    (take_if tree at n None part
+    (take_if room tree at n None part
     (no_hole (hole_left n.node.label.kind) (λ may. missing (of_found (node_at tree.items at.path) MayTake n.node n.there may))))
 
 taken_hole : (hole : Option NodeKind) → IsSome hole → (kind : NodeKind) × (hole ≡ Some kind)
 taken_hole None h = absurd (false≢true h)
 taken_hole (Some kind) h = (kind, refl)
 
-pub take_applied : SlotEditIsPathEdit → (tree after : PlainTree) (at : PlainStop) (node : PlainNode) (receipt : PlainReceipt) (stop_after : Stop)
+pub take_applied : RoomLaws → SlotEditIsPathEdit → (tree after : PlainTree) (at : PlainStop) (node : PlainNode) (receipt : PlainReceipt) (stop_after : Stop)
     → IsTree tree → IsStop (roomless_tree tree).items at → at.part ≡ None
     → node_at tree.items at.path ≡ Some node → TakesOut node tree after receipt → IsSubtree node
     → plain_stop stop_after ≡ at
     → IsApplied (edited (roomless_tree tree) at PlainEdit.take) tree after record { receipt = receipt; taken = Some node; stop = stop_after }
-take_applied law tree after at node receipt stop_after is_tree stop part found takes sound there =
-    let n0 = node_there tree at stop in
+take_applied room law tree after at node receipt stop_after is_tree stop part found takes sound there =
+    let n0 = node_there room tree at stop in
     let same : n0.node ≡ node = same_Some n0.node node (sym n0.there ∙ found) in
     let n : Node tree at =
     record { node = node; seen = n0.seen ∙ ap Some same; there = found; stands = subst (λ (m : PlainNode). MayStand at.part m.label.kind) same n0.stands }
@@ -290,8 +290,8 @@ take_applied law tree after at node receipt stop_after is_tree stop part found t
     let made : IsEdit (TreeEdit.put (lone 0 hole.0)) node.label.slot tree after receipt (Some node) =
     subst (λ (h : Option NodeKind). IsEdit (TreeEdit.put (lone 0 (unwrap_or h node.label.kind))) node.label.slot tree after receipt (Some node)) hole.1 takes.is_edit
     in
-    applied_is (edited (roomless_tree tree) at PlainEdit.take) (TreeEdit.put (lone 0 hole.0)) (TreeEdit.put (lone 0 hole.0)) node.label.slot tree after
-    receipt (Some node) stop_after at made (put_roomless tree node.label.slot (lone 0 hole.0) (lone 0 hole.0) refl)
-    (take_if tree at n (Some hole.0) part hole.1) there
-    (subst (λ s. IsStop (roomless_tree after).items s) (sym there) (put_stands law tree after at n (lone 0 hole.0) receipt (Some node) part is_tree made))
+    applied_is room (edited (roomless_tree tree) at PlainEdit.take) (TreeEdit.put (lone 0 hole.0)) (TreeEdit.put (lone 0 hole.0)) node.label.slot tree after
+    receipt (Some node) stop_after at made (put_same room tree node.label.slot (lone 0 hole.0) (lone 0 hole.0) refl)
+    (take_if room tree at n (Some hole.0) part hole.1) there
+    (subst (λ s. IsStop (roomless_tree after).items s) (sym there) (put_stands room law tree after at n (lone 0 hole.0) receipt (Some node) part is_tree made))
     sound

@@ -24,12 +24,12 @@ zero_if : (b : Bool) (n : ℕ) → (if b then 1 else 0) + n ≡ 0 → b ≡ fals
 zero_if true n e = absurd (omega arith)
 zero_if false n e = refl
 
--- what is there, or else the slot
+-- the slot that was found, or else this one
 abbrev or_slot : ℕ → Option ℕ → ℕ
 or_slot slot None = slot
 or_slot slot (Some there) = there
 
--- the slot at a path stands there
+-- the slot at a path stands among the nodes
 present : (items : Forest) (path : List ℕ) (slot : ℕ) → slot_at items path ≡ Some slot → 1 ≤ times slot items
 present Forest.nil [] slot e = absurd (none-some slot e)
 present Forest.nil (k ∷ path) slot e = absurd (none-some slot e)
@@ -40,7 +40,7 @@ present (Forest.cons label inner rest) (zero ∷ (j ∷ path)) slot e =
 present (Forest.cons label inner rest) (suc k ∷ path) slot e =
     let h : 1 ≤ times slot rest = present rest (k ∷ path) slot e in omega arith
 
--- a slot that doesn't stand there has no path
+-- a slot that doesn't stand among the nodes has no path
 pub no_path : (slot : ℕ) (items : Forest) (k : ℕ) → times slot items ≡ 0 → shown_path slot k items ≡ None
 no_path slot Forest.nil k none = refl
 no_path slot (Forest.cons label inner rest) k none =
@@ -83,7 +83,7 @@ pub shown_is : (slot : ℕ) (items : Forest) (path : List ℕ)
     → times slot items ≤ 1 → slot_at items path ≡ Some slot → shown_path slot 0 items ≡ Some (shown_numbers items path)
 shown_is slot items path once e = shown_from slot 0 items path once e ∙ ap Some (from_zero items path)
 
--- the room of lists makes no difference
+-- the room of lists makes no difference to where a slot is shown
 pub shown_roomless : (slot : ℕ) (items : Forest) (k : ℕ) → shown_path slot k (roomless items) ≡ shown_path slot k items
 shown_roomless slot Forest.nil k = refl
 shown_roomless slot (Forest.cons label inner rest) k =
@@ -94,11 +94,11 @@ shown_roomless slot (Forest.cons label inner rest) k =
     option_or (option_map (λ path. k ∷ (if label.elided then [] else path)) (shown_roomless slot inner 0 i))
     (shown_roomless slot rest (k + 1) i)
 
--- something stands there
+-- a node was found
 abbrev pub IsThere : Option PlainNode → Type 0
 IsThere found = IsSomeAnd found (λ _. Unit {0})
 
--- the cursor may stand on it
+-- the cursor may stand on the node that was found
 abbrev pub IsSeen : Option PlainNode → Type 0
 IsSeen found = IsSomeAnd found (λ node. MayStand None node.label.kind)
 

@@ -6,7 +6,7 @@ use Rattle.template_tree.specs.PlainTree.{PlainNode, PlainTree, roomless_node, r
 use Rattle.template_tree.specs.Path.{node_at}
 use Rattle.template_tree.specs.Stop.{PlainStop}
 use Rattle.session_edit.specs.Here.{can_take, category_at, category_in, takes_at}
-use Rattle.session_edit.proofs.RoomlessNodes.{node_roomless}
+use Rattle.session_edit.specs.Private.RoomLaws.{RoomLaws}
 
 same_take : (part : Option ℕ) (node : PlainNode) → can_take part (roomless_node node) ≡ can_take part node
 same_take None node = refl
@@ -18,11 +18,11 @@ take_there part None = refl
 take_there part (Some node) = same_take part node
 
 -- whether something can be taken out at a stop, by the node of the tree there
-pub takes_is : (tree : PlainTree) (stop : PlainStop)
+pub takes_is : RoomLaws → (tree : PlainTree) (stop : PlainStop)
     → takes_at (roomless_tree tree) stop ≡ option_map_or (can_take stop.part) (node_at tree.items stop.path) false
 unfolding takes_at
-takes_is tree stop =
-    ap (λ found. option_map_or (can_take stop.part) found false) (node_roomless tree.items stop.path)
+takes_is room tree stop =
+    ap (λ found. option_map_or (can_take stop.part) found false) (room.nodes tree.items stop.path)
     ∙ take_there stop.part (node_at tree.items stop.path)
 
 category_there : (part : Option ℕ) (found : Option PlainNode)
@@ -32,9 +32,9 @@ category_there part None = refl
 category_there part (Some node) = refl
 
 -- the category that phrase text has at a stop, by the node of the tree there
-pub category_is : (tree : PlainTree) (stop : PlainStop)
+pub category_is : RoomLaws → (tree : PlainTree) (stop : PlainStop)
     → category_at (roomless_tree tree) stop ≡ option_and_then (λ node. category_in stop.part node.label.kind) (node_at tree.items stop.path)
 unfolding category_at
-category_is tree stop =
-    ap (λ found. option_and_then (λ (node : PlainNode). category_in stop.part node.label.kind) found) (node_roomless tree.items stop.path)
+category_is room tree stop =
+    ap (λ found. option_and_then (λ (node : PlainNode). category_in stop.part node.label.kind) found) (room.nodes tree.items stop.path)
     ∙ category_there stop.part (node_at tree.items stop.path)

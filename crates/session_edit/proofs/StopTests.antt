@@ -91,7 +91,7 @@ pub takes_assignment : (phrase : PlainPhrase) (node : PlainNode) → is_wanted p
 takes_assignment phrase node e =
     let h = wanted_if (is_typed node.label.kind) phrase e in (typed_is node.label.kind h.0, h.1)
 
--- the hole of a sort
+-- the kind of the hole of a sort, by the test for it
 hole_true : (sort : Sort) (kind : NodeKind) → hole_of sort ≡ Some kind → (is_hole kind && same_sort (sort_of kind) sort) ≡ true
 hole_true Sort.Main kind e = absurd (none-some kind e)
 hole_true Sort.Procedure kind e = ap (λ k. is_hole k && same_sort (sort_of k) Sort.Procedure) (sym (same_Some NodeKind.ProcedureHole kind e))
@@ -124,7 +124,7 @@ hole_is Sort.Statement NodeKind.Main e = absurd (false≢true e)
 hole_is Sort.Statement NodeKind.Assign e = absurd (false≢true e)
 hole_is Sort.Statement (NodeKind.Filled template) e = absurd (false≢true e)
 
--- nodes of the kind come into the node, at its own stop
+-- nodes of a kind come into a hole of their sort, at its own stop
 pub takes_true : (kind : NodeKind) (part : Option ℕ) (node : PlainNode) → part ≡ None → IsHoleFor kind node → takes_nodes kind part node ≡ true
 takes_true kind part node e h = rw e (hole_true (sort_of kind) node.label.kind h)
 

@@ -72,7 +72,7 @@ shelf_below change j path give same None = refl
 shelf_below change j path give same (Some item) =
     shelf_unless item.label.elided give (shelf (edit_at change (j ∷ path) item.inner) (j ∷ path)) (shelf item.inner (j ∷ path)) (same item.inner)
 
--- the nodes there after an edit at the path
+-- the nodes among which a path leads after the edit at it
 pub shelf_after : (change : PlainNode → List PlainNode) (items : Forest) (path : List ℕ)
     → shelf (edit_at change path items) path ≡ option_map (give_way change (last_number path)) (shelf items path)
 shelf_after change items [] = refl
@@ -116,7 +116,7 @@ seen_here change items path list e =
     on_shelf (edit_at change path items) path
     ∙ ap (option_and_then (item_of (last_number path))) (shelf_after change items path ∙ ap (option_map (give_way change (last_number path))) e)
 
--- what is visible beside it
+-- what is visible beside the place of an edit
 pub seen_beside : (change : PlainNode → List PlainNode) (beside : ℕ → ℕ) (items : Forest) (path : List ℕ) (list : Forest)
     → shelf items path ≡ Some list
     → visible_at (edit_at change path items) (with_last beside path) ≡ item_of (beside (last_number path)) (give_way change (last_number path) list)
@@ -158,7 +158,7 @@ first_comes change zero (Forest.cons label inner rest) node new others e came =
     in_front (change record { label = label; inner = inner }) new others rest (ap (λ found. change (or_node node found)) e ∙ came)
 first_comes change (suc k) (Forest.cons label inner rest) node new others e came = first_comes change k rest node new others e came
 
--- and the second behind it
+-- a node gives way: the second of what comes stands behind its place
 pub second_comes : (change : PlainNode → List PlainNode) (k : ℕ) (items : Forest) (node first new : PlainNode)
     → item_of k items ≡ Some node → change node ≡ first ∷ (new ∷ []) → item_of (suc k) (give_way change k items) ≡ Some new
 second_comes change k Forest.nil node first new e came = absurd (none-some node e)
@@ -166,7 +166,7 @@ second_comes change zero (Forest.cons label inner rest) node first new e came =
     second (change record { label = label; inner = inner }) first new rest (ap (λ found. change (or_node node found)) e ∙ came)
 second_comes change (suc k) (Forest.cons label inner rest) node first new e came = second_comes change k rest node first new e came
 
--- something stands there
+-- a node was found
 abbrev pub IsHeld : Option PlainNode → Type 0
 IsHeld found = (node : PlainNode) × (found ≡ Some node)
 

@@ -11,9 +11,13 @@ use Rattle.session_edit.specs.declared.applied.Applied.{Applied}
 use Rattle.session_edit.specs.PlainEdit.{PlainEdit}
 use Rattle.session_edit.specs.Edited.{Edited}
 
--- an edit made one tree of the other, as was to come of it, with the cursor at a stop of that, and what undoes it is there
+-- an edit made one tree of the other, as was to come of it, with the cursor at a stop of the tree after it; the receipt
+-- names what was done in which slot, and undoes it
 pub record IsApplied (outcome : Edited) (before after : PlainTree) (applied : Applied) : Type 0 where
-  pub became : outcome ≡ Edited.became (roomless_tree after) (plain_stop applied.stop) (option_map roomless_node applied.taken)
+  pub became :
+      outcome
+      ≡ Edited.became (roomless_tree after) (plain_stop applied.stop) (option_map roomless_node applied.taken)
+      applied.receipt.change.what applied.receipt.change.slot.0
   pub tree : IsTree after
   pub stop : IsStop (roomless_tree after).items (plain_stop applied.stop)
   pub change : Differs (roomless_tree before) (roomless_tree after) applied.receipt.change
@@ -30,7 +34,7 @@ takes_memory other stop = false
 
 -- whether an edit isn't refused
 abbrev pub is_made : Edited → Bool
-is_made (Edited.became tree stop taken) = true
+is_made (Edited.became tree stop taken what slot) = true
 is_made (Edited.refused fault) = false
 
 -- why an edit is refused, of which this was to come, and of which it is told whether it takes memory; where memory is

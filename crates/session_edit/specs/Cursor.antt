@@ -1,42 +1,24 @@
 -- Where the cursor stands after an edit.
-use Rattle.std.specs.Prelude.{ℕ, suc, ◌-◌, Bool, false, ◌&&◌, nat_eq, if◌then◌else◌, List, [], ◌∷◌, None}
+use Rattle.std.specs.Prelude.{ℕ, suc, ◌-◌, Bool, false, nat_eq, if◌then◌else◌, List, [], ◌∷◌}
 use Rattle.std.specs.List.{starts_with}
-use Rattle.std.specs.Option.{option_eq, option_map_or}
-use Rattle.std.specs.Str.{bytes_eq}
+use Rattle.std.specs.Option.{option_map_or}
 use Rattle.plcs_grammar.specs.declared.node_kind.Sort.{Sort}
 use Rattle.template_tree.specs.declared.side.Side.{Side}
 use Rattle.template_tree.specs.Path.{node_at}
 use Rattle.template_tree.specs.PlainTree.{Forest}
 use Rattle.template_tree.specs.Program.{sort_of}
 use Rattle.template_tree.specs.Section.{same_sort}
-use Rattle.template_tree.specs.Stop.{PlainStop, VisibleStop, Stops}
-use Rattle.cursor_moves.specs.Move.{first_of}
-
--- the stop of a node itself
-abbrev pub node_stop : List ℕ → PlainStop
-node_stop path = record { path = path; part = None }
-
--- whether two stops are one
-abbrev pub same_stop : PlainStop → PlainStop → Bool
-same_stop one other = bytes_eq one.path other.path && option_eq nat_eq one.part other.part
-
--- the visible stops behind the stop, in listing order
-abbrev pub stops_behind : PlainStop → List VisibleStop → List VisibleStop
-stops_behind stop [] = []
-stops_behind stop (listed ∷ others) = if same_stop listed.stop stop then others else stops_behind stop others
+use Rattle.template_tree.specs.Stop.{PlainStop}
+use Rattle.cursor_moves.specs.Move.{stop_right}
 
 -- the next stop, where it lies in the same node or in a node inside it, and else the stop itself
 abbrev pub stop_or_next : PlainStop → PlainStop → PlainStop
 stop_or_next stop next = if starts_with nat_eq next.path stop.path then next else stop
 
--- where the cursor goes from a stop that was filled, among visible stops: to the next one, where that lies in the same node
--- or in a node inside it; without such a next stop it stays
-abbrev pub onward_among : List VisibleStop → PlainStop → PlainStop
-onward_among stops stop = option_map_or (λ next. stop_or_next stop next.stop) (first_of (stops_behind stop stops)) stop
-
--- the same among the visible stops of nodes
+-- where the cursor goes from a stop that was filled: to the next one, where that lies in the same node or in a node inside
+-- it; without such a next stop it stays
 abbrev pub onward : Forest → PlainStop → PlainStop
-onward items stop = onward_among (Stops items) stop
+onward items stop = option_map_or (stop_or_next stop) (stop_right items stop) stop
 
 -- the path with another last number
 abbrev pub with_last : (ℕ → ℕ) → List ℕ → List ℕ

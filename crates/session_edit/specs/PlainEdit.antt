@@ -5,8 +5,7 @@ use Rattle.plcs_grammar.specs.PlainPhrase.{PlainPhrase}
 use Rattle.plcs_grammar.specs.declared.template.Template.{Template}
 use Rattle.template_tree.specs.declared.side.Side.{Side}
 use Rattle.template_tree.specs.Part.{IsPlace}
-use Rattle.template_tree.specs.PlainTree.{roomless_node}
-use Rattle.clip_store.specs.PlainFragment.{PlainFragment, IsFragment, plain_fragment}
+use Rattle.clip_store.specs.PlainFragment.{PlainFragment, IsFragment, plain_fragment, roomless_fragment}
 use Rattle.session_edit.specs.declared.edit.Edit.{Edit}
 
 -- an edit: a template fills a hole, phrase text is entered, a fragment is inserted, what stands at the cursor is deleted
@@ -18,11 +17,6 @@ pub data PlainEdit : Type 0 where
   delete : PlainEdit
   take : PlainEdit
   beside : Side → PlainEdit
-
--- a fragment without the room of its lists
-abbrev pub roomless_fragment : PlainFragment → PlainFragment
-roomless_fragment (PlainFragment.node n) = PlainFragment.node (roomless_node n)
-roomless_fragment (PlainFragment.phrase p) = PlainFragment.phrase p
 
 -- the plain form of an edit, without the room of lists
 abbrev pub plain_edit : Edit → PlainEdit

@@ -3,3 +3,5 @@
 pub mod ShownNumbers
 -- ---- paths to visible nodes
 pub mod ShownPath
+-- ---- the room of lists
+pub mod RoomLaws

@@ -2,8 +2,7 @@
 use Rattle.std.specs.Prelude.{ℕ, ◌+◌, if◌then◌else◌, ◌==◌, List, [], ◌∷◌, Option, Some, None, option_map}
 use Rattle.std.specs.Option.{option_or}
 use Rattle.template_tree.specs.PlainTree.{Forest, PlainTree}
-use Rattle.template_tree.specs.Stop.{PlainStop}
-use Rattle.session_edit.specs.Cursor.{node_stop}
+use Rattle.template_tree.specs.Stop.{PlainStop, node_stop}
 
 -- the path to the slot, or to the outermost elided comment in which it stands, among nodes of which the first has this number
 abbrev pub shown_path : ℕ → ℕ → Forest → Option (List ℕ)

@@ -7,7 +7,7 @@ ghost use Rattle.template_tree.specs.Stop.{IsStop, plain_stop};
 ghost use Rattle.template_tree.specs.Tree.{IsTree};
 ghost use Rattle.session_edit.specs.AppliedEdit.{IsAnswer};
 ghost use Rattle.session_edit.specs.Cursor.{beside_path};
-ghost use Rattle.session_edit.specs.Edited.{edited, hole_beside};
+ghost use Rattle.session_edit.specs.Edited.{edited, outcome_of_hole_beside};
 ghost use Rattle.session_edit.specs.Here.{enclosing_item};
 ghost use Rattle.session_edit.specs.PlainEdit.{PlainEdit};
 ghost use Rattle.session_edit.specs.Private.ShownPath.{IsShown};
@@ -15,6 +15,7 @@ ghost use Rattle.session_edit.specs.Private.ShownPath.{IsShown};
 use crate::applied::Applied;
 use crate::path_copy::copy_of;
 use crate::path_last::path_behind;
+use crate::room_laws::room_laws;
 use std::alloc::Global;
 use template_tree::{Path, Side, Stop, Tree, TreeFault, slot_edit_is_path_edit};
 
@@ -29,6 +30,7 @@ pub(crate) fn add_hole(
     requires stop { IsStop (roomless_tree tree.old).items (plain_stop at.now) }
     ensures { IsAnswer true (edited (roomless_tree tree.old) (plain_stop at.now) (PlainEdit.beside side)) tree.old tree.new result }
 {
+    room_laws();
     add_beside(alloc, tree, copy_of(&at.path), side)
 }
 
@@ -37,8 +39,9 @@ pub(crate) fn add_hole(
 fn add_beside(alloc: Global, tree: &mut Tree, path: Path, side: Side) -> Result<Applied, TreeFault>
     requires tree { IsTree tree.old }
     requires seen { IsShown tree.old.items path.items }
-    ensures { IsAnswer true (hole_beside (roomless_tree tree.old) side (enclosing_item (roomless_tree tree.old).items path.items)) tree.old tree.new result }
+    ensures { IsAnswer true (outcome_of_hole_beside (roomless_tree tree.old) side (enclosing_item (roomless_tree tree.old).items path.items)) tree.old tree.new result }
 {
+    room_laws();
     slot_edit_is_path_edit();
     match tree.add_hole(alloc, &path, side) {
         Ok(receipt) => Ok(Applied {

@@ -11,6 +11,7 @@ ghost use Rattle.session_edit.specs.PlainEdit.{PlainEdit};
 
 use crate::applied::Applied;
 use crate::next_stop::onward;
+use crate::room_laws::room_laws;
 use plcs_grammar::{Phrase, Template};
 use std::alloc::Global;
 use template_tree::{PhrasePlace, Stop, Tree, TreeFault, slot_edit_is_path_edit};
@@ -26,6 +27,7 @@ pub(crate) fn fill(
     requires stop { IsStop (roomless_tree tree.old).items (plain_stop at.now) }
     ensures { IsAnswer true (edited (roomless_tree tree.old) (plain_stop at.now) (PlainEdit.fill template)) tree.old tree.new result }
 {
+    room_laws();
     if at.part.is_some() {
         return Err(TreeFault::NotHere);
     }
@@ -71,6 +73,7 @@ fn enter_assignment(
     requires node { at.now.part ≡ None }
     ensures { IsAnswer true (edited (roomless_tree tree.old) (plain_stop at.now) (PlainEdit.enter (plain_phrase phrase))) tree.old tree.new result }
 {
+    room_laws();
     slot_edit_is_path_edit();
     match tree.fill_assign(alloc, &at.path, phrase) {
         Ok(receipt) => Ok(Applied {
@@ -90,6 +93,7 @@ fn enter_in_part(tree: &mut Tree, at: &Stop, phrase: Phrase) -> Result<Applied, 
     requires part { IsSome at.now.part }
     ensures { IsAnswer false (edited (roomless_tree tree.old) (plain_stop at.now) (PlainEdit.enter (plain_phrase phrase))) tree.old tree.new result }
 {
+    room_laws();
     slot_edit_is_path_edit();
     match tree.set_phrase(at, PhrasePlace::Filled(phrase)) {
         Ok(receipt) => Ok(Applied {

@@ -9,6 +9,7 @@ ghost use Rattle.template_tree.specs.Stop.{IsStop, plain_stop};
 ghost use Rattle.template_tree.specs.Tree.{IsTree};
 ghost use Rattle.session_edit.specs.Here.{can_take, category_at, category_in, is_typed, takes_at};
 
+use crate::room_laws::room_laws;
 use plcs_grammar::{Category, NodeKind, Segment, Sort};
 use template_tree::{Node, PhrasePlace, Stop, Tree};
 
@@ -19,6 +20,7 @@ pub fn wanted(tree: &Tree, at: &Stop) -> Option<Category>
     requires stop { IsStop (roomless_tree tree.now).items (plain_stop at.now) }
     ensures { result ≡ category_at (roomless_tree tree.now) (plain_stop at.now) }
 {
+    room_laws();
     let Some(node) = tree.node(&at.path) else {
         return None;
     };
@@ -32,6 +34,7 @@ pub fn takes(tree: &Tree, at: &Stop) -> bool
     requires stop { IsStop (roomless_tree tree.now).items (plain_stop at.now) }
     ensures { result ≡ takes_at (roomless_tree tree.now) (plain_stop at.now) }
 {
+    room_laws();
     let Some(node) = tree.node(&at.path) else {
         return false;
     };

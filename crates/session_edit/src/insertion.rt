@@ -6,14 +6,15 @@ ghost use Rattle.template_tree.specs.PlainTree.{roomless_node, roomless_tree};
 ghost use Rattle.template_tree.specs.Program.{IsSubtree};
 ghost use Rattle.template_tree.specs.Stop.{IsStop, plain_stop};
 ghost use Rattle.template_tree.specs.Tree.{IsTree};
-ghost use Rattle.clip_store.specs.PlainFragment.{IsFragment, PlainFragment, plain_fragment};
+ghost use Rattle.clip_store.specs.PlainFragment.{IsFragment, PlainFragment, plain_fragment, roomless_fragment};
 ghost use Rattle.session_edit.specs.AppliedEdit.{IsAnswer};
 ghost use Rattle.session_edit.specs.Edited.{edited};
-ghost use Rattle.session_edit.specs.PlainEdit.{PlainEdit, roomless_fragment};
+ghost use Rattle.session_edit.specs.PlainEdit.{PlainEdit};
 
 use crate::applied::Applied;
 use crate::here::takes;
-use crate::path_copy::same_stop;
+use crate::path_copy::stop_copy;
+use crate::room_laws::room_laws;
 use clip_store::Fragment;
 use plcs_grammar::Phrase;
 use template_tree::{Node, PhrasePlace, Stop, Tree, TreeFault, slot_edit_is_path_edit};
@@ -39,6 +40,7 @@ fn insert_node(tree: &mut Tree, at: &Stop, node: Node) -> Result<Applied, TreeFa
     requires node { IsSubtree node }
     ensures { IsAnswer false (edited (roomless_tree tree.old) (plain_stop at.now) (PlainEdit.insert (PlainFragment.node (roomless_node node)))) tree.old tree.new result }
 {
+    room_laws();
     if at.part.is_some() {
         return Err(TreeFault::NotHere);
     }
@@ -47,7 +49,7 @@ fn insert_node(tree: &mut Tree, at: &Stop, node: Node) -> Result<Applied, TreeFa
         Ok(receipt) => Ok(Applied {
             receipt,
             taken: None,
-            stop: same_stop(at),
+            stop: stop_copy(at),
         }),
         Err((fault, _)) => Err(fault),
     }
@@ -60,6 +62,7 @@ fn insert_phrase(tree: &mut Tree, at: &Stop, phrase: Phrase) -> Result<Applied, 
     requires phrase { IsPlace (Some (plain_phrase phrase)) }
     ensures { IsAnswer false (edited (roomless_tree tree.old) (plain_stop at.now) (PlainEdit.insert (PlainFragment.phrase (plain_phrase phrase)))) tree.old tree.new result }
 {
+    room_laws();
     if takes(tree, at) {
         return Err(TreeFault::NotHere);
     }
@@ -68,7 +71,7 @@ fn insert_phrase(tree: &mut Tree, at: &Stop, phrase: Phrase) -> Result<Applied, 
         Ok(receipt) => Ok(Applied {
             receipt,
             taken: None,
-            stop: same_stop(at),
+            stop: stop_copy(at),
         }),
         Err((fault, _)) => Err(fault),
     }

@@ -1,17 +1,30 @@
 //! Edits at the stop of the cursor, and where the cursor stands after them.
-#![tactic(auto, using(template_tree::specs::PlainTree::nodes_forest))]
+#![tactic(auto)]
 
 mod applied;
 mod beside;
+#[cfg(test)]
+mod beside_tests;
 mod edit;
 mod entry;
+#[cfg(test)]
+mod entry_tests;
 mod here;
 mod insertion;
+#[cfg(test)]
+mod insertion_tests;
 mod next_stop;
 mod path_copy;
 mod path_last;
+#[cfg(test)]
+mod program_tests;
 mod removal;
+#[cfg(test)]
+mod removal_tests;
+mod room_laws;
 mod slot_stop;
+#[cfg(test)]
+mod stop_tests;
 
 pub use applied::{Applied, apply};
 pub use edit::Edit;

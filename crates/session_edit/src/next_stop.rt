@@ -5,21 +5,20 @@ ghost use Rattle.template_tree.specs.Stop.{IsStop, plain_stop};
 ghost use Rattle.template_tree.specs.Tree.{IsTree};
 ghost use Rattle.session_edit.specs.Cursor.{onward, stop_or_next};
 
-use crate::path_copy::same_stop;
-use cursor_moves::{Move, right, stops_are_distinct};
+use crate::path_copy::stop_copy;
+use cursor_moves::{Move, right};
 use template_tree::{Stop, Tree};
 
 /// The next stop, where it lies in the same node or in a node inside it, or else the stop itself.
 pub(crate) fn onward(tree: &Tree, at: &Stop) -> Stop
     requires tree { IsTree tree.now }
-    requires stop { IsStop tree.now.items (plain_stop at.now) }
-    ensures onward { plain_stop result ≡ onward tree.now.items (plain_stop at.now) }
-    ensures stop { IsStop tree.now.items (plain_stop result) }
+    requires stop { IsStop (roomless_tree tree.now).items (plain_stop at.now) }
+    ensures onward { plain_stop result ≡ onward (roomless_tree tree.now).items (plain_stop at.now) }
+    ensures stop { IsStop (roomless_tree tree.now).items (plain_stop result) }
 {
-    stops_are_distinct();
     match right(tree, at) {
         Move::Moved(next) => next_within(at, next),
-        Move::AtEdge => same_stop(at),
+        Move::AtEdge => stop_copy(at),
     }
 }
 
@@ -30,5 +29,5 @@ fn next_within(at: &Stop, next: Stop) -> Stop
     if next.path.starts_with(at.path.as_slice()) {
         return next;
     }
-    same_stop(at)
+    stop_copy(at)
 }

@@ -5,7 +5,7 @@ ghost use Rattle.template_tree.specs.Stop.{plain_stop};
 use template_tree::{Path, Stop};
 
 /// An equal stop.
-pub(crate) fn same_stop(stop: &Stop) -> Stop
+pub(crate) fn stop_copy(stop: &Stop) -> Stop
     ensures { plain_stop result ≡ plain_stop stop.now }
 {
     Stop {

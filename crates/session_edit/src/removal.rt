@@ -12,8 +12,9 @@ ghost use Rattle.session_edit.specs.PlainEdit.{PlainEdit};
 
 use crate::applied::Applied;
 use crate::here::takes;
-use crate::path_copy::{copy_of, same_stop};
+use crate::path_copy::{copy_of, stop_copy};
 use crate::path_last::path_before;
+use crate::room_laws::room_laws;
 use plcs_grammar::Sort;
 use std::alloc::Global;
 use template_tree::{Path, PhrasePlace, Stop, Tree, TreeFault, slot_edit_is_path_edit};
@@ -38,6 +39,7 @@ fn drop_hole(tree: &mut Tree, at: &Stop) -> Option<Applied>
     ensures not_here { IfNone result (edited (roomless_tree tree.old) (plain_stop at.now) PlainEdit.delete ≡ edited (roomless_tree tree.old) (plain_stop at.now) PlainEdit.take) }
     ensures unchanged { IfNone result (tree.new ≡ tree.old) }
 {
+    room_laws();
     if at.part.is_some() {
         return None;
     }
@@ -85,6 +87,7 @@ pub(crate) fn take_out(alloc: Global, tree: &mut Tree, at: &Stop) -> Result<Appl
     requires stop { IsStop (roomless_tree tree.old).items (plain_stop at.now) }
     ensures { IsAnswer false (edited (roomless_tree tree.old) (plain_stop at.now) PlainEdit.take) tree.old tree.new result }
 {
+    room_laws();
     if at.part.is_some() {
         return empty_part(tree, at);
     }
@@ -93,7 +96,7 @@ pub(crate) fn take_out(alloc: Global, tree: &mut Tree, at: &Stop) -> Result<Appl
         Ok((node, receipt)) => Ok(Applied {
             receipt,
             taken: Some(node),
-            stop: same_stop(at),
+            stop: stop_copy(at),
         }),
         Err(fault) => Err(fault),
     }
@@ -106,6 +109,7 @@ fn empty_part(tree: &mut Tree, at: &Stop) -> Result<Applied, TreeFault>
     requires part { IsSome at.now.part }
     ensures { IsAnswer false (edited (roomless_tree tree.old) (plain_stop at.now) PlainEdit.take) tree.old tree.new result }
 {
+    room_laws();
     if !takes(tree, at) {
         return Err(TreeFault::NotHere);
     }
@@ -114,7 +118,7 @@ fn empty_part(tree: &mut Tree, at: &Stop) -> Result<Applied, TreeFault>
         Ok(receipt) => Ok(Applied {
             receipt,
             taken: None,
-            stop: same_stop(at),
+            stop: stop_copy(at),
         }),
         Err((fault, _)) => Err(fault),
     }

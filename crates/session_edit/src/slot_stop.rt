@@ -7,6 +7,7 @@ ghost use Rattle.template_tree.specs.Tree.{IsTree};
 ghost use Rattle.session_edit.specs.Private.ShownNumbers.{shown_below, shown_numbers};
 ghost use Rattle.session_edit.specs.ShownStop.{shown_at};
 
+use crate::room_laws::room_laws;
 use plcs_base::Slot;
 use template_tree::{Node, Path, Stop, Tree};
 
@@ -17,6 +18,7 @@ pub fn shown_stop(tree: &Tree, slot: Slot) -> Option<Stop>
     ensures shown { option_map plain_stop result ≡ shown_at (roomless_tree tree.now) slot.0 }
     ensures stop { IfSome result (λ stop. IsStop (roomless_tree tree.now).items (plain_stop stop)) }
 {
+    room_laws();
     let Some(path) = tree.path_of(slot) else {
         return None;
     };

@@ -3,13 +3,13 @@ use Rattle.std.specs.Prelude.{ℕ, if◌then◌else◌, List, [], ◌∷◌, sli
 use Rattle.std.specs.Option.{option_map_or}
 use Rattle.template_tree.specs.PlainTree.{Forest, PlainNode, nodes}
 
--- those of a path below a node
+-- the numbers of a path below a node, up to the first elided comment
 abbrev pub shown_below : PlainNode → List ℕ → List ℕ
 shown_below node [] = []
 shown_below node (k ∷ path) =
     if node.label.elided then [] else k ∷ option_map_or (λ item. shown_below item path) (slice_get (nodes node.inner) k) []
 
--- those of a path
+-- the numbers of a path, up to the first elided comment
 abbrev pub shown_numbers : Forest → List ℕ → List ℕ
 shown_numbers items [] = []
 shown_numbers items (k ∷ path) = k ∷ option_map_or (λ item. shown_below item path) (slice_get (nodes items) k) []

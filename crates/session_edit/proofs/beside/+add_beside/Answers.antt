@@ -6,7 +6,7 @@ use Rattle.template_tree.specs.Path.{node_at}
 use Rattle.template_tree.specs.PlainTree.{PlainTree}
 use Rattle.template_tree.specs.Tree.{IsTree}
 use Rattle.template_tree.specs.TreeEdit.{TreeEdit}
-use Rattle.session_edit.specs.Cursor.{node_stop}
+use Rattle.template_tree.specs.Stop.{node_stop}
 use Rattle.session_edit.specs.Private.ShownPath.{IsShown}
 use Rattle.session_edit.proofs.BesideCommands.{added_few, answer_outer, beside_applied, beside_refused, one_longer, outer_shown}
 use Rattle.session_edit.proofs.beside.+add_beside.Goals as goal
@@ -17,12 +17,12 @@ beside-requires t c =
 
 pub returns-in-Ok : goal.returns-in-Ok
 returns-in-Ok t c =
-    beside_applied c.slot_edit_is_path_edit.ensures c.args.tree.now c.add_hole.new.self c.args.side c.args.path.items c.in-Ok.receipt
+    beside_applied c.room_laws.ensures c.slot_edit_is_path_edit.ensures c.args.tree.now c.add_hole.new.self c.args.side c.args.path.items c.in-Ok.receipt
     record { path = c.beside.result; part = None } c.requires.tree c.requires.seen c.in-Ok.ensures.edited (ap node_stop c.beside.ensures)
 
 pub returns-then-not-is_not_here : goal.returns-then-not-is_not_here
 returns-then-not-is_not_here t c = (
-  beside_refused c.args.tree.now c.args.side c.args.path.items c.in-Err.fault c.in-Err.ensures.refused
+  beside_refused c.room_laws.ensures c.args.tree.now c.args.side c.args.path.items c.in-Err.fault c.in-Err.ensures.refused
       (λ e. false≢true (sym c.if-not-is_not_here.true ∙ c.is_not_here.ensures.1 e)),
   c.in-Err.ensures.unchanged,
 )
@@ -43,7 +43,7 @@ add_beside-requires t c =
 
 pub returns-in-Some : goal.returns-in-Some
 returns-in-Some t c =
-    answer_outer c.args.tree.now c.add_hole.new.self c.add_beside.new.tree c.args.side c.args.path.items c.pop.new.self.items c.in-Some.field-0
+    answer_outer c.room_laws.ensures c.args.tree.now c.add_hole.new.self c.add_beside.new.tree c.args.side c.args.path.items c.pop.new.self.items c.in-Some.field-0
     c.add_beside.result c.in-Err.ensures.unchanged c.in-Some.ensures.items
     (subst (λ fault. Refuses (TreeEdit.add c.args.side) (node_at c.args.tree.now.items c.args.path.items) (IsListItem c.args.tree.now.items c.args.path.items) c.args.tree.now fault)
     (c.is_not_here.ensures.0 c.if-not-is_not_here.false) c.in-Err.ensures.refused)

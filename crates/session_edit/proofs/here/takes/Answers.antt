@@ -9,10 +9,10 @@ use Rattle.session_edit.proofs.here.takes.Goals as goal
 pub returns-in_default : goal.returns-in_default
 returns-in_default c =
     ap (λ found. option_map_or (can_take c.args.at.now.part) found false) c.in_default.ensures.found
-    ∙ sym (takes_is c.args.tree.now (plain_stop c.args.at.now))
+    ∙ sym (takes_is c.room_laws.ensures c.args.tree.now (plain_stop c.args.at.now))
 
 pub returns : goal.returns
 returns c =
     c.can_take.ensures
     ∙ (ap (λ found. option_map_or (can_take c.args.at.now.part) found false) c.in-Some.ensures.found
-    ∙ sym (takes_is c.args.tree.now (plain_stop c.args.at.now)))
+    ∙ sym (takes_is c.room_laws.ensures c.args.tree.now (plain_stop c.args.at.now)))

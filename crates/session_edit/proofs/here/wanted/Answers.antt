@@ -9,11 +9,11 @@ use Rattle.session_edit.proofs.here.wanted.Goals as goal
 pub returns-in_default : goal.returns-in_default
 returns-in_default c =
     ap (option_and_then (λ (node : PlainNode). category_in c.args.at.now.part node.label.kind)) c.in_default.ensures.found
-    ∙ sym (category_is c.args.tree.now (plain_stop c.args.at.now))
+    ∙ sym (category_is c.room_laws.ensures c.args.tree.now (plain_stop c.args.at.now))
 
 pub returns : goal.returns
 returns c =
     c.category_in.ensures
     ∙ (ap (category_in c.args.at.now.part) c.kind.ensures
     ∙ (ap (option_and_then (λ (node : PlainNode). category_in c.args.at.now.part node.label.kind)) c.in-Some.ensures.found
-    ∙ sym (category_is c.args.tree.now (plain_stop c.args.at.now))))
+    ∙ sym (category_is c.room_laws.ensures c.args.tree.now (plain_stop c.args.at.now))))

@@ -7,17 +7,17 @@ use Rattle.session_edit.proofs.insertion.insert_node.Goals as goal
 
 pub returns-then-is_some : goal.returns-then-is_some
 returns-then-is_some c =
-    (insert_at_part c.args.tree.now (plain_stop c.args.at.now) c.args.node c.requires.stop (sym c.is_some.ensures ∙ c.if-is_some.true), refl)
+    (insert_at_part c.room_laws.ensures c.args.tree.now (plain_stop c.args.at.now) c.args.node c.requires.stop (sym c.is_some.ensures ∙ c.if-is_some.true), refl)
 
 pub returns-in-Ok : goal.returns-in-Ok
 returns-in-Ok c =
-    insert_applied c.slot_edit_is_path_edit.ensures c.args.tree.now c.insert.new.self (plain_stop c.args.at.now) c.args.node c.in-Ok.receipt
-    c.same_stop.result c.requires.tree c.requires.stop (no_part c.args.at.now.part (sym c.is_some.ensures ∙ c.if-is_some.false))
-    c.in-Ok.ensures.edited c.same_stop.ensures
+    insert_applied c.room_laws.ensures c.slot_edit_is_path_edit.ensures c.args.tree.now c.insert.new.self (plain_stop c.args.at.now) c.args.node c.in-Ok.receipt
+    c.stop_copy.result c.requires.tree c.requires.stop (no_part c.args.at.now.part (sym c.is_some.ensures ∙ c.if-is_some.false))
+    c.in-Ok.ensures.edited c.stop_copy.ensures
 
 pub returns : goal.returns
 returns c = (
-  insert_refused c.args.tree.now (plain_stop c.args.at.now) c.args.node c.in-Err.fault c.requires.stop
+  insert_refused c.room_laws.ensures c.args.tree.now (plain_stop c.args.at.now) c.args.node c.in-Err.fault c.requires.stop
       (no_part c.args.at.now.part (sym c.is_some.ensures ∙ c.if-is_some.false)) c.in-Err.ensures.refused c.in-Err.ensures.no_memory,
   c.in-Err.ensures.unchanged.1,
 )

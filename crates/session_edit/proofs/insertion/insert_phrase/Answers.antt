@@ -7,16 +7,16 @@ use Rattle.session_edit.proofs.insertion.insert_phrase.Goals as goal
 
 pub returns-in-Ok : goal.returns-in-Ok
 returns-in-Ok c =
-    insert_applied c.slot_edit_is_path_edit.ensures c.args.tree.now c.set_phrase.new.self (plain_stop c.args.at.now) (plain_phrase c.args.phrase) c.in-Ok.receipt
-    c.same_stop.result c.requires.tree c.requires.stop (sym c.if-takes.false ∙ c.takes.ensures) c.in-Ok.ensures.edited c.same_stop.ensures
+    insert_applied c.room_laws.ensures c.slot_edit_is_path_edit.ensures c.args.tree.now c.set_phrase.new.self (plain_stop c.args.at.now) (plain_phrase c.args.phrase) c.in-Ok.receipt
+    c.stop_copy.result c.requires.tree c.requires.stop (sym c.if-takes.false ∙ c.takes.ensures) c.in-Ok.ensures.edited c.stop_copy.ensures
 
 pub returns : goal.returns
 returns c = (
-  insert_refused c.args.tree.now (plain_stop c.args.at.now) (plain_phrase c.args.phrase) c.in-Err.fault c.requires.stop
+  insert_refused c.room_laws.ensures c.args.tree.now (plain_stop c.args.at.now) (plain_phrase c.args.phrase) c.in-Err.fault c.requires.stop
       c.in-Err.ensures.refused.0 c.in-Err.ensures.refused.1,
   c.in-Err.ensures.unchanged.1,
 )
 
 pub returns-then-takes : goal.returns-then-takes
 returns-then-takes c =
-    (insert_full c.args.tree.now (plain_stop c.args.at.now) (plain_phrase c.args.phrase) c.requires.stop (sym c.if-takes.true ∙ c.takes.ensures), refl)
+    (insert_full c.room_laws.ensures c.args.tree.now (plain_stop c.args.at.now) (plain_phrase c.args.phrase) c.requires.stop (sym c.if-takes.true ∙ c.takes.ensures), refl)

@@ -6,12 +6,13 @@ use Rattle.session_edit.proofs.removal.empty_part.Goals as goal
 
 pub returns-in-Ok : goal.returns-in-Ok
 returns-in-Ok c =
-    empty_applied c.slot_edit_is_path_edit.ensures c.args.tree.now c.set_phrase.new.self (plain_stop c.args.at.now) c.in-Ok.receipt
-    c.same_stop.result c.requires.tree c.requires.stop (sym c.if-not-takes.false ∙ c.takes.ensures) c.in-Ok.ensures.edited c.same_stop.ensures
+    empty_applied c.room_laws.ensures c.slot_edit_is_path_edit.ensures c.args.tree.now c.set_phrase.new.self (plain_stop c.args.at.now) c.in-Ok.receipt
+    c.stop_copy.result c.requires.tree c.requires.stop (sym c.if-not-takes.false ∙ c.takes.ensures) c.in-Ok.ensures.edited c.stop_copy.ensures
 
 pub returns : goal.returns
-returns c = absurd (c.in-Err.ensures.refused.1 (empties_there c.args.tree.now (plain_stop c.args.at.now) c.requires.stop c.requires.part))
+returns c =
+    absurd (c.in-Err.ensures.refused.1 (empties_there c.room_laws.ensures c.args.tree.now (plain_stop c.args.at.now) c.requires.stop c.requires.part))
 
 pub returns-then-not-takes : goal.returns-then-not-takes
 returns-then-not-takes c =
-    (empty_missing c.args.tree.now (plain_stop c.args.at.now) c.requires.stop c.requires.part (sym c.if-not-takes.true ∙ c.takes.ensures), refl)
+    (empty_missing c.room_laws.ensures c.args.tree.now (plain_stop c.args.at.now) c.requires.stop c.requires.part (sym c.if-not-takes.true ∙ c.takes.ensures), refl)

@@ -2,10 +2,10 @@ use Rattle.std.specs.Prelude.{◌≡◌, refl, ℕ, List, Option, Some, None, op
 use Rattle.std.proofs.Common.{ap, sym, ◌∙◌}
 use Rattle.template_tree.specs.Path.{node_at}
 use Rattle.template_tree.specs.PlainTree.{PlainTree, roomless_tree}
-use Rattle.session_edit.specs.Cursor.{node_stop}
+use Rattle.template_tree.specs.Stop.{node_stop}
 use Rattle.session_edit.specs.ShownStop.{shown_at, shown_path}
 use Rattle.session_edit.specs.Private.ShownNumbers.{shown_numbers}
-use Rattle.session_edit.proofs.RoomlessNodes.{stop_roomless}
+use Rattle.session_edit.proofs.Room.{stop_roomless}
 use Rattle.session_edit.proofs.ShownPaths.{no_path, shown_is, shown_roomless, seen_shown, there}
 use Rattle.session_edit.proofs.slot_stop.shown_stop.Goals as goal
 
@@ -28,6 +28,6 @@ returns-clause-shown c =
 pub returns-clause-stop : goal.returns-clause-stop
 returns-clause-stop c =
     rw c.shown_part.ensures
-    (stop_roomless c.args.tree.now.items (node_stop (shown_numbers c.args.tree.now.items c.in-Some.path.items))
+    (stop_roomless c.room_laws.ensures c.args.tree.now.items (node_stop (shown_numbers c.args.tree.now.items c.in-Some.path.items))
     (seen_shown c.args.tree.now.items c.in-Some.path.items
     (there (node_at c.args.tree.now.items c.in-Some.path.items) c.args.slot.0 c.in-Some.ensures.path)))
