@@ -13,6 +13,6 @@ mod Frames
 -- what `comment` ensures
 mod Comments
 -- `only`, `well_formed` and `category` of `parse`, and the laws
-mod Readings
+pub mod Readings
 -- the laws on parts of lines, and the clause of `cut_at`
 mod Lines

@@ -31,6 +31,10 @@ abbrev pub is_word_end : List ℕ → Bool
 is_word_end [] = true
 is_word_end (byte ∷ rest) = is_blank byte
 
+-- the word of a line that has the form of a command
+abbrev pub command_word : List ℕ → Option (List ℕ)
+command_word line = if is_word_end (behind_word line) then Some (word_of line) else None
+
 -- the argument of a command line, without blanks at its ends; where nothing is left, there is none
 abbrev pub argument_of : List ℕ → List ℕ
 argument_of line = trimmed (behind_word line)

@@ -1,8 +1,8 @@
 //! Commands, and which command a line is.
-ghost use Rattle.std.specs.Prelude.{◌≡◌, ◌≤◌, length, IsTrue};
+ghost use Rattle.std.specs.Prelude.{◌≡◌, ◌≤◌, length, option_map, IsTrue};
 ghost use Rattle.std.specs.List.{prefix_len};
 ghost use Rattle.plcs_base.specs.Byte.{is_letter};
-ghost use Rattle.session_words.specs.CommandLine.{begins_with_point, is_word_end, command_of};
+ghost use Rattle.session_words.specs.CommandLine.{begins_with_point, command_of, command_word, is_word_end};
 ghost use Rattle.session_words.specs.PlainCommand.{plain_reading};
 
 use crate::command_table::argument_rule_of;
@@ -83,6 +83,21 @@ pub fn read_command<'a>(line: &'a [u8]) -> Result<Command<'a>, CommandFault>
     match argument_rule_of(&behind[..length]) {
         Some(rule) => rule.command(trimmed(rest)),
         None => Err(CommandFault::UnknownCommand),
+    }
+}
+
+/// The word of the line, or `None` where the line has not the form of a command: a point, letters, and
+/// then the end or a blank.
+pub fn command_word<'a>(line: &'a [u8]) -> Option<&'a [u8]>
+    requires point { IsTrue (begins_with_point line.now) }
+    ensures word { option_map (λ word. word.now) result ≡ command_word line.entry.now }
+{
+    let behind = &line[1..];
+    let length = word_length(behind);
+    if is_word_end(&behind[length..]) {
+        Some(&behind[..length])
+    } else {
+        None
     }
 }
 

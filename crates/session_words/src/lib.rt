@@ -14,7 +14,7 @@ mod number;
 mod tests;
 
 pub use argument::is_file_name;
-pub use command::{Command, CommandFault, begins_with_point, read_command};
+pub use command::{Command, CommandFault, begins_with_point, command_word, read_command};
 pub use limit::{GREATEST_CODE_NUMBER, LONGEST_FILE_NAME, MOST_STEPS, MOST_STEPS_BACK};
 pub use message::{Message, Notice, RefusalMessage};
 pub use message_text::MessageText;

@@ -11,6 +11,8 @@ pub enum Message {
     Refusal(RefusalMessage),
     /// The key was taken.
     Notice(Notice),
+    /// What the key asks for isn't built yet.
+    NotBuilt,
 }
 
 /// Why a key was refused. Places are counted from 0, lines from 1, and slots by their numbers.
@@ -135,6 +137,7 @@ impl Message {
         match self {
             Message::Refusal(refusal) => refusal.row().words,
             Message::Notice(notice) => notice.words(),
+            Message::NotBuilt => b"NOT BUILT",
         }
     }
 
@@ -144,7 +147,7 @@ impl Message {
     {
         match self {
             Message::Refusal(refusal) => refusal.row().value,
-            Message::Notice(_) => None,
+            Message::Notice(_) | Message::NotBuilt => None,
         }
     }
 }

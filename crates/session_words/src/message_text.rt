@@ -1,5 +1,5 @@
 //! The text of a message.
-ghost use Rattle.std.specs.Prelude.{◌≡◌, ◌≤◌, ◌+◌, ◌++◌, length};
+ghost use Rattle.std.specs.Prelude.{◌≡◌, [], ◌≤◌, ◌+◌, ◌++◌, length};
 ghost use Rattle.arrayvec.specs.ArrayVec.{array_vec_len};
 ghost use Rattle.session_words.specs.Message.{with_value};
 
@@ -24,6 +24,15 @@ impl Model for MessageText {
 }
 
 impl MessageText {
+    /// No text.
+    pub fn none() -> MessageText
+        ensures { result ≡ [] }
+    {
+        MessageText {
+            bytes: ArrayVec::new(),
+        }
+    }
+
     /// The words, and the number behind a blank, if there is one.
     pub(crate) fn new(words: &[u8], value: Option<u32>) -> MessageText
         requires { length words.now ≤ 20 }
