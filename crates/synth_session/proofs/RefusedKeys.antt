@@ -1,0 +1,211 @@
+-- A refused key changes the message alone.
+use Rattle.std.proofs.Common.{◌≡◌, ℕ, ◌-◌, Bool, true, false, if◌then◌else◌, List, [], ◌∷◌, ◌++◌, length, take, Option, Some, None, Ok, Err, refl}
+use Rattle.std.specs.Prelude.{◌==◌, nat_lt}
+use Rattle.plcs_grammar.specs.Canon.{Canon}
+use Rattle.plcs_grammar.specs.OverLimit.{OverLimit}
+use Rattle.plcs_grammar.specs.PlainPhrase.{PlainPhrase}
+use Rattle.plcs_grammar.specs.declared.category.Category.{Category}
+use Rattle.phrase_parser.specs.Standing.{Standing}
+use Rattle.phrase_parser.specs.declared.fault.PhraseFault.TheVariants as fault
+use Rattle.session_words.specs.CommandLine.{begins_with_point, command_of}
+use Rattle.session_words.specs.PlainCommand.{PlainCommand, PlainReading}
+use Rattle.session_words.specs.declared.command.CommandFault.TheVariants as line
+use Rattle.template_tree.specs.declared.side.Side.{Side}
+use Rattle.template_tree.specs.Elision.{with_turn_at}
+use Rattle.template_tree.specs.Limit.{longest_phrase}
+use Rattle.template_tree.specs.PlainTree.{Forest}
+use Rattle.template_tree.specs.Stop.{PlainStop}
+use Rattle.cursor_moves.specs.Move.{stop_down, stop_left, stop_right, stop_up}
+use Rattle.clip_store.specs.ClipLimit.{is_full}
+use Rattle.clip_store.specs.PlainClips.{clip_named}
+use Rattle.clip_store.specs.PlainFragment.{PlainFragment, whole_fragment}
+use Rattle.session_edit.specs.Edited.{Edited, edited}
+use Rattle.session_edit.specs.Here.{category_at, takes_at}
+use Rattle.session_edit.specs.PlainEdit.{PlainEdit}
+use Rattle.synth_session.specs.declared.key.Key.{Key}
+use Rattle.synth_session.specs.declared.key.Key.TheVariants.{Char, Enter, Erase, Clear, Tab, Up, Down, Left, Right, Other}
+use Rattle.synth_session.specs.declared.answer.Answer.{Answer}
+use Rattle.synth_session.specs.declared.answer.ClipRefusal.{ClipRefusal}
+use Rattle.synth_session.specs.declared.answer.Refusal.{Refusal}
+use Rattle.synth_session.specs.declared.answer.Refusal.TheVariants as why
+use Rattle.synth_session.specs.declared.typed_line.TheConstants.{LINE_LIMIT}
+use Rattle.synth_session.specs.PlainSession.{PlainSession}
+use Rattle.synth_session.specs.RefusalText.{refusal_text}
+use Rattle.synth_session.specs.Outcome.{Outcome, done, line_done, refused}
+use Rattle.synth_session.specs.TypedLine.{cursor_phrase, text_typed}
+use Rattle.synth_session.specs.CursorKeys.{cursor_goes, cursor_moved}
+use Rattle.synth_session.specs.ClipCommands.{copy_outcome, cut_outcome, fragment_inserted, fragment_there, slots_there}
+use Rattle.synth_session.specs.EditCommands.{edit_outcome, edit_refusal, edited_by}
+use Rattle.synth_session.specs.ElideCommand.{comment_turned, is_at_comment}
+use Rattle.synth_session.specs.EnteredLine.{command_line_outcome, command_outcome, is_unbuilt, line_entered, reading_outcome, standing_entered, text_entered}
+use Rattle.synth_session.specs.TextStanding.{standing_of}
+use Rattle.synth_session.specs.Press.{RefusedKeysChangeTheMessage, press}
+
+-- where this is the outcome of a refused key, the message alone changes
+record Alone (s : PlainSession) (outcome : Outcome) : Type 0 where
+  pub alone : (reason : Refusal) → outcome.answer ≡ Answer.Refused reason → outcome.after ≡ record s { message = refusal_text reason }
+
+-- a refusal does
+refused_alone : (s : PlainSession) (reason : Refusal) → Alone s (refused s reason)
+refused_alone s reason = record { alone = λ other is. cc }
+
+-- a key that isn't refused says nothing of that
+taken_alone : (s : PlainSession) (outcome : Outcome) → outcome.answer ≡ Answer.Done → Alone s outcome
+taken_alone s outcome taken = record { alone = λ reason is. absurd (cc) }
+
+ended_alone : (s : PlainSession) (outcome : Outcome) → outcome.answer ≡ Answer.Quit → Alone s outcome
+ended_alone s outcome ended = record { alone = λ reason is. absurd (cc) }
+
+-- of two outcomes either
+either_alone : (s : PlainSession) (test : Bool) (one other : Outcome) → Alone s one → Alone s other → Alone s (if test then one else other)
+either_alone s true one other h k = h
+either_alone s false one other h k = k
+
+-- a cursor that goes, or is at the edge
+goes_alone : (s : PlainSession) (to : Option PlainStop) → Alone s (cursor_goes s to)
+goes_alone s None = refused_alone s why.AtEdge
+goes_alone s (Some stop) = taken_alone s _ refl
+
+-- a move, where nothing is typed
+moves_alone : (s : PlainSession) (move : Forest → PlainStop → Option PlainStop) → Alone s (cursor_moved s move)
+moves_alone s move =
+    either_alone s (length s.typed == 0) (cursor_goes s (move s.tree.items s.stop)) (refused s why.NotHere)
+    (goes_alone s (move s.tree.items s.stop)) (refused_alone s why.NotHere)
+
+-- a phrase's text that is typed, or too long
+typed_alone : (s : PlainSession) (phrase : Option PlainPhrase) → Alone s (text_typed s phrase)
+typed_alone s None = refused_alone s why.NotHere
+typed_alone s (Some phrase) =
+    either_alone s (nat_lt LINE_LIMIT (length (Canon phrase))) (refused s why.PhraseFull) (done (record s { typed = Canon phrase }))
+    (refused_alone s why.PhraseFull) (taken_alone s _ refl)
+
+-- an edit that is made or refused
+edit_alone : (s : PlainSession) (edited : Edited) → Alone s (edit_outcome s edited)
+edit_alone s (Edited.became tree stop taken what slot) = taken_alone s _ refl
+edit_alone s (Edited.refused fault) = refused_alone s (edit_refusal fault)
+
+-- an edit
+edited_alone : (s : PlainSession) (edit : PlainEdit) → Alone s (edited_by s edit)
+unfolding edited_by
+edited_alone s edit = edit_alone s (edited s.tree s.stop edit)
+
+-- a copy into a clip
+copied_alone : (s : PlainSession) (name : List ℕ) (fragment : Option PlainFragment) → Alone s (copy_outcome s name fragment)
+copied_alone s name None = refused_alone s why.NotHere
+copied_alone s name (Some fragment) = taken_alone s _ refl
+
+-- a cut into a clip that is made or refused
+cut_alone : (s : PlainSession) (name : List ℕ) (edited : Edited) (fragment : Option PlainFragment) → Alone s (cut_outcome s name edited fragment)
+cut_alone s name (Edited.refused fault) fragment = refused_alone s (edit_refusal fault)
+cut_alone s name (Edited.became tree stop taken what slot) None = refused_alone s why.NotHere
+cut_alone s name (Edited.became tree stop taken what slot) (Some fragment) = taken_alone s _ refl
+
+-- what can be taken out, where the clips have room
+clips_alone : (s : PlainSession) (name : List ℕ) (outcome : Outcome) → Alone s outcome
+    → Alone s
+    (if takes_at s.tree s.stop
+    then (if is_full name (slots_there s.tree s.stop) s.clips then refused s (why.Clip ClipRefusal.Full) else outcome)
+    else refused s why.NotHere)
+clips_alone s name outcome alone =
+    either_alone s (takes_at s.tree s.stop)
+    (if is_full name (slots_there s.tree s.stop) s.clips then refused s (why.Clip ClipRefusal.Full) else outcome) (refused s why.NotHere)
+    (either_alone s (is_full name (slots_there s.tree s.stop) s.clips) (refused s (why.Clip ClipRefusal.Full)) outcome
+    (refused_alone s (why.Clip ClipRefusal.Full)) alone)
+    (refused_alone s why.NotHere)
+
+-- a clip inserted
+inserted_alone : (s : PlainSession) (fragment : Option PlainFragment) → Alone s (fragment_inserted s fragment)
+inserted_alone s None = refused_alone s (why.Clip ClipRefusal.NoClip)
+inserted_alone s (Some fragment) = edited_alone s (PlainEdit.insert (whole_fragment fragment))
+
+-- a comment turned
+turned_alone : (s : PlainSession) → Alone s (comment_turned s)
+turned_alone s =
+    either_alone s (is_at_comment s.tree s.stop) (line_done (record s { tree = with_turn_at s.stop.path s.tree })) (refused s why.NotHere)
+    (taken_alone s _ refl) (refused_alone s why.NotHere)
+
+-- a command
+command_alone : (s : PlainSession) (command : PlainCommand) → Alone s (command_outcome s command)
+command_alone s (PlainCommand.template template) = edited_alone s (PlainEdit.fill template)
+command_alone s PlainCommand.float = refused_alone s why.FloatNotThere
+command_alone s PlainCommand.before = edited_alone s (PlainEdit.beside Side.Before)
+command_alone s PlainCommand.after = edited_alone s (PlainEdit.beside Side.After)
+command_alone s PlainCommand.del = edited_alone s PlainEdit.delete
+command_alone s (PlainCommand.cut name) =
+    clips_alone s name (cut_outcome s name (edited s.tree s.stop PlainEdit.take) (fragment_there s.tree s.stop s.stop.part))
+    (cut_alone s name (edited s.tree s.stop PlainEdit.take) (fragment_there s.tree s.stop s.stop.part))
+command_alone s (PlainCommand.copy name) =
+    clips_alone s name (copy_outcome s name (fragment_there s.tree s.stop s.stop.part))
+    (copied_alone s name (fragment_there s.tree s.stop s.stop.part))
+command_alone s (PlainCommand.insert name) = inserted_alone s (clip_named name s.clips)
+command_alone s PlainCommand.elide = turned_alone s
+command_alone s PlainCommand.top = taken_alone s _ refl
+command_alone s PlainCommand.bottom = taken_alone s _ refl
+command_alone s PlainCommand.run = refused_alone s why.NotBuilt
+command_alone s (PlainCommand.step n) = refused_alone s why.NotBuilt
+command_alone s PlainCommand.resume = refused_alone s why.NotBuilt
+command_alone s (PlainCommand.back n) = refused_alone s why.NotBuilt
+command_alone s PlainCommand.trace = refused_alone s why.NotBuilt
+command_alone s (PlainCommand.input text) = refused_alone s why.NotBuilt
+command_alone s (PlainCommand.save file) = refused_alone s why.NotBuilt
+command_alone s (PlainCommand.load file) = refused_alone s why.NotBuilt
+command_alone s (PlainCommand.code n) = refused_alone s why.NotBuilt
+command_alone s PlainCommand.quit = ended_alone s _ refl
+
+-- a command line
+reading_alone : (s : PlainSession) (reading : PlainReading) → Alone s (reading_outcome s reading)
+reading_alone s (Ok command) = command_alone s command
+reading_alone s (Err line.UnknownCommand) = refused_alone s why.UnknownCommand
+reading_alone s (Err line.WrongArgument) = refused_alone s why.WrongArgument
+
+command_line_alone : (s : PlainSession) → Alone s (command_line_outcome s)
+command_line_alone s =
+    either_alone s (is_unbuilt s.typed) (refused s why.NotBuilt) (reading_outcome s (command_of s.typed))
+    (refused_alone s why.NotBuilt) (reading_alone s (command_of s.typed))
+
+-- phrase text that is this
+standing_alone : (s : PlainSession) (standing : Standing) → Alone s (standing_entered s standing)
+standing_alone s (Standing.phrase phrase) =
+    either_alone s (nat_lt longest_phrase (length (Canon phrase))) (refused s why.PhraseFull) (edited_by s (PlainEdit.enter phrase))
+    (refused_alone s why.PhraseFull) (edited_alone s (PlainEdit.enter phrase))
+standing_alone s (Standing.over (OverLimit.number_too_large place)) = refused_alone s (why.Phrase (fault.NumberTooLarge place))
+standing_alone s (Standing.over (OverLimit.too_deep place)) = refused_alone s (why.Phrase (fault.TooDeep place))
+standing_alone s (Standing.wrong_at place) = refused_alone s (why.Phrase (fault.Syntax place))
+
+-- phrase text of a category
+text_alone : (s : PlainSession) (category : Option Category) → Alone s (text_entered s category)
+text_alone s None = refused_alone s why.NotHere
+text_alone s (Some category) = standing_alone s (standing_of category s.typed)
+
+-- the typed line
+line_alone : (s : PlainSession) → Alone s (line_entered s)
+line_alone s =
+    either_alone s (length s.typed == 0) (cursor_moved s stop_right)
+    (if begins_with_point s.typed then command_line_outcome s else text_entered s (category_at s.tree s.stop))
+    (moves_alone s stop_right)
+    (either_alone s (begins_with_point s.typed) (command_line_outcome s) (text_entered s (category_at s.tree s.stop))
+    (command_line_alone s) (text_alone s (category_at s.tree s.stop)))
+
+-- each key
+key_alone : (s : PlainSession) (key : Key) → Alone s (press s key)
+unfolding press
+key_alone s (Char byte) =
+    either_alone s (nat_lt (length s.typed) LINE_LIMIT) (done (record s { typed = s.typed ++ byte ∷ [] })) (refused s why.PhraseFull)
+    (taken_alone s _ refl) (refused_alone s why.PhraseFull)
+key_alone s Enter = line_alone s
+key_alone s Erase =
+    either_alone s (length s.typed == 0) (refused s why.NotHere) (done (record s { typed = take (length s.typed - 1) s.typed }))
+    (refused_alone s why.NotHere) (taken_alone s _ refl)
+key_alone s Clear = taken_alone s _ refl
+key_alone s Tab =
+    either_alone s (length s.typed == 0) (text_typed s (cursor_phrase s.tree s.stop)) (refused s why.NotHere)
+    (typed_alone s (cursor_phrase s.tree s.stop)) (refused_alone s why.NotHere)
+key_alone s Up = moves_alone s stop_up
+key_alone s Down = moves_alone s stop_down
+key_alone s Left = moves_alone s stop_left
+key_alone s Right = moves_alone s stop_right
+key_alone s Other = refused_alone s why.UnknownCommand
+
+-- the law
+pub refused_keys_change_the_message : RefusedKeysChangeTheMessage
+refused_keys_change_the_message s key = (key_alone s key).alone

@@ -1,0 +1,11 @@
+use Rattle.template_tree.specs.PlainTree.{roomless_tree}
+use Rattle.template_tree.specs.Stop.{plain_stop}
+use Rattle.plcs_grammar.specs.PlainPhrase.{plain_phrase}
+use Rattle.synth_session.proofs.SoundPhrases.{copied_sound}
+use Rattle.synth_session.proofs.clip_commands.copy_phrase_at.Goals as goal
+
+pub returns-clause-sound : goal.returns-clause-sound
+returns-clause-sound c =
+    copied_sound (roomless_tree c.args.tree.now) (plain_stop c.args.at.now)
+    ((c.room_is_not_shown.ensures.trees c.args.tree.now).0 c.requires)
+    (plain_phrase c.in-Some.phrase.now) (plain_phrase c.in_ok-copy_phrase.field-0) c.in-Some.ensures c.in_ok-copy_phrase.ensures

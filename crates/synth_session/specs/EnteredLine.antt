@@ -1,0 +1,106 @@
+-- What the typed line asks for: a command, or phrase text.
+use Rattle.std.specs.Prelude.{ℕ, ◌==◌, Bool, false, nat_lt, if◌then◌else◌, List, [], ◌∷◌, length, codes, Option, Some, None, Ok, Err}
+use Rattle.std.specs.List.{list_any}
+use Rattle.std.specs.Option.{option_map_or}
+use Rattle.std.specs.Str.{bytes_eq}
+use Rattle.plcs_grammar.specs.Canon.{Canon}
+use Rattle.plcs_grammar.specs.OverLimit.{OverLimit}
+use Rattle.plcs_grammar.specs.declared.category.Category.{Category}
+use Rattle.phrase_parser.specs.Standing.{Standing}
+use Rattle.phrase_parser.specs.declared.fault.PhraseFault.TheVariants as fault
+use Rattle.session_words.specs.CommandLine.{begins_with_point, command_of, command_word}
+use Rattle.session_words.specs.PlainCommand.{PlainCommand, PlainReading}
+use Rattle.session_words.specs.declared.command.CommandFault.TheVariants as line
+use Rattle.template_tree.specs.declared.side.Side.{Side}
+use Rattle.template_tree.specs.Limit.{longest_phrase}
+use Rattle.cursor_moves.specs.Move.{first_stop, last_stop, stop_right}
+use Rattle.session_edit.specs.Here.{category_at}
+use Rattle.session_edit.specs.PlainEdit.{PlainEdit}
+use Rattle.synth_session.specs.declared.answer.Answer.{Answer}
+use Rattle.synth_session.specs.declared.answer.Refusal.TheVariants as why
+use Rattle.synth_session.specs.CursorKeys.{cursor_moved}
+use Rattle.synth_session.specs.ClipCommands.{clip_inserted, copied_to_clip, cut_to_clip}
+use Rattle.synth_session.specs.EditCommands.{edited_by}
+use Rattle.synth_session.specs.ElideCommand.{comment_turned}
+use Rattle.synth_session.specs.Outcome.{Outcome, line_done, refused}
+use Rattle.synth_session.specs.PlainSession.{PlainSession}
+use Rattle.synth_session.specs.TextStanding.{standing_of}
+
+-- ---- commands
+
+-- the words of commands that aren't built yet: those of runs, of input and of files
+abbrev pub unbuilt_words : List (List ℕ)
+unbuilt_words =
+    codes "run" ∷ codes "step" ∷ codes "resume" ∷ codes "back" ∷ codes "trace" ∷ codes "input" ∷ codes "save" ∷ codes "load"
+    ∷ codes "code" ∷ []
+
+-- whether a word is one of these
+abbrev pub is_unbuilt_word : List ℕ → Bool
+is_unbuilt_word word = list_any (bytes_eq word) unbuilt_words
+
+-- whether the line is that of a command which isn't built yet, whatever its argument
+unfoldable pub is_unbuilt : List ℕ → Bool
+is_unbuilt line = option_map_or is_unbuilt_word (command_word line) false
+
+-- the session ends, and nothing is shown any more
+abbrev pub quit_outcome : PlainSession → Outcome
+quit_outcome s = record { after = s; answer = Answer.Quit }
+
+-- what each command does
+abbrev pub command_outcome : PlainSession → PlainCommand → Outcome
+command_outcome s (PlainCommand.template template) = edited_by s (PlainEdit.fill template)
+command_outcome s PlainCommand.float = refused s why.FloatNotThere
+command_outcome s PlainCommand.before = edited_by s (PlainEdit.beside Side.Before)
+command_outcome s PlainCommand.after = edited_by s (PlainEdit.beside Side.After)
+command_outcome s PlainCommand.del = edited_by s PlainEdit.delete
+command_outcome s (PlainCommand.cut name) = cut_to_clip s name
+command_outcome s (PlainCommand.copy name) = copied_to_clip s name
+command_outcome s (PlainCommand.insert name) = clip_inserted s name
+command_outcome s PlainCommand.elide = comment_turned s
+command_outcome s PlainCommand.top = line_done (record s { stop = first_stop s.tree.items })
+command_outcome s PlainCommand.bottom = line_done (record s { stop = last_stop s.tree.items })
+command_outcome s PlainCommand.run = refused s why.NotBuilt
+command_outcome s (PlainCommand.step n) = refused s why.NotBuilt
+command_outcome s PlainCommand.resume = refused s why.NotBuilt
+command_outcome s (PlainCommand.back n) = refused s why.NotBuilt
+command_outcome s PlainCommand.trace = refused s why.NotBuilt
+command_outcome s (PlainCommand.input text) = refused s why.NotBuilt
+command_outcome s (PlainCommand.save file) = refused s why.NotBuilt
+command_outcome s (PlainCommand.load file) = refused s why.NotBuilt
+command_outcome s (PlainCommand.code n) = refused s why.NotBuilt
+command_outcome s PlainCommand.quit = quit_outcome s
+
+-- what a line does that is this command, or none for this reason
+abbrev pub reading_outcome : PlainSession → PlainReading → Outcome
+reading_outcome s (Ok command) = command_outcome s command
+reading_outcome s (Err line.UnknownCommand) = refused s why.UnknownCommand
+reading_outcome s (Err line.WrongArgument) = refused s why.WrongArgument
+
+-- what a command line does; that a command isn't built comes before every other refusal
+abbrev pub command_line_outcome : PlainSession → Outcome
+command_line_outcome s = if is_unbuilt s.typed then refused s why.NotBuilt else reading_outcome s (command_of s.typed)
+
+-- ---- phrase text
+
+-- what comes of phrase text that is this: a phrase is entered where its canonical text isn't too long
+abbrev pub standing_entered : PlainSession → Standing → Outcome
+standing_entered s (Standing.phrase phrase) =
+    if nat_lt longest_phrase (length (Canon phrase)) then refused s why.PhraseFull else edited_by s (PlainEdit.enter phrase)
+standing_entered s (Standing.over (OverLimit.number_too_large place)) = refused s (why.Phrase (fault.NumberTooLarge place))
+standing_entered s (Standing.over (OverLimit.too_deep place)) = refused s (why.Phrase (fault.TooDeep place))
+standing_entered s (Standing.wrong_at place) = refused s (why.Phrase (fault.Syntax place))
+
+-- what comes of the typed line as phrase text of a category, where the cursor wants one
+abbrev pub text_entered : PlainSession → Option Category → Outcome
+text_entered s None = refused s why.NotHere
+text_entered s (Some category) = standing_entered s (standing_of category s.typed)
+
+-- ---- the line
+
+-- what Enter does: on an empty line it moves the cursor right, a line with a point first is a command, and any other is
+-- phrase text
+abbrev pub line_entered : PlainSession → Outcome
+line_entered s =
+    if length s.typed == 0
+    then cursor_moved s stop_right
+    else (if begins_with_point s.typed then command_line_outcome s else text_entered s (category_at s.tree s.stop))

@@ -1,0 +1,25 @@
+-- ---- sizes of screens
+pub mod Extent
+pub mod PlainScreens
+-- ---- the session as plain data
+pub mod PlainSession
+pub mod RefusalText
+pub mod Window
+pub mod OpenedSession
+pub mod Outcome
+-- ---- what each key does
+pub mod TypedLine
+pub mod CursorKeys
+pub mod EditCommands
+pub mod ClipCommands
+pub mod ElideCommand
+pub mod TextStanding
+pub mod EnteredLine
+pub mod Press
+pub mod MemoryTaken
+-- ---- the screen of a session
+pub mod SessionScreen
+-- ---- the session in the code
+pub mod SessionView
+-- ---- what private contracts alone cite
+pub mod Private

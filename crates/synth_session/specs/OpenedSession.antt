@@ -1,0 +1,33 @@
+-- The session with which an editor is opened.
+use Rattle.std.specs.Prelude.{[], ◌∷◌, Option, Some, None}
+use Rattle.template_tree.specs.NewTree.{new_items}
+use Rattle.template_tree.specs.PlainTree.{PlainTree}
+use Rattle.template_tree.specs.Stop.{PlainStop, node_stop}
+use Rattle.cursor_moves.specs.Move.{first_stop}
+use Rattle.synth_session.specs.Extent.{Extent}
+use Rattle.synth_session.specs.PlainSession.{PlainSession}
+use Rattle.synth_session.specs.Window.{scrolled}
+
+-- the new program: main with a hole for a declaration and one for a statement, and a hole for a procedure
+abbrev pub new_tree : PlainTree
+new_tree = record { items = new_items; spare = 0; drawn = 4; live = 4 }
+
+-- the program with which a session begins: the one that is given, or the new one
+abbrev pub tree_at_first : Option PlainTree → PlainTree
+tree_at_first None = new_tree
+tree_at_first (Some tree) = tree
+
+-- where the cursor stands at first: at the new program's hole for a statement, or at main of a program that is given
+abbrev pub stop_at_first : Option PlainTree → PlainStop
+stop_at_first None = node_stop (0 ∷ 1 ∷ [])
+stop_at_first (Some tree) = first_stop tree.items
+
+-- a session over a tree with the cursor at a stop, on a screen of this size: nothing is typed, clipped or told, and the
+-- window begins at the first line from which the cursor is seen
+abbrev pub session_over : Extent → PlainTree → PlainStop → PlainSession
+session_over size tree stop =
+    scrolled record { size = size; tree = tree; stop = stop; top = 0; typed = []; clips = []; message = [] }
+
+-- the session with which an editor is opened, over the program that is given or a new one
+unfoldable pub opened_session : Extent → Option PlainTree → PlainSession
+opened_session size tree = session_over size (tree_at_first tree) (stop_at_first tree)

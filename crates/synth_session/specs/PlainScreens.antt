@@ -1,0 +1,13 @@
+-- Two screens as plain data.
+use Rattle.std.specs.Prelude.{◌≡◌}
+use Rattle.screen_window.specs.PlainGrid.{PlainGrid}
+
+-- the screen that was painted last, and the one that was drawn last
+pub record PlainScreens : Type 0 where
+  pub shown : PlainGrid
+  pub drawn : PlainGrid
+
+-- two screens have as many rows and columns
+pub record HaveOneSize (one other : PlainGrid) : Type 0 where
+  pub rows : one.rows ≡ other.rows
+  pub cols : one.cols ≡ other.cols

@@ -1,0 +1,17 @@
+-- The session as plain data.
+use Rattle.std.specs.Prelude.{ℕ, List}
+use Rattle.template_tree.specs.PlainTree.{PlainTree}
+use Rattle.template_tree.specs.Stop.{PlainStop}
+use Rattle.clip_store.specs.PlainClips.{Pair}
+use Rattle.synth_session.specs.Extent.{Extent}
+
+-- all that the screen and the next key depend on: the screen's size, the program, the stop of the cursor, the number of
+-- the window's first line, the typed line, the clips, and the text of the message; lists have no room in it
+pub record PlainSession : Type 0 where
+  pub size : Extent
+  pub tree : PlainTree
+  pub stop : PlainStop
+  pub top : ℕ
+  pub typed : List ℕ
+  pub clips : List Pair
+  pub message : List ℕ

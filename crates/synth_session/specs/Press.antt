@@ -1,0 +1,36 @@
+-- What each key does. A key that asks for more than one thing is refused for the first of these that holds: an unbuilt
+-- command, an unknown command, a wrong argument, floating point, no clip, the wrong stop, a fault in phrase text, a phrase or
+-- line that is full, a limit of trees, full clips, the edge.
+use Rattle.std.specs.Prelude.{◌≡◌}
+use Rattle.cursor_moves.specs.Move.{stop_down, stop_left, stop_right, stop_up}
+use Rattle.synth_session.specs.declared.key.Key.{Key}
+use Rattle.synth_session.specs.declared.key.Key.TheVariants.{Char, Enter, Erase, Clear, Tab, Up, Down, Left, Right, Other}
+use Rattle.synth_session.specs.declared.answer.Answer.{Answer}
+use Rattle.synth_session.specs.declared.answer.Refusal.{Refusal}
+use Rattle.synth_session.specs.declared.answer.Refusal.TheVariants as why
+use Rattle.synth_session.specs.CursorKeys.{cursor_moved}
+use Rattle.synth_session.specs.EnteredLine.{line_entered}
+use Rattle.synth_session.specs.Outcome.{Outcome, refused}
+use Rattle.synth_session.specs.PlainSession.{PlainSession}
+use Rattle.synth_session.specs.RefusalText.{refusal_text}
+use Rattle.synth_session.specs.TypedLine.{char_typed, last_erased, line_cleared, phrase_typed}
+
+-- what a key makes of a session
+unfoldable pub press : PlainSession → Key → Outcome
+press s (Char byte) = char_typed s byte
+press s Enter = line_entered s
+press s Erase = last_erased s
+press s Clear = line_cleared s
+press s Tab = phrase_typed s
+press s Up = cursor_moved s stop_up
+press s Down = cursor_moved s stop_down
+press s Left = cursor_moved s stop_left
+press s Right = cursor_moved s stop_right
+press s Other = refused s why.UnknownCommand
+
+-- the law of refused keys: such a key changes the message alone
+abbrev pub RefusedKeysChangeTheMessage : Type 0
+RefusedKeysChangeTheMessage =
+    (s : PlainSession) (key : Key) (reason : Refusal)
+    → (press s key).answer ≡ Answer.Refused reason
+    → (press s key).after ≡ record s { message = refusal_text reason }

@@ -1,0 +1,59 @@
+-- The screen of a session.
+use Rattle.std.specs.Prelude.{ℕ, List, [], ◌++◌, codes, Option, Some, None}
+use Rattle.std.specs.FinMap.{empty}
+use Rattle.std.specs.Option.{option_map_or}
+use Rattle.plcs_base.specs.Mark.{MarkMap}
+use Rattle.plcs_grammar.specs.declared.node_kind.Sort.{Sort}
+use Rattle.plcs_grammar.specs.Placeholder.{placeholder_word}
+use Rattle.template_tree.specs.Path.{node_at}
+use Rattle.template_tree.specs.PlainTree.{PlainTree}
+use Rattle.template_tree.specs.Program.{sort_of}
+use Rattle.template_tree.specs.Stop.{PlainStop}
+use Rattle.screen_window.specs.PlainGrid.{PlainGrid}
+use Rattle.screen_window.specs.PlainView.{PlainView}
+use Rattle.screen_window.specs.Screen.{Screen}
+use Rattle.session_edit.specs.Here.{category_at}
+use Rattle.synth_session.specs.PlainSession.{PlainSession}
+
+-- ---- the prompt
+
+-- the word for a node of a sort, or a hole for one
+abbrev pub sort_word : Sort → List ℕ
+sort_word Sort.Main = codes "main"
+sort_word Sort.Procedure = codes "procedure"
+sort_word Sort.Declaration = codes "declaration"
+sort_word Sort.Statement = codes "statement"
+
+-- the word for what stands at a stop: for a part that of the placeholder of its category, or else the one for the node
+abbrev pub word_at : PlainTree → PlainStop → Option ℕ → List ℕ
+word_at tree stop None = option_map_or (λ node. sort_word (sort_of node.label.kind)) (node_at tree.items stop.path) []
+word_at tree stop (Some part) = option_map_or placeholder_word (category_at tree stop) []
+
+-- what is asked for at the cursor
+unfoldable pub prompt : PlainTree → PlainStop → List ℕ
+prompt tree stop = word_at tree stop stop.part ++ codes "> "
+
+-- ---- the screen
+
+-- no phrase is marked yet
+abbrev pub no_marks : MarkMap
+no_marks = empty
+
+-- what the screen of a session shows; nothing runs yet
+abbrev pub view_of : PlainSession → PlainView
+view_of s = record {
+  items = s.tree.items;
+  marks = no_marks;
+  stop = s.stop;
+  top = s.top;
+  run_place = None;
+  output = [];
+  message = s.message;
+  prompt = prompt s.tree s.stop;
+  typed = s.typed;
+  code = None;
+}
+
+-- the screen of a session
+unfoldable pub grid : PlainSession → PlainGrid
+grid s = Screen s.size.rows s.size.cols (view_of s)

@@ -1,0 +1,70 @@
+-- What a session is as plain data, and which conditions its parts keep.
+use Rattle.std.specs.Prelude.{◌≡◌, ◌+◌, ◌*◌, ◌<◌, ◌≤◌, Bool, IsTrue, Result, Ok, Err}
+use Rattle.plcs_base.specs.declared.memory.OutOfMemory.{OutOfMemory}
+use Rattle.template_tree.specs.Limit.{most_slots}
+use Rattle.template_tree.specs.PlainTree.{roomless_tree}
+use Rattle.template_tree.specs.Stop.{IsStop, line_at, plain_stop}
+use Rattle.template_tree.specs.Tree.{IsTree}
+use Rattle.clip_store.specs.PlainClips.{roomless_pairs}
+use Rattle.unparse_layout.specs.Agreement.{IsLayoutOf}
+use Rattle.screen_window.specs.PlainGrid.{PlainGrid}
+use Rattle.screen_window.specs.Screen.{window_rows}
+use Rattle.synth_session.specs.declared.answer.Answer.{Answer}
+use Rattle.synth_session.specs.declared.program.Program.{Program}
+use Rattle.synth_session.specs.declared.session.Session.{Session}
+use Rattle.synth_session.specs.Outcome.{Outcome}
+use Rattle.synth_session.specs.PlainSession.{PlainSession}
+use Rattle.synth_session.specs.RefusalText.{shown_message}
+
+-- a session as plain data
+abbrev pub plain_session : {W : Type 0} → Session W → PlainSession
+plain_session s = record {
+  size = record { rows = s.screens.shown.rows; cols = s.screens.shown.cols };
+  tree = roomless_tree s.program.tree;
+  stop = plain_stop s.stop;
+  top = s.top;
+  typed = s.typed.items;
+  clips = roomless_pairs s.clips.pairs;
+  message = shown_message s.message;
+}
+
+-- the screen that a session painted last
+abbrev pub shown_grid : {W : Type 0} → Session W → PlainGrid
+shown_grid s = s.screens.shown
+
+-- the screen that a session drew last
+abbrev pub drawn_grid : {W : Type 0} → Session W → PlainGrid
+drawn_grid s = s.screens.drawn
+
+-- what depends on the program is that of the program
+pub record Agrees {W : Type 0} (program : Program W) : Type 0 where
+  pub tree : IsTree program.tree
+  pub layout : IsLayoutOf program.layout program.tree
+
+-- the cursor stands at a visible stop, and the window begins at a line that a program can have
+pub record IsPlaced (s : PlainSession) : Type 0 where
+  pub stop : IsStop s.tree.items s.stop
+  pub top : s.top ≤ 4 * most_slots
+
+-- the cursor's line is in the window
+pub record IsSeen (s : PlainSession) : Type 0 where
+  pub from : s.top ≤ line_at s.tree.items s.stop
+  pub to : line_at s.tree.items s.stop < s.top + window_rows s.size.rows
+
+-- the parts of a session keep the conditions between them, and the cursor is seen
+pub record IsSession {W : Type 0} (s : Session W) : Type 0 where
+  pub agrees : Agrees s.program
+  pub placed : IsPlaced (plain_session s)
+  pub seen : IsSeen (plain_session s)
+
+-- what became of a key that may take memory, or may not: its outcome, or memory ran out and the session is as it was
+abbrev pub Meets : (may_take_memory : Bool) → Outcome → PlainSession → PlainSession → Result Answer OutOfMemory → Type 0
+Meets may_take_memory outcome before now (Ok answer) = (now ≡ outcome.after) × (answer ≡ outcome.answer)
+Meets may_take_memory outcome before now (Err error) = IsTrue may_take_memory × (now ≡ before)
+
+-- a key did this, as far as memory allows; the session's parts keep their conditions, and its screens stay
+pub record Does {W : Type 0} (may_take_memory : Bool) (outcome : Outcome) (before now : Session W) (result : Result Answer OutOfMemory)
+    : Type 0 where
+  pub session : IsSession now
+  pub screens : now.screens ≡ before.screens
+  pub met : Meets may_take_memory outcome (plain_session before) (plain_session now) result

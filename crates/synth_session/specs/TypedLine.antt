@@ -1,0 +1,43 @@
+-- The keys that change the typed line.
+use Rattle.std.specs.Prelude.{ℕ, ◌-◌, ◌==◌, nat_lt, if◌then◌else◌, [], ◌∷◌, ◌++◌, length, take, Option, Some, None, option_and_then}
+use Rattle.plcs_grammar.specs.Canon.{Canon}
+use Rattle.plcs_grammar.specs.PlainPhrase.{PlainPhrase}
+use Rattle.template_tree.specs.Path.{node_at}
+use Rattle.template_tree.specs.PlainTree.{PlainTree}
+use Rattle.template_tree.specs.Stop.{PlainStop}
+use Rattle.screen_window.specs.LowerRows.{cursor_part}
+use Rattle.session_edit.specs.Here.{phrase_in}
+use Rattle.synth_session.specs.declared.answer.Refusal.TheVariants as why
+use Rattle.synth_session.specs.declared.typed_line.TheConstants.{LINE_LIMIT}
+use Rattle.synth_session.specs.Outcome.{Outcome, done, refused}
+use Rattle.synth_session.specs.PlainSession.{PlainSession}
+
+-- a printable byte comes behind the typed line, where that has room
+abbrev pub char_typed : PlainSession → ℕ → Outcome
+char_typed s byte =
+    if nat_lt (length s.typed) LINE_LIMIT then done (record s { typed = s.typed ++ byte ∷ [] }) else refused s why.PhraseFull
+
+-- the last byte of the typed line goes, where there is one
+abbrev pub last_erased : PlainSession → Outcome
+last_erased s =
+    if length s.typed == 0 then refused s why.NotHere else done (record s { typed = take (length s.typed - 1) s.typed })
+
+-- the whole typed line goes
+abbrev pub line_cleared : PlainSession → Outcome
+line_cleared s = done (record s { typed = [] })
+
+-- the phrase at the cursor: the one in the part at which it stands, or of the assignment on which it stands
+unfoldable pub cursor_phrase : PlainTree → PlainStop → Option PlainPhrase
+cursor_phrase tree stop =
+    option_and_then (λ node. option_and_then (λ part. phrase_in part node) (cursor_part node.label.kind stop.part))
+    (node_at tree.items stop.path)
+
+-- the canonical text of a phrase comes into the line, where there is a phrase and the line has room for it
+abbrev pub text_typed : PlainSession → Option PlainPhrase → Outcome
+text_typed s None = refused s why.NotHere
+text_typed s (Some phrase) =
+    if nat_lt LINE_LIMIT (length (Canon phrase)) then refused s why.PhraseFull else done (record s { typed = Canon phrase })
+
+-- the text of the phrase at the cursor comes into the line, where that is empty
+abbrev pub phrase_typed : PlainSession → Outcome
+phrase_typed s = if length s.typed == 0 then text_typed s (cursor_phrase s.tree s.stop) else refused s why.NotHere

@@ -1,0 +1,107 @@
+//! What becomes of keys.
+ghost use Rattle.std.specs.Prelude.{◌≡◌};
+ghost use Rattle.synth_session.specs.RefusalText.{phrase_message, refusal_message, tree_message};
+
+use phrase_parser::PhraseFault;
+use session_words::{Message, RefusalMessage};
+use template_tree::TreeFault;
+
+/// What became of a key.
+#[derive(Clone, Copy, Debug, PartialEq, Eq)]
+pub enum Answer {
+    /// It was carried out.
+    Done,
+    /// It changed nothing but the message.
+    Refused(Refusal),
+    /// It ended the session.
+    Quit,
+}
+
+/// Whether steps of a run are to be made after a key.
+#[derive(Clone, Copy, Debug, PartialEq, Eq)]
+pub enum Tick {
+    /// A step was made, and more may follow.
+    Again,
+    /// No step is to be made.
+    Over,
+}
+
+/// Why a key was refused.
+#[derive(Clone, Copy, Debug, PartialEq, Eq)]
+pub enum Refusal {
+    /// The line is no command, or the key has no meaning.
+    UnknownCommand,
+    /// The cursor stands where what is asked for can't be done.
+    NotHere,
+    /// The phrase text is wrong, or past a limit. `OutOfMemory` is no refusal: `press` answers it itself.
+    Phrase(PhraseFault),
+    /// No clip has the name, or the clips are full.
+    Clip(ClipRefusal),
+    /// The program would be past a limit. `NotHere` isn't among these, and `OutOfMemory` is no refusal.
+    Tree(TreeFault),
+    /// The command has an argument that it doesn't take, or lacks one.
+    WrongArgument,
+    /// The typed line, or the phrase in its canonical text, would be too long.
+    PhraseFull,
+    /// The language has no floating-point numbers.
+    FloatNotThere,
+    /// There is no stop to go to.
+    AtEdge,
+    /// The command isn't built yet.
+    NotBuilt,
+}
+
+/// Why a clip was refused.
+#[derive(Clone, Copy, Debug, PartialEq, Eq)]
+pub enum ClipRefusal {
+    /// No clip has the name.
+    NoClip,
+    /// There would be more than 64 clips, or more than 20,000 slots in them.
+    Full,
+}
+
+impl Refusal {
+    /// The message that is shown for it; want of memory has none.
+    pub(crate) fn message(self) -> Option<Message>
+        ensures { result ≡ refusal_message self }
+    {
+        Some(Message::Refusal(match self {
+            Refusal::UnknownCommand => RefusalMessage::UnknownCommand,
+            Refusal::NotHere => RefusalMessage::NotHere,
+            Refusal::Phrase(fault) => return phrase_message(fault),
+            Refusal::Clip(ClipRefusal::NoClip) => RefusalMessage::NoClip,
+            Refusal::Clip(ClipRefusal::Full) => RefusalMessage::ClipsFull,
+            Refusal::Tree(fault) => return tree_message(fault),
+            Refusal::WrongArgument => RefusalMessage::WrongArgument,
+            Refusal::PhraseFull => RefusalMessage::PhraseFull,
+            Refusal::FloatNotThere => RefusalMessage::FloatNotThere,
+            Refusal::AtEdge => RefusalMessage::AtEdge,
+            Refusal::NotBuilt => return Some(Message::NotBuilt),
+        }))
+    }
+}
+
+/// The message that is shown for phrase text that is refused; want of memory has none.
+fn phrase_message(fault: PhraseFault) -> Option<Message>
+    ensures { result ≡ phrase_message fault }
+{
+    Some(Message::Refusal(match fault {
+        PhraseFault::Syntax(place) => RefusalMessage::SyntaxAt(place),
+        PhraseFault::NumberTooLarge(place) => RefusalMessage::NumberTooLargeAt(place),
+        PhraseFault::TooDeep(place) => RefusalMessage::PhraseTooDeepAt(place),
+        PhraseFault::OutOfMemory => return None,
+    }))
+}
+
+/// The message that is shown for a program past a limit; want of memory has none.
+fn tree_message(fault: TreeFault) -> Option<Message>
+    ensures { result ≡ tree_message fault }
+{
+    Some(Message::Refusal(match fault {
+        TreeFault::NotHere => RefusalMessage::NotHere,
+        TreeFault::TooDeep => RefusalMessage::TreeTooDeep,
+        TreeFault::TooLarge => RefusalMessage::TreeTooLarge,
+        TreeFault::SlotsUsedUp => RefusalMessage::SlotsUsedUp,
+        TreeFault::OutOfMemory => return None,
+    }))
+}

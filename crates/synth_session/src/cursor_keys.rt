@@ -1,0 +1,88 @@
+//! The keys and commands that move the cursor.
+ghost use Rattle.std.specs.Prelude.{◌≡◌, ◌==◌, IfSome, length, if◌then◌else◌};
+ghost use Rattle.template_tree.specs.Stop.{IsStop};
+ghost use Rattle.cursor_moves.specs.Move.{first_stop, last_stop, moved_to, stop_down, stop_left, stop_right, stop_up};
+ghost use Rattle.synth_session.specs.CursorKeys.{cursor_goes, cursor_moved};
+ghost use Rattle.synth_session.specs.Outcome.{line_done, refused};
+ghost use Rattle.synth_session.specs.Private.KeyAnswer.{AnswersKey};
+ghost use Rattle.synth_session.specs.SessionView.{IsSession, plain_session};
+
+use crate::answer::{Answer, Refusal};
+use crate::session::Session;
+use cursor_moves::{Move, bottom, down, left, right, top, up};
+use plcs_base::Work;
+
+impl<W: Work> Session<W> {
+    /// Moves the cursor to an earlier line.
+    pub(crate) fn move_up(&mut self) -> Answer
+        requires { IsSession self.old }
+        ensures { AnswersKey (cursor_moved (plain_session self.old) stop_up) self.old self.new result }
+    {
+        let to = up(&self.program.tree, &self.stop);
+        self.go(to)
+    }
+
+    /// Moves the cursor to a later line.
+    pub(crate) fn move_down(&mut self) -> Answer
+        requires { IsSession self.old }
+        ensures { AnswersKey (cursor_moved (plain_session self.old) stop_down) self.old self.new result }
+    {
+        let to = down(&self.program.tree, &self.stop);
+        self.go(to)
+    }
+
+    /// Moves the cursor to the stop before.
+    pub(crate) fn move_left(&mut self) -> Answer
+        requires { IsSession self.old }
+        ensures { AnswersKey (cursor_moved (plain_session self.old) stop_left) self.old self.new result }
+    {
+        let to = left(&self.program.tree, &self.stop);
+        self.go(to)
+    }
+
+    /// Moves the cursor to the next stop.
+    pub(crate) fn move_right(&mut self) -> Answer
+        requires { IsSession self.old }
+        ensures { AnswersKey (cursor_moved (plain_session self.old) stop_right) self.old self.new result }
+    {
+        let to = right(&self.program.tree, &self.stop);
+        self.go(to)
+    }
+
+    /// Goes to the first stop.
+    pub(crate) fn go_to_top(&mut self) -> Answer
+        requires { IsSession self.old }
+        ensures { AnswersKey (line_done (record (plain_session self.old) { stop = first_stop (plain_session self.old).tree.items })) self.old self.new result }
+    {
+        self.stop = top(&self.program.tree);
+        self.line_done()
+    }
+
+    /// Goes to the last stop.
+    pub(crate) fn go_to_bottom(&mut self) -> Answer
+        requires { IsSession self.old }
+        ensures { AnswersKey (line_done (record (plain_session self.old) { stop = last_stop (plain_session self.old).tree.items })) self.old self.new result }
+    {
+        self.stop = bottom(&self.program.tree);
+        self.line_done()
+    }
+
+    /// Lets the cursor go where a move leads, where nothing is typed.
+    fn go(&mut self, to: Move) -> Answer
+        requires session { IsSession self.old }
+        requires stop { IfSome (moved_to to) (IsStop (plain_session self.old).tree.items) }
+        ensures { AnswersKey (if length self.old.typed.items == 0 then cursor_goes (plain_session self.old) (moved_to to)
+            else refused (plain_session self.old) Refusal.NotHere) self.old self.new result }
+    {
+        if !self.typed.is_empty() {
+            return self.refuse(Refusal::NotHere);
+        }
+        match to {
+            Move::Moved(stop) => {
+                self.stop = stop;
+                self.done()
+            }
+            Move::AtEdge => self.refuse(Refusal::AtEdge),
+        }
+    }
+}

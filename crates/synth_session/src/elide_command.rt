@@ -1,0 +1,46 @@
+//! The command that hides the refinement of a comment, or shows it again.
+ghost use Rattle.std.specs.Prelude.{◌≡◌};
+ghost use Rattle.template_tree.specs.Elision.{is_comment};
+ghost use Rattle.synth_session.specs.ElideCommand.{comment_turned, is_at_comment};
+ghost use Rattle.synth_session.specs.Private.KeyAnswer.{AnswersKey};
+ghost use Rattle.synth_session.specs.SessionView.{IsSession, plain_session};
+
+use crate::answer::{Answer, Refusal};
+use crate::session::Session;
+use plcs_base::Work;
+use plcs_grammar::{NodeKind, Template};
+use template_tree::room_is_not_shown;
+
+impl<W: Work> Session<W> {
+    /// Hides the refinement of the comment at the cursor, or shows it again.
+    pub(crate) fn turn_comment(&mut self) -> Answer
+        requires { IsSession self.old }
+        ensures { AnswersKey (comment_turned (plain_session self.old)) self.old self.new result }
+    {
+        if !self.is_at_comment() {
+            return self.refuse(Refusal::NotHere);
+        }
+        self.program.turn(&self.stop.path);
+        self.line_done()
+    }
+
+    /// Whether the cursor stands on a comment, or at its text.
+    #[tactic(auto, unfolding(crate::specs::ElideCommand::is_at_comment))]
+    fn is_at_comment(&self) -> bool
+        requires { IsSession self.now }
+        ensures { result ≡ is_at_comment (plain_session self.now).tree (plain_session self.now).stop }
+    {
+        room_is_not_shown();
+        match self.program.tree.node(&self.stop.path) {
+            Some(node) => is_comment(node.kind()),
+            None => false,
+        }
+    }
+}
+
+/// Whether nodes of the kind are comments.
+fn is_comment(kind: NodeKind) -> bool
+    ensures { result ≡ is_comment kind }
+{
+    kind == NodeKind::Filled(Template::Comment)
+}

@@ -1,0 +1,149 @@
+//! What the typed line asks for: a command, or phrase text.
+ghost use Rattle.std.specs.Prelude.{◌≡◌, ◌<◌, ◌^◌, IfErr, IfOk, IsTrue, is_some, length, map};
+ghost use Rattle.std.specs.List.{list_any};
+ghost use Rattle.std.specs.Str.{bytes_eq};
+ghost use Rattle.plcs_grammar.specs.Canon.{IsWellFormed};
+ghost use Rattle.plcs_grammar.specs.PlainPhrase.{category_of, plain_phrase};
+ghost use Rattle.phrase_parser.specs.Standing.{Standing};
+ghost use Rattle.session_words.specs.CommandLine.{begins_with_point, command_of};
+ghost use Rattle.session_words.specs.PlainCommand.{plain_command};
+ghost use Rattle.session_edit.specs.Here.{category_at};
+ghost use Rattle.synth_session.specs.EnteredLine.{command_line_outcome, command_outcome, is_unbuilt, line_entered, text_entered, unbuilt_words};
+ghost use Rattle.synth_session.specs.MemoryTaken.{command_line_takes_memory, command_takes_memory, line_takes_memory};
+ghost use Rattle.synth_session.specs.Private.TextFault.{IsFaultOf};
+ghost use Rattle.synth_session.specs.TextStanding.{standing_of};
+ghost use Rattle.synth_session.specs.SessionView.{Does, IsSession, plain_session};
+
+use crate::answer::{Answer, Refusal};
+use crate::session::Session;
+use crate::typed_line::LINE_LIMIT;
+use arrayvec::ArrayVec;
+use phrase_parser::{PhraseFault, parse};
+use plcs_base::{OutOfMemory, Work};
+use plcs_grammar::{Category, Phrase, shown_len};
+use session_edit::{Edit, wanted};
+use session_words::{Command, CommandFault, begins_with_point, command_word, read_command};
+use std::alloc::Global;
+use template_tree::{LONGEST_PHRASE, Side};
+
+impl<W: Work> Session<W> {
+    /// Does what the typed line asks for.
+    pub(crate) fn enter(&mut self, alloc: Global) -> Result<Answer, OutOfMemory>
+        requires { IsSession self.old }
+        ensures { Does (line_takes_memory (plain_session self.old)) (line_entered (plain_session self.old)) self.old self.new result }
+    {
+        if self.typed.is_empty() {
+            return Ok(self.move_right());
+        }
+        let mut line: ArrayVec<u8, LINE_LIMIT> = ArrayVec::new();
+        let _ = line.try_extend_from_slice(&self.typed);
+        if begins_with_point(&line) {
+            self.enter_command(alloc, &line)
+        } else {
+            self.enter_text(alloc)
+        }
+    }
+
+    /// Does what the command line asks for, which is the typed line.
+    fn enter_command(&mut self, alloc: Global, line: &[u8]) -> Result<Answer, OutOfMemory>
+        requires session { IsSession self.old }
+        requires line { line.now ≡ self.old.typed.items }
+        requires point { IsTrue (begins_with_point line.now) }
+        ensures { Does (command_line_takes_memory (plain_session self.old)) (command_line_outcome (plain_session self.old)) self.old self.new result }
+    {
+        if is_unbuilt(line) {
+            return Ok(self.refuse(Refusal::NotBuilt));
+        }
+        match read_command(line) {
+            Ok(command) => self.obey(alloc, command),
+            Err(CommandFault::UnknownCommand) => Ok(self.refuse(Refusal::UnknownCommand)),
+            Err(CommandFault::WrongArgument) => Ok(self.refuse(Refusal::WrongArgument)),
+        }
+    }
+
+    /// Does what a command asks for.
+    fn obey(&mut self, alloc: Global, command: Command<'_>) -> Result<Answer, OutOfMemory>
+        requires { IsSession self.old }
+        ensures { Does (command_takes_memory (plain_command command.entry)) (command_outcome (plain_session self.old) (plain_command command.entry)) self.old self.new result }
+    {
+        match command {
+            Command::Template(template) => self.edit(alloc, Edit::Fill(template)),
+            Command::Float => Ok(self.refuse(Refusal::FloatNotThere)),
+            Command::Before => self.edit(alloc, Edit::Beside(Side::Before)),
+            Command::After => self.edit(alloc, Edit::Beside(Side::After)),
+            Command::Del => self.edit(alloc, Edit::Delete),
+            Command::Cut(name) => self.cut(alloc, name),
+            Command::Copy(name) => self.copy(alloc, name),
+            Command::Insert(name) => self.insert(alloc, &name),
+            Command::Elide => Ok(self.turn_comment()),
+            Command::Top => Ok(self.go_to_top()),
+            Command::Bottom => Ok(self.go_to_bottom()),
+            Command::Quit => Ok(Answer::Quit),
+            _ => Ok(self.refuse(Refusal::NotBuilt)),
+        }
+    }
+
+    /// Enters the typed line as phrase text at the cursor.
+    fn enter_text(&mut self, alloc: Global) -> Result<Answer, OutOfMemory>
+        requires { IsSession self.old }
+        ensures { Does (is_some (category_at (plain_session self.old).tree (plain_session self.old).stop)) (text_entered (plain_session self.old) (category_at (plain_session self.old).tree (plain_session self.old).stop)) self.old self.new result }
+    {
+        let Some(category) = wanted(&self.program.tree, &self.stop) else {
+            return Ok(self.refuse(Refusal::NotHere));
+        };
+        match read_phrase(alloc, category, self.typed.as_slice()) {
+            Ok(phrase) => {
+                if shown_len(&phrase) > LONGEST_PHRASE {
+                    return Ok(self.refuse(Refusal::PhraseFull));
+                }
+                self.edit(alloc, Edit::Enter(phrase))
+            }
+            Err(PhraseFault::OutOfMemory) => Err(OutOfMemory),
+            Err(fault) => Ok(self.refuse(Refusal::Phrase(fault))),
+        }
+    }
+}
+
+/// The phrase that the text is in the category.
+fn read_phrase(alloc: Global, category: Category, text: &[u8]) -> Result<Phrase, PhraseFault>
+    requires { length text.now < 2 ^ 32 }
+    ensures phrase { IfOk result (λ phrase. standing_of category text.now ≡ Standing.phrase (plain_phrase phrase)) }
+    ensures sound { IfOk result (λ phrase. IsWellFormed (category_of (plain_phrase phrase)) (plain_phrase phrase)) }
+    ensures fault { IfErr result (λ fault. IsFaultOf fault (standing_of category text.now)) }
+{
+    parse(alloc, category, text)
+}
+
+/// The words of the commands that aren't built yet.
+const UNBUILT_WORDS: [&[u8]; 9] = [
+    b"run", b"step", b"resume", b"back", b"trace", b"input", b"save", b"load", b"code",
+];
+
+/// Whether a line that begins with a point is that of a command which isn't built yet.
+#[tactic(auto, unfolding(crate::specs::EnteredLine::is_unbuilt))]
+fn is_unbuilt(line: &[u8]) -> bool
+    requires { IsTrue (begins_with_point line.now) }
+    ensures { result ≡ is_unbuilt line.now }
+{
+    match command_word(line) {
+        Some(word) => is_among(unbuilt_words(), word),
+        None => false,
+    }
+}
+
+/// The words of the commands that aren't built yet.
+fn unbuilt_words() -> &'static [&'static [u8]]
+    ensures { map (λ word. word.now) result.now ≡ unbuilt_words }
+{
+    &UNBUILT_WORDS
+}
+
+/// Whether a word is one of these.
+fn is_among(words: &[&[u8]], word: &[u8]) -> bool
+    ensures { result ≡ list_any (bytes_eq word.now) (map (λ listed. listed.now) words.now) }
+{
+    let Some((first, rest)) = words.split_first() else {
+        return false;
+    };
+    word == *first || is_among(rest, word)
+}

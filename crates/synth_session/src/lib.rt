@@ -1,0 +1,28 @@
+//! The session of the editor: what each key makes of the program, the cursor, the typed line and the clips,
+//! and the screen that shows them.
+#![tactic(auto)]
+
+mod answer;
+mod clip_commands;
+mod cursor_keys;
+mod edit_commands;
+mod elide_command;
+mod entered_line;
+mod key;
+mod press;
+mod program;
+mod screens;
+mod session;
+mod session_screen;
+#[cfg(test)]
+mod session_tests;
+mod size;
+mod typed_line;
+mod window;
+
+pub use answer::{Answer, ClipRefusal, Refusal, Tick};
+pub use key::Key;
+pub use press::{refused_keys_change_the_message, texts_stand_so};
+pub use session::Session;
+pub use size::ScreenSize;
+pub use typed_line::LINE_LIMIT;

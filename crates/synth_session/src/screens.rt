@@ -1,0 +1,91 @@
+//! The screen that is shown, and the one that is drawn to be shown next.
+ghost use Rattle.std.specs.Prelude.{◌≡◌, ◌+◌, ◌≤◌, ◌<◌, ◌^◌, IfOk, OnErr, OnOk};
+ghost use Rattle.template_tree.specs.Tree.{IsTree};
+ghost use Rattle.unparse_layout.specs.Agreement.{IsLayoutOf};
+ghost use Rattle.screen_window.specs.Paint.{Paint};
+ghost use Rattle.screen_window.specs.PlainGrid.{blank_grid};
+ghost use Rattle.screen_window.specs.Screen.{Screen, window_rows};
+ghost use Rattle.screen_window.specs.View.{plain_view};
+ghost use Rattle.screen_window.specs.Writes.{Writes};
+ghost use Rattle.screen_window.specs.declared.limit.TheConstants.{MOST_ROWS};
+
+use crate::size::ScreenSize;
+use plcs_base::{Marked, OutOfMemory, Work};
+use screen_window::{Grid, View, compose, paint};
+use std::alloc::Global;
+use std::marker::Model;
+use std::mem;
+use synth_outside::{Sink, SinkFault};
+
+/// The screen that was painted last, and the one that was drawn last; they have one size.
+#[derive(Drop)]
+pub struct Screens {
+    shown: Grid,
+    drawn: Grid,
+}
+
+impl Model for Screens {
+    ghost use Rattle.synth_session.specs.PlainScreens.{PlainScreens, HaveOneSize};
+
+    ghost Value = { PlainScreens };
+
+    ghost view = { λ screens. record { shown = screens.shown; drawn = screens.drawn } };
+
+    ghost invariant = { λ screens. HaveOneSize screens.shown screens.drawn };
+}
+
+impl Screens {
+    /// Two blank screens.
+    pub(crate) fn new(alloc: Global, size: ScreenSize) -> Result<Screens, OutOfMemory>
+        ensures shown { IfOk result (λ screens. screens.shown ≡ blank_grid size.rows size.cols) }
+        ensures drawn { IfOk result (λ screens. screens.drawn ≡ blank_grid size.rows size.cols) }
+    {
+        let (rows, cols) = (size.rows(), size.cols());
+        Ok(Screens {
+            shown: Grid::new(alloc, rows, cols)?,
+            drawn: Grid::new(alloc, rows, cols)?,
+        })
+    }
+
+    /// How many rows the window has.
+    pub(crate) fn window_rows(&self) -> u16
+        ensures rows { result ≡ window_rows self.now.shown.rows }
+        ensures least { 1 ≤ result }
+    {
+        self.shown.rows() - OTHER_ROWS
+    }
+
+    /// Draws a view on the screen that is shown next.
+    pub(crate) fn draw<W: Work, M: Marked>(&mut self, view: &View<'_, W, M>, work: &mut W)
+        requires tree { IsTree view.now.tree.now }
+        requires layout { IsLayoutOf view.now.layout.now view.now.tree.now }
+        requires top { view.now.top + MOST_ROWS < 2 ^ 32 }
+        ensures drawn { self.new.drawn ≡ Screen self.old.shown.rows self.old.shown.cols (plain_view M.marks view.now) }
+        ensures shown { self.new.shown ≡ self.old.shown }
+        ensures laid { W.laid work.new ≤ W.laid work.old + window_rows self.old.shown.rows }
+        ensures lays { W.laid work.old ≤ W.laid work.new }
+        ensures emitted { W.emitted work.new ≡ W.emitted work.old }
+        ensures checked { W.checked work.new ≡ W.checked work.old }
+        ensures fetched { W.fetched work.new ≡ W.fetched work.old }
+    {
+        let _ = self.drawn.rows();
+        compose(&mut self.drawn, view, work);
+    }
+
+    /// Paints the screen that was drawn over the one that is shown, and shows it then.
+    pub(crate) fn paint<K: Sink>(&mut self, sink: &mut K) -> Result<(), SinkFault>
+        ensures wrote { Writes (Paint self.old.shown self.old.drawn) result
+            (K.taken sink.old) (K.taken sink.new) (K.faults sink.old) (K.faults sink.new) }
+        ensures shown { OnOk result (self.new.shown ≡ self.old.drawn) }
+        ensures failed { OnErr result (self.new ≡ self.old) }
+        ensures rows { self.new.shown.rows ≡ self.old.shown.rows }
+        ensures cols { self.new.shown.cols ≡ self.old.shown.cols }
+    {
+        paint(&self.shown, &self.drawn, sink)?;
+        mem::swap(&mut self.shown, &mut self.drawn);
+        Ok(())
+    }
+}
+
+/// The rows that aren't the window's: dashes, three rows of output, the message and the input.
+const OTHER_ROWS: u16 = 6;

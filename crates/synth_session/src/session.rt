@@ -1,0 +1,192 @@
+//! The session: the program that is edited, with the cursor, the window, the typed line and the clips.
+ghost use Rattle.std.specs.Prelude.{◌≡◌, [], ◌∷◌, None, IfOk, IfSome, option_map};
+ghost use Rattle.plcs_base.specs.Put.{PutsAll};
+ghost use Rattle.template_tree.specs.Listing.{Listing};
+ghost use Rattle.template_tree.specs.PlainTree.{roomless_tree};
+ghost use Rattle.template_tree.specs.Slots.{count};
+ghost use Rattle.template_tree.specs.Stop.{IsStop, plain_stop};
+ghost use Rattle.template_tree.specs.Tree.{IsTree};
+ghost use Rattle.screen_window.specs.PlainGrid.{blank_grid};
+ghost use Rattle.synth_session.specs.Outcome.{done, line_done, refused};
+ghost use Rattle.synth_session.specs.OpenedSession.{new_tree, opened_session, session_over, stop_at_first};
+ghost use Rattle.synth_session.specs.RefusalText.{refusal_text};
+ghost use Rattle.synth_session.specs.Private.KeyAnswer.{AnswersKey};
+ghost use Rattle.synth_session.specs.SessionView.{Agrees, IsPlaced, IsSession, drawn_grid, plain_session, shown_grid};
+
+use crate::answer::{Answer, Refusal, Tick};
+use crate::program::Program;
+use crate::screens::Screens;
+use crate::size::ScreenSize;
+use crate::typed_line::LINE_LIMIT;
+use crate::window::top_for;
+use arrayvec::ArrayVec;
+use clip_store::Clips;
+use cursor_moves::top;
+use plcs_base::{ByteOut, OutOfMemory, Work};
+use session_words::Message;
+use std::alloc::Global;
+use template_tree::{Path, Stop, Tree, room_is_not_shown};
+
+/// The program that is edited, with all that its screen and the next key depend on. Contracts see it as
+/// plain data; the conditions between its parts are kept by each call.
+#[derive(Drop)]
+pub struct Session<W> {
+    pub(crate) program: Program<W>,
+    pub(crate) stop: Stop,
+    pub(crate) top: u32,
+    pub(crate) typed: ArrayVec<u8, LINE_LIMIT>,
+    pub(crate) clips: Clips,
+    pub(crate) message: Option<Message>,
+    pub(crate) screens: Screens,
+}
+
+impl<W: Work> Session<W> {
+    /// A session over the program, or over a new one, on a screen of this size. The cursor stands at the
+    /// new program's hole for a statement, or at main of a program that is given. Both screens are blank.
+    #[tactic(auto, unfolding(crate::specs::OpenedSession::opened_session))]
+    pub fn open(
+        alloc: Global,
+        size: ScreenSize,
+        tree: Option<Tree>,
+    ) -> Result<Session<W>, OutOfMemory>
+        requires tree { IfSome tree IsTree }
+        ensures session { IfOk result (λ session. IsSession session) }
+        ensures opened { IfOk result (λ session. plain_session session ≡ opened_session size (option_map roomless_tree tree)) }
+        ensures shown { IfOk result (λ session. shown_grid session ≡ blank_grid size.rows size.cols) }
+        ensures drawn { IfOk result (λ session. drawn_grid session ≡ blank_grid size.rows size.cols) }
+    {
+        match tree {
+            Some(tree) => {
+                let stop = top(&tree);
+                Session::begin(alloc, size, tree, stop)
+            }
+            None => {
+                let tree = new_tree(alloc)?;
+                Session::begin(alloc, size, tree, new_stop())
+            }
+        }
+    }
+
+    /// A session over the tree, with the cursor at the stop.
+    fn begin(
+        alloc: Global,
+        size: ScreenSize,
+        tree: Tree,
+        stop: Stop,
+    ) -> Result<Session<W>, OutOfMemory>
+        requires tree { IsTree tree }
+        requires stop { IsStop (roomless_tree tree).items (plain_stop stop) }
+        ensures session { IfOk result (λ session. IsSession session) }
+        ensures opened { IfOk result (λ session. plain_session session ≡ session_over size (roomless_tree tree) (plain_stop stop)) }
+        ensures shown { IfOk result (λ session. shown_grid session ≡ blank_grid size.rows size.cols) }
+        ensures drawn { IfOk result (λ session. drawn_grid session ≡ blank_grid size.rows size.cols) }
+    {
+        let screens = Screens::new(alloc, size)?;
+        let clips = Clips::new(alloc)?;
+        let program = Program::new(alloc, tree)?;
+        let mut session = Session {
+            program,
+            stop,
+            top: 0,
+            typed: ArrayVec::new(),
+            clips,
+            message: None,
+            screens,
+        };
+        let _ = session.done();
+        Ok(session)
+    }
+
+    /// How many slots of the program are live. It takes no memory.
+    pub fn slots(&self) -> u32
+        requires { IsSession self.now }
+        ensures { result ≡ count (plain_session self.now).tree.items }
+    {
+        room_is_not_shown();
+        self.program.tree.slots()
+    }
+
+    /// Puts the listing of the program, with elided refinements too. It takes no memory.
+    pub fn listing<O: ByteOut>(&self, out: &mut O)
+        requires { IsSession self.now }
+        ensures { PutsAll O.puts out.old (Listing (plain_session self.now).tree.items) out.new }
+    {
+        room_is_not_shown();
+        self.program.tree.put_listing(out);
+    }
+
+    /// Shows a refusal on the message row. It takes no memory.
+    pub fn show_message(&mut self, refusal: Refusal)
+        requires { IsSession self.old }
+        ensures session { IsSession self.new }
+        ensures message { plain_session self.new ≡ record (plain_session self.old) { message = refusal_text refusal } }
+        ensures shown { shown_grid self.new ≡ shown_grid self.old }
+        ensures drawn { drawn_grid self.new ≡ drawn_grid self.old }
+    {
+        self.message = refusal.message();
+    }
+
+    /// Makes the steps of a run that are wanted after a key: none, since nothing runs yet. It takes no
+    /// memory.
+    pub fn tick(&mut self) -> Tick
+        requires { IsSession self.old }
+        ensures over { result ≡ Tick.Over }
+        ensures same { self.new ≡ self.old }
+    {
+        Tick::Over
+    }
+}
+
+impl<W: Work> Session<W> {
+    /// Refuses a key, which changes the message alone.
+    pub(crate) fn refuse(&mut self, why: Refusal) -> Answer
+        requires { IsSession self.old }
+        ensures { AnswersKey (refused (plain_session self.old) why) self.old self.new result }
+    {
+        self.message = why.message();
+        Answer::Refused(why)
+    }
+
+    /// Ends a key that was taken: no message is shown, and the window follows the cursor.
+    pub(crate) fn done(&mut self) -> Answer
+        requires agrees { Agrees self.old.program }
+        requires placed { IsPlaced (plain_session self.old) }
+        ensures { AnswersKey (done (plain_session self.old)) self.old self.new result }
+    {
+        let line = self.program.layout.line_of(&self.program.tree, &self.stop);
+        self.top = top_for(self.screens.window_rows(), self.top, line);
+        self.message = None;
+        Answer::Done
+    }
+
+    /// Ends a key that took the whole typed line.
+    pub(crate) fn line_done(&mut self) -> Answer
+        requires agrees { Agrees self.old.program }
+        requires placed { IsPlaced (plain_session self.old) }
+        ensures { AnswersKey (line_done (plain_session self.old)) self.old self.new result }
+    {
+        self.typed.clear();
+        self.done()
+    }
+}
+
+/// The new program.
+fn new_tree(alloc: Global) -> Result<Tree, OutOfMemory>
+    ensures tree { IfOk result IsTree }
+    ensures new { IfOk result (λ tree. roomless_tree tree ≡ new_tree) }
+    ensures stop { IfOk result (λ tree. IsStop (roomless_tree tree).items (stop_at_first None)) }
+{
+    room_is_not_shown();
+    Tree::new(alloc)
+}
+
+/// The stop of the new program's hole for a statement.
+fn new_stop() -> Stop
+    ensures path { result.path.items ≡ 0 ∷ 1 ∷ [] }
+    ensures part { result.part ≡ None }
+{
+    let mut path = Path::new();
+    path.push(0);
+    path.push(1);
+    Stop { path, part: None }
+}

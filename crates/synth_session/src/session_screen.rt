@@ -1,0 +1,190 @@
+//! The screen of a session, drawn and painted.
+ghost use Rattle.std.specs.Prelude.{◌≡◌, ◌+◌, ◌*◌, ◌≤◌, [], None, length, OnErr, OnOk};
+ghost use Rattle.template_tree.specs.PlainTree.{roomless_tree};
+ghost use Rattle.template_tree.specs.Limit.{most_slots};
+ghost use Rattle.template_tree.specs.Stop.{IsStop, plain_stop};
+ghost use Rattle.template_tree.specs.Tree.{IsTree};
+ghost use Rattle.screen_window.specs.Paint.{Paint};
+ghost use Rattle.screen_window.specs.Screen.{Screen, window_rows};
+ghost use Rattle.screen_window.specs.Writes.{Writes};
+ghost use Rattle.synth_session.specs.RefusalText.{shown_message};
+ghost use Rattle.synth_session.specs.SessionScreen.{grid, no_marks, prompt, sort_word, word_at};
+ghost use Rattle.synth_session.specs.SessionView.{Agrees, IsSession, drawn_grid, plain_session, shown_grid};
+
+use crate::program::Program;
+use crate::screens::Screens;
+use crate::session::Session;
+use arrayvec::ArrayVec;
+use plcs_base::{MarkKind, Marked, PhraseAt, Work};
+use plcs_grammar::Sort;
+use screen_window::View;
+use session_edit::wanted;
+use session_words::{Message, MessageText};
+use synth_outside::{Sink, SinkFault};
+use template_tree::{Stop, Tree, room_is_not_shown};
+
+impl<W: Work> Session<W> {
+    /// Draws the screen that is to be painted next. It takes no memory, and lays no more lines than the
+    /// window has rows.
+    #[tactic(auto, unfolding(crate::specs::SessionScreen::grid))]
+    pub fn draw(&mut self, work: &mut W)
+        requires { IsSession self.old }
+        ensures session { IsSession self.new }
+        ensures drawn { drawn_grid self.new ≡ grid (plain_session self.old) }
+        ensures shown { shown_grid self.new ≡ shown_grid self.old }
+        ensures same { plain_session self.new ≡ plain_session self.old }
+        ensures laid { W.laid work.new ≤ W.laid work.old + window_rows (plain_session self.old).size.rows }
+        ensures lays { W.laid work.old ≤ W.laid work.new }
+        ensures emitted { W.emitted work.new ≡ W.emitted work.old }
+        ensures checked { W.checked work.new ≡ W.checked work.old }
+        ensures fetched { W.fetched work.new ≡ W.fetched work.old }
+    {
+        let prompt = prompt(&self.program.tree, &self.stop);
+        let text = shown_text(self.message);
+        draw_on(
+            &mut self.screens,
+            &self.program,
+            &self.stop,
+            self.top,
+            text.as_bytes(),
+            prompt.as_slice(),
+            self.typed.as_slice(),
+            work,
+        );
+    }
+
+    /// Paints the screen that was drawn last over the one that was painted last.
+    pub fn paint<K: Sink>(&mut self, sink: &mut K) -> Result<(), SinkFault>
+        requires { IsSession self.old }
+        ensures session { IsSession self.new }
+        ensures wrote { Writes (Paint (shown_grid self.old) (drawn_grid self.old)) result
+            (K.taken sink.old) (K.taken sink.new) (K.faults sink.old) (K.faults sink.new) }
+        ensures shown { OnOk result (shown_grid self.new ≡ drawn_grid self.old) }
+        ensures failed { OnErr result (shown_grid self.new ≡ shown_grid self.old) }
+        ensures same { plain_session self.new ≡ plain_session self.old }
+    {
+        self.screens.paint(sink)
+    }
+}
+
+/// The text of a message, or none.
+fn shown_text(message: Option<Message>) -> MessageText
+    ensures { result ≡ shown_message message }
+{
+    match message {
+        Some(message) => message.text(),
+        None => MessageText::none(),
+    }
+}
+
+/// Draws a program on the screen that is to be painted next, with these texts in the lowest rows.
+fn draw_on<'a, W: Work>(
+    screens: &mut Screens,
+    program: &'a Program<W>,
+    stop: &'a Stop,
+    top: u32,
+    message: &'a [u8],
+    prompt: &'a [u8],
+    typed: &'a [u8],
+    work: &mut W,
+)
+    requires agrees { Agrees program.now }
+    requires top { top ≤ 4 * most_slots }
+    ensures drawn { screens.new.drawn ≡ Screen screens.old.shown.rows screens.old.shown.cols (record {
+      items = (roomless_tree program.entry.now.tree).items;
+      marks = no_marks;
+      stop = plain_stop stop.entry.now;
+      top = top;
+      run_place = None;
+      output = [];
+      message = message.entry.now;
+      prompt = prompt.entry.now;
+      typed = typed.entry.now;
+      code = None;
+    }) }
+    ensures shown { screens.new.shown ≡ screens.old.shown }
+    ensures laid { W.laid work.new ≤ W.laid work.old + window_rows screens.old.shown.rows }
+    ensures lays { W.laid work.old ≤ W.laid work.new }
+    ensures emitted { W.emitted work.new ≡ W.emitted work.old }
+    ensures checked { W.checked work.new ≡ W.checked work.old }
+    ensures fetched { W.fetched work.new ≡ W.fetched work.old }
+{
+    let view = View {
+        tree: &program.tree,
+        layout: &program.layout,
+        marks: &NoMarks,
+        stop,
+        top,
+        run_place: None,
+        output: b"",
+        message,
+        prompt,
+        typed,
+        code: None,
+    };
+    screens.draw(&view, work);
+}
+
+/// How many bytes a prompt has at most.
+const LONGEST_PROMPT: usize = 16;
+
+/// What is asked for at the cursor.
+#[tactic(auto, unfolding(crate::specs::SessionScreen::prompt))]
+fn prompt(tree: &Tree, stop: &Stop) -> ArrayVec<u8, LONGEST_PROMPT>
+    requires tree { IsTree tree.now }
+    requires stop { IsStop (roomless_tree tree.now).items (plain_stop stop.now) }
+    ensures { result.items ≡ prompt (roomless_tree tree.now) (plain_stop stop.now) }
+{
+    room_is_not_shown();
+    let mut text = ArrayVec::new();
+    let _ = text.try_extend_from_slice(prompt_word(tree, stop));
+    let _ = text.try_extend_from_slice(b"> ");
+    text
+}
+
+/// The word for what stands at the stop.
+fn prompt_word(tree: &Tree, stop: &Stop) -> &'static [u8]
+    requires tree { IsTree tree.now }
+    requires stop { IsStop (roomless_tree tree.now).items (plain_stop stop.now) }
+    ensures word { result.now ≡ word_at (roomless_tree tree.now) (plain_stop stop.now) stop.now.part }
+    ensures short { length result.now ≤ 11 }
+{
+    room_is_not_shown();
+    match stop.part {
+        None => match tree.node(&stop.path) {
+            Some(node) => sort_word(node.kind().row().sort),
+            None => b"",
+        },
+        Some(_) => match wanted(tree, stop) {
+            Some(category) => category.placeholder_word(),
+            None => b"",
+        },
+    }
+}
+
+/// The word for a node of the sort.
+fn sort_word(sort: Sort) -> &'static [u8]
+    ensures word { result.now ≡ sort_word sort }
+    ensures short { length result.now ≤ 11 }
+{
+    match sort {
+        Sort::Main => b"main",
+        Sort::Procedure => b"procedure",
+        Sort::Declaration => b"declaration",
+        Sort::Statement => b"statement",
+    }
+}
+
+/// The marks of phrases, of which there are none yet.
+#[derive(Drop)]
+struct NoMarks;
+
+impl Marked for NoMarks {
+    ghost use Rattle.synth_session.specs.SessionScreen.{no_marks};
+
+    ghost marks = { λ _. no_marks };
+
+    fn mark(&self, _at: PhraseAt) -> Option<MarkKind> {
+        None
+    }
+}

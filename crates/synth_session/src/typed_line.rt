@@ -1,0 +1,126 @@
+//! The typed line, and the keys that change it.
+ghost use Rattle.std.specs.Prelude.{◌≡◌, ◌≤◌, ◌<◌, length, option_map, IfNone, IfSome, None};
+ghost use Rattle.plcs_grammar.specs.Canon.{Canon};
+ghost use Rattle.plcs_grammar.specs.PlainPhrase.{plain_phrase};
+ghost use Rattle.template_tree.specs.PlainTree.{roomless_tree};
+ghost use Rattle.template_tree.specs.Stop.{plain_stop};
+ghost use Rattle.template_tree.specs.Tree.{IsTree};
+ghost use Rattle.synth_session.specs.Private.KeyAnswer.{AnswersKey};
+ghost use Rattle.synth_session.specs.SessionView.{IsSession, plain_session};
+ghost use Rattle.synth_session.specs.TypedLine.{char_typed, cursor_phrase, last_erased, line_cleared, phrase_typed};
+
+use crate::answer::{Answer, Refusal};
+use crate::session::Session;
+use arrayvec::ArrayVec;
+use plcs_base::{ByteOut, Work};
+use plcs_grammar::{NodeKind, Phrase, show, shown_len};
+use template_tree::{PhrasePlace, Stop, Tree, room_is_not_shown};
+
+/// How many bytes the typed line holds.
+pub const LINE_LIMIT: usize = 200;
+
+impl<W: Work> Session<W> {
+    /// Appends a byte to the typed line.
+    pub(crate) fn type_char(&mut self, byte: u8) -> Answer
+        requires { IsSession self.old }
+        ensures { AnswersKey (char_typed (plain_session self.old) byte) self.old self.new result }
+    {
+        if self.typed.is_full() {
+            return self.refuse(Refusal::PhraseFull);
+        }
+        self.typed.push(byte);
+        self.done()
+    }
+
+    /// Takes the last byte of the typed line back.
+    pub(crate) fn erase(&mut self) -> Answer
+        requires { IsSession self.old }
+        ensures { AnswersKey (last_erased (plain_session self.old)) self.old self.new result }
+    {
+        if self.typed.is_empty() {
+            return self.refuse(Refusal::NotHere);
+        }
+        let _ = self.typed.pop();
+        self.done()
+    }
+
+    /// Takes the whole typed line back.
+    pub(crate) fn clear(&mut self) -> Answer
+        requires { IsSession self.old }
+        ensures { AnswersKey (line_cleared (plain_session self.old)) self.old self.new result }
+    {
+        self.typed.clear();
+        self.done()
+    }
+
+    /// Takes the text of the phrase at the cursor into the empty line.
+    pub(crate) fn type_phrase(&mut self) -> Answer
+        requires { IsSession self.old }
+        ensures { AnswersKey (phrase_typed (plain_session self.old)) self.old self.new result }
+    {
+        if !self.typed.is_empty() {
+            return self.refuse(Refusal::NotHere);
+        }
+        let Some(phrase) = phrase_at(&self.program.tree, &self.stop) else {
+            return self.refuse(Refusal::NotHere);
+        };
+        let Some(text) = line_text(phrase) else {
+            return self.refuse(Refusal::PhraseFull);
+        };
+        self.typed = text;
+        self.done()
+    }
+}
+
+/// The phrase in the part at which the stop is, or of the assignment at which it is.
+#[tactic(auto, unfolding(crate::specs::TypedLine::cursor_phrase))]
+pub(crate) fn phrase_at<'a>(tree: &'a Tree, stop: &Stop) -> Option<&'a Phrase>
+    requires { IsTree tree.now }
+    ensures { option_map (λ phrase. plain_phrase phrase.now) result ≡ cursor_phrase (roomless_tree tree.now) (plain_stop stop.now) }
+{
+    room_is_not_shown();
+    let node = tree.node(&stop.path)?;
+    let part = match stop.part {
+        Some(part) => part,
+        None if node.kind() == NodeKind::Assign => 0,
+        None => return None,
+    };
+    match node.part(part) {
+        Some(PhrasePlace::Filled(phrase)) => Some(phrase),
+        _ => None,
+    }
+}
+
+/// The canonical text of a phrase as a typed line, or `None` where it is too long.
+fn line_text(phrase: &Phrase) -> Option<ArrayVec<u8, LINE_LIMIT>>
+    ensures text { IfSome result (λ text. text.items ≡ Canon (plain_phrase phrase.now)) }
+    ensures fits { IfSome result (λ _. length (Canon (plain_phrase phrase.now)) ≤ LINE_LIMIT) }
+    ensures long { IfNone result (LINE_LIMIT < length (Canon (plain_phrase phrase.now))) }
+{
+    if shown_len(phrase) as usize > LINE_LIMIT {
+        return None;
+    }
+    let mut text = LineText {
+        bytes: ArrayVec::new(),
+    };
+    show(phrase, &mut text);
+    Some(text.bytes)
+}
+
+/// A text that is put into a typed line, as far as that has room.
+#[derive(Drop)]
+pub struct LineText {
+    bytes: ArrayVec<u8, LINE_LIMIT>,
+}
+
+impl ByteOut for LineText {
+    ghost use Rattle.synth_session.specs.Private.LineText.{PutsInLine};
+
+    ghost puts = { PutsInLine };
+
+    fn put(&mut self, byte: u8) {
+        if !self.bytes.is_full() {
+            self.bytes.push(byte);
+        }
+    }
+}
