@@ -94,7 +94,7 @@ module _ {S D : Type 0} (left : S → Option (List ℕ)) (source_faults : S → 
     (opens : Throughout (LeavesOnly (kept origin)) origin (past first.disk))
     (is_safe : Newest (LeavesOnly (kept origin)) (past first.disk))
     (written written_after : Option (List ℕ)) (files files_after : Option FileMap)
-    (file_faults file_faults_after : ℕ) where
+    (file_faults file_faults_after laid laid_after : ℕ) where
   abbrev pub before : KeptTold
   before = record {
     left = left first.inner;
@@ -102,6 +102,7 @@ module _ {S D : Type 0} (left : S → Option (List ℕ)) (source_faults : S → 
     taken = written;
     files = files;
     file_faults = file_faults;
+    laid = laid;
   }
 
   abbrev pub after : KeptTold
@@ -111,6 +112,7 @@ module _ {S D : Type 0} (left : S → Option (List ℕ)) (source_faults : S → 
     taken = written_after;
     files = files_after;
     file_faults = file_faults_after;
+    laid = laid_after;
   }
 
   abbrev Leads : Type 0
@@ -122,7 +124,7 @@ module _ {S D : Type 0} (left : S → Option (List ℕ)) (source_faults : S → 
   -- the run that `synth` says of
   abbrev pub SynthEnded : Status → PlainOptions → Type 0
   SynthEnded run options = Ended run options
-      (record { left = left_of_both (left first.inner) (past first.disk) first.given; reads = first.reads; taken = written; files = files; file_faults = file_faults })
+      (record { left = left_of_both (left first.inner) (past first.disk) first.given; reads = first.reads; taken = written; files = files; file_faults = file_faults; laid = laid })
       (told_editor after now.given now.reads) Leads Breaks
 
   same : kept (past first.disk) ≡ kept origin
@@ -136,7 +138,7 @@ module _ {S D : Type 0} (left : S → Option (List ℕ)) (source_faults : S → 
 
   -- what is told before it, with this left and so many reads
   abbrev told_first : Option (List ℕ) → ℕ → Told
-  told_first bytes reads = record { left = bytes; reads = reads; taken = written; files = files; file_faults = file_faults }
+  told_first bytes reads = record { left = bytes; reads = reads; taken = written; files = files; file_faults = file_faults; laid = laid }
 
   from_first : (run : Status) (options : PlainOptions) → SynthEnded run options →
       Ended run options (told_editor before 0 0) (told_editor after now.given now.reads) Leads Breaks

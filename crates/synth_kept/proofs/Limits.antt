@@ -2,8 +2,7 @@
 use Rattle.std.proofs.Common.{◌≡◌, ℕ, Bool, true, false, List, [], ◌∷◌, Option, Some, None, refl}
 use Rattle.std.specs.Prelude.{IfSome, ◌&&◌, codes, bytes_eq, if◌then◌else◌}
 use Rattle.std.specs.Option.{option_and_then}
-use Rattle.synth_top.specs.Extent.{least_cols, least_rows, most_cols, most_rows}
-use Rattle.synth_top.specs.Options.{PlainOptions, count_between, options_for, options_of, options_with}
+use Rattle.synth_top.specs.Options.{PlainOptions, options_for, options_of, options_with}
 
 -- these options have the limit
 abbrev pub IsLimited : PlainOptions → Type 0
@@ -33,5 +32,5 @@ limited (first ∷ rows ∷ []) = tt
 limited (first ∷ rows ∷ second ∷ []) = tt
 limited (first ∷ rows ∷ second ∷ cols ∷ []) =
     tested (bytes_eq first (codes "--rows") && bytes_eq second (codes "--cols")) (options_with rows cols)
-    (of_rows (count_between least_rows most_rows rows) (count_between least_cols most_cols cols))
+    (of_rows _ _)
 limited (first ∷ rows ∷ second ∷ cols ∷ more ∷ words) = tt

@@ -17,14 +17,15 @@ use Rattle.synth_top.specs.Run.{Ended, QuitPressed, Told}
 use Rattle.synth_top.specs.Options.{PlainOptions}
 
 -- what is told of the outside of a kept session: the bytes that the source of new keys has left, the
--- states of the disk, the bytes that the sink took, the map of the files, and how many faults these
--- counted
+-- states of the disk, the bytes that the sink took, the map of the files and how many faults these
+-- counted, and how many lines were counted as laid
 pub record KeptTold : Type 0 where
   pub left : Option (List ℕ)
   pub past : List DiskState
   pub taken : Option (List ℕ)
   pub files : Option FileMap
   pub file_faults : ℕ
+  pub laid : ℕ
 
 -- both the source of new keys and the disk tell
 pub record TellsBoth (told : KeptTold) : Type 0 where
@@ -40,6 +41,7 @@ told_editor told given reads = record {
   taken = told.taken;
   files = told.files;
   file_faults = told.file_faults;
+  laid = told.laid;
 }
 
 -- the bytes given to the editor are the kept keys and then all that was taken from the source; or

@@ -36,6 +36,7 @@ pub fn synth_kept<S: Source, K: Sink, F: Files, D: Disk, W: Work>(
           taken = K.taken screen.old;
           files = F.stored files.old;
           file_faults = F.faults files.old;
+          laid = W.laid work.old;
         })
         (record {
           left = S.left result.1;
@@ -43,13 +44,14 @@ pub fn synth_kept<S: Source, K: Sink, F: Files, D: Disk, W: Work>(
           taken = K.taken screen.new;
           files = F.stored files.new;
           file_faults = F.faults files.new;
+          laid = W.laid work.new;
         })
-        ((result.1 ≡ keys) × (screen.new ≡ screen.old))
+        ((result.1 ≡ keys) × (screen.new ≡ screen.old) × (work.new ≡ work.old))
         (S.leads_to keys result.1) (S.breaks_at keys result.1) }
 
     // Words that aren't of the command are refused before anything is read or written.
     ensures bad_words { options_of (map string_bytes words.now) ≡ None →
-        (result.1 ≡ keys) × (screen.new ≡ screen.old) }
+        (result.1 ≡ keys) × (screen.new ≡ screen.old) × (work.new ≡ work.old) }
 
     // A fault is answered exactly where the count of its own cause rose; that of reads is the sum of
     // the counts of source and disk.
@@ -62,9 +64,11 @@ pub fn synth_kept<S: Source, K: Sink, F: Files, D: Disk, W: Work>(
     ensures write { CausedBy (result.0 ≡ KeptStatus.Run Status.WriteFault)
         (K.faults screen.old) (K.faults screen.new) }
 
-    // No key uses files or counted work yet.
+    // No key uses files yet, and nothing is counted but the lines laid.
     ensures files { files.new ≡ files.old }
-    ensures work { work.new ≡ work.old }
+    ensures emitted { W.emitted work.new ≡ W.emitted work.old }
+    ensures checked { W.checked work.new ≡ W.checked work.old }
+    ensures fetched { W.fetched work.new ≡ W.fetched work.old }
 {
     let mut journal = match JournalKeys::open(keys, disk) {
         Ok(journal) => journal,

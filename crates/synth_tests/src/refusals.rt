@@ -4,293 +4,271 @@ use crate::playing::last_keys_write;
 use std::alloc::{AllocError, Global};
 use std::test::Fail;
 
-/// So many keys `a`.
-fn letters(alloc: Global, count: usize) -> Result<Vec<u8>, AllocError> {
-    vec![in alloc; b'a'; count]
+/// Keys, the last of which is refused, the message, and the place of the cursor then.
+type Refused = (&'static [u8], &'static [u8], &'static [u8], &'static [u8]);
+
+/// Whether the last key behind these keys writes this message and the cursor's place and nothing else.
+fn is_refused(alloc: Global, refused: Refused) -> Result<bool, AllocError> {
+    let (before, last, message, cursor) = refused;
+    let bytes = [b"\x1b[11;1H", message, b"\x1b[K", cursor].concat(alloc)?;
+    last_keys_write(alloc, before, last, bytes.as_slice())
 }
 
-#[test]
-fn a_line_holds_200_bytes(rt: HostRuntime) -> Result<(), Fail> {
-    // Behind the prompt of a statement 27 bytes are shown, and behind that of expressions 25.
-    let tail = b"\x1b[12;1Hstatement> aaaaaaaaaaaaaaaaaaaaaaaaaab\x1b[K\x1b[12;39H";
-    let short = b"\x1b[12;1Hstatement> aaaaaaaaaaaaaaaaaaaaaaaaab\x1b[K\x1b[12;38H";
-    let full = b"\x1b[11;1HPHRASE FULL\x1b[K\x1b[12;39H";
-    let wanted = [
-        (26, b"b".as_slice(), tail.as_slice()),
-        (27, b"b", tail),
-        (199, b"b", tail),
-        (25, b"b", short),
-        (200, b"b", full),
-        (200, b" ", full),
-        // The line stays, and the message too until a key is accepted.
-        (
-            200,
-            b"b~",
-            b"\x1b[11;1HPHRASE FULL\x1b[K\x1b[12;39H\x1b[12;39H",
-        ),
-        (
-            200,
-            b"b\r",
-            b"\x1b[11;1HPHRASE FULL\x1b[K\x1b[12;39H\x1b[11;1HNOT BUILT\x1b[K\x1b[12;39H",
-        ),
-        (
-            200,
-            b"\rb",
-            b"\x1b[11;1HNOT BUILT\x1b[K\x1b[12;39H\x1b[11;1HPHRASE FULL\x1b[K\x1b[12;39H",
-        ),
-    ];
-    for (count, last, bytes) in wanted {
-        let before = letters(rt.alloc(), count)?;
-        assert!(rt;
-            last_keys_write(rt.alloc(), before.as_slice(), last, bytes)?,
-            "{last:?} behind {count}"
-        );
-    }
-    let before = [b".put\rx".to_vec(rt.alloc())?, letters(rt.alloc(), 24)?].concat(rt.alloc())?;
-    let tail = b"\x1b[12;1Hexpressions> aaaaaaaaaaaaaaaaaaaaaaaab\x1b[K\x1b[12;39H";
-    assert!(rt; last_keys_write(rt.alloc(), before.as_slice(), b"b", tail)?);
-    Ok(())
-}
+/// Lines that are no command, or whose argument is wrong.
+const COMMANDS: [Refused; 34] = [
+    (b".", b"\r", b"UNKNOWN COMMAND", b"\x1b[12;13H"),
+    (b".pu", b"\r", b"UNKNOWN COMMAND", b"\x1b[12;15H"),
+    (b".PUT", b"\r", b"UNKNOWN COMMAND", b"\x1b[12;16H"),
+    (b".p2", b"\r", b"UNKNOWN COMMAND", b"\x1b[12;15H"),
+    (b"..put", b"\r", b"UNKNOWN COMMAND", b"\x1b[12;17H"),
+    (b". put", b"\r", b"UNKNOWN COMMAND", b"\x1b[12;17H"),
+    (b".Quit", b"\r", b"UNKNOWN COMMAND", b"\x1b[12;17H"),
+    (b".quit.", b"\r", b"UNKNOWN COMMAND", b"\x1b[12;18H"),
+    (b".nothing", b"\r", b"UNKNOWN COMMAND", b"\x1b[12;20H"),
+    (b".nothing x", b"\n", b"UNKNOWN COMMAND", b"\x1b[12;22H"),
+    (b".select", b"\r", b"UNKNOWN COMMAND", b"\x1b[12;19H"),
+    (b".undo", b"\r", b"UNKNOWN COMMAND", b"\x1b[12;17H"),
+    (b".runs", b"\r", b"UNKNOWN COMMAND", b"\x1b[12;17H"),
+    (b".run;", b"\r", b"UNKNOWN COMMAND", b"\x1b[12;17H"),
+    // A command that isn't built is refused whatever its argument.
+    (b".run", b"\r", b"NOT BUILT", b"\x1b[12;16H"),
+    (b".run", b"\n", b"NOT BUILT", b"\x1b[12;16H"),
+    (b".run x", b"\r", b"NOT BUILT", b"\x1b[12;18H"),
+    (b".step 101", b"\r", b"NOT BUILT", b"\x1b[12;21H"),
+    (b".resume", b"\r", b"NOT BUILT", b"\x1b[12;19H"),
+    (b".back 0", b"\r", b"NOT BUILT", b"\x1b[12;19H"),
+    (b".trace", b"\r", b"NOT BUILT", b"\x1b[12;18H"),
+    (b".input", b"\r", b"NOT BUILT", b"\x1b[12;18H"),
+    (b".save", b"\r", b"NOT BUILT", b"\x1b[12;17H"),
+    (b".load P", b"\r", b"NOT BUILT", b"\x1b[12;19H"),
+    (b".code -1", b"\r", b"NOT BUILT", b"\x1b[12;20H"),
+    (b".put x", b"\r", b"WRONG ARGUMENT", b"\x1b[12;18H"),
+    (b".quit now", b"\r", b"WRONG ARGUMENT", b"\x1b[12;21H"),
+    (b".top 1", b"\r", b"WRONG ARGUMENT", b"\x1b[12;18H"),
+    (b".elide x", b"\r", b"WRONG ARGUMENT", b"\x1b[12;20H"),
+    (b".float 1", b"\r", b"WRONG ARGUMENT", b"\x1b[12;20H"),
+    (b".copy 1x", b"\r", b"WRONG ARGUMENT", b"\x1b[12;20H"),
+    (b".cut a b", b"\r", b"WRONG ARGUMENT", b"\x1b[12;20H"),
+    (b".insert DO", b"\r", b"WRONG ARGUMENT", b"\x1b[12;22H"),
+    (b".float", b"\r", b"FLOAT NOT THERE", b"\x1b[12;18H"),
+];
 
 #[test]
-fn numbers_are_put(rt: HostRuntime) -> Result<(), Fail> {
-    let wanted = [
-        (b"0".as_slice(), b"0".as_slice()),
-        (b"9", b"9"),
-        (b"10", b"10"),
-        (b"123", b"123"),
-        (b"1234", b"1234"),
-        (b"12345", b"12345"),
-        (b"123456", b"123456"),
-        (b"1234567", b"1234567"),
-        (b"12345678", b"12345678"),
-        (b"999999999", b"999999999"),
-        (b"1234567890", b"1234567890"),
-        (b"2147483646", b"2147483646"),
-        (b"2147483647", b"2147483647"),
-        (b"007", b"7"),
-        (b"0000000000", b"0"),
-        (b"0000000042", b"42"),
-    ];
-    for (digits, shown) in wanted {
-        let bytes = [
-            b"\x1b[3;1H    PUT LIST ( ".as_slice(),
-            shown,
-            b" );\x1b[K\x1b[12;1Hexpressions>\x1b[K\x1b[3;16H",
-        ]
-        .concat(rt.alloc())?;
-        for start in [b".put\r".as_slice(), b".put\r88888\r"] {
-            let before = [start, digits].concat(rt.alloc())?;
-            assert!(rt;
-                last_keys_write(rt.alloc(), before.as_slice(), b"\r", bytes.as_slice())?,
-                "{digits:?}"
-            );
-        }
+fn a_line_that_is_no_command_is_refused(rt: HostRuntime) -> Result<(), Fail> {
+    for (number, refused) in COMMANDS.iter().enumerate() {
+        assert!(rt; is_refused(rt.alloc(), *refused)?, "row {number}");
     }
     Ok(())
 }
 
-/// Whether Enter behind these keys writes the bytes, whichever line end it is.
-fn enter_writes(alloc: Global, before: &[u8], bytes: &[u8]) -> Result<bool, AllocError> {
-    Ok(
-        last_keys_write(alloc, before, b"\r", bytes)?
-            && last_keys_write(alloc, before, b"\n", bytes)?,
-    )
-}
+/// Commands and keys that can't be carried out where the cursor stands.
+const PLACES: [Refused; 38] = [
+    (b".insert", b"\r", b"NO CLIP", b"\x1b[12;19H"),
+    (b".insert d", b"\r", b"NO CLIP", b"\x1b[12;21H"),
+    (b"\x1b[A\x1b[A.insert", b"\r", b"NO CLIP", b"\x1b[12;14H"),
+    (b".fixed", b"\r", b"NOT HERE", b"\x1b[12;18H"),
+    (b".procp", b"\r", b"NOT HERE", b"\x1b[12;18H"),
+    (b".put\r.put", b"\r", b"NOT HERE", b"\x1b[12;18H"),
+    (b".put\r7\r.put", b"\r", b"NOT HERE", b"\x1b[12;18H"),
+    (b"\x1b[A.put", b"\r", b"NOT HERE", b"\x1b[12;18H"),
+    (b"\x1b[B.put", b"\r", b"NOT HERE", b"\x1b[12;16H"),
+    // A hole alone in its list, an empty part, and main.
+    (b".del", b"\r", b"NOT HERE", b"\x1b[12;16H"),
+    (b".cut", b"\r", b"NOT HERE", b"\x1b[12;16H"),
+    (b".copy", b"\r", b"NOT HERE", b"\x1b[12;17H"),
+    (b".put\r.del", b"\r", b"NOT HERE", b"\x1b[12;18H"),
+    (b".put\r.cut", b"\r", b"NOT HERE", b"\x1b[12;18H"),
+    (b".put\r.copy c", b"\r", b"NOT HERE", b"\x1b[12;21H"),
+    (b".top\r.del", b"\r", b"NOT HERE", b"\x1b[12;11H"),
+    (b".top\r.cut", b"\r", b"NOT HERE", b"\x1b[12;11H"),
+    (b".top\r.copy", b"\r", b"NOT HERE", b"\x1b[12;12H"),
+    (b".top\r.after", b"\r", b"NOT HERE", b"\x1b[12;13H"),
+    (b".top\r.before", b"\r", b"NOT HERE", b"\x1b[12;14H"),
+    // A hole beside another may be dropped, and not be cut or copied.
+    (b".after\r.cut", b"\r", b"NOT HERE", b"\x1b[12;16H"),
+    (b".after\r.copy", b"\r", b"NOT HERE", b"\x1b[12;17H"),
+    (b".elide", b"\r", b"NOT HERE", b"\x1b[12;18H"),
+    (b".comment\rx\r.elide", b"\r", b"NOT HERE", b"\x1b[12;18H"),
+    // Phrase text where no phrase can come.
+    (b".top\rx = 1", b"\r", b"NOT HERE", b"\x1b[12;12H"),
+    (b"\x1b[Ax", b"\r", b"NOT HERE", b"\x1b[12;15H"),
+    (b"\x1b[Bx", b"\r", b"NOT HERE", b"\x1b[12;13H"),
+    (b".return\rx", b"\r", b"NOT HERE", b"\x1b[12;13H"),
+    // Keys that need an empty line, or one that isn't.
+    (b"", b"\x7f", b"NOT HERE", b"\x1b[3;5H"),
+    (b"", b"\t", b"NOT HERE", b"\x1b[3;5H"),
+    (b"x", b"\t", b"NOT HERE", b"\x1b[12;13H"),
+    (b"x", b"\x1b[A", b"NOT HERE", b"\x1b[12;13H"),
+    (b"x", b"\x1b[D", b"NOT HERE", b"\x1b[12;13H"),
+    (b".put\r", b"\t", b"NOT HERE", b"\x1b[3;16H"),
+    // The first stop and the last one.
+    (b".top\r", b"\x1b[A", b"AT EDGE", b"\x1b[1;3H"),
+    (b".top\r", b"\x1b[D", b"AT EDGE", b"\x1b[1;3H"),
+    (b"\x1b[B", b"\x1b[B", b"AT EDGE", b"\x1b[5;3H"),
+    (b".bottom\r", b"\r", b"AT EDGE", b"\x1b[5;3H"),
+];
 
 #[test]
-fn other_lines_are_refused_at_the_hole(rt: HostRuntime) -> Result<(), Fail> {
-    let wanted = [
-        (b"".as_slice(), b"\x1b[3;5H".as_slice()),
-        (b"7", b"\x1b[12;13H"),
-        (b"2147483648", b"\x1b[12;22H"),
-        (b".", b"\x1b[12;13H"),
-        (b".pu", b"\x1b[12;15H"),
-        (b"put", b"\x1b[12;15H"),
-        (b".PUT", b"\x1b[12;16H"),
-        (b".put ", b"\x1b[12;17H"),
-        (b" .put", b"\x1b[12;17H"),
-        (b".puts", b"\x1b[12;17H"),
-        (b".quit ", b"\x1b[12;18H"),
-        (b".Quit", b"\x1b[12;17H"),
-        (b"x = 1", b"\x1b[12;17H"),
-    ];
-    for (before, cursor) in wanted {
-        let bytes = [b"\x1b[11;1HNOT BUILT\x1b[K".as_slice(), cursor].concat(rt.alloc())?;
-        assert!(rt;
-            enter_writes(rt.alloc(), before, bytes.as_slice())?,
-            "{before:?}"
-        );
+fn what_the_cursor_lacks_is_refused(rt: HostRuntime) -> Result<(), Fail> {
+    for (number, refused) in PLACES.iter().enumerate() {
+        assert!(rt; is_refused(rt.alloc(), *refused)?, "row {number}");
     }
     Ok(())
 }
 
+/// Phrase text that is wrong, or past a limit.
+const PHRASES: [Refused; 14] = [
+    (b".put\r1 +", b"\r", b"SYNTAX AT 3", b"\x1b[12;17H"),
+    (b".put\r-", b"\r", b"SYNTAX AT 1", b"\x1b[12;15H"),
+    (b".put\r1 2", b"\r", b"SYNTAX AT 2", b"\x1b[12;17H"),
+    (b"7", b"\r", b"SYNTAX AT 0", b"\x1b[12;13H"),
+    (b"x =", b"\r", b"SYNTAX AT 3", b"\x1b[12;15H"),
+    (b" .put", b"\r", b"SYNTAX AT 1", b"\x1b[12;17H"),
+    (b"put", b"\r", b"SYNTAX AT 3", b"\x1b[12;15H"),
+    (
+        b".put\r2147483648",
+        b"\r",
+        b"NUMBER TOO LARGE AT 0",
+        b"\x1b[12;24H",
+    ),
+    (
+        b".put\r1 + 9999999999",
+        b"\r",
+        b"NUMBER TOO LARGE AT 4",
+        b"\x1b[12;28H",
+    ),
+    (
+        b".put\r1, 00002147483648",
+        b"\r",
+        b"NUMBER TOO LARGE AT 3",
+        b"\x1b[12;31H",
+    ),
+    (b".comment\ra*/", b"\r", b"SYNTAX AT 1", b"\x1b[12;13H"),
+    (
+        b"\x1b[A.char\rs\r257",
+        b"\r",
+        b"SYNTAX AT 0",
+        b"\x1b[12;12H",
+    ),
+    (b"\x1b[A.fixed\ra(0)", b"\r", b"SYNTAX AT 2", b"\x1b[12;12H"),
+    (
+        b".put\r(((((((((((((((((((((((((((((((((1)))))))))))))))))))))))))))))))))",
+        b"\r",
+        b"PHRASE TOO DEEP AT 32",
+        b"\x1b[12;39H",
+    ),
+];
+
 #[test]
-fn other_lines_are_refused_at_the_part(rt: HostRuntime) -> Result<(), Fail> {
-    let not_built = b"\x1b[11;1HNOT BUILT\x1b[K".as_slice();
-    let not_here = b"\x1b[11;1HNOT HERE\x1b[K".as_slice();
-    let wanted = [
-        (b"".as_slice(), not_built, b"\x1b[3;16H".as_slice()),
-        (b"7\r", not_built, b"\x1b[3;16H"),
-        (b".put", not_here, b"\x1b[12;18H"),
-        (b"7\r.put", not_here, b"\x1b[12;18H"),
-        (b".put ", not_built, b"\x1b[12;19H"),
-        (b".quit ", not_built, b"\x1b[12;20H"),
-        (b"2147483648", not_built, b"\x1b[12;24H"),
-        (b"2147483657", not_built, b"\x1b[12;24H"),
-        (b"4294967295", not_built, b"\x1b[12;24H"),
-        (b"4294967296", not_built, b"\x1b[12;24H"),
-        (b"4294967303", not_built, b"\x1b[12;24H"),
-        (b"9999999999", not_built, b"\x1b[12;24H"),
-        (b"00000000007", not_built, b"\x1b[12;25H"),
-        (b"21474836470", not_built, b"\x1b[12;25H"),
-        (b"-1", not_built, b"\x1b[12;16H"),
-        (b"+1", not_built, b"\x1b[12;16H"),
-        (b"1 ", not_built, b"\x1b[12;16H"),
-        (b" 1", not_built, b"\x1b[12;16H"),
-        (b"1a", not_built, b"\x1b[12;16H"),
-        (b"1/", not_built, b"\x1b[12;16H"),
-        (b"1:", not_built, b"\x1b[12;16H"),
-        (b"7\r8x", not_built, b"\x1b[12;16H"),
-    ];
-    for (typed, message, cursor) in wanted {
-        let before = [b".put\r".as_slice(), typed].concat(rt.alloc())?;
-        let bytes = [message, cursor].concat(rt.alloc())?;
-        assert!(rt;
-            enter_writes(rt.alloc(), before.as_slice(), bytes.as_slice())?,
-            "{typed:?}"
-        );
+fn wrong_phrase_text_is_refused(rt: HostRuntime) -> Result<(), Fail> {
+    for (number, refused) in PHRASES.iter().enumerate() {
+        assert!(rt; is_refused(rt.alloc(), *refused)?, "row {number}");
     }
     Ok(())
 }
 
-#[test]
-fn a_byte_is_typed_where_it_is_printable(rt: HostRuntime) -> Result<(), Fail> {
-    let refused = b"\x1b[11;1HNOT BUILT\x1b[K\x1b[3;5H";
-    for byte in [0, 1, 8, 9, 11, 12, 14, 21, 27, 31, 127, 128, 255] {
-        assert!(rt;
-            last_keys_write(rt.alloc(), b"", &[byte], refused)?,
-            "{byte}"
-        );
-    }
-    let wanted = [
-        (
-            b"".as_slice(),
-            b'!',
-            b"\x1b[12;1Hstatement> !\x1b[K\x1b[12;13H".as_slice(),
-        ),
-        (b"", b'~', b"\x1b[12;1Hstatement> ~\x1b[K\x1b[12;13H"),
-        // A blank shows nothing, and the cursor stands behind it.
-        (b"", b' ', b"\x1b[12;13H"),
-        (b" ", b'x', b"\x1b[12;1Hstatement>  x\x1b[K\x1b[12;14H"),
-    ];
-    for (before, byte, bytes) in wanted {
-        assert!(rt;
-            last_keys_write(rt.alloc(), before, &[byte], bytes)?,
-            "{byte}"
-        );
-    }
-    Ok(())
-}
+/// Keys, the last of them, and what these write.
+type Writing = (&'static [u8], &'static [u8], &'static [u8]);
+
+/// The clip of a cut goes in again, and can't come in where another category or kind is wanted.
+const CLIPS: [Writing; 7] = [
+    (
+        b".put\r1\r\x1b[D.cut c",
+        b"\r",
+        b"\x1b[3;1H    {statement}\x1b[K\x1b[12;1Hstatement>\x1b[K\x1b[3;5H",
+    ),
+    (
+        b".put\r1\r\x1b[D.cut c\r.insert c",
+        b"\r",
+        b"\x1b[3;1H    PUT LIST ( 1 );\x1b[K\x1b[12;1Hstatement>\x1b[K\x1b[3;5H",
+    ),
+    (
+        b".put\r1\r\x1b[D.cut c\r.insert c\r.cut c\r.del",
+        b"\r",
+        b"\x1b[11;1HNOT HERE\x1b[K\x1b[12;16H",
+    ),
+    (
+        b".put\r1\r\x1b[D.cut c\r.insert c\r.cut c\r.del\r\x15.insert d",
+        b"\r",
+        b"\x1b[11;1HNO CLIP\x1b[K\x1b[12;21H",
+    ),
+    (
+        b".put\r1\r\x1b[D.cut c\r.insert c\r.cut c\r.del\r\x15.insert d\r\x15\x1b[A.insert c",
+        b"\r",
+        b"\x1b[11;1HNOT HERE\x1b[K\x1b[12;23H",
+    ),
+    // A condition doesn't come in where an expression is wanted, and an expression does.
+    (
+        b".if\rx = 1\r\x1b[A\x1b[C.cut\r\x1b[B.while\r.insert",
+        b"\r",
+        b"\x1b[4;1H      DO WHILE ( x = 1 );\x1b[K\x1b[12;1Hcondition>\x1b[K\x1b[4;18H",
+    ),
+    (
+        b".if\rx = 1\r\x1b[A\x1b[C.cut\r\x1b[B.put\r.insert",
+        b"\r",
+        b"\x1b[11;1HNOT HERE\x1b[K\x1b[12;21H",
+    ),
+];
 
 #[test]
-fn a_sequence_is_refused_as_one_key(rt: HostRuntime) -> Result<(), Fail> {
-    let refused = b"\x1b[11;1HNOT BUILT\x1b[K\x1b[3;5H".as_slice();
-    let typed = b"\x1b[11;1H\x1b[K\x1b[12;1Hstatement> x\x1b[K\x1b[12;13H".as_slice();
-    let again = b"\x1b[3;5H".as_slice();
-    let wanted = [
-        // Each move, and a sequence that is none, is one screen.
-        (b"\x1b[A".as_slice(), [refused, b"", b""]),
-        (b"\x1b[B", [refused, b"", b""]),
-        (b"\x1b[C", [refused, b"", b""]),
-        (b"\x1b[D", [refused, b"", b""]),
-        (b"\x1b[x", [refused, b"", b""]),
-        (b"\x1b[\x1b", [refused, b"", b""]),
-        // A byte behind ESC that isn't the bracket is a key of its own.
-        (b"\x1bx", [refused, typed, b""]),
-        (b"\x1b\x1b[A", [refused, again, b""]),
-        // Where the source ends, what isn't complete is one key.
-        (b"\x1b", [refused, b"", b""]),
-        (b"\x1b[", [refused, b"", b""]),
-        (b"\x1b\x1b", [refused, again, b""]),
-        (b"\x1b[A\x1b[", [refused, again, b""]),
-        (
-            b"\x1bx\x1b[",
-            [refused, typed, b"\x1b[11;1HNOT BUILT\x1b[K\x1b[12;13H"],
-        ),
-    ];
-    for (keys, screens) in wanted {
-        let bytes = screens.concat(rt.alloc())?;
+fn a_clip_comes_in_where_it_fits(rt: HostRuntime) -> Result<(), Fail> {
+    for (number, (before, last, bytes)) in CLIPS.iter().enumerate() {
         assert!(rt;
-            last_keys_write(rt.alloc(), b"", keys, bytes.as_slice())?,
-            "{keys:?}"
+            last_keys_write(rt.alloc(), before, last, bytes)?,
+            "row {number}"
         );
     }
     Ok(())
 }
 
-/// What stands in the row of the message is blanked, and the prompt of expressions comes.
-const CLEARED: &[u8] = b"\x1b[11;1H\x1b[K\x1b[12;1Hexpressions>\x1b[K\x1b[3;16H";
+/// Keys behind a refused one.
+const MESSAGES: [Writing; 10] = [
+    // A refused key after another, with the message of the one before or another one.
+    (b"\x7f", b"\x7f", b"\x1b[3;5H"),
+    (b".run\r", b"\r", b"\x1b[12;16H"),
+    (b".run\r", b"\x1b[A", b"\x1b[11;1HNOT HERE\x1b[K\x1b[12;16H"),
+    (
+        b".run\r",
+        b"\x01",
+        b"\x1b[11;1HUNKNOWN COMMAND\x1b[K\x1b[12;16H",
+    ),
+    // An accepted key after a refused one.
+    (
+        b"\x7f",
+        b"a",
+        b"\x1b[11;1H\x1b[K\x1b[12;1Hstatement> a\x1b[K\x1b[12;13H",
+    ),
+    (
+        b".run\r",
+        b"\x15",
+        b"\x1b[11;1H\x1b[K\x1b[12;1Hstatement>\x1b[K\x1b[3;5H",
+    ),
+    (
+        b".run\r",
+        b"\x7f",
+        b"\x1b[11;1H\x1b[K\x1b[12;1Hstatement> .ru\x1b[K\x1b[12;15H",
+    ),
+    (
+        b"\t",
+        b"\x1b[B",
+        b"\x1b[11;1H\x1b[K\x1b[12;1Hprocedure>\x1b[K\x1b[5;3H",
+    ),
+    (
+        b".put\x01",
+        b"\r",
+        b"\x1b[3;1H    PUT LIST ( {expressions} );\x1b[K\x1b[11;1H\x1b[K\x1b[12;1Hexpressions>\x1b[K\x1b[3;16H",
+    ),
+    // The end of the session paints nothing.
+    (b".put\r.quit\x01", b"\n", b""),
+];
 
 #[test]
 fn a_message_stays_until_a_key_is_accepted(rt: HostRuntime) -> Result<(), Fail> {
-    let filled = b"\x1b[3;1H    PUT LIST ( {expressions} );\x1b[K".as_slice();
-    let wanted = [
-        // A refused key after another.
-        (
-            b"\x7f".as_slice(),
-            b"\x7f".as_slice(),
-            b"".as_slice(),
-            b"\x1b[3;5H".as_slice(),
-        ),
-        (b".run\r", b"\x1b", b"", b"\x1b[12;16H"),
-        (
-            b".put\r.put\x01",
-            b"\r",
-            b"\x1b[11;1HNOT HERE\x1b[K",
-            b"\x1b[12;18H",
-        ),
-        (
-            b".put\r.put\r",
-            b"\x01",
-            b"\x1b[11;1HNOT BUILT\x1b[K",
-            b"\x1b[12;18H",
-        ),
-        // An accepted key after a refused one.
-        (
-            b"\x7f",
-            b"a",
-            b"\x1b[11;1H\x1b[K",
-            b"\x1b[12;1Hstatement> a\x1b[K\x1b[12;13H",
-        ),
-        (b".put\x01", b"\r", filled, CLEARED),
-        (
-            b".put\r7\x01",
-            b"\r",
-            b"\x1b[3;1H    PUT LIST ( 7 );\x1b[K",
-            CLEARED,
-        ),
-        // The end of the session paints nothing.
-        (b".put\r.quit\x01", b"\n", b"", b""),
-    ];
-    for (before, last, first_row, others) in wanted {
-        let bytes = [first_row, others].concat(rt.alloc())?;
+    for (number, (before, last, bytes)) in MESSAGES.iter().enumerate() {
         assert!(rt;
-            last_keys_write(rt.alloc(), before, last, bytes.as_slice())?,
-            "{last:?} behind {before:?}"
+            last_keys_write(rt.alloc(), before, last, bytes)?,
+            "row {number}"
         );
     }
-    Ok(())
-}
-
-#[test]
-fn rows_that_stay_are_not_painted(rt: HostRuntime) -> Result<(), Fail> {
-    let put =
-        b"\x1b[3;1H    PUT LIST ( {expressions} );\x1b[K\x1b[12;1Hexpressions>\x1b[K\x1b[3;16H";
-    assert!(rt; enter_writes(rt.alloc(), b".put", put)?);
-    // The same number once more.
-    let prompt = b"\x1b[12;1Hexpressions>\x1b[K\x1b[3;16H";
-    assert!(rt; enter_writes(rt.alloc(), b".put\r7\r7", prompt)?);
-    assert!(rt; enter_writes(rt.alloc(), b".quit", b"")?);
     Ok(())
 }

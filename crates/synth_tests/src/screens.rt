@@ -99,3 +99,57 @@ fn a_command_that_is_not_built_stays_typed(rt: HostRuntime) -> Result<(), Fail> 
     assert!(rt; last_keys_write(rt.alloc(), b".run\r", b"s", typed_on)?);
     Ok(())
 }
+
+#[test]
+fn numbers_are_put(rt: HostRuntime) -> Result<(), Fail> {
+    let wanted = [
+        (b"0".as_slice(), b"0".as_slice()),
+        (b"9", b"9"),
+        (b"1234567890", b"1234567890"),
+        (b"2147483646", b"2147483646"),
+        (b"2147483647", b"2147483647"),
+        (b"007", b"7"),
+        (b"0000000000", b"0"),
+        (b"00000000000000000042", b"42"),
+    ];
+    for (digits, shown) in wanted {
+        let bytes = [
+            b"\x1b[3;1H    PUT LIST ( ".as_slice(),
+            shown,
+            b" );\x1b[K\x1b[12;1Hexpressions>\x1b[K\x1b[3;16H",
+        ]
+        .concat(rt.alloc())?;
+        for start in [b".put\r".as_slice(), b".put\r88888\r"] {
+            let before = [start, digits].concat(rt.alloc())?;
+            assert!(rt;
+                last_keys_write(rt.alloc(), before.as_slice(), b"\r", bytes.as_slice())?,
+                "{digits:?}"
+            );
+        }
+    }
+    Ok(())
+}
+
+#[test]
+fn rows_that_stay_are_not_painted(rt: HostRuntime) -> Result<(), Fail> {
+    let put =
+        b"\x1b[3;1H    PUT LIST ( {expressions} );\x1b[K\x1b[12;1Hexpressions>\x1b[K\x1b[3;16H";
+    // The same number once more.
+    let prompt = b"\x1b[12;1Hexpressions>\x1b[K\x1b[3;16H";
+    let wanted = [
+        (b".put".as_slice(), put.as_slice()),
+        (b".put ", put),
+        (b".put\r7\r7", prompt),
+        (b".quit", b""),
+        (b".quit ", b""),
+    ];
+    for (before, bytes) in wanted {
+        for enter in [b"\r", b"\n"] {
+            assert!(rt;
+                last_keys_write(rt.alloc(), before, enter, bytes)?,
+                "{before:?}"
+            );
+        }
+    }
+    Ok(())
+}

@@ -1,6 +1,6 @@
 -- The keys of a byte before others, for the reader's clauses.
 use Rattle.std.proofs.Common.{◌≡◌, ℕ, Bool, false, ◌&&◌, eqb, cond, List, [], ◌∷◌, refl, ap}
-use Rattle.synth_top.specs.declared.key.Key.TheVariants.{Other}
+use Rattle.synth_session.specs.declared.key.Key.TheVariants.{Other}
 use Rattle.synth_top.specs.Keys.{begins_move, completed, key_of, keys, move_of}
 
 -- a pair that begins no move is a key, and then what is behind it

@@ -1,17 +1,20 @@
 -- Keys that are pressed, and then others.
-use Rattle.std.proofs.Common.{◌≡◌, ◌≤◌, ℕ, ◌+◌, true, false, List, [], ◌∷◌, ◌++◌, length, take, sym, ap, ◌∙◌, subst, append_assoc, arith, length-append}
+use Rattle.std.proofs.Common.{◌≡◌, ◌≤◌, IsTrue, ◌⊎◌, inl, inr, ℕ, ◌+◌, true, false, List, [], ◌∷◌, ◌++◌, length, take, sym, ap, ◌∙◌, subst, append_assoc, arith, length-append}
 use Rattle.std.proofs.lemmas.List.{map-append}
 use Rattle.std.proofs.Math.Seq.{take-append-add}
 use Rattle.std.proofs.KnownBytes.{Appends-trans}
 use Rattle.std.specs.Io.KnownBytes.{Appends}
-use Rattle.synth_top.specs.declared.key.Key.{Key}
+use Rattle.synth_session.specs.declared.key.Key.{Key}
+use Rattle.synth_session.specs.MemoryTaken.{key_takes_memory}
 use Rattle.synth_top.specs.declared.run.Going.{Going}
 use Rattle.synth_top.specs.declared.run.Going.TheVariants.{On, Over}
 use Rattle.synth_top.specs.declared.status.Status.{Status}
 use Rattle.synth_top.specs.declared.status.Status.TheVariants.{Done, ReadFault, WriteFault, NoMemory, BadWords, KeyLimit}
-use Rattle.synth_top.specs.Private.Pressing.{Moment, AllShown, UpToLast, KeysShown, KeysQuit, KeysCut, Pressed, last_shown}
+use Rattle.synth_top.specs.Private.Pressing.{Moment, AllShown, UpToLast, KeysShown, KeysQuit, KeysCut, KeysWanted, Pressed, last_shown}
+use Rattle.synth_top.specs.Laid.{LaysFor}
 use Rattle.synth_top.specs.Run.{IsFront, keys_pressed, painted_over}
 use Rattle.synth_top.specs.Turn.{State, PressedKey, Replied, after, ends, failures, grids}
+use Rattle.synth_top.proofs.LaidInTurn.{lays_both}
 use Rattle.synth_top.proofs.TurnsInOrder.{after-append, ends-going, grids-append, Replied-append, failures-append, painted_over-append, last_shown-append}
 
 -- the keys of some and of others
@@ -44,6 +47,13 @@ module _ (a b : Moment) (ps : List PressedKey) (shown : AllShown a b ps) where
       ∙ ap (λ g. last_shown g (grids (after a.state ps) qs)) (sym shown.shown)
       ∙ ap (λ s. last_shown b.shown (grids s qs)) (sym shown.state)
 
+  -- the lines laid
+  laid_more : (c : Moment) (qs : List PressedKey) → LaysFor (grids b.state qs) b.laid c.laid → LaysFor (grids a.state (ps ++ qs)) a.laid c.laid
+  laid_more c qs laid =
+      subst (λ gs. LaysFor gs a.laid c.laid)
+      (sym (grids-append a.state ps qs ∙ ap (λ s. grids a.state ps ++ grids s qs) (sym shown.state)))
+      (lays_both (grids a.state ps) (grids b.state qs) a.laid b.laid c.laid shown.laid laid)
+
   -- what the files did
   replied_more : (qs : List PressedKey) → Replied b.state qs → Replied a.state (ps ++ qs)
   replied_more qs replied = Replied-append a.state ps qs shown.can_reply (subst (λ s. Replied s qs) shown.state replied)
@@ -58,6 +68,7 @@ module _ (a b : Moment) (ps : List PressedKey) (shown : AllShown a b ps) where
     wrote = subst (Appends a.taken c.taken) (sym (painted_more qs))
         (Appends-trans a.taken b.taken c.taken (painted_over a.shown (grids a.state ps)) (painted_over b.shown (grids b.state qs)) shown.wrote next.wrote);
     faults = omega (arith, shown.faults, next.faults, failures-append ps qs);
+    laid = laid_more c qs next.laid;
   }
 
   -- all of some keys, and others up to a last one
@@ -81,6 +92,7 @@ module _ (a b : Moment) (ps : List PressedKey) (shown : AllShown a b ps) where
             (Appends-trans a.taken b.taken c.taken front (take count (painted_over b.shown (grids b.state all))) shown.wrote next.wrote);
         whole = omega (arith, whole, next.whole);
         faults = omega (arith, shown.faults, next.faults, faults);
+        laid = subst (λ l. LaysFor (grids a.state l) a.laid c.laid) joined (laid_more c all next.laid);
       }
 
 -- keys in front of others
@@ -90,6 +102,17 @@ front_behind ps keys more qs all front = (
   front.0,
   ap (λ l. keys ++ l) front.1 ∙ ap (λ l. l ++ (keys_pressed qs ++ front.0)) (sym all) ∙ sym (append_assoc (keys_pressed ps) (keys_pressed qs) front.0)
       ∙ ap (λ l. l ++ front.0) (sym (keys_pressed-append ps qs)),
+)
+
+-- keys and one that wanted memory, in front of others
+pub wanted_behind : (ps : List PressedKey) (keys more : List Key) (qs : List PressedKey) (wanted : Key) → keys_pressed ps ≡ keys
+    → IsFront (keys_pressed qs ++ wanted ∷ []) more → IsFront (keys_pressed (ps ++ qs) ++ wanted ∷ []) (keys ++ more)
+wanted_behind ps keys more qs wanted all front = (
+  front.0,
+  ap (λ l. keys ++ l) front.1 ∙ ap (λ l. l ++ ((keys_pressed qs ++ wanted ∷ []) ++ front.0)) (sym all)
+      ∙ sym (append_assoc (keys_pressed ps) (keys_pressed qs ++ wanted ∷ []) front.0)
+      ∙ ap (λ l. l ++ front.0) (sym (append_assoc (keys_pressed ps) (keys_pressed qs) (wanted ∷ [])))
+      ∙ ap (λ l. (l ++ wanted ∷ []) ++ front.0) (sym (keys_pressed-append ps qs)),
 )
 
 module _ (keys more : List Key) (a b c : Moment) (first : KeysShown keys a b) where
@@ -131,12 +154,24 @@ module _ (keys more : List Key) (a b c : Moment) (first : KeysShown keys a b) wh
         going = subst (λ l. ends a.state l ≡ false) joined (ends_more a b ps first.shown all ∙ next.going);
       }
 
+  then_wanted : KeysWanted more b c → KeysWanted (keys ++ more) a c
+  then_wanted next =
+      let ps = first.pressed in record {
+        pressed = ps ++ next.pressed;
+        wanted = next.wanted;
+        takes = subst (λ (s : State). IsTrue (key_takes_memory s.session next.wanted)) (sym (after_more a b ps first.shown next.pressed)) next.takes;
+        front = wanted_behind ps keys more next.pressed next.wanted first.all next.front;
+        shown = both_shown a b ps first.shown c next.pressed next.shown;
+      }
+
 -- all of some keys, and then what became of others
 pub pressed_then : (going : Going) (keys more : List Key) (a b c : Moment) → KeysShown keys a b → Pressed going more b c → Pressed going (keys ++ more) a c
 pressed_then On keys more a b c first next = then_all keys more a b c first next
 pressed_then (Over Done) keys more a b c first next = then_quit keys more a b c first next
 pressed_then (Over WriteFault) keys more a b c first next = then_cut keys more a b c first next
-pressed_then (Over NoMemory) keys more a b c first next = then_cut keys more a b c first next
+pressed_then (Over NoMemory) keys more a b c first next =
+    elim next as (λ _. KeysCut (keys ++ more) a c ⊎ KeysWanted (keys ++ more) a c)
+    [ inl cut ↦ inl (then_cut keys more a b c first cut) | inr wanted ↦ inr (then_wanted keys more a b c first wanted) ]
 pressed_then (Over ReadFault) keys more a b c first next = absurd next
 pressed_then (Over BadWords) keys more a b c first next = absurd next
 pressed_then (Over KeyLimit) keys more a b c first next = absurd next
@@ -146,7 +181,18 @@ pub front_more : (front keys more : List Key) → IsFront front keys → IsFront
 front_more front keys more is_front =
     (is_front.0 ++ more, ap (λ l. l ++ more) is_front.1 ∙ append_assoc front is_front.0 more)
 
--- where one of some keys ended the session, others behind them don't matter
+-- where a screen of one of some keys was cut short, others behind them don't matter
+cut_before : (keys more : List Key) (a b : Moment) → KeysCut keys a b → KeysCut (keys ++ more) a b
+cut_before keys more a b cut = record {
+  earlier = cut.earlier;
+  last = cut.last;
+  front = front_more _ keys more cut.front;
+  count = cut.count;
+  up_to = cut.up_to;
+  going = cut.going;
+}
+
+-- where the run ended at one of some keys, others behind them don't matter
 pub pressed_before : (status : Status) (keys more : List Key) (a b : Moment) → Pressed (Over status) keys a b → Pressed (Over status) (keys ++ more) a b
 pressed_before Done keys more a b pressed = record {
   earlier = pressed.earlier;
@@ -157,22 +203,12 @@ pressed_before Done keys more a b pressed = record {
   quit = pressed.quit;
   all = pressed.all;
 }
-pressed_before WriteFault keys more a b pressed = record {
-  earlier = pressed.earlier;
-  last = pressed.last;
-  front = front_more _ keys more pressed.front;
-  count = pressed.count;
-  up_to = pressed.up_to;
-  going = pressed.going;
-}
-pressed_before NoMemory keys more a b pressed = record {
-  earlier = pressed.earlier;
-  last = pressed.last;
-  front = front_more _ keys more pressed.front;
-  count = pressed.count;
-  up_to = pressed.up_to;
-  going = pressed.going;
-}
+pressed_before WriteFault keys more a b pressed = cut_before keys more a b pressed
+pressed_before NoMemory keys more a b pressed =
+    elim pressed as (λ _. KeysCut (keys ++ more) a b ⊎ KeysWanted (keys ++ more) a b) [
+      | inl cut ↦ inl (cut_before keys more a b cut)
+      | inr wanted ↦ inr (record { pressed = wanted.pressed; wanted = wanted.wanted; takes = wanted.takes; front = front_more _ keys more wanted.front; shown = wanted.shown })
+    ]
 pressed_before ReadFault keys more a b pressed = absurd pressed
 pressed_before BadWords keys more a b pressed = absurd pressed
 pressed_before KeyLimit keys more a b pressed = absurd pressed

@@ -2,14 +2,11 @@
 pub mod Limits
 -- `keys` of KeyReader::feed: a byte before others
 pub mod KeyLists
--- `drawn` of Grid::compose: rows drawn into lines of the same width
-pub mod Drawing
--- `cells` of visible_len: blanks at the end of a row
-pub mod VisibleCells
--- `Writes` of the painting: fronts of bytes, bytes taken piece by piece, and bytes one after the other
+-- `wrote` of Editor::start: fronts of bytes, and bytes one after the other
 pub mod Fronts
-pub mod Owing
 pub mod WritesInTurn
+-- `laid` of Editor::show, and of what is said of several keys: lines laid for some screens and then for others
+pub mod LaidInTurn
 -- `presses` of Editor::press and press_keys: turns along a list of keys, one key, and keys behind others
 pub mod TurnsInOrder
 pub mod OneKey

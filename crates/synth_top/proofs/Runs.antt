@@ -1,26 +1,28 @@
 -- A run, byte by byte.
-use Rattle.std.proofs.Common.{◌≡◌, ◌<◌, ◌≤◌, ◌⊎◌, ℕ, ◌+◌, true, false, List, [], ◌∷◌, ◌++◌, Option, length, refl, sym, ap, ◌∙◌, subst, append_assoc, append-nil, arith, length-append, inl, inr}
+use Rattle.std.proofs.Common.{◌≡◌, IsTrue, ◌<◌, ◌≤◌, ◌⊎◌, ℕ, ◌+◌, true, false, List, [], ◌∷◌, ◌++◌, Option, length, refl, sym, ap, ◌∙◌, subst, append_assoc, append-nil, arith, length-append, inl, inr}
 use Rattle.std.proofs.lemmas.Bool.{true≢false}
 use Rattle.std.proofs.lemmas.List.{same_from_push}
-use Rattle.std.proofs.KnownBytes.{Appends-nil, Consumes-nil, Consumes-trans}
+use Rattle.std.proofs.KnownBytes.{Consumes-nil, Consumes-trans}
 use Rattle.std.specs.Io.KnownBytes.{Consumes, IsAtEnd}
 use Rattle.plcs_base.specs.Count.{raised}
-use Rattle.synth_top.specs.declared.key.Key.{Key}
-use Rattle.synth_top.specs.declared.key.Key.TheVariants.{Other}
+use Rattle.synth_session.specs.declared.key.Key.{Key}
+use Rattle.synth_session.specs.declared.key.Key.TheVariants.{Other}
+use Rattle.synth_session.specs.MemoryTaken.{key_takes_memory}
+use Rattle.synth_session.specs.Press.{press}
 use Rattle.synth_top.specs.declared.key.Keys.{Keys}
 use Rattle.synth_top.specs.declared.run.Going.{Going}
 use Rattle.synth_top.specs.declared.run.Going.TheVariants.{On, Over}
 use Rattle.synth_top.specs.declared.status.Status.{Status}
 use Rattle.synth_top.specs.declared.status.Status.TheVariants.{Done, ReadFault, WriteFault, NoMemory, BadWords, KeyLimit}
 use Rattle.synth_top.specs.Keys.{Feeds, IsHeld, completed, keys, listed}
-use Rattle.synth_top.specs.Private.Pressing.{Moment, AllShown, UpToLast, KeysShown, KeysQuit, Pressed, ended_as}
-use Rattle.synth_top.specs.Run.{Told, NoRescue, EndRead, LimitTaken, IsFront, IsOver, Course, AtLastKey, PressedAll, ReadCut, ReadsInTurn, Ended, keys_pressed, raised_by, first_state, painted_over, written}
+use Rattle.synth_top.specs.Private.Pressing.{Moment, AllShown, UpToLast, KeysShown, KeysQuit, KeysCut, KeysWanted, Pressed, ended_as}
+use Rattle.synth_top.specs.Run.{Told, NoRescue, EndRead, LimitTaken, IsFront, IsOver, Course, AtLastKey, KeyWanted, PressedAll, ReadCut, ScreenCut, ReadsInTurn, Ended, keys_pressed, raised_by, first_state, painted_over, written}
 use Rattle.synth_top.specs.Reply.{Reply}
-use Rattle.synth_top.specs.Session.{press}
 use Rattle.synth_top.specs.Turn.{State, PressedKey, ends, grids, turn}
 use Rattle.synth_top.specs.Options.{PlainOptions}
-use Rattle.synth_top.proofs.Courses.{Opened, InTurn, told_at, all_course, all_going, last_course, at_last, one_byte, last_ends, last_all}
-use Rattle.synth_top.proofs.KeysInOrder.{keys_pressed-append, both_shown, then_up_to, front_behind, ends_more, painted_more}
+use Rattle.synth_top.proofs.Courses.{Opened, InTurn, first_session, told_at, all_course, all_going, all_takes, last_course, at_last, one_byte, last_ends, last_all}
+use Rattle.synth_top.proofs.KeysInOrder.{keys_pressed-append, after_more, both_shown, then_up_to, front_behind, wanted_behind, ends_more, painted_more}
+use Rattle.synth_top.proofs.OneKey.{none_shown}
 
 -- so many bytes were read, one a read, all keys that they complete were pressed, and all screens were written
 pub record SoFar (number : ℕ) (options : PlainOptions) (before : Told) (left : Option (List ℕ)) (reads : ℕ) (held : List ℕ) (m : Moment) : Type 0 where
@@ -38,6 +40,10 @@ pub record SoFar (number : ℕ) (options : PlainOptions) (before : Told) (left :
   pub in_turn : InTurn bytes pressed
 
 -- ---- lists
+
+-- what is before one key more
+front_without : (xs ys : List Key) (key : Key) → IsFront (xs ++ key ∷ []) ys → IsFront xs ys
+front_without xs ys key front = (key ∷ front.0, front.1 ∙ append_assoc xs (key ∷ []) front.0)
 
 -- the first of the first
 front_trans : (xs ys zs : List Key) → IsFront xs ys → IsFront ys zs → IsFront xs zs
@@ -109,14 +115,7 @@ so_far_none options before left reads held m same unread none is_opened = record
   opened = m;
   is_opened = is_opened;
   pressed = [];
-  all = record {
-    can_reply = tt;
-    going = refl;
-    state = refl;
-    shown = refl;
-    wrote = Appends-nil m.taken;
-    faults = omega arith;
-  };
+  all = none_shown m m (record { state = refl; shown = refl; taken = refl; file_faults = refl; laid = refl });
   keys_are = λ rest. ap (λ l. keys (l ++ rest)) (sym none);
   completed_are = λ rest. ap (λ l. completed (l ++ rest)) (sym none);
   in_turn = λ seen newest e. absurd (one_byte seen newest e);
@@ -184,6 +183,61 @@ module _ (number : ℕ) (options : PlainOptions) (before : Told) (left : Option 
           last_all options before so.opened now now_left now_reads so.is_opened bytes nothing_behind within reads made (so.pressed ++ earlier) last _ all_up_to
           (front_trans _ _ _ in_front order) complete_front (omega (arith, bytes_are, all))
 
+      screen_cut : ends m.state (earlier ++ last ∷ []) ≡ false → ScreenCut course
+      screen_cut going = record { at_key = at_key; going = ends_as false going }
+
+    -- ---- keys up to one that wanted memory
+    module _ (next : KeysWanted more m now) where
+      all_shown : AllShown so.opened now (so.pressed ++ next.pressed)
+      all_shown = both_shown so.opened m so.pressed so.all now next.pressed next.shown
+
+      up_to_wanted : IsFront (keys_pressed (so.pressed ++ next.pressed) ++ next.wanted ∷ []) (pressed_keys ++ more)
+      up_to_wanted = wanted_behind so.pressed pressed_keys more next.pressed next.wanted refl next.front
+
+      in_keys : IsFront (keys_pressed (so.pressed ++ next.pressed) ++ next.wanted ∷ []) (keys bytes)
+      in_keys = front_trans _ _ _ up_to_wanted order
+
+      in_complete : IsFront (keys_pressed (so.pressed ++ next.pressed) ++ next.wanted ∷ []) (completed bytes) ⊎ IsOver options (told_at now_left now_reads now) bytes reads
+      in_complete = elim complete as (λ _. IsFront (keys_pressed (so.pressed ++ next.pressed) ++ next.wanted ∷ []) (completed bytes) ⊎ IsOver options (told_at now_left now_reads now) bytes reads)
+          [ inl h ↦ inl (front_trans _ _ _ up_to_wanted h) | inr h ↦ inr h ]
+
+      pressed_complete : IsFront (keys_pressed (so.pressed ++ next.pressed)) (completed bytes) ⊎ IsOver options (told_at now_left now_reads now) bytes reads
+      pressed_complete = elim in_complete as (λ _. IsFront (keys_pressed (so.pressed ++ next.pressed)) (completed bytes) ⊎ IsOver options (told_at now_left now_reads now) bytes reads)
+          [ inl h ↦ inl (front_without _ _ next.wanted h) | inr h ↦ inr h ]
+
+      abbrev wanting_course : Course options before (told_at now_left now_reads now)
+      wanting_course = all_course options before so.opened now now_left now_reads so.is_opened bytes [] nothing_behind (omega arith) within reads made
+          (so.pressed ++ next.pressed) all_shown (front_without _ _ next.wanted in_keys) pressed_complete
+
+      key_wanted : KeyWanted wanting_course
+      key_wanted = record {
+        wanted = next.wanted;
+        takes = all_takes options before so.opened now now_left now_reads so.is_opened bytes [] nothing_behind (omega arith) within reads made
+            (so.pressed ++ next.pressed) all_shown (front_without _ _ next.wanted in_keys) pressed_complete next.wanted
+            (subst (λ (s : State). IsTrue (key_takes_memory s.session next.wanted)) (sym (after_more so.opened m so.pressed so.all next.pressed)) next.takes);
+        next = in_keys;
+        complete = in_complete;
+        going = all_going options before so.opened now now_left now_reads so.is_opened bytes [] nothing_behind (omega arith) within reads made
+            (so.pressed ++ next.pressed) all_shown (front_without _ _ next.wanted in_keys) pressed_complete;
+        taken = record { in_turn = in_turn next.pressed; reads = reads_in_turn next.pressed };
+      }
+
+    -- a screen of one of the keys was cut short, or one of them wanted memory
+    module _ {after_reads after_fault : Type 0} (led : after_reads) where
+      out_of_memory : KeysCut more m now ⊎ KeysWanted more m now → Ended NoMemory options before (told_at now_left now_reads now) after_reads after_fault
+      out_of_memory (inl cut) = record {
+        course = course cut.earlier cut.last cut.front cut.count cut.up_to;
+        stopped = inr (inl (refl, inr (screen_cut cut.earlier cut.last cut.front cut.count cut.up_to cut.going)));
+        source = inl (led, refl);
+        rescued = refl;
+      }
+      out_of_memory (inr next) = record {
+        course = wanting_course next;
+        stopped = inr (inr (omega arith, refl, key_wanted next));
+        source = inl (led, refl);
+        rescued = refl;
+      }
+
     -- by the status
     pub stopped_at_key : (status : Status) → Pressed (Over status) more m now → {after_reads after_fault : Type 0} → after_reads
         → Ended status options before (told_at now_left now_reads now) after_reads after_fault
@@ -203,16 +257,11 @@ module _ (number : ℕ) (options : PlainOptions) (before : Told) (left : Option 
     }
     stopped_at_key WriteFault next led = record {
       course = course next.earlier next.last next.front next.count next.up_to;
-      stopped = (refl, inr (record { at_key = at_key next.earlier next.last next.front next.count next.up_to; going = ends_as next.earlier next.last next.front next.count next.up_to false next.going }));
+      stopped = (refl, inr (screen_cut next.earlier next.last next.front next.count next.up_to next.going));
       source = inl (led, refl);
       rescued = refl;
     }
-    stopped_at_key NoMemory next led = record {
-      course = course next.earlier next.last next.front next.count next.up_to;
-      stopped = inr (refl, inr (record { at_key = at_key next.earlier next.last next.front next.count next.up_to; going = ends_as next.earlier next.last next.front next.count next.up_to false next.going }));
-      source = inl (led, refl);
-      rescued = refl;
-    }
+    stopped_at_key NoMemory next led = out_of_memory led next
     stopped_at_key ReadFault next led = absurd next
     stopped_at_key BadWords next led = absurd next
     stopped_at_key KeyLimit next led = absurd next

@@ -1,9 +1,9 @@
 -- Turns of some keys and then of others.
 use Rattle.std.proofs.Common.{◌≡◌, ◌+◌, Bool, true, false, ◌||◌, List, [], ◌∷◌, ◌++◌, refl, sym, ap, ◌∙◌, append_assoc, arith}
-use Rattle.synth_top.specs.Run.{painted_over}
-use Rattle.synth_top.specs.Paint.{paint}
+use Rattle.screen_window.specs.Paint.{Paint}
+use Rattle.screen_window.specs.PlainGrid.{PlainGrid}
 use Rattle.synth_top.specs.Private.Pressing.{last_shown}
-use Rattle.synth_top.specs.Screen.{PlainGrid}
+use Rattle.synth_top.specs.Run.{painted_over}
 use Rattle.synth_top.specs.Turn.{State, PressedKey, Replied, after, ends, failures, grids, turn}
 
 -- a test that fails, and then another
@@ -46,7 +46,7 @@ failures-append (p ∷ ps) qs = let rest = failures-append ps qs in omega (arith
 pub painted_over-append : (g : PlainGrid) (xs ys : List PlainGrid) → painted_over g (xs ++ ys) ≡ painted_over g xs ++ painted_over (last_shown g xs) ys
 painted_over-append g [] ys = refl
 painted_over-append g (x ∷ xs) ys =
-    ap (λ l. paint g x ++ l) (painted_over-append x xs ys) ∙ sym (append_assoc (paint g x) (painted_over x xs) (painted_over (last_shown x xs) ys))
+    ap (λ l. Paint g x ++ l) (painted_over-append x xs ys) ∙ sym (append_assoc (Paint g x) (painted_over x xs) (painted_over (last_shown x xs) ys))
 
 pub last_shown-append : (g : PlainGrid) (xs ys : List PlainGrid) → last_shown g (xs ++ ys) ≡ last_shown (last_shown g xs) ys
 last_shown-append g [] ys = refl

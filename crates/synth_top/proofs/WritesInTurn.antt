@@ -4,8 +4,8 @@ use Rattle.std.proofs.KnownBytes.{Appends-trans}
 use Rattle.std.proofs.lemmas.Result.{on_ok_weaker, on_err_weaker}
 use Rattle.synth_outside.specs.Cause.{HasCause}
 use Rattle.synth_outside.specs.declared.faults.SinkFault.{SinkFault}
+use Rattle.screen_window.specs.Writes.{Writes}
 use Rattle.synth_top.specs.Status.{CausedBy}
-use Rattle.synth_top.specs.Private.Writes.{Writes}
 use Rattle.synth_top.proofs.Fronts.{AppendsFront-append, AppendsFront-first}
 
 -- a call behind others that counted no fault

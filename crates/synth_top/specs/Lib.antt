@@ -1,16 +1,13 @@
--- ---- sizes, numbers and the words of the command
-pub mod Extent
+-- ---- the words of the command
 pub mod Number
 pub mod Options
--- ---- keys, the session, and its screen
+-- ---- keys, and what one makes of session and files
 pub mod Keys
 pub mod Reply
-pub mod Session
-pub mod Screen
-pub mod Paint
--- ---- whole runs
 pub mod Turn
+-- ---- whole runs
 pub mod Status
+pub mod Laid
 pub mod Run
 -- ---- what private contracts alone cite
 pub mod Private

@@ -1,15 +1,19 @@
 -- A whole run: from the bytes of keys to the bytes of screens.
-use Rattle.std.specs.Prelude.{◌≡◌, ◌⊎◌, ℕ, ◌+◌, ◌-◌, ◌^◌, ◌<◌, ◌≤◌, min, max, true, false, List, [], ◌∷◌, ◌++◌, length, map, take, Option, codes}
+use Rattle.std.specs.Prelude.{◌≡◌, ◌⊎◌, ℕ, ◌+◌, ◌-◌, ◌^◌, ◌<◌, ◌≤◌, min, max, true, false, IsTrue, List, [], ◌∷◌, ◌++◌, length, map, take, Option, None, codes}
 use Rattle.std.specs.Io.KnownBytes.{Appends, Consumes, IsAtEnd}
 use Rattle.synth_outside.specs.Files.{FileMap}
-use Rattle.synth_top.specs.declared.key.Key.{Key}
+use Rattle.screen_window.specs.Paint.{Paint, control}
+use Rattle.screen_window.specs.PlainGrid.{PlainGrid, blank_grid}
+use Rattle.synth_session.specs.declared.key.Key.{Key}
+use Rattle.synth_session.specs.MemoryTaken.{key_takes_memory}
+use Rattle.synth_session.specs.OpenedSession.{opened_session}
+use Rattle.synth_session.specs.PlainSession.{PlainSession}
+use Rattle.synth_session.specs.SessionScreen.{grid}
 use Rattle.synth_top.specs.declared.status.Status.{Status}
 use Rattle.synth_top.specs.declared.status.Status.TheVariants.{Done, ReadFault, WriteFault, NoMemory, BadWords, KeyLimit}
 use Rattle.synth_top.specs.Keys.{completed, keys}
-use Rattle.synth_top.specs.Paint.{paint, control}
+use Rattle.synth_top.specs.Laid.{LaysFor}
 use Rattle.synth_top.specs.Reply.{Reply, NotAsked, failure}
-use Rattle.synth_top.specs.Screen.{PlainGrid, grid, blank}
-use Rattle.synth_top.specs.Session.{PlainSession, new_session}
 use Rattle.synth_top.specs.Turn.{State, IsMapOf, PressedKey, Replied, after, ends, failures, grids}
 use Rattle.synth_top.specs.Options.{PlainOptions}
 
@@ -21,12 +25,12 @@ clear_piece = control (codes "0m") ++ control (codes "2J")
 
 -- the opening screen
 unfoldable pub opening : PlainSession → List ℕ
-opening s = clear_piece ++ paint (blank s.size) (grid s)
+opening s = clear_piece ++ Paint (blank_grid s.size.rows s.size.cols) (grid s)
 
 -- each screen painted over the one before, the first over the one that is shown
 abbrev pub painted_over : PlainGrid → List PlainGrid → List ℕ
 painted_over shown [] = []
-painted_over shown (next ∷ rest) = paint shown next ++ painted_over next rest
+painted_over shown (next ∷ rest) = Paint shown next ++ painted_over next rest
 
 -- all that is written: the opening screen, and then turn by turn each screen over the one before
 unfoldable pub written : State → List PressedKey → List ℕ
@@ -36,13 +40,15 @@ written state pressed =
 -- ---- what a run begins with
 
 -- what is told of the outside: the bytes that the source has left and how many reads it counted, the
--- bytes that the sink took, the map of the files, and how many faults these counted
+-- bytes that the sink took, the map of the files and how many faults these counted, and how many lines
+-- were counted as laid
 pub record Told : Type 0 where
   pub left : Option (List ℕ)
   pub reads : ℕ
   pub taken : Option (List ℕ)
   pub files : Option FileMap
   pub file_faults : ℕ
+  pub laid : ℕ
 
 -- what the files did where the program and its input were loaded, before the first screen
 pub record Loads : Type 0 where
@@ -54,9 +60,9 @@ pub record CanLoad (options : PlainOptions) (files : FileMap) (loads : Loads) : 
   pub program : loads.program ≡ NotAsked
   pub input : loads.input ≡ NotAsked
 
--- the state of the opening screen
+-- the state of the opening screen, with a new program
 abbrev pub first_state : PlainOptions → FileMap → Loads → State
-first_state options files loads = record { session = new_session options.size; files = files }
+first_state options files loads = record { session = opened_session options.size None; files = files }
 
 -- ---- what a run has done
 
@@ -102,7 +108,7 @@ ReadsInTurn options now bytes reads pressed =
 pub data Rescue : Type 0 where
   NoRescue : Rescue
 
--- whether this has to be saved where a run ends so: nothing has, since no session has a listing yet
+-- whether this has to be saved where a run ends so: nothing is saved yet
 abbrev pub IsRescue : Status → Rescue → Type 0
 IsRescue status rescue = rescue ≡ NoRescue
 
@@ -144,6 +150,10 @@ pub record Course (options : PlainOptions) (before now : Told) : Type 0 where
       (map_with rescue (after (first_state options map loads) pressed).files)
   pub faults : RoseBy (failure loads.program + failure loads.input + failures pressed)
       before.file_faults now.file_faults
+  -- the lines laid: at most as many as the windows of the opening screen and of the screens of the keys
+  -- have rows
+  pub laid : LaysFor (grid (first_state options map loads).session ∷ grids (first_state options map loads) pressed)
+      before.laid now.laid
 
 -- ---- why a run stopped
 
@@ -181,18 +191,22 @@ module _ {options : PlainOptions} {before now : Told} (course : Course options b
     pub below : length course.bytes < options.key_limit
     pub one_more : course.reads ≡ length course.bytes + 1
 
+  -- the newest byte was taken, and the source's end read, only behind the keys that the bytes before it
+  -- complete, which are among these
+  pub record TakenBehind (pressed : List PressedKey) : Type 0 where
+    pub in_turn : (seen : List ℕ) (newest : ℕ) → course.bytes ≡ seen ++ newest ∷ [] →
+        IsFront (completed seen) (keys_pressed pressed)
+    pub reads : ReadsInTurn options now course.bytes course.reads pressed
+
   -- the run stopped at the last key pressed: none before it ended the session, the screens of those
-  -- were all written, and the newest byte was taken, and the source's end read, only behind the keys
-  -- that the bytes before it complete
+  -- were all written, and no byte was taken before they were pressed
   pub record AtLastKey : Type 0 where
     pub earlier : List PressedKey
     pub last : PressedKey
     pub is_last : course.pressed ≡ earlier ++ last ∷ []
     pub going : ends state_at_first earlier ≡ false
     pub shown : length (written state_at_first earlier) ≤ course.count
-    pub in_turn : (seen : List ℕ) (newest : ℕ) → course.bytes ≡ seen ++ newest ∷ [] →
-        IsFront (completed seen) (keys_pressed earlier)
-    pub reads : ReadsInTurn options now course.bytes course.reads earlier
+    pub taken : TakenBehind earlier
 
   -- the last key pressed ended the session, and no read was made behind its byte
   pub record QuitPressed : Type 0 where
@@ -211,13 +225,25 @@ module _ {options : PlainOptions} {before now : Told} (course : Course options b
     pub at_key : AtLastKey
     pub going : ends state_at_first course.pressed ≡ false
 
+  -- a key wanted memory, which is one that takes some: it isn't among those pressed but is the next one of
+  -- the keys of the bytes, those pressed didn't end the session, and no byte was taken before they were
+  pub record KeyWanted : Type 0 where
+    pub wanted : Key
+    pub takes : IsTrue (key_takes_memory (after state_at_first course.pressed).session wanted)
+    pub next : IsFront (keys_pressed course.pressed ++ wanted ∷ []) (keys course.bytes)
+    pub complete : IsFront (keys_pressed course.pressed ++ wanted ∷ []) (completed course.bytes)
+        ⊎ IsOver options now course.bytes course.reads
+    pub going : ends state_at_first course.pressed ≡ false
+    pub taken : TakenBehind course.pressed
+
   -- what each status says of the run
   abbrev pub Stopped : Status → Type 0
   Stopped Done = AllWritten × NoneLost × (SourceEnded ⊎ QuitPressed)
   Stopped KeyLimit = AllWritten × NoneLost × LimitMet
   Stopped ReadFault = AllWritten × ReadCut
   Stopped WriteFault = NoneLost × (OpeningCut ⊎ ScreenCut)
-  Stopped NoMemory = (AllWritten × ReadCut) ⊎ (NoneLost × (OpeningCut ⊎ ScreenCut))
+  Stopped NoMemory =
+      (AllWritten × ReadCut) ⊎ ((NoneLost × (OpeningCut ⊎ ScreenCut)) ⊎ (AllWritten × NoneLost × KeyWanted))
   Stopped BadWords = ⊥
 
   -- what the source keeps besides its bytes is as after reads that were Ok, and then no byte was lost;

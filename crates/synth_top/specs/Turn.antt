@@ -1,10 +1,15 @@
 -- The turns of keys: what each makes of the session and the files, and the screens that it shows.
-use Rattle.std.specs.Prelude.{◌≡◌, ℕ, ◌+◌, Bool, false, ◌||◌, List, [], ◌∷◌, ◌++◌, Option, Some, None, if◌then◌else◌}
+use Rattle.std.specs.Prelude.{◌≡◌, ℕ, ◌+◌, Bool, true, false, ◌||◌, List, [], ◌∷◌, ◌++◌, Option, Some, None, if◌then◌else◌}
 use Rattle.synth_outside.specs.Files.{FileMap}
-use Rattle.synth_top.specs.declared.key.Key.{Key}
+use Rattle.screen_window.specs.PlainGrid.{PlainGrid}
+use Rattle.synth_session.specs.declared.answer.Answer.{Answer}
+use Rattle.synth_session.specs.declared.answer.Answer.TheVariants.{Done, Refused, Quit}
+use Rattle.synth_session.specs.declared.key.Key.{Key}
+use Rattle.synth_session.specs.Outcome.{Outcome}
+use Rattle.synth_session.specs.PlainSession.{PlainSession}
+use Rattle.synth_session.specs.Press.{press}
+use Rattle.synth_session.specs.SessionScreen.{grid}
 use Rattle.synth_top.specs.Reply.{Reply, NotAsked, failure}
-use Rattle.synth_top.specs.Session.{PlainSession, Outcome, press, is_quit}
-use Rattle.synth_top.specs.Screen.{PlainGrid, grid}
 
 -- what a key's turn begins with: the session, and the map of the files
 pub record State : Type 0 where
@@ -23,6 +28,12 @@ pub record PressedKey : Type 0 where
 
 -- ---- one turn
 
+-- whether an answer ends the session
+abbrev pub is_quit : Answer → Bool
+is_quit Quit = true
+is_quit Done = false
+is_quit (Refused why) = false
+
 -- what a turn gives: the screens that are painted in their order, the state behind it, and whether
 -- the session ends
 pub record Turn : Type 0 where
@@ -38,11 +49,11 @@ turn_with state outcome = record {
   ends = is_quit outcome.answer;
 }
 
--- the turn of a key
+-- the turn of a key: no key asks anything of the files yet
 unfoldable pub turn : State → PressedKey → Turn
-turn state pressed = turn_with state (press state.session pressed.key pressed.reply)
+turn state pressed = turn_with state (press state.session pressed.key)
 
--- whether the files can have done this in the key: no key asks anything of them yet
+-- whether the files can have done this in the key: they weren't asked
 abbrev pub CanReply : State → PressedKey → Type 0
 CanReply state pressed = pressed.reply ≡ NotAsked
 

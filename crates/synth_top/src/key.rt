@@ -1,37 +1,13 @@
-//! Keys, and the reader that turns bytes into keys.
+//! The reader that turns bytes into keys.
 
 ghost use Rattle.std.specs.Prelude.{◌≡◌, [], ◌∷◌, None, Some, option_to_list};
+ghost use Rattle.synth_session.specs.declared.key.Key.TheVariants.{Other};
 ghost use Rattle.synth_top.specs.declared.key.Held.TheVariants.{Nothing};
-ghost use Rattle.synth_top.specs.declared.key.Key.TheVariants.{Other};
 ghost use Rattle.synth_top.specs.Keys.{Feeds, IsHeld, held_bytes, key_of, keys, move_of};
 
 use plcs_base::is_printable;
 use std::marker::Model;
-
-/// What a person presses.
-#[derive(Clone, Copy, Debug, PartialEq, Eq)]
-pub enum Key {
-    /// A printable byte, from 32 to 126.
-    Char(u8),
-    /// Carries out what was typed.
-    Enter,
-    /// Takes back the last byte typed.
-    Erase,
-    /// Takes back all that was typed.
-    Clear,
-    /// Takes what stands at the cursor into the typed line.
-    Tab,
-    /// Moves to an earlier line.
-    Up,
-    /// Moves to a later line.
-    Down,
-    /// Moves to the stop before.
-    Left,
-    /// Moves to the next stop.
-    Right,
-    /// Any other key.
-    Other,
-}
+use synth_session::Key;
 
 /// The keys that one byte completes: none, one, or two in the order in which they are pressed. The
 /// second is `None` where the first is.

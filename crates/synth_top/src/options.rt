@@ -5,12 +5,18 @@ ghost use Rattle.std.specs.String.{string_bytes};
 ghost use Rattle.synth_top.specs.Private.PlainForms.{plain_options};
 ghost use Rattle.synth_top.specs.Options.{count_between, options_of};
 
-use crate::bound::{LEAST_COLS, LEAST_ROWS, MOST_COLS, MOST_ROWS, USUAL_COLS, USUAL_ROWS};
 use crate::number::number_in_digits;
-use crate::size::ScreenSize;
+use screen_window::{FEWEST_COLS, FEWEST_ROWS, MOST_COLS, MOST_ROWS};
+use synth_session::ScreenSize;
 
 /// How many bytes of keys are taken at most.
 const KEY_LIMIT: u64 = 1_000_000_000;
+
+/// How many rows a screen has where no words say it.
+const USUAL_ROWS: u16 = 24;
+
+/// How many columns a screen has where no words say it.
+const USUAL_COLS: u16 = 80;
 
 /// What the words ask for.
 #[derive(Clone, Copy, Debug)]
@@ -36,8 +42,8 @@ pub fn options_of(words: &[String]) -> Option<Options>
             if first.as_str() != "--rows" || second.as_str() != "--cols" {
                 return None;
             }
-            let rows = count_between(LEAST_ROWS, MOST_ROWS, rows.as_str())?;
-            let cols = count_between(LEAST_COLS, MOST_COLS, cols.as_str())?;
+            let rows = count_between(FEWEST_ROWS, MOST_ROWS, rows.as_str())?;
+            let cols = count_between(FEWEST_COLS, MOST_COLS, cols.as_str())?;
             Some(Options {
                 size: ScreenSize::new(rows, cols),
                 key_limit: KEY_LIMIT,

@@ -2,26 +2,28 @@
 
 ghost use Rattle.std.specs.Prelude.{◌≡◌, ◌∷◌, [], option_to_list, IfOk, OnOk, OnErr};
 ghost use Rattle.plcs_base.specs.Count.{raised};
+ghost use Rattle.screen_window.specs.Paint.{Paint};
+ghost use Rattle.screen_window.specs.PlainGrid.{blank_grid};
+ghost use Rattle.screen_window.specs.Writes.{Writes};
 ghost use Rattle.synth_outside.specs.Cause.{HasCause};
 ghost use Rattle.synth_outside.specs.Source.{LosesAtMost};
+ghost use Rattle.synth_session.specs.SessionScreen.{grid};
+ghost use Rattle.synth_session.specs.SessionView.{plain_session, shown_grid};
 ghost use Rattle.synth_top.specs.Keys.{keys, listed};
-ghost use Rattle.synth_top.specs.Paint.{paint};
-ghost use Rattle.synth_top.specs.Private.PlainForms.{plain_grid, plain_session};
+ghost use Rattle.synth_top.specs.Laid.{LaysFor};
+ghost use Rattle.synth_top.specs.Private.PlainForms.{plain_options};
 ghost use Rattle.synth_top.specs.Private.Pressing.{IsNew, IsReady, PressesKeys, ReadsByte, ended_as, snapshot_of};
 ghost use Rattle.synth_top.specs.Run.{Ended, opening};
-ghost use Rattle.synth_top.specs.Screen.{grid};
 ghost use Rattle.synth_top.specs.Status.{CausedBy, LeftAs};
-ghost use Rattle.synth_top.specs.Private.Writes.{Writes};
 
-use crate::grid::Grid;
-use crate::key::{Key, KeyReader, Keys};
-use crate::paint::{paint, write_piece};
-use crate::session::{Answer, Session};
-use crate::size::ScreenSize;
+use crate::key::{KeyReader, Keys};
+use crate::options::Options;
 use crate::status::Status;
-use std::alloc::{AllocError, Global};
-use std::mem;
+use plcs_base::{OutOfMemory, Work};
+use screen_window::write_piece;
+use std::alloc::Global;
 use synth_outside::{Files, Sink, SinkFault, Source, SourceFault};
+use synth_session::{Answer, Key, ScreenSize, Session};
 
 /// Whether the session goes on.
 #[derive(Clone, Copy, Debug)]
@@ -44,25 +46,21 @@ impl Going {
     }
 }
 
-/// A session with the reader of its keys, the screen that is shown, and room for the next one.
-#[derive(Debug, Drop)]
-pub struct Editor {
-    pub session: Session,
+/// A session with the reader of its keys.
+#[derive(Drop)]
+pub struct Editor<W> {
+    pub session: Session<W>,
     pub reader: KeyReader,
-    pub painted: Grid,
-    pub next: Grid,
 }
 
-impl Editor {
-    /// An editor for a new session, before its first screen.
-    pub fn open(alloc: Global, size: ScreenSize) -> Result<Self, AllocError>
+impl<W: Work> Editor<W> {
+    /// An editor for a session with a new program, before its first screen.
+    pub fn open(alloc: Global, size: ScreenSize) -> Result<Self, OutOfMemory>
         ensures { IfOk result (λ e. IsNew size e) }
     {
         Ok(Editor {
-            session: Session::open(size),
+            session: Session::open(alloc, size, None)?,
             reader: KeyReader::new(),
-            painted: Grid::new(alloc, size)?,
-            next: Grid::new(alloc, size)?,
         })
     }
 
@@ -70,19 +68,22 @@ impl Editor {
     /// at most as many as the limit.
     pub fn run<S: Source, K: Sink, F: Files>(
         &mut self,
-        limit: u64,
+        alloc: Global,
+        options: Options,
         keys: &mut S,
         screen: &mut K,
         files: &mut F,
+        work: &mut W,
     ) -> Status
-        requires { IsNew self.old.session.size self.old }
-        ensures ended { Ended result (record { size = self.old.session.size; key_limit = limit })
+        requires { IsNew options.size self.old }
+        ensures ended { Ended result (plain_options options)
             (record {
               left = S.left keys.old;
               reads = S.reads keys.old;
               taken = K.taken screen.old;
               files = F.stored files.old;
               file_faults = F.faults files.old;
+              laid = W.laid work.old;
             })
             (record {
               left = S.left keys.new;
@@ -90,6 +91,7 @@ impl Editor {
               taken = K.taken screen.new;
               files = F.stored files.new;
               file_faults = F.faults files.new;
+              laid = W.laid work.new;
             })
             (S.leads_to keys.old keys.new) (S.breaks_at keys.old keys.new) }
         ensures read { CausedBy (result ≡ Status.ReadFault) (S.faults keys.old) (S.faults keys.new) }
@@ -98,130 +100,180 @@ impl Editor {
         ensures source { LeftAs result
             (S.leads_to keys.old keys.new) (S.breaks_at keys.old keys.new) }
         ensures files { files.new ≡ files.old }
+        ensures emitted { W.emitted work.new ≡ W.emitted work.old }
+        ensures checked { W.checked work.new ≡ W.checked work.old }
+        ensures fetched { W.fetched work.new ≡ W.fetched work.old }
     {
-        match self.start(screen) {
+        match self.start(screen, work) {
             Ok(()) => {}
             Err(SinkFault::Failed) => return Status::WriteFault,
             Err(SinkFault::OutOfMemory) => return Status::NoMemory,
         }
-        for _ in 0..limit {
+        for _ in 0..options.key_limit {
             match read_byte(keys) {
                 Ok(Some(byte)) => {
                     let given = self.reader.feed(byte);
-                    if let Going::Over(status) = self.press_keys(given, screen, files) {
+                    if let Going::Over(status) = self.press_keys(
+                        alloc, given, screen, files, work,
+                    ) {
                         return status;
                     }
                 }
-                Ok(None) => return self.finish(screen, files).or(Status::Done),
+                Ok(None) => return self.finish(alloc, screen, files, work).or(Status::Done),
                 Err(SourceFault::Failed) => return Status::ReadFault,
                 Err(SourceFault::OutOfMemory) => return Status::NoMemory,
             }
         }
-        self.finish(screen, files).or(Status::KeyLimit)
+        self.finish(alloc, screen, files, work).or(Status::KeyLimit)
     }
 
     /// Clears the screen and paints the opening screen.
     #[tactic(auto, unfolding(crate::specs::Run::opening))]
-    fn start<K: Sink>(&mut self, screen: &mut K) -> Result<(), SinkFault>
-        requires { IsNew self.old.session.size self.old }
+    fn start<K: Sink>(&mut self, screen: &mut K, work: &mut W) -> Result<(), SinkFault>
+        requires ready { IsReady self.old }
+        requires painted { shown_grid self.old.session ≡ blank_grid (plain_session self.old.session).size.rows (plain_session self.old.session).size.cols }
         ensures wrote { Writes (opening (plain_session self.old.session)) result
             (K.taken screen.old) (K.taken screen.new) (K.faults screen.old) (K.faults screen.new) }
         ensures ready { IsReady self.new }
         ensures shown { OnOk result
-            (plain_grid self.new.painted ≡ grid (plain_session self.old.session)) }
-        ensures session { self.new.session ≡ self.old.session }
+            (shown_grid self.new.session ≡ grid (plain_session self.old.session)) }
+        ensures session { plain_session self.new.session ≡ plain_session self.old.session }
         ensures reader { self.new.reader ≡ self.old.reader }
+        ensures laid { LaysFor (grid (plain_session self.old.session) ∷ []) (W.laid work.old) (W.laid work.new) }
+        ensures emitted { W.emitted work.new ≡ W.emitted work.old }
+        ensures checked { W.checked work.new ≡ W.checked work.old }
+        ensures fetched { W.fetched work.new ≡ W.fetched work.old }
     {
         write_piece(screen, b"\x1b[0m\x1b[2J")?;
-        self.show(screen)
+        self.show(screen, work)
     }
 
-    /// PressesKeys what isn't complete, where no byte comes any more.
-    fn finish<K: Sink, F: Files>(&mut self, screen: &mut K, files: &mut F) -> Going
+    /// Presses what isn't complete, where no byte comes any more.
+    fn finish<K: Sink, F: Files>(
+        &mut self,
+        alloc: Global,
+        screen: &mut K,
+        files: &mut F,
+        work: &mut W,
+    ) -> Going
         requires { IsReady self.old }
         ensures presses { PressesKeys result (keys self.old.reader)
-            (snapshot_of self.old (K.taken screen.old) (F.stored files.old) (F.faults files.old))
-            (snapshot_of self.new (K.taken screen.new) (F.stored files.new) (F.faults files.new))
+            (snapshot_of self.old (K.taken screen.old) (F.stored files.old) (F.faults files.old) (W.laid work.old))
+            (snapshot_of self.new (K.taken screen.new) (F.stored files.new) (F.faults files.new) (W.laid work.new))
             (K.faults screen.old) (K.faults screen.new) self.new }
         ensures files { files.new ≡ files.old }
+        ensures emitted { W.emitted work.new ≡ W.emitted work.old }
+        ensures checked { W.checked work.new ≡ W.checked work.old }
+        ensures fetched { W.fetched work.new ≡ W.fetched work.old }
     {
         let key = self.reader.end();
-        self.press_if(key, screen, files)
+        self.press_if(alloc, key, screen, files, work)
     }
 
-    /// PressesKeys the keys of one byte in their order.
-    fn press_keys<K: Sink, F: Files>(&mut self, keys: Keys, screen: &mut K, files: &mut F) -> Going
+    /// Presses the keys of one byte in their order.
+    fn press_keys<K: Sink, F: Files>(
+        &mut self,
+        alloc: Global,
+        keys: Keys,
+        screen: &mut K,
+        files: &mut F,
+        work: &mut W,
+    ) -> Going
         requires { IsReady self.old }
         ensures presses { PressesKeys result (listed keys)
-            (snapshot_of self.old (K.taken screen.old) (F.stored files.old) (F.faults files.old))
-            (snapshot_of self.new (K.taken screen.new) (F.stored files.new) (F.faults files.new))
+            (snapshot_of self.old (K.taken screen.old) (F.stored files.old) (F.faults files.old) (W.laid work.old))
+            (snapshot_of self.new (K.taken screen.new) (F.stored files.new) (F.faults files.new) (W.laid work.new))
             (K.faults screen.old) (K.faults screen.new) self.new }
         ensures reader { self.new.reader ≡ self.old.reader }
         ensures files { files.new ≡ files.old }
+        ensures emitted { W.emitted work.new ≡ W.emitted work.old }
+        ensures checked { W.checked work.new ≡ W.checked work.old }
+        ensures fetched { W.fetched work.new ≡ W.fetched work.old }
     {
-        if let Going::Over(status) = self.press_if(keys.first, screen, files) {
+        if let Going::Over(status) = self.press_if(alloc, keys.first, screen, files, work) {
             return Going::Over(status);
         }
-        self.press_if(keys.second, screen, files)
+        self.press_if(alloc, keys.second, screen, files, work)
     }
 
-    /// PressesKeys a key, if there is one.
+    /// Presses a key, if there is one.
     fn press_if<K: Sink, F: Files>(
         &mut self,
+        alloc: Global,
         key: Option<Key>,
         screen: &mut K,
         files: &mut F,
+        work: &mut W,
     ) -> Going
         requires { IsReady self.old }
         ensures presses { PressesKeys result (option_to_list key)
-            (snapshot_of self.old (K.taken screen.old) (F.stored files.old) (F.faults files.old))
-            (snapshot_of self.new (K.taken screen.new) (F.stored files.new) (F.faults files.new))
+            (snapshot_of self.old (K.taken screen.old) (F.stored files.old) (F.faults files.old) (W.laid work.old))
+            (snapshot_of self.new (K.taken screen.new) (F.stored files.new) (F.faults files.new) (W.laid work.new))
             (K.faults screen.old) (K.faults screen.new) self.new }
         ensures reader { self.new.reader ≡ self.old.reader }
         ensures files { files.new ≡ files.old }
+        ensures emitted { W.emitted work.new ≡ W.emitted work.old }
+        ensures checked { W.checked work.new ≡ W.checked work.old }
+        ensures fetched { W.fetched work.new ≡ W.fetched work.old }
     {
         match key {
-            Some(key) => self.press(key, screen, files),
+            Some(key) => self.press(alloc, key, screen, files, work),
             None => Going::On,
         }
     }
 
-    /// PressesKeys a key and paints the screen behind it; a key that ends the session has none.
-    fn press<K: Sink, F: Files>(&mut self, key: Key, screen: &mut K, files: &mut F) -> Going
+    /// Presses a key and paints the screen behind it. A key that ends the session has none, and one that
+    /// wants memory does nothing.
+    fn press<K: Sink, F: Files>(
+        &mut self,
+        alloc: Global,
+        key: Key,
+        screen: &mut K,
+        _files: &mut F,
+        work: &mut W,
+    ) -> Going
         requires { IsReady self.old }
         ensures presses { PressesKeys result (key ∷ [])
-            (snapshot_of self.old (K.taken screen.old) (F.stored files.old) (F.faults files.old))
-            (snapshot_of self.new (K.taken screen.new) (F.stored files.new) (F.faults files.new))
+            (snapshot_of self.old (K.taken screen.old) (F.stored _files.old) (F.faults _files.old) (W.laid work.old))
+            (snapshot_of self.new (K.taken screen.new) (F.stored _files.new) (F.faults _files.new) (W.laid work.new))
             (K.faults screen.old) (K.faults screen.new) self.new }
         ensures reader { self.new.reader ≡ self.old.reader }
-        ensures files { files.new ≡ files.old }
+        ensures files { _files.new ≡ _files.old }
+        ensures emitted { W.emitted work.new ≡ W.emitted work.old }
+        ensures checked { W.checked work.new ≡ W.checked work.old }
+        ensures fetched { W.fetched work.new ≡ W.fetched work.old }
     {
-        if let Answer::Quit = self.session.press(key, files) {
+        let Ok(answer) = self.session.press(alloc, key) else {
+            return Going::Over(Status::NoMemory);
+        };
+        if let Answer::Quit = answer {
             return Going::Over(Status::Done);
         }
-        match self.show(screen) {
+        match self.show(screen, work) {
             Ok(()) => Going::On,
             Err(SinkFault::Failed) => Going::Over(Status::WriteFault),
             Err(SinkFault::OutOfMemory) => Going::Over(Status::NoMemory),
         }
     }
 
-    /// Draws the session and paints the new screen over the one that is shown.
-    fn show<K: Sink>(&mut self, screen: &mut K) -> Result<(), SinkFault>
+    /// Draws the session and paints its screen over the one that is shown.
+    fn show<K: Sink>(&mut self, screen: &mut K, work: &mut W) -> Result<(), SinkFault>
         requires { IsReady self.old }
         ensures wrote { Writes
-            (paint (plain_grid self.old.painted) (grid (plain_session self.old.session))) result
+            (Paint (shown_grid self.old.session) (grid (plain_session self.old.session))) result
             (K.taken screen.old) (K.taken screen.new) (K.faults screen.old) (K.faults screen.new) }
         ensures ready { IsReady self.new }
         ensures shown { OnOk result
-            (plain_grid self.new.painted ≡ grid (plain_session self.old.session)) }
-        ensures session { self.new.session ≡ self.old.session }
+            (shown_grid self.new.session ≡ grid (plain_session self.old.session)) }
+        ensures session { plain_session self.new.session ≡ plain_session self.old.session }
         ensures reader { self.new.reader ≡ self.old.reader }
+        ensures laid { LaysFor (grid (plain_session self.old.session) ∷ []) (W.laid work.old) (W.laid work.new) }
+        ensures emitted { W.emitted work.new ≡ W.emitted work.old }
+        ensures checked { W.checked work.new ≡ W.checked work.old }
+        ensures fetched { W.fetched work.new ≡ W.fetched work.old }
     {
-        self.next.compose(&self.session);
-        paint(self.session.size(), &self.painted, &self.next, screen)?;
-        mem::swap(&mut self.painted, &mut self.next);
-        Ok(())
+        self.session.draw(work);
+        self.session.paint(screen)
     }
 }
 

@@ -1,36 +1,38 @@
 -- What pressing some keys does, between two moments of a run.
-use Rattle.std.specs.Prelude.{◌≡◌, ℕ, ◌≤◌, true, false, List, [], ◌∷◌, ◌++◌, length, take, Option, Some, None}
+use Rattle.std.specs.Prelude.{◌≡◌, ◌⊎◌, ℕ, ◌≤◌, true, false, IsTrue, List, [], ◌∷◌, ◌++◌, length, take, Option, Some, None}
 use Rattle.std.specs.Io.KnownBytes.{Appends, Consumes, IsAtEnd}
 use Rattle.synth_outside.specs.Files.{FileMap}
-use Rattle.synth_top.specs.declared.key.Key.{Key}
+use Rattle.screen_window.specs.PlainGrid.{PlainGrid, blank_grid}
+use Rattle.synth_session.specs.declared.answer.Answer.{Answer}
+use Rattle.synth_session.specs.declared.key.Key.{Key}
+use Rattle.synth_session.specs.Extent.{Extent}
+use Rattle.synth_session.specs.MemoryTaken.{key_takes_memory}
+use Rattle.synth_session.specs.OpenedSession.{opened_session}
+use Rattle.synth_session.specs.PlainSession.{PlainSession}
+use Rattle.synth_session.specs.Press.{press}
+use Rattle.synth_session.specs.SessionView.{IsSession, plain_session, shown_grid}
 use Rattle.synth_top.specs.declared.run.Editor.{Editor}
 use Rattle.synth_top.specs.declared.run.Going.{Going}
 use Rattle.synth_top.specs.declared.run.Going.TheVariants.{On, Over}
-use Rattle.synth_top.specs.declared.session.Answer.{Answer}
 use Rattle.synth_top.specs.declared.status.Status.{Status}
 use Rattle.synth_top.specs.declared.status.Status.TheVariants.{Done, ReadFault, WriteFault, NoMemory, BadWords, KeyLimit}
-use Rattle.synth_top.specs.Extent.{Extent}
-use Rattle.synth_top.specs.Private.PlainForms.{plain_grid, plain_session}
+use Rattle.synth_top.specs.Laid.{LaysFor}
 use Rattle.synth_top.specs.Reply.{Reply, failure}
 use Rattle.synth_top.specs.Run.{IsFront, RoseBy, keys_pressed, painted_over}
-use Rattle.synth_top.specs.Screen.{PlainGrid, blank}
-use Rattle.synth_top.specs.Session.{PlainSession, new_session, press}
-use Rattle.synth_top.specs.Private.Sized.{IsSized}
 use Rattle.synth_top.specs.Status.{CausedBy}
 use Rattle.synth_top.specs.Turn.{State, IsMapOf, PressedKey, CanReply, Replied, after, ends, failures, grids}
 
 -- ---- an editor
 
--- both screens have the session's size
-pub record IsReady (e : Editor) : Type 0 where
-  pub painted : IsSized e.session.size (plain_grid e.painted)
-  pub next : IsSized e.session.size (plain_grid e.next)
+-- the parts of its session keep their conditions
+abbrev pub IsReady : {W : Type 0} → Editor W → Type 0
+IsReady e = IsSession e.session
 
 -- an editor for a new session on a screen of this size, before its first screen
-pub record IsNew (size : Extent) (e : Editor) : Type 0 where
+pub record IsNew {W : Type 0} (size : Extent) (e : Editor W) : Type 0 where
   pub ready : IsReady e
-  pub session : plain_session e.session ≡ new_session size
-  pub painted : plain_grid e.painted ≡ blank size
+  pub session : plain_session e.session ≡ opened_session size None
+  pub painted : shown_grid e.session ≡ blank_grid size.rows size.cols
   pub reader : e.reader ≡ []
 
 -- the next byte was read, or nothing is left
@@ -45,38 +47,33 @@ pub record IsPressed (key : Key) (answer : Answer) (before now : State)
     (faults_before faults_now : ℕ) : Type 0 where
   pub reply : Reply
   pub can_reply : CanReply before (record { key = key; reply = reply })
-  pub outcome : record { after = now.session; answer = answer } ≡ press before.session key reply
+  pub session : now.session ≡ (press before.session key).after
+  pub answered : answer ≡ (press before.session key).answer
   pub files : now.files ≡ before.files
   pub faults : RoseBy (failure reply) faults_before faults_now
-
--- a key was pressed in this session, whatever map the files have; and the map behind
-abbrev pub IsPressedWithAnyMap : Key → Answer → PlainSession → PlainSession
-    → Option FileMap → Option FileMap → ℕ → ℕ → Type 0
-IsPressedWithAnyMap key answer before now files_before files_now faults_before faults_now =
-    (map : FileMap) → IsMapOf files_before map →
-    (map_now : FileMap) × IsMapOf files_now map_now
-    × IsPressed key answer (record { session = before; files = map })
-    (record { session = now; files = map_now }) faults_before faults_now
 
 -- ---- some keys
 
 -- what is seen of a run at a moment: its session, the screen that is shown, the bytes that the sink
--- took, the map of the files where they tell it, and how many faults they counted
+-- took, the map of the files where they tell it, how many faults they counted, and how many lines were
+-- counted as laid
 pub record Snapshot : Type 0 where
   pub session : PlainSession
   pub shown : PlainGrid
   pub taken : Option (List ℕ)
   pub files : Option FileMap
   pub file_faults : ℕ
+  pub laid : ℕ
 
--- what is seen of an editor, a sink and files
-abbrev pub snapshot_of : Editor → Option (List ℕ) → Option FileMap → ℕ → Snapshot
-snapshot_of e taken files file_faults = record {
+-- what is seen of an editor, a sink, files and a count of lines laid
+abbrev pub snapshot_of : {W : Type 0} → Editor W → Option (List ℕ) → Option FileMap → ℕ → ℕ → Snapshot
+snapshot_of e taken files file_faults laid = record {
   session = plain_session e.session;
-  shown = plain_grid e.painted;
+  shown = shown_grid e.session;
   taken = taken;
   files = files;
   file_faults = file_faults;
+  laid = laid;
 }
 
 -- a moment of a run: its state, with what is seen of it
@@ -87,6 +84,7 @@ pub record Moment : Type 0 where
   pub files : Option FileMap
   pub told : IsMapOf files state.files
   pub file_faults : ℕ
+  pub laid : ℕ
 
 -- the moment that is seen so, where the files have this map
 abbrev pub moment_of : (seen : Snapshot) (map : FileMap) → IsMapOf seen.files map → Moment
@@ -97,6 +95,7 @@ moment_of seen map told = record {
   files = seen.files;
   told = told;
   file_faults = seen.file_faults;
+  laid = seen.laid;
 }
 
 -- the last of some screens, where the first is painted over this one
@@ -112,6 +111,7 @@ pub record AllShown (before now : Moment) (pressed : List PressedKey) : Type 0 w
   pub shown : now.shown ≡ last_shown before.shown (grids before.state pressed)
   pub wrote : Appends before.taken now.taken (painted_over before.shown (grids before.state pressed))
   pub faults : RoseBy (failures pressed) before.file_faults now.file_faults
+  pub laid : LaysFor (grids before.state pressed) before.laid now.laid
 
 -- these keys were pressed up to a last one: none before it ended the session, all screens before its
 -- own were written, and of its own so much that `count` bytes were written in all
@@ -124,6 +124,7 @@ pub record UpToLast (before now : Moment) (earlier : List PressedKey) (last : Pr
       (take count (painted_over before.shown (grids before.state (earlier ++ last ∷ []))))
   pub whole : length (painted_over before.shown (grids before.state earlier)) ≤ count
   pub faults : RoseBy (failures (earlier ++ last ∷ [])) before.file_faults now.file_faults
+  pub laid : LaysFor (grids before.state (earlier ++ last ∷ [])) before.laid now.laid
 
 -- all of these keys were pressed
 pub record KeysShown (keys : List Key) (before now : Moment) : Type 0 where
@@ -150,12 +151,20 @@ pub record KeysCut (keys : List Key) (before now : Moment) : Type 0 where
   pub up_to : UpToLast before now earlier last count
   pub going : ends before.state (earlier ++ last ∷ []) ≡ false
 
+-- these keys were pressed up to one that wanted memory, and so did nothing
+pub record KeysWanted (keys : List Key) (before now : Moment) : Type 0 where
+  pub pressed : List PressedKey
+  pub wanted : Key
+  pub takes : IsTrue (key_takes_memory (after before.state pressed).session wanted)
+  pub front : IsFront (keys_pressed pressed ++ wanted ∷ []) keys
+  pub shown : AllShown before now pressed
+
 -- what became of the keys, by whether the session goes on
 abbrev pub Pressed : Going → List Key → Moment → Moment → Type 0
 Pressed On keys before now = KeysShown keys before now
 Pressed (Over Done) keys before now = KeysQuit keys before now
 Pressed (Over WriteFault) keys before now = KeysCut keys before now
-Pressed (Over NoMemory) keys before now = KeysCut keys before now
+Pressed (Over NoMemory) keys before now = KeysCut keys before now ⊎ KeysWanted keys before now
 Pressed (Over ReadFault) keys before now = ⊥
 Pressed (Over BadWords) keys before now = ⊥
 Pressed (Over KeyLimit) keys before now = ⊥
@@ -178,8 +187,8 @@ PressedWithAnyMap going keys before now =
     × Pressed going keys (moment_of before map told) (moment_of now map_now told_now)
 
 -- keys were pressed: what became of them, the count of the sink's faults, and the editor behind
-pub record PressesKeys (going : Going) (keys : List Key) (before now : Snapshot)
-    (faults_before faults_now : ℕ) (e : Editor) : Type 0 where
+pub record PressesKeys {W : Type 0} (going : Going) (keys : List Key) (before now : Snapshot)
+    (faults_before faults_now : ℕ) (e : Editor W) : Type 0 where
   pub ends : MayEnd going
   pub pressed : PressedWithAnyMap going keys before now
   pub cause : CausedBy (going ≡ Over WriteFault) faults_before faults_now

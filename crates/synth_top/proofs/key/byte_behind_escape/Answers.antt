@@ -1,8 +1,8 @@
 use Rattle.std.proofs.Common.{ap, ◌∙◌, ◌∷◌, ◌++◌, List, option_to_list, append-nil}
 use Rattle.std.specs.Prelude.{Option}
 use Rattle.std.proofs.lemmas.Bool.{ne_eqb}
-use Rattle.synth_top.specs.declared.key.Key.{Key}
-use Rattle.synth_top.specs.declared.key.Key.TheVariants.{Other}
+use Rattle.synth_session.specs.declared.key.Key.{Key}
+use Rattle.synth_session.specs.declared.key.Key.TheVariants.{Other}
 use Rattle.synth_top.specs.Keys.{completed, held_bytes, keys}
 use Rattle.synth_top.proofs.KeyLists.{keys_escape, completed_escape}
 use Rattle.synth_top.proofs.key.byte_behind_escape.Goals as goal

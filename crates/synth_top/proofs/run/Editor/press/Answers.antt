@@ -1,33 +1,62 @@
-use Rattle.std.proofs.Common.{ap, refl, arith, rules, Err}
-use Rattle.synth_top.specs.declared.session.Session.{Session}
-use Rattle.synth_top.specs.Private.PlainForms.{plain_session}
-use Rattle.synth_top.proofs.OneKey.{one_shown, one_quit, one_cut}
+use Rattle.std.proofs.Common.{◌≡◌, ap, refl, arith, inl, inr, Err}
+use Rattle.synth_session.specs.PlainScreens.{PlainScreens}
+use Rattle.synth_session.specs.PlainSession.{PlainSession}
+use Rattle.synth_top.proofs.OneKey.{is_pressed, one_shown, one_quit, one_cut, one_wanted}
 use Rattle.synth_top.proofs.run.Editor.press.Goals as goal
+
+-- the key wanted memory
+pub returns-in_default-clause-presses : goal.returns-in_default-clause-presses
+returns-in_default-clause-presses g c =
+    let does = c.in_default.ensures.pressed in
+    record {
+      ends = tt;
+      pressed = λ map told. (
+        map,
+        told,
+        inr
+            (one_wanted c.args.key _ _ does.met.0 (record {
+              state = ap (λ (z : PlainSession). record { session = z; files = map }) does.met.1;
+              shown = ap (λ (z : PlainScreens). z.shown) does.screens;
+              taken = refl;
+              file_faults = refl;
+              laid = refl;
+            })),
+      );
+      cause = record { later = omega arith; rose = λ e. absurd (cc); same = λ other. refl; last = λ e. refl };
+      ready = does.session;
+    }
 
 -- the key ended the session
 pub returns-in-Quit-clause-presses : goal.returns-in-Quit-clause-presses
-returns-in-Quit-clause-presses g c = record {
-  ends = tt;
-  pressed = λ map told.
-      let p = c.press.ensures.pressed map told in
-      (p.0, p.1, one_quit c.args.key c.press.result _ _ _ p.2 refl c.in-Quit.is refl);
-  cause = record { later = omega arith; rose = λ e. absurd (cc); same = λ other. refl; last = λ e. refl };
-  ready = search rules;
-}
-
--- its screen was written
-pub returns-in-Ok-clause-presses : goal.returns-in-Ok-clause-presses
-returns-in-Ok-clause-presses g c =
+returns-in-Quit-clause-presses g c =
+    let does = c.in-Ok.ensures.pressed in
     record {
       ends = tt;
       pressed = λ map told.
-          let p = c.press.ensures.pressed map told in
-          (p.0, p.1, one_shown c.args.key c.press.result _ _ _ p.2 (ap (λ (z : Session). record { session = plain_session z; files = p.0 }) c.show.ensures.session) c.in_default.not-Quit c.in-Ok.ensures.wrote.all c.in-Ok.ensures.shown);
+          (map, told, one_quit c.args.key c.in-Ok.answer _ _ _ (is_pressed _ _ _ _ map _ does.met.0 does.met.1) refl c.in-Quit.is refl refl);
+      cause = record { later = omega arith; rose = λ e. absurd (cc); same = λ other. refl; last = λ e. refl };
+      ready = does.session;
+    }
+
+-- its screen was written
+pub returns-in-Ok-show-clause-presses : goal.returns-in-Ok-show-clause-presses
+returns-in-Ok-show-clause-presses g c =
+    let does = c.in-Ok.ensures.pressed in
+    let wrote = c.in-Ok-show.ensures.wrote in
+    record {
+      ends = tt;
+      pressed = λ map told. (
+        map,
+        told,
+        one_shown c.args.key c.in-Ok.answer _ _ _ (is_pressed _ _ _ _ map _ does.met.0 does.met.1)
+            (ap (λ (z : PlainSession). record { session = z; files = map }) c.show.ensures.session) c.in_default-answer.not-Quit _
+            (ap (λ (z : PlainScreens). z.shown) does.screens) wrote.all c.in-Ok-show.ensures.shown c.show.ensures.laid,
+      );
       cause = record {
-        later = c.in-Ok.ensures.wrote.cause.later;
+        later = wrote.cause.later;
         rose = λ e. absurd (cc);
-        same = λ other. c.in-Ok.ensures.wrote.cause.same (λ e. absurd (cc));
-        last = c.in-Ok.ensures.wrote.cause.last;
+        same = λ other. wrote.cause.same (λ e. absurd (cc));
+        last = wrote.cause.last;
       };
       ready = c.show.ensures.ready;
     }
@@ -35,16 +64,22 @@ returns-in-Ok-clause-presses g c =
 -- a write of its screen failed
 pub returns-in-Err-Failed-clause-presses : goal.returns-in-Err-Failed-clause-presses
 returns-in-Err-Failed-clause-presses g c =
+    let does = c.in-Ok.ensures.pressed in
+    let wrote = c.in-Err-Failed.ensures.wrote in
     record {
       ends = tt;
-      pressed = λ map told.
-          let p = c.press.ensures.pressed map told in
-          (p.0, p.1, one_cut c.args.key c.press.result _ _ _ p.2 (ap (λ (z : Session). record { session = plain_session z; files = p.0 }) c.show.ensures.session) c.in_default.not-Quit c.in-Err-Failed.ensures.wrote.front);
+      pressed = λ map told. (
+        map,
+        told,
+        one_cut c.args.key c.in-Ok.answer _ _ _ (is_pressed _ _ _ _ map _ does.met.0 does.met.1)
+            (ap (λ (z : PlainSession). record { session = z; files = map }) c.show.ensures.session) c.in_default-answer.not-Quit _
+            (ap (λ (z : PlainScreens). z.shown) does.screens) wrote.front c.show.ensures.laid,
+      );
       cause = record {
-        later = c.in-Err-Failed.ensures.wrote.cause.later;
-        rose = λ e. c.in-Err-Failed.ensures.wrote.cause.rose (ap Err c.in-Err-Failed.field-0-is);
+        later = wrote.cause.later;
+        rose = λ e. wrote.cause.rose (ap Err c.in-Err-Failed.field-0-is);
         same = λ other. absurd (other refl);
-        last = c.in-Err-Failed.ensures.wrote.cause.last;
+        last = wrote.cause.last;
       };
       ready = c.show.ensures.ready;
     }
@@ -52,16 +87,23 @@ returns-in-Err-Failed-clause-presses g c =
 -- a write of its screen wanted memory
 pub returns-in-Err-OutOfMemory-clause-presses : goal.returns-in-Err-OutOfMemory-clause-presses
 returns-in-Err-OutOfMemory-clause-presses g c =
+    let does = c.in-Ok.ensures.pressed in
+    let wrote = c.in-Err-OutOfMemory.ensures.wrote in
     record {
       ends = tt;
-      pressed = λ map told.
-          let p = c.press.ensures.pressed map told in
-          (p.0, p.1, one_cut c.args.key c.press.result _ _ _ p.2 (ap (λ (z : Session). record { session = plain_session z; files = p.0 }) c.show.ensures.session) c.in_default.not-Quit c.in-Err-OutOfMemory.ensures.wrote.front);
+      pressed = λ map told. (
+        map,
+        told,
+        inl
+            (one_cut c.args.key c.in-Ok.answer _ _ _ (is_pressed _ _ _ _ map _ does.met.0 does.met.1)
+            (ap (λ (z : PlainSession). record { session = z; files = map }) c.show.ensures.session) c.in_default-answer.not-Quit _
+            (ap (λ (z : PlainScreens). z.shown) does.screens) wrote.front c.show.ensures.laid),
+      );
       cause = record {
-        later = c.in-Err-OutOfMemory.ensures.wrote.cause.later;
+        later = wrote.cause.later;
         rose = λ e. absurd (cc);
-        same = λ other. c.in-Err-OutOfMemory.ensures.wrote.cause.same (λ e. absurd (cc));
-        last = c.in-Err-OutOfMemory.ensures.wrote.cause.last;
+        same = λ other. wrote.cause.same (λ e. absurd (cc));
+        last = wrote.cause.last;
       };
       ready = c.show.ensures.ready;
     }

@@ -1,6 +1,6 @@
 use Rattle.std.proofs.Common.{[], ap, sym, refl, arith}
 use Rattle.std.specs.Option.{option_to_list}
-use Rattle.std.proofs.KnownBytes.{Appends-nil}
+use Rattle.synth_top.proofs.OneKey.{none_shown}
 use Rattle.synth_top.proofs.run.Editor.press_if.Goals as goal
 
 -- no key was pressed
@@ -13,7 +13,7 @@ returns-in-None-clause-presses g c = record {
     record {
       pressed = [];
       all = sym (ap option_to_list c.in-None.is);
-      shown = record { can_reply = tt; going = refl; state = refl; shown = refl; wrote = Appends-nil _; faults = omega arith };
+      shown = none_shown _ _ (record { state = refl; shown = refl; taken = refl; file_faults = refl; laid = refl });
     },
   );
   cause = record { later = omega arith; rose = λ e. absurd (cc); same = λ other. refl; last = λ e. refl };

@@ -1,11 +1,11 @@
-use Rattle.std.proofs.Common.{◌≡◌, ◌∙◌, refl, ap, arith, subst, inl, inr}
+use Rattle.std.proofs.Common.{◌≡◌, ◌∙◌, [], ◌∷◌, refl, ap, arith, subst, inl, inr}
 use Rattle.std.proofs.KnownBytes.{Consumes-nil}
 use Rattle.std.specs.Io.KnownBytes.{Appends}
 use Rattle.synth_outside.specs.Sink.{AppendsFront}
-use Rattle.synth_top.specs.Private.PlainForms.{plain_session}
+use Rattle.synth_session.specs.PlainSession.{PlainSession}
+use Rattle.synth_session.specs.SessionScreen.{grid}
+use Rattle.synth_top.specs.Laid.{LaysFor}
 use Rattle.synth_top.specs.Run.{opening}
-use Rattle.synth_top.specs.Screen.{grid}
-use Rattle.synth_top.specs.Session.{PlainSession}
 use Rattle.synth_top.proofs.Courses.{opening_failed, opening_wanted, some_map, some_map_told}
 use Rattle.synth_top.proofs.Runs.{so_far_none, so_far_more, ended_by_byte, read_cut, ended_at_end, ended_at_limit}
 use Rattle.synth_top.proofs.run.Editor.run.Goals as goal
@@ -15,13 +15,17 @@ pub returns-in-Err-Failed-clause-ended : goal.returns-in-Err-Failed-clause-ended
 returns-in-Err-Failed-clause-ended g c =
     let front = subst (λ (s : PlainSession). AppendsFront (g.K.Sink.taken c.args.screen.now) (g.K.Sink.taken c.start.new.screen) (opening s))
     c.requires.session c.in-Err-Failed.ensures.wrote.front in
-    opening_failed _ _ _ refl refl front refl (omega arith) (g.S.Source.leads_to_itself c.args.keys.now)
+    let laid = subst (λ (s : PlainSession). LaysFor (grid s ∷ []) (g.W.Work.laid c.args.work.now) (g.W.Work.laid c.start.new.work))
+    c.requires.session c.start.ensures.laid in
+    opening_failed _ _ _ refl refl front refl (omega arith) laid (g.S.Source.leads_to_itself c.args.keys.now)
 
 pub returns-in-Err-OutOfMemory-clause-ended : goal.returns-in-Err-OutOfMemory-clause-ended
 returns-in-Err-OutOfMemory-clause-ended g c =
     let front = subst (λ (s : PlainSession). AppendsFront (g.K.Sink.taken c.args.screen.now) (g.K.Sink.taken c.start.new.screen) (opening s))
     c.requires.session c.in-Err-OutOfMemory.ensures.wrote.front in
-    opening_wanted _ _ _ refl refl front refl (omega arith) (g.S.Source.leads_to_itself c.args.keys.now)
+    let laid = subst (λ (s : PlainSession). LaysFor (grid s ∷ []) (g.W.Work.laid c.args.work.now) (g.W.Work.laid c.start.new.work))
+    c.requires.session c.start.ensures.laid in
+    opening_wanted _ _ _ refl refl front refl (omega arith) laid (g.S.Source.leads_to_itself c.args.keys.now)
 
 -- the opening screen was written
 pub loop-init : goal.loop-init
@@ -34,15 +38,20 @@ loop-init g c = record {
             c.requires.session c.in-Ok.ensures.wrote.all;
         map = some_map (g.F.Files.stored c.args.files.now);
         told = some_map_told (g.F.Files.stored c.args.files.now);
-        state = ap (λ (s : PlainSession). record { session = s; files = some_map (g.F.Files.stored c.args.files.now) }) (ap plain_session c.start.ensures.session ∙ c.requires.session);
+        state = ap (λ (s : PlainSession). record { session = s; files = some_map (g.F.Files.stored c.args.files.now) }) (c.start.ensures.session ∙ c.requires.session);
         shown = c.in-Ok.ensures.shown ∙ ap grid c.requires.session;
         faults = refl;
+        laid = subst (λ (s : PlainSession). LaysFor (grid s ∷ []) (g.W.Work.laid c.args.work.now) (g.W.Work.laid c.start.new.work))
+            c.requires.session c.start.ensures.laid;
       });
   ready = c.start.ensures.ready;
   unfailed_reads = refl;
   unfailed_writes = c.in-Ok.ensures.wrote.cause.same (λ e. absurd (cc));
   led = g.S.Source.leads_to_itself c.args.keys.now;
   files = refl;
+  emitted = c.start.ensures.emitted;
+  checked = c.start.ensures.checked;
+  fetched = c.start.ensures.fetched;
 }
 
 -- a key of the byte ended the run
@@ -64,6 +73,9 @@ loop-preserved g c = record {
   unfailed_writes = c.in_default.ensures.presses.cause.same (λ e. absurd (cc)) ∙ c.loop.invariant.unfailed_writes;
   led = c.in-Ok-Some.ensures.led _ c.loop.invariant.led;
   files = c.press_keys.ensures.files ∙ c.loop.invariant.files;
+  emitted = c.press_keys.ensures.emitted ∙ c.loop.invariant.emitted;
+  checked = c.press_keys.ensures.checked ∙ c.loop.invariant.checked;
+  fetched = c.press_keys.ensures.fetched ∙ c.loop.invariant.fetched;
 }
 
 -- a read gave no answer
@@ -90,7 +102,7 @@ returns-in-Ok-None-clause-ended g c =
 -- the limit was met
 pub returns-clause-ended : goal.returns-clause-ended
 returns-clause-ended g c =
-    let all : c.loop.counter ≡ c.args.limit = omega arith in
+    let all : c.loop.counter ≡ c.args.options.key_limit = omega arith in
     rw c.or-2.ensures
     (ended_at_limit _ _ _ _ _ _ _ c.loop.invariant.so_far _ _ _ (Consumes-nil _) all refl c.finish-2.result
     (c.finish-2.ensures.presses.pressed _ c.loop.invariant.told).2 c.loop.invariant.led)
