@@ -8,11 +8,15 @@ use Rattle.plcs_grammar.specs.declared.operator.InfixOp.{InfixOp}
 use Rattle.plcs_grammar.specs.declared.expr.Expr.{Expr, fold_out-Expr, map-Expr, size-Expr}
 use Rattle.plcs_grammar.specs.declared.expr.Expr.TheOpen.{Expr-F}
 use Rattle.plcs_grammar.specs.declared.expr.Expr.TheViews.{out-Expr, roll-Expr, roll-out-Expr, the_lemmas}
-use Rattle.plcs_grammar.specs.declared.expr.Expr.TheVariants.{Prefix, Infix, Builtin, Paren, rolls-Prefix, rolls-Infix, rolls-Builtin, rolls-Paren}
+use Rattle.plcs_grammar.specs.declared.expr.Expr.TheVariants.{Var, Prefix, Infix, Builtin, Paren, rolls-Var, rolls-Prefix, rolls-Infix, rolls-Builtin, rolls-Paren}
 use Rattle.plcs_grammar.specs.declared.expr.Expr.TheFolds.{fold-roll-Expr}
 use Rattle.plcs_grammar.specs.declared.expr.VarRef.{VarRef, fold_out-VarRef, map-VarRef}
 use Rattle.plcs_grammar.specs.PlainPhrase.{PlainExpr, PlainVarRef, plain_expr, expr_step, reference_step, plain_exprs, plain_var_ref}
 use Rattle.plcs_grammar.specs.Private.Chain.{chain_text}
+
+-- the plain form of a variable as an expression
+pub expr_variable : (e : Expr) (r : VarRef) → e ≡ Var r → plain_expr e ≡ PlainExpr.variable (plain_var_ref r)
+expr_variable e r is = ap plain_expr is ∙ ap plain_expr (sym (rolls-Var r)) ∙ fold-roll-Expr PlainExpr PlainVarRef expr_step reference_step _
 
 -- the plain form of an operator before its operand
 pub expr_prefix : (e : Expr) (op : PrefixOp) (a : Box Expr Global) → e ≡ Prefix op a → plain_expr e ≡ PlainExpr.unary op (plain_expr a.value)

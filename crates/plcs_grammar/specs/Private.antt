@@ -2,3 +2,5 @@
 pub mod Chain
 pub mod Link
 pub mod Separator
+-- how phrases are told apart, for the views of the crates above
+pub mod PhraseCode
