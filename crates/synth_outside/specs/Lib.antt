@@ -8,8 +8,9 @@ pub mod Calls
 pub mod MemSource
 pub mod MemSink
 pub mod MemFiles
--- ---- the forms over std's streams
+-- ---- the forms over std's streams and files
 pub mod StdSource
 pub mod StdSink
+pub mod StdFiles
 -- ---- what private contracts alone cite
 pub mod Private

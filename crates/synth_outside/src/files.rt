@@ -65,7 +65,7 @@ pub trait Files {
         ensures cause { HasCause FilesFault.Failed (faults self.old) (faults self.new) result }
         ensures want { HasCause FilesFault.OutOfMemory (wants self.old) (wants self.new) result };
 
-    /// BeginsContent a new content for the name, with no byte, and drops one that was begun before.
+    /// Begins a new content for the name, with no byte, and drops one that was begun before.
     ///
     /// After an answer that isn't `Ok` it isn't told whether a content is begun.
     fn begin(&mut self, name: &[u8]) -> Result<(), FilesFault>

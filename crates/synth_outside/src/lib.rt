@@ -11,6 +11,7 @@ mod mem_sink;
 mod mem_source;
 mod sink;
 mod source;
+mod std_files;
 mod std_sink;
 mod std_source;
 mod unread;
@@ -23,6 +24,7 @@ pub use mem_sink::MemSink;
 pub use mem_source::MemSource;
 pub use sink::Sink;
 pub use source::Source;
+pub use std_files::StdFiles;
 pub use std_sink::StdSink;
 pub use std_source::StdSource;
 

@@ -225,7 +225,7 @@ impl Files for MemFiles {
 }
 
 // Counts one more want of memory, and answers it.
-fn counted_want(wants: &mut u64) -> FilesFault
+pub(crate) fn counted_want(wants: &mut u64) -> FilesFault
     ensures answer { result ≡ FilesFault.OutOfMemory }
     ensures counted { wants.new ≡ raised wants.old }
     ensures later { wants.old ≤ wants.new }

@@ -1,13 +1,13 @@
 //! Each form on its happy path, and failing.
 
 use super::{
-    Files, FilesFault, MemFiles, MemSink, MemSource, Sink, SinkFault, Source, SourceFault, StdSink,
-    StdSource,
+    Files, FilesFault, MemFiles, MemSink, MemSource, Sink, SinkFault, Source, SourceFault,
+    StdFiles, StdSink, StdSource,
 };
 use std::fs::File;
 use std::io::{BufWriter, Error, ErrorKind, Read, Write};
 use std::test::Fail;
-use std::{fs, io};
+use std::{fs, io, rt};
 
 #[test]
 fn a_source_in_memory_gives_its_bytes(rt: HostRuntime) -> Result<(), Fail> {
@@ -115,6 +115,73 @@ fn a_stream_of_the_system_is_written_and_read(rt: HostRuntime) -> Result<(), Fai
     let mut unwritten = StdSink::new(File::open(&rt, PATH)?);
     assert_eq!(rt; unwritten.write(b"c"), Err(SinkFault::Failed));
     fs::remove_file(&rt, PATH)?;
+    Ok(())
+}
+
+// Names of files that are made here, and of a folder.
+const FILE: &[u8] = b"synth_outside_file";
+
+const OTHER_FILE: &[u8] = b"synth_outside_other_file";
+
+const FOLDER: &[u8] = b"synth_outside_folder";
+
+// The first three bytes of the file of the name.
+fn three_bytes<R: rt::Files<File = File>>(
+    files: &mut StdFiles<R>,
+    name: &[u8],
+) -> Result<[u8; 3], FilesFault> {
+    let mut buf = [b' '; 3];
+    files.open_read(name)?;
+    files.read(&mut buf)?;
+    Ok(buf)
+}
+
+#[test]
+fn a_commit_alone_changes_a_file_of_the_system(rt: HostRuntime) -> Result<(), Fail> {
+    let mut reading = StdFiles::new(&rt, rt.alloc());
+    let mut files = StdFiles::new(&rt, rt.alloc());
+    files.begin(FILE)?;
+    files.write(b"ab")?;
+    assert_eq!(rt; three_bytes(&mut reading, FILE), Err(FilesFault::NoFile));
+    files.commit()?;
+    assert_eq!(rt; three_bytes(&mut reading, FILE), Ok(*b"ab "));
+    files.begin(FILE)?;
+    files.write(b"dropped")?;
+    files.begin(OTHER_FILE)?;
+    files.write(b"cd")?;
+    files.commit()?;
+    assert_eq!(rt; three_bytes(&mut reading, FILE), Ok(*b"ab "));
+    assert_eq!(rt; three_bytes(&mut reading, OTHER_FILE), Ok(*b"cd "));
+    assert!(rt; !fs::exists(&rt, "synth_outside_file new")?);
+    fs::remove_file(&rt, "synth_outside_file")?;
+    fs::remove_file(&rt, "synth_outside_other_file")?;
+    Ok(())
+}
+
+#[test]
+fn what_the_system_refuses_fails(rt: HostRuntime) -> Result<(), Fail> {
+    fs::create_dir(&rt, "synth_outside_folder")?;
+    let mut files = StdFiles::new(&rt, rt.alloc());
+    // A folder is no file, nothing can be made in the folder of processes or in a missing one, and a
+    // name that isn't UTF-8 is none.
+    let failed = Err(FilesFault::Failed);
+    assert_eq!(rt; three_bytes(&mut files, FOLDER), failed);
+    assert_eq!(rt; files.begin(FOLDER), Err(FilesFault::Failed));
+    assert_eq!(rt;
+        files.begin(b"/proc/synth_outside_file"),
+        Err(FilesFault::Failed)
+    );
+    assert_eq!(rt;
+        files.begin(b"synth_outside_folder/no/file"),
+        Err(FilesFault::Failed)
+    );
+    assert_eq!(rt; files.begin(b"\xFF"), Err(FilesFault::Failed));
+    assert_eq!(rt; three_bytes(&mut files, b"\xFF"), failed);
+    assert_eq!(rt;
+        three_bytes(&mut files, b"synth_outside_folder/no"),
+        Err(FilesFault::NoFile)
+    );
+    fs::remove_dir(&rt, "synth_outside_folder")?;
     Ok(())
 }
 

@@ -1,0 +1,9 @@
+-- What files of the system are seen as, where nothing is told of their bytes.
+use Rattle.std.specs.Prelude.{Option, Some, None}
+use Rattle.synth_outside.specs.Files.{NewContent}
+use Rattle.synth_outside.specs.declared.std_files.Beside.{Beside}
+
+-- the name that was begun, if one was; the bytes aren't told
+abbrev pub untold_content : Option Beside → Option NewContent
+untold_content None = None
+untold_content (Some beside) = Some (record { name = beside.name.items; bytes = None })
