@@ -38,6 +38,8 @@ pub mod RoomlessTrees
 pub mod RoomlessNodes
 pub mod RoomlessStops
 pub mod RoomlessTurns
+-- `edits_ignore_room`
+mod RoomlessChanges
 -- what stands at the path of an edit after it, how deep that is, and in which procedure
 pub mod EditedNodes
 pub mod Procedures
@@ -45,7 +47,9 @@ pub mod Procedures
 pub mod RevealedNodes
 -- a tree stays one where a node comes into a slot
 pub mod PutTrees
--- the program that a test builds is one
+-- the phrases that tests put into parts may stand there
+pub mod TestPhrases
+-- the programs that tests build from their leaves
 pub mod BuiltProgram
 -- a copy is a subtree, with as many slots
 pub mod CopiedNodes

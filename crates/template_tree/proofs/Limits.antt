@@ -1,6 +1,6 @@
 -- The value of each limit.
 use Rattle.std.specs.Prelude.{◌≡◌, refl}
-use Rattle.template_tree.specs.Limit.{deepest_path, most_slots, most_drawn, longest_phrase}
+use Rattle.template_tree.specs.Limit.{deepest_path, most_slots, most_drawn, longest_phrase, most_cells}
 
 deepest_path_is : deepest_path ≡ 64
 deepest_path_is = refl
@@ -13,3 +13,6 @@ most_drawn_is = refl
 
 longest_phrase_is : longest_phrase ≡ 400
 longest_phrase_is = refl
+
+most_cells_is : most_cells ≡ 2000
+most_cells_is = refl

@@ -23,6 +23,9 @@ pub mod ListItem
 pub mod EditAnswer
 -- ---- copies
 pub mod Copy
+-- ---- declarations and headings
+pub mod Environment
+pub mod Mention
 -- ---- places of a run
 pub mod Place
 -- ---- the laws

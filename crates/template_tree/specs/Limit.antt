@@ -1,6 +1,6 @@
 -- The limits of a tree.
 use Rattle.std.specs.Prelude.{ℕ}
-use Rattle.template_tree.specs.declared.limit.TheConstants.{DEEPEST_PATH, MOST_SLOTS, MOST_DRAWN, LONGEST_PHRASE}
+use Rattle.template_tree.specs.declared.limit.TheConstants.{DEEPEST_PATH, MOST_SLOTS, MOST_DRAWN, LONGEST_PHRASE, MOST_CELLS}
 
 -- how many numbers a path may have
 abbrev pub deepest_path : ℕ
@@ -17,3 +17,7 @@ most_drawn = MOST_DRAWN
 -- how many bytes the canonical text of a phrase may have
 abbrev pub longest_phrase : ℕ
 longest_phrase = LONGEST_PHRASE
+
+-- how many cells the effective items of one procedure may have together
+abbrev pub most_cells : ℕ
+most_cells = MOST_CELLS

@@ -1,13 +1,17 @@
--- The laws of room: what a tree is, what stands at a path, and what is shown of it don't depend on the room of its lists.
+-- The laws of room: what a tree is, what stands at a path, what is shown of it, and what edits make of it don't depend on the
+-- room of its lists.
 use Rattle.std.specs.Prelude.{◌≡◌, ◌↔◌, ℕ, List, option_and_then, option_map}
+use Rattle.template_tree.specs.declared.change.Change.{Change}
+use Rattle.template_tree.specs.Edit.{Differs}
 use Rattle.template_tree.specs.Elision.{hidden_after_turn, with_turn_at}
 use Rattle.template_tree.specs.Line.{Lines}
 use Rattle.template_tree.specs.Listing.{Listing}
 use Rattle.template_tree.specs.Path.{node_at, slot_at}
 use Rattle.template_tree.specs.PlainTree.{Forest, PlainTree, roomless, roomless_node, roomless_tree}
-use Rattle.template_tree.specs.Slots.{count}
+use Rattle.template_tree.specs.Slots.{count, depth}
 use Rattle.template_tree.specs.Stop.{IsStop, PlainStop, Stops, visible_at}
 use Rattle.template_tree.specs.Tree.{IsTree}
+use Rattle.template_tree.specs.TreeEdit.{TreeEdit, changed_slot, roomless_tree_edit, tree_after, what_of}
 
 -- nodes without room are the same without room
 abbrev pub RoomGoesOnce : Type 0
@@ -59,3 +63,26 @@ abbrev pub HidingIgnoresRoom : Type 0
 HidingIgnoresRoom =
     (items : Forest) (path : List ℕ)
     → option_and_then hidden_after_turn (node_at (roomless items) path) ≡ option_and_then hidden_after_turn (node_at items path)
+
+-- nodes are as deep without room
+abbrev pub DepthsIgnoreRoom : Type 0
+DepthsIgnoreRoom = (items : Forest) → depth (roomless items) ≡ depth items
+
+-- an edit at the node in a slot, and another one there of the tree without room, make the same tree but for room, and do
+-- the same in the same slot
+pub record IsSameAfter (one other : TreeEdit) (before : PlainTree) (slot : ℕ) : Type 0 where
+  pub tree : roomless_tree (tree_after one before slot) ≡ roomless_tree (tree_after other (roomless_tree before) slot)
+  pub what : what_of one ≡ what_of other
+  pub slot_is : changed_slot one before slot ≡ changed_slot other (roomless_tree before) slot
+
+-- two edits that are the same but for room are the same after trees that are the same but for room
+abbrev pub EditsIgnoreRoom : Type 0
+EditsIgnoreRoom =
+    (one other : TreeEdit) (before : PlainTree) (slot : ℕ)
+    → roomless_tree_edit one ≡ roomless_tree_edit other → IsSameAfter one other before slot
+
+-- trees that differ by a change differ by it without room
+abbrev pub ChangesIgnoreRoom : Type 0
+ChangesIgnoreRoom =
+    (before after : PlainTree) (change : Change) → Differs before after change
+    → Differs (roomless_tree before) (roomless_tree after) change

@@ -3,7 +3,7 @@ use Rattle.std.specs.Prelude.{ℕ, Option}
 use Rattle.plcs_grammar.specs.PlainPhrase.{PlainPhrase}
 use Rattle.template_tree.specs.declared.side.Side.{Side}
 use Rattle.template_tree.specs.declared.change.What.{What}
-use Rattle.template_tree.specs.PlainTree.{PlainNode, PlainTree}
+use Rattle.template_tree.specs.PlainTree.{PlainNode, PlainTree, roomless_node}
 use Rattle.template_tree.specs.Edit.{Put, Add, Drop, Part}
 
 -- an edit at a node: another node comes into its slot, a hole comes beside it, it is dropped, or a part of it is set
@@ -33,3 +33,10 @@ changed_slot (TreeEdit.put node) tree slot = slot
 changed_slot (TreeEdit.add side) tree slot = tree.drawn
 changed_slot TreeEdit.drop tree slot = slot
 changed_slot (TreeEdit.set_part part place) tree slot = slot
+
+-- an edit without the room of the lists that it brings
+abbrev pub roomless_tree_edit : TreeEdit → TreeEdit
+roomless_tree_edit (TreeEdit.put node) = TreeEdit.put (roomless_node node)
+roomless_tree_edit (TreeEdit.add side) = TreeEdit.add side
+roomless_tree_edit TreeEdit.drop = TreeEdit.drop
+roomless_tree_edit (TreeEdit.set_part part place) = TreeEdit.set_part part place

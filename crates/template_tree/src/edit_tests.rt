@@ -1,33 +1,9 @@
-//! Tests of edits: which holes take which template, the limits, and the walk back.
-ghost use Rattle.std.specs.Prelude.{◌≤◌, IfOk};
-ghost use Rattle.template_tree.specs.Limit.{most_drawn};
-ghost use Rattle.template_tree.specs.Tree.{IsTree};
-
+//! Tests of templates: which holes each of them fills.
 use super::*;
+use crate::fixture_tests::{new_tree, path};
 use plcs_grammar::{NodeKind, Template};
 use std::alloc::Global;
 use std::test::Fail;
-
-/// The path of these numbers.
-fn path(numbers: &[u32]) -> Result<Path, Fail> {
-    let mut path = Path::new();
-    path.try_extend_from_slice(numbers)
-        .map_err(|_| "a path of 64 numbers at most")?;
-    Ok(path)
-}
-
-/// A new tree in which the hole at the path of these numbers became the template.
-fn filled(alloc: Global, numbers: &[u32], template: Template) -> Result<Tree, Fail>
-    ensures { IfOk result IsTree }
-{
-    let mut tree = Tree::new(alloc).map_err(|_| "a tree")?;
-    let hole = path(numbers)?;
-    let receipt = tree
-        .fill(alloc, &hole, template)
-        .map_err(|_| "a hole for it")?;
-    let _change = receipt.change();
-    Ok(tree)
-}
 
 /// Whether the template fills the hole at the one path with so many slots more, and neither at the other.
 fn fills(
@@ -37,7 +13,7 @@ fn fills(
     other: &[u32],
     slots: u32,
 ) -> Result<bool, Fail> {
-    let mut tree = Tree::new(alloc).map_err(|_| "a tree")?;
+    let mut tree = new_tree(alloc)?;
     let refused = tree.fill(alloc, &path(other)?, template);
     let is_refused = matches!(refused, Err(TreeFault::NotHere)) && tree.slots() == 4;
     let there = path(hole)?;
@@ -92,66 +68,5 @@ fn all_fill(alloc: Global, rows: &[Filling]) -> Result<bool, Fail> {
 #[test]
 fn each_template_fills_its_hole_alone(rt: HostRuntime) -> Result<(), Fail> {
     assert!(rt; all_fill(rt.alloc(), &FILLINGS)?);
-    Ok(())
-}
-
-/// Fills the innermost hole with a group again and again, and says how many became one and why the last
-/// did not.
-fn nested(alloc: Global, tree: &mut Tree, most: u32) -> Result<(u32, TreeFault), Fail>
-    requires { IsTree tree.old }
-    ensures { IsTree tree.new }
-{
-    let mut hole = path(&[0, 1])?;
-    for count in 0..most {
-        if let Err(fault) = tree.fill(alloc, &hole, Template::Group) {
-            return Ok((count, fault));
-        }
-        hole.try_push(0)
-            .map_err(|_| "a path of 64 numbers at most")?;
-    }
-    Ok((most, TreeFault::NotHere))
-}
-
-#[test]
-fn the_63rd_group_is_too_deep(rt: HostRuntime) -> Result<(), Fail> {
-    let mut tree = Tree::new(rt.alloc()).map_err(|_| "a tree")?;
-    let (count, fault) = nested(rt.alloc(), &mut tree, 63)?;
-    assert!(rt; count == 62 && fault == TreeFault::TooDeep);
-    assert!(rt; tree.slots() == 4 + 62);
-    Ok(())
-}
-
-/// The tree with so many slots drawn.
-fn with_drawn(tree: Tree, drawn: u32) -> Tree
-    requires tree { IsTree tree }
-    requires more { tree.drawn ≤ drawn }
-    requires few { drawn ≤ most_drawn }
-    ensures { IsTree result }
-{
-    let mut tree = tree;
-    tree.drawn = drawn;
-    tree
-}
-
-/// Whether there are slots left for a group, and for a write of values, where so many were drawn.
-fn drawn_fills(alloc: Global, drawn: u32) -> Result<(bool, bool), Fail>
-    requires { drawn ≤ most_drawn }
-{
-    let hole = path(&[0, 1])?;
-    let tree = Tree::new(alloc).map_err(|_| "a tree")?;
-    if drawn < tree.drawn {
-        return Ok((false, false));
-    }
-    let mut tree = with_drawn(tree, drawn);
-    let group = tree.fill(alloc, &hole, Template::Group);
-    let is_used_up = matches!(group, Err(TreeFault::SlotsUsedUp));
-    let put = tree.fill(alloc, &hole, Template::Put);
-    Ok((is_used_up, put.is_ok()))
-}
-
-#[test]
-fn no_slot_is_drawn_past_the_last(rt: HostRuntime) -> Result<(), Fail> {
-    assert!(rt; drawn_fills(rt.alloc(), MOST_DRAWN)? == (true, true));
-    assert!(rt; drawn_fills(rt.alloc(), MOST_DRAWN - 1)? == (false, false));
     Ok(())
 }

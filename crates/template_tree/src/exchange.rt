@@ -64,6 +64,7 @@ impl Tree {
 
     /// The slot of main, the procedure or the procedure hole on the way of the path, or 0 where the path
     /// leads nowhere.
+    #[tactic(auto, using(crate::specs::PlainTree::nodes_forest))]
     pub(crate) fn procedure_at(&self, path: &Path) -> Slot
         ensures { IfSome (first_item self.now.items path.now.items) (λ item. result.0 ≡ item.label.slot) }
     {

@@ -7,8 +7,8 @@ ghost use Rattle.template_tree.specs.Program.{sort_of};
 use plcs_grammar::{NodeKind, Sort};
 
 /// The kind of the hole that stays where a node of the kind is taken out, or `None` where it is main or
-/// a hole.
-pub(crate) fn hole_left(kind: NodeKind) -> Option<NodeKind>
+/// a hole. It takes no memory.
+pub fn hole_left(kind: NodeKind) -> Option<NodeKind>
     ensures { result ≡ hole_left kind }
 {
     if is_hole(kind) {

@@ -1,5 +1,5 @@
 //! The tree of templates: programs, their listing, and how they are read.
-#![tactic(auto, using(crate::specs::PlainTree::nodes_forest))]
+#![tactic(auto)]
 
 mod beside;
 mod build;
@@ -7,6 +7,8 @@ mod build;
 mod build_tests;
 mod change;
 mod copy;
+#[cfg(test)]
+mod copy_tests;
 mod descent;
 #[cfg(test)]
 mod edit_tests;
@@ -14,29 +16,42 @@ mod elide;
 mod exchange;
 mod fill;
 mod fill_assign;
+#[cfg(test)]
+mod fixture_tests;
 mod hole;
 mod insert;
 mod limit;
 mod limit_reached;
+#[cfg(test)]
+mod limit_tests;
 mod list_change;
 mod list_edit;
+#[cfg(test)]
+mod list_edit_tests;
 mod list_item;
 mod listing;
+#[cfg(test)]
+mod listing_tests;
+#[cfg(test)]
+mod memory_tests;
 mod node;
 mod node_at;
+#[cfg(test)]
+mod part_tests;
 mod path;
 mod path_of;
 mod phrase_place;
 mod put_part;
+#[cfg(test)]
+mod reader_tests;
 mod receipt;
+mod room_laws;
 mod sections_left;
 mod set_phrase;
 mod side;
 mod slot_count;
 mod stop;
 mod take;
-#[cfg(test)]
-mod tests;
 mod tree;
 mod tree_fault;
 mod tree_laws;
@@ -49,18 +64,21 @@ mod undo_tests;
 
 pub use build::OverLimit;
 pub use change::{Change, What};
-pub use limit::{DEEPEST_PATH, LONGEST_PHRASE, MOST_DRAWN, MOST_SLOTS};
+pub use hole::hole_left;
+pub use limit::{DEEPEST_PATH, LONGEST_PHRASE, MOST_CELLS, MOST_DRAWN, MOST_SLOTS};
 pub use listing::listing_splits_in_lines;
 pub use node::{Node, Nodes};
 pub use path::Path;
 pub use phrase_place::PhrasePlace;
+pub use put_part::part_category;
 pub use receipt::Receipt;
+pub use room_laws::{edits_ignore_room, room_is_not_shown};
 pub use sections_left::SectionsLeft;
 pub use side::Side;
 pub use stop::Stop;
 pub use tree::Tree;
 pub use tree_fault::TreeFault;
 pub use tree_laws::{
-    add_keeps_tree, drop_keeps_tree, part_keeps_tree, put_keeps_tree, room_is_not_shown,
-    set_part_keeps_tree, slot_edit_is_path_edit, undo_stays_possible,
+    add_keeps_tree, drop_keeps_tree, part_keeps_tree, put_keeps_tree, set_part_keeps_tree,
+    slot_edit_is_path_edit, undo_stays_possible,
 };

@@ -13,6 +13,7 @@ use plcs_base::OutOfMemory;
 impl Nodes {
     /// Takes the node at a path out of its list, whose room stays: `k` is the first number of the path,
     /// and `path` are the others. `None` where no node is there.
+    #[tactic(auto, using(crate::specs::PlainTree::nodes_forest))]
     pub(crate) fn remove_at(&mut self, k: usize, path: &[u32]) -> Option<Node>
         ensures taken { result ≡ node_at (forest self.old.items) (k ∷ path.now) }
         ensures others { roomless (forest self.new.items) ≡ edit_at (λ _. []) (k ∷ path.now) (roomless (forest self.old.items)) }

@@ -116,6 +116,7 @@ impl Node {
     }
 
     /// How many nodes stand in it.
+    #[tactic(auto, using(crate::specs::PlainTree::nodes_forest))]
     pub fn children(&self) -> u32
         requires few { length (nodes self.now.inner) < 2 ^ 32 }
         ensures { result ≡ length (nodes self.now.inner) }
@@ -124,6 +125,7 @@ impl Node {
     }
 
     /// The node of this number in it, counted from 0 in listing order, or `None` where there is none.
+    #[tactic(auto, using(crate::specs::PlainTree::nodes_forest))]
     pub fn child(&self, k: u32) -> Option<&Node>
         ensures { option_map (λ node. node.now) result ≡ slice_get (nodes self.now.inner) k }
     {

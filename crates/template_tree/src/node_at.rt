@@ -18,6 +18,7 @@ use crate::tree::Tree;
 
 impl Tree {
     /// The node at the path, or `None` where the tree has none there.
+    #[tactic(auto, using(crate::specs::PlainTree::nodes_forest))]
     pub fn node(&self, path: &Path) -> Option<&Node>
         requires tree { IsTree self.now }
         ensures found { option_map (λ node. node.now) result ≡ node_at self.now.items path.now.items }
@@ -55,6 +56,7 @@ impl Tree {
 
 impl Node {
     /// The node at the path below it.
+    #[tactic(auto, using(crate::specs::PlainTree::nodes_forest))]
     fn below(&self, path: &[u32]) -> Option<&Node>
         ensures { option_map (λ node. node.now) result ≡ below self.now path.now }
     {

@@ -35,7 +35,7 @@ impl Node {
 fn takes(kind: NodeKind, part: u8, place: &PhrasePlace) -> bool
     ensures { IsTrue result ↔ (Takes (part_category kind part) (plain_place place.now)) }
 {
-    let Some(category) = part_of(kind.row().line, part) else {
+    let Some(category) = part_category(kind, part) else {
         return false;
     };
     match place {
@@ -49,6 +49,14 @@ fn may_be_empty(category: Category) -> bool
     ensures { result ≡ may_be_empty category }
 {
     category != Category::Assignment
+}
+
+/// The category of a part of a node of the kind, parts counted from 0, or `None` where it has no such
+/// part. It takes no memory.
+pub fn part_category(kind: NodeKind, part: u8) -> Option<Category>
+    ensures { result ≡ part_category kind part }
+{
+    part_of(kind.row().line, part)
 }
 
 /// The category of this part of a line.

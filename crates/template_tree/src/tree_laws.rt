@@ -1,5 +1,4 @@
 //! The laws of trees, each a function that does nothing and whose contract states it.
-ghost use Rattle.template_tree.specs.RoomLaws.{CountsIgnoreRoom, HidingIgnoresRoom, LinesIgnoreRoom, ListingIgnoresRoom, NodesIgnoreRoom, RoomGoesOnce, SlotsIgnoreRoom, StandingIgnoresRoom, StopsIgnoreRoom, TreesIgnoreRoom, TurnsIgnoreRoom, VisibleNodesIgnoreRoom};
 ghost use Rattle.template_tree.specs.TreeLaws.{AddKeepsTree, DropKeepsTree, PartKeepsTree, PutKeepsTree, SetPartKeepsTree, SlotEditIsPathEdit, UndoStaysPossible};
 
 /// An edit by slot is the edit at the path of the node that stands there.
@@ -36,21 +35,4 @@ pub fn drop_keeps_tree()
 /// An edit can be undone also after later ones were made and undone again.
 pub fn undo_stays_possible()
     ensures { UndoStaysPossible }
-{}
-
-/// The room of lists plays no part in what is a tree, in what stands at a path, in what is shown, and
-/// in where the cursor may stand.
-pub fn room_is_not_shown()
-    ensures once { RoomGoesOnce }
-    ensures trees { TreesIgnoreRoom }
-    ensures counts { CountsIgnoreRoom }
-    ensures nodes { NodesIgnoreRoom }
-    ensures slots { SlotsIgnoreRoom }
-    ensures visible { VisibleNodesIgnoreRoom }
-    ensures standing { StandingIgnoresRoom }
-    ensures stops { StopsIgnoreRoom }
-    ensures lines { LinesIgnoreRoom }
-    ensures listing { ListingIgnoresRoom }
-    ensures turns { TurnsIgnoreRoom }
-    ensures hiding { HidingIgnoresRoom }
 {}

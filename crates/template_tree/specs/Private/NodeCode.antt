@@ -7,7 +7,7 @@ use Rattle.plcs_grammar.specs.declared.node_kind.NodeKind.{NodeKind}
 use Rattle.plcs_grammar.specs.contracts.node_kind.NodeKind as kind_row
 use Rattle.plcs_grammar.specs.PlainPhrase.{PlainPhrase}
 use Rattle.template_tree.specs.PlainTree.{Label, Forest, PlainNode, PlainNodes, PlainTree}
-use Rattle.template_tree.specs.Private.PhraseCode.{phrase_code, head, tail, IsCons}
+use Rattle.plcs_grammar.specs.Private.PhraseCode.{phrase_code, head, tail, IsCons}
 
 -- a label is told by its fields
 abbrev pub label_code : Coded Label

@@ -9,7 +9,7 @@ use Rattle.template_tree.specs.contracts.side.Side as side_row
 use Rattle.template_tree.specs.PlainTree.{PlainNode}
 use Rattle.template_tree.specs.Receipt.{PlainUndoing, PlainReceipt}
 use Rattle.template_tree.specs.Private.NodeCode.{node_code}
-use Rattle.template_tree.specs.Private.PhraseCode.{phrase_code}
+use Rattle.plcs_grammar.specs.Private.PhraseCode.{phrase_code}
 
 -- what an undoing is made of: a node and its side, a part and what comes into it, and whether an item is taken out
 abbrev pub Pieces : Type 0

@@ -8,7 +8,7 @@ use Rattle.template_tree.proofs.RoomlessNodes.{node_roomless, slot_at_roomless, 
 use Rattle.template_tree.proofs.RoomlessStops.{lines_roomless, stops_roomless}
 use Rattle.template_tree.proofs.RoomlessTrees.{tree_with_room, tree_without_room}
 use Rattle.template_tree.proofs.RoomlessTurns.{hidden_roomless, turn_roomless}
-use Rattle.template_tree.proofs.tree_laws.room_is_not_shown.Goals as goal
+use Rattle.template_tree.proofs.room_laws.room_is_not_shown.Goals as goal
 
 pub returns-clause-once : goal.returns-clause-once
 returns-clause-once c = roomless_twice

@@ -1,0 +1,164 @@
+//! Tests of copies, and of nodes put into holes.
+ghost use Rattle.std.specs.Prelude.{IfOk};
+ghost use Rattle.template_tree.specs.Tree.{IsTree};
+
+use super::*;
+use crate::fixture_tests::{Edit, Row, is_listed, make_all, new_tree, path, stands_at};
+use plcs_base::Slot;
+use plcs_grammar::{Category, NodeKind, Template};
+use std::alloc::Global;
+use std::test::Fail;
+
+/// A program with a comment in a comment, each with its refinement hidden, and a procedure.
+const ROWS: [Row; 8] = [
+    (Edit::Add(Side::After), &[0, 1]),
+    (Edit::Fill(Template::Comment), &[0, 1]),
+    (Edit::Set(0, Category::CommentText, b"x"), &[0, 1]),
+    (Edit::Fill(Template::Comment), &[0, 1, 0]),
+    (Edit::Fill(Template::For), &[0, 1, 0, 0]),
+    (Edit::Set(1, Category::Expression, b"a"), &[0, 1, 0, 0]),
+    (Edit::Add(Side::After), &[1]),
+    (Edit::Fill(Template::Proc), &[1]),
+];
+
+/// The program of the rows.
+fn program(alloc: Global) -> Result<Tree, Fail>
+    ensures { IfOk result IsTree }
+{
+    let mut tree = new_tree(alloc)?;
+    make_all(alloc, &mut tree, &ROWS)?;
+    let (outer, inner) = (path(&[0, 1])?, path(&[0, 1, 0])?);
+    let _outer = tree.elide(&outer);
+    let _inner = tree.elide(&inner);
+    Ok(tree)
+}
+
+/// Whether it is the comment in a comment of the program, with nothing hidden.
+fn is_copied(copy: &Node) -> bool {
+    let Some(inner) = copy.child(0) else {
+        return false;
+    };
+    let Some(counted) = inner.child(0) else {
+        return false;
+    };
+    let kinds = [copy.kind(), inner.kind(), counted.kind()];
+    kinds
+        == [
+            NodeKind::Filled(Template::Comment),
+            NodeKind::Filled(Template::Comment),
+            NodeKind::Filled(Template::For),
+        ]
+        && matches!(copy.part(0), Some(PhrasePlace::Filled(_)))
+        && matches!(counted.part(0), Some(PhrasePlace::Empty))
+        && matches!(counted.part(1), Some(PhrasePlace::Filled(_)))
+        && !copy.is_elided()
+        && !inner.is_elided()
+}
+
+const DOUBLED: [&[u8]; 18] = [
+    b"main: PROCEDURE OPTIONS ( MAIN );",
+    b"  {declaration}",
+    b"  /* x */",
+    b"    /* {comment} */",
+    b"      DO {variable} = a TO {expression} BY {expression};",
+    b"        {statement}",
+    b"      END;",
+    b"  /* x */",
+    b"    /* {comment} */",
+    b"      DO {variable} = a TO {expression} BY {expression};",
+    b"        {statement}",
+    b"      END;",
+    b"END;",
+    b"{name}: PROCEDURE;",
+    b"  {declaration}",
+    b"  {statement}",
+    b"END;",
+    b"{procedure}",
+];
+
+#[test]
+fn a_copy_comes_into_a_hole(rt: HostRuntime) -> Result<(), Fail> {
+    let alloc = rt.alloc();
+    let mut tree = program(alloc)?;
+    let (from, at) = (path(&[0, 1])?, path(&[0, 2])?);
+    let copy = tree.copy_node(alloc, &from).map_err(|_| "a copy")?;
+    assert!(rt; is_copied(&copy));
+    let again = copy.copy(alloc).map_err(|_| "a copy")?;
+    assert!(rt; is_copied(&again));
+    let Ok(receipt) = tree.insert(&at, again) else {
+        return Err(Fail::from("a hole for it"));
+    };
+    assert!(rt; is_listed(&tree, &DOUBLED) && tree.slots() == 14);
+    assert!(rt; receipt.change().slot == Slot(4) && receipt.change().what == What::Node);
+    let node = tree.node(&at).ok_or("a node")?;
+    assert!(rt; is_copied(node) && tree.slots_at(&at) == Some(4));
+    assert!(rt; stands_at(&tree, 11, &[0, 2, 0]));
+    assert!(rt; tree.node(&from).ok_or("a node")?.is_elided());
+    Ok(())
+}
+
+/// Paths of nodes that aren't copied.
+const REFUSED: [&[u32]; 7] = [&[], &[0], &[0, 0], &[0, 2], &[1, 0], &[2], &[3]];
+
+#[test]
+fn main_and_holes_are_not_copied(rt: HostRuntime) -> Result<(), Fail> {
+    let alloc = rt.alloc();
+    let tree = program(alloc)?;
+    for numbers in REFUSED {
+        let copy = tree.copy_node(alloc, &path(numbers)?);
+        assert!(rt; matches!(copy, Err(TreeFault::NotHere)), "at {numbers:?}");
+    }
+    Ok(())
+}
+
+/// The path of a node, that of where a copy of it is put, and whether it can stand there.
+type Insert = (&'static [u32], &'static [u32], bool);
+
+const INSERTS: [Insert; 10] = [
+    (&[1], &[0, 2], false),
+    (&[1], &[0, 0], false),
+    (&[1], &[1], false),
+    (&[1], &[3], false),
+    (&[1], &[2], true),
+    (&[0, 1], &[0, 0], false),
+    (&[0, 1], &[0], false),
+    (&[0, 1], &[0, 1], false),
+    (&[0, 1], &[], false),
+    (&[0, 1], &[2, 1], true),
+];
+
+/// Whether a copy comes into the place of the row, or comes back, as the row says.
+fn comes(alloc: Global, tree: &mut Tree, row: &Insert) -> Result<bool, Fail>
+    requires { IsTree tree.old }
+    ensures { IsTree tree.new }
+{
+    let (from, to, fits) = *row;
+    let copy = tree.copy_node(alloc, &path(from)?).map_err(|_| "a copy")?;
+    let kind = copy.kind();
+    let at = path(to)?;
+    match tree.insert(&at, copy) {
+        Ok(_) => Ok(fits),
+        Err((TreeFault::NotHere, back)) => Ok(!fits && back.kind() == kind),
+        Err(_) => Ok(false),
+    }
+}
+
+/// Whether the copies of the rows, one after the other, come into their places or back as the rows say.
+fn all_come(alloc: Global, tree: &mut Tree, rows: &[Insert]) -> Result<bool, Fail>
+    requires { IsTree tree.old }
+    ensures { IsTree tree.new }
+{
+    for row in rows {
+        if !comes(alloc, tree, row)? {
+            return Ok(false);
+        }
+    }
+    Ok(true)
+}
+
+#[test]
+fn a_node_comes_into_holes_of_its_sort_alone(rt: HostRuntime) -> Result<(), Fail> {
+    let mut tree = program(rt.alloc())?;
+    assert!(rt; all_come(rt.alloc(), &mut tree, &INSERTS)?);
+    Ok(())
+}

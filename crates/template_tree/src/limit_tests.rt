@@ -1,0 +1,327 @@
+//! Tests of edits at the limits of a tree.
+ghost use Rattle.std.specs.Prelude.{◌≤◌, IfOk};
+ghost use Rattle.template_tree.specs.Limit.{most_drawn};
+ghost use Rattle.template_tree.specs.Tree.{IsTree};
+
+use super::*;
+use crate::fixture_tests::{Edit, make, make_all, new_tree, path, stands_at};
+use plcs_base::Slot;
+use plcs_grammar::{Category, NodeKind, Template};
+use std::alloc::Global;
+use std::test::Fail;
+
+/// Fills the innermost hole with a group so many times, and gives the path to the hole in the last.
+fn nested(alloc: Global, tree: &mut Tree, groups: u32) -> Result<Path, Fail>
+    requires { IsTree tree.old }
+    ensures { IsTree tree.new }
+{
+    let mut hole = path(&[0, 1])?;
+    for _ in 0..groups {
+        let Ok(_) = make(alloc, tree, Edit::Fill(Template::Group), &hole) else {
+            return Err(Fail::from("a group"));
+        };
+        hole.try_push(0)
+            .map_err(|_| "a path of 64 numbers at most")?;
+    }
+    Ok(hole)
+}
+
+/// Adds so many holes behind the first statement of main.
+fn add_holes(alloc: Global, tree: &mut Tree, holes: u32) -> Result<(), Fail>
+    requires { IsTree tree.old }
+    ensures { IsTree tree.new }
+{
+    for k in 0..holes {
+        let last = path(&[0, k.saturating_add(1)])?;
+        let Ok(_) = tree.add_hole(alloc, &last, Side::After) else {
+            return Err(Fail::from("a hole"));
+        };
+    }
+    Ok(())
+}
+
+/// The tree with so many slots drawn.
+fn with_drawn(tree: Tree, drawn: u32) -> Tree
+    requires tree { IsTree tree }
+    requires more { tree.drawn ≤ drawn }
+    requires few { drawn ≤ most_drawn }
+    ensures { IsTree result }
+{
+    let mut tree = tree;
+    tree.drawn = drawn;
+    tree
+}
+
+/// Makes the edit at the path, and says why it is refused, if it is.
+fn fault_of(alloc: Global, tree: &mut Tree, edit: Edit, at: &Path) -> Option<TreeFault>
+    requires { IsTree tree.old }
+    ensures { IsTree tree.new }
+{
+    match make(alloc, tree, edit, at) {
+        Ok(_) => None,
+        Err(fault) => Some(fault),
+    }
+}
+
+/// Puts a copy of the one node in place of the other, and says why that is refused, if it is; the copy
+/// comes back then.
+fn fault_of_insert(
+    alloc: Global,
+    tree: &mut Tree,
+    from: &[u32],
+    at: &Path,
+) -> Result<Option<TreeFault>, Fail>
+    requires { IsTree tree.old }
+    ensures { IsTree tree.new }
+{
+    let from = path(from)?;
+    let copy = tree.copy_node(alloc, &from).map_err(|_| "a copy")?;
+    let (kind, is_around) = (copy.kind(), copy.child(0).is_some());
+    let (fault, back) = match tree.insert(at, copy) {
+        Ok(_) => return Ok(None),
+        Err(refused) => refused,
+    };
+    if back.kind() == kind && back.child(0).is_some() == is_around {
+        return Ok(Some(fault));
+    }
+    Err(Fail::from("the copy again"))
+}
+
+/// An edit, and why it is refused, if it is.
+type Wanted = (Edit, Option<TreeFault>);
+
+/// Whether the edits at the path, one after the other, are made or refused as the rows say.
+fn come_so(alloc: Global, tree: &mut Tree, at: &Path, rows: &[Wanted]) -> bool
+    requires { IsTree tree.old }
+    ensures { IsTree tree.new }
+{
+    for (edit, fault) in rows {
+        if fault_of(alloc, tree, *edit, at) != *fault {
+            return false;
+        }
+    }
+    true
+}
+
+/// Edits of a hole at a path of 64 numbers.
+const DEEPEST: [Wanted; 12] = [
+    (Edit::Fill(Template::Group), Some(TreeFault::TooDeep)),
+    (Edit::Fill(Template::If), Some(TreeFault::TooDeep)),
+    (Edit::Fill(Template::IfElse), Some(TreeFault::TooDeep)),
+    (Edit::Fill(Template::Comment), Some(TreeFault::TooDeep)),
+    (Edit::Fill(Template::Fixed), Some(TreeFault::NotHere)),
+    (Edit::Add(Side::Before), None),
+    (Edit::Drop, None),
+    (Edit::Fill(Template::Put), None),
+    (Edit::Set(0, Category::ExpressionList, b"a"), None),
+    (Edit::Empty(0), None),
+    (Edit::Take, None),
+    (Edit::Assign(b"b"), None),
+];
+
+#[test]
+fn the_63rd_group_is_too_deep(rt: HostRuntime) -> Result<(), Fail> {
+    let alloc = rt.alloc();
+    let mut tree = new_tree(alloc)?;
+    let hole = nested(alloc, &mut tree, 62)?;
+    assert!(rt; hole.len() == 64 && tree.slots() == 4 + 62);
+    assert!(rt; come_so(alloc, &mut tree, &hole, &DEEPEST));
+    assert!(rt; tree.slots() == 4 + 62);
+    Ok(())
+}
+
+#[test]
+fn a_path_of_64_numbers_is_read(rt: HostRuntime) -> Result<(), Fail> {
+    let alloc = rt.alloc();
+    let mut tree = new_tree(alloc)?;
+    let mut hole = nested(alloc, &mut tree, 62)?;
+    assert!(rt; stands_at(&tree, 65, hole.as_slice()));
+    let node = tree.node(&hole).ok_or("a hole")?;
+    assert!(rt; node.slot() == Slot(65) && node.kind() == NodeKind::StatementHole);
+    assert!(rt; tree.slots_at(&hole) == Some(1));
+    assert!(rt; tree.slots_at(&path(&[0, 1])?) == Some(63));
+    assert!(rt; tree.elide(&hole) == None);
+    assert!(rt; hole.try_push(0).is_err());
+    Ok(())
+}
+
+#[test]
+fn a_node_is_put_in_down_to_64_numbers(rt: HostRuntime) -> Result<(), Fail> {
+    let alloc = rt.alloc();
+    let mut tree = new_tree(alloc)?;
+    let hole = nested(alloc, &mut tree, 62)?;
+    add_holes(alloc, &mut tree, 2)?;
+    let rows = [
+        (Edit::Fill(Template::Group), [0, 2].as_slice()),
+        (Edit::Fill(Template::Return), &[0, 3]),
+    ];
+    make_all(alloc, &mut tree, &rows)?;
+    assert!(rt; fault_of_insert(alloc, &mut tree, &[0, 2], &hole)? == Some(TreeFault::TooDeep));
+    assert!(rt; fault_of_insert(alloc, &mut tree, &[0, 3], &hole)? == None);
+    assert!(rt; tree.node(&hole).ok_or("a node")?.kind() == NodeKind::Filled(Template::Return));
+    Ok(())
+}
+
+/// An edit, the numbers of the path at which it is made, and why it is refused, if it is.
+type PlacedWanted = (Edit, &'static [u32], Option<TreeFault>);
+
+/// Whether the edits, one after the other, are made or refused as the rows say.
+fn all_come_so(alloc: Global, tree: &mut Tree, rows: &[PlacedWanted]) -> Result<bool, Fail>
+    requires { IsTree tree.old }
+    ensures { IsTree tree.new }
+{
+    for (edit, numbers, fault) in rows {
+        let at = path(numbers)?;
+        if fault_of(alloc, tree, *edit, &at) != *fault {
+            return Ok(false);
+        }
+    }
+    Ok(true)
+}
+
+/// Edits of a tree with 19,999 slots.
+const FULL: [PlacedWanted; 14] = [
+    (
+        Edit::Fill(Template::IfElse),
+        &[0, 2],
+        Some(TreeFault::TooLarge),
+    ),
+    (Edit::Fill(Template::Proc), &[1], Some(TreeFault::TooLarge)),
+    (Edit::Fill(Template::If), &[0, 2], None),
+    (Edit::Fill(Template::If), &[0, 3], Some(TreeFault::TooLarge)),
+    (Edit::Add(Side::Before), &[0, 3], Some(TreeFault::TooLarge)),
+    (Edit::Add(Side::After), &[1], Some(TreeFault::TooLarge)),
+    (
+        Edit::Fill(Template::Fixed),
+        &[0, 3],
+        Some(TreeFault::NotHere),
+    ),
+    (Edit::Fill(Template::Put), &[0, 3], None),
+    (Edit::Assign(b"a"), &[0, 4], None),
+    (Edit::Drop, &[0, 5], None),
+    (Edit::Add(Side::After), &[1], None),
+    (Edit::Add(Side::After), &[1], Some(TreeFault::TooLarge)),
+    (Edit::Take, &[0, 2], None),
+    (Edit::Fill(Template::If), &[0, 2], None),
+];
+
+#[test]
+fn slots_are_live_up_to_20000(rt: HostRuntime) -> Result<(), Fail> {
+    let alloc = rt.alloc();
+    let mut tree = new_tree(alloc)?;
+    let first = path(&[0, 1])?;
+    assert!(rt; fault_of(alloc, &mut tree, Edit::Fill(Template::Group), &first) == None);
+    add_holes(alloc, &mut tree, 19_994)?;
+    assert!(rt; tree.slots() == 19_999);
+    assert!(rt; all_come_so(alloc, &mut tree, &FULL)?);
+    assert!(rt; tree.slots() == MOST_SLOTS);
+    let hole = path(&[0, 19_000])?;
+    let fault = fault_of_insert(alloc, &mut tree, &[0, 1], &hole)?;
+    assert!(rt; fault == Some(TreeFault::TooLarge));
+    assert!(rt; fault_of_insert(alloc, &mut tree, &[0, 3], &hole)? == None);
+    assert!(rt; tree.slots() == MOST_SLOTS);
+    Ok(())
+}
+
+/// A tree with a group, a RETURN and two holes behind each other, where so many slots were drawn.
+fn drawn(alloc: Global, drawn: u32) -> Result<Tree, Fail>
+    requires { drawn ≤ most_drawn }
+    ensures { IfOk result IsTree }
+{
+    let mut tree = new_tree(alloc)?;
+    add_holes(alloc, &mut tree, 3)?;
+    let rows = [
+        (Edit::Fill(Template::Group), [0, 1].as_slice()),
+        (Edit::Fill(Template::Return), &[0, 2]),
+    ];
+    make_all(alloc, &mut tree, &rows)?;
+    if drawn < tree.drawn {
+        return Err(Fail::from("more slots"));
+    }
+    Ok(with_drawn(tree, drawn))
+}
+
+/// An edit, and whether it draws a slot.
+type Drawing = (Edit, bool);
+
+const DRAWINGS: [Drawing; 7] = [
+    (Edit::Fill(Template::Group), true),
+    (Edit::Fill(Template::While), true),
+    (Edit::Add(Side::Before), true),
+    (Edit::Add(Side::After), true),
+    (Edit::Fill(Template::Put), false),
+    (Edit::Assign(b"a"), false),
+    (Edit::Drop, false),
+];
+
+/// Why an edit is refused that draws a slot where none is left, or draws none.
+fn used_up(draws: bool) -> Option<TreeFault> {
+    if draws {
+        return Some(TreeFault::SlotsUsedUp);
+    }
+    None
+}
+
+/// Whether the edit is refused where no slot is left, if it draws one, and made where one is left, which
+/// is drawn then.
+fn draws_last(alloc: Global, edit: Edit, draws: bool) -> Result<bool, Fail> {
+    let (hole, item) = (path(&[0, 3])?, path(&[1])?);
+    let mut full = drawn(alloc, MOST_DRAWN)?;
+    let at_end = fault_of(alloc, &mut full, edit, &hole);
+    let mut other = drawn(alloc, MOST_DRAWN - 1)?;
+    let before_end = fault_of(alloc, &mut other, edit, &hole);
+    let behind = fault_of(alloc, &mut other, Edit::Add(Side::After), &item);
+    Ok(at_end == used_up(draws) && before_end.is_none() && behind == used_up(draws))
+}
+
+/// Whether each edit draws a slot as its row says.
+fn all_draw_last(alloc: Global, drawings: &[Drawing]) -> Result<bool, Fail> {
+    for (edit, draws) in drawings {
+        if !draws_last(alloc, *edit, *draws)? {
+            return Ok(false);
+        }
+    }
+    Ok(true)
+}
+
+#[test]
+fn no_slot_is_drawn_past_the_last(rt: HostRuntime) -> Result<(), Fail> {
+    assert!(rt; all_draw_last(rt.alloc(), &DRAWINGS)?);
+    Ok(())
+}
+
+#[test]
+fn no_slot_is_drawn_past_the_last_for_a_node(rt: HostRuntime) -> Result<(), Fail> {
+    let alloc = rt.alloc();
+    let hole = path(&[0, 3])?;
+    let mut full = drawn(alloc, MOST_DRAWN)?;
+    let fault = fault_of_insert(alloc, &mut full, &[0, 1], &hole)?;
+    assert!(rt; fault == Some(TreeFault::SlotsUsedUp));
+    assert!(rt; fault_of_insert(alloc, &mut full, &[0, 2], &hole)? == None);
+    let mut other = drawn(alloc, MOST_DRAWN - 1)?;
+    assert!(rt; fault_of_insert(alloc, &mut other, &[0, 1], &hole)? == None);
+    assert!(rt; stands_at(&other, MOST_DRAWN - 1, &[0, 3, 0]));
+    Ok(())
+}
+
+#[test]
+fn limits_are_asked_in_their_order(rt: HostRuntime) -> Result<(), Fail> {
+    let alloc = rt.alloc();
+    let mut tree = new_tree(alloc)?;
+    let hole = nested(alloc, &mut tree, 62)?;
+    add_holes(alloc, &mut tree, 19_934)?;
+    assert!(rt; tree.slots() == MOST_SLOTS && tree.drawn <= MOST_DRAWN);
+    if tree.drawn > MOST_DRAWN {
+        return Err(Fail::from("fewer slots"));
+    }
+    let mut tree = with_drawn(tree, MOST_DRAWN);
+    let group = Edit::Fill(Template::Group);
+    let fixed = Edit::Fill(Template::Fixed);
+    let other = path(&[0, 2])?;
+    assert!(rt; fault_of(alloc, &mut tree, fixed, &hole) == Some(TreeFault::NotHere));
+    assert!(rt; fault_of(alloc, &mut tree, group, &hole) == Some(TreeFault::TooDeep));
+    assert!(rt; fault_of(alloc, &mut tree, group, &other) == Some(TreeFault::TooLarge));
+    assert!(rt; fault_of(alloc, &mut tree, Edit::Drop, &other) == None);
+    assert!(rt; fault_of(alloc, &mut tree, group, &other) == Some(TreeFault::SlotsUsedUp));
+    Ok(())
+}
