@@ -1,0 +1,58 @@
+use Rattle.std.proofs.Common.{◌≡◌, ◌∙◌, ◌+◌, ◌-◌, ◌≤◌, Some, None, drop, length, slice_get, refl, sym, ap, subst, arith}
+use Rattle.std.proofs.Math.ListN.{drop_of_length-le}
+use Rattle.template_tree.specs.PlainTree.{Forest, forest, forest_nodes, nodes}
+use Rattle.decl_table.specs.PlainDecls.{PlainDecls}
+use Rattle.decl_table.proofs.NodeLists.{at_one, left_from, nodes_few, past_where_none}
+use Rattle.decl_table.proofs.ReadProcedures.{IsRead, read_all, read_next, read_none}
+use Rattle.decl_table.proofs.decls.Decls.new.Goals as goal
+
+pub overflow_add-k : goal.overflow_add-k
+overflow_add-k c =
+    omega (arith, c.procedures-k.ensures, nodes_few c.args.tree.now.items, c.requires.tree.few)
+
+pub loop-k-init : goal.loop-k-init
+loop-k-init c =
+    let all = nodes c.args.tree.now.items in
+    let past : length all ≤ c.procedures-k.result + 1 = omega (arith, c.procedures-k.ensures) in
+    record {
+      read =
+          subst (λ rest. IsRead record { items = c.new.result; headings = c.new-2.result; uses = c.new-3.result } (forest rest)) (sym (drop_of_length-le all past))
+          (read_none record { items = c.new.result; headings = c.new-2.result; uses = c.new-3.result } c.new.ensures c.new-2.ensures c.new-3.ensures);
+      within = omega (arith, c.procedures-k.ensures);
+    }
+
+pub loop-k-preserved-in-Continue-1 : goal.loop-k-preserved-in-Continue-1
+loop-k-preserved-in-Continue-1 c =
+    let items = c.args.tree.now.items in
+    let all = nodes items in
+    let k = c.loop-k.k in
+    let node = c.in-Some.procedure.now in
+    let there : slice_get all (k - 1) ≡ Some node =
+    sym (at_one items c.path_of_item.result.items (k - 1) c.path_of_item.ensures) ∙ sym c.in-Some.ensures.found in
+    let next : k - 1 + 1 ≡ k = omega (arith, c.loop-k-test.true) in
+    record {
+      read =
+          read_next c.loop-k.decls c.take.new.self node (forest (drop (k - 1) all)) (forest (drop k all))
+          (ap forest (left_from all (k - 1) node there) ∙ ap (λ n. Forest.cons node.label node.inner (forest (drop n all))) next)
+          c.in_ok-take.ensures c.loop-k.invariant.read;
+      within = omega (arith, c.loop-k.invariant.within);
+    }
+
+pub loop-k-preserved : goal.loop-k-preserved
+loop-k-preserved c =
+    let items = c.args.tree.now.items in
+    let none : slice_get (nodes items) (c.loop-k.k - 1) ≡ None =
+    sym (at_one items c.path_of_item.result.items (c.loop-k.k - 1) c.path_of_item.ensures) ∙ sym c.in_default.ensures.found in
+    absurd (omega (arith, past_where_none (nodes items) (c.loop-k.k - 1) none, c.loop-k-test.true, c.loop-k.invariant.within))
+
+pub returns : goal.returns
+returns c =
+    let items = c.args.tree.now.items in
+    let inside = c.decls-2.inside in
+    let before : PlainDecls = record { items = inside.scopes; headings = inside.headings; uses = inside.uses } in
+    let after : PlainDecls = record { items = inside.scopes; headings = inside.headings; uses = c.settle.new.self } in
+    let none : c.loop-k.k ≡ 0 = omega (arith, c.loop-k-test.false) in
+    let read : IsRead before items =
+    subst (λ decls. IsRead decls items) (sym c.decls-2.view_is)
+    (subst (IsRead c.loop-k.decls) (forest_nodes items) (subst (λ k. IsRead c.loop-k.decls (forest (drop k (nodes items)))) none c.loop-k.invariant.read)) in
+    read_all before items after read refl refl c.settle.ensures

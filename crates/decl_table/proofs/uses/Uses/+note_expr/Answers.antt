@@ -1,0 +1,87 @@
+use Rattle.std.proofs.Common.{◌∙◌, [], ◌∷◌, sym, ap, subst, refl, arith}
+use Rattle.plcs_grammar.specs.declared.expr.Expr.{size-Expr}
+use Rattle.plcs_grammar.specs.PlainPhrase.{plain_expr, plain_exprs, plain_var_ref}
+use Rattle.template_tree.specs.Mention.{names_in, names_in_all, reference_names}
+use Rattle.decl_table.specs.Private.UsesView.{AddsNames}
+use Rattle.decl_table.proofs.AddedUses.{adds_both, adds_last, Leaves, leaves_next, of_names, of_names-append, or_comm, then_ok}
+use Rattle.plcs_grammar.proofs.PlainExprCases.{expr_builtin, expr_infix, expr_paren, expr_prefix, expr_variable, left_no_deeper, reference_subscripted}
+use Rattle.decl_table.proofs.uses.Uses.+note_expr.Goals as goal
+
+pub note_expr-loop-rest-preserved : goal.note_expr-loop-rest-preserved
+note_expr-loop-rest-preserved t c =
+    let a = names_in (plain_expr c.in-Infix.left.value) in
+    let b = names_in (plain_expr c.in-Infix.right.value) in
+    let at = c.args.at in
+    let whole = ap names_in (expr_infix c.loop-rest.rest.now c.in-Infix.field-0 c.in-Infix.left c.in-Infix.right c.in-Infix.is) in
+    let adds : AddsNames b at c.loop-rest.self c.note_expr.new.self =
+    subst (λ e. AddsNames (names_in (plain_expr e)) at c.loop-rest.self c.note_expr.new.self) c.deref.ensures c.in_ok-note_expr-in-Infix.ensures in
+    record {
+      leaves =
+          subst (λ e. Leaves (of_names (names_in (plain_expr e)) at) (of_names (names_in (plain_expr c.args.expr.now)) at) c.args.self.now c.note_expr.new.self)
+          (sym c.deref-rest.ensures)
+          (leaves_next (of_names b at) (of_names a at) (of_names (names_in (plain_expr c.loop-rest.rest.now)) at)
+          (of_names (names_in (plain_expr c.args.expr.now)) at) c.args.self.now c.loop-rest.self c.note_expr.new.self adds
+          (λ name place. ap (λ names. of_names names at name place) whole ∙ of_names-append a b at name place
+          ∙ or_comm (of_names a at name place) (of_names b at name place))
+          c.loop-rest.invariant.leaves);
+      shallow =
+          omega (arith, left_no_deeper c.loop-rest.rest.now c.in-Infix.field-0 c.in-Infix.left c.in-Infix.right c.in-Infix.is, c.loop-rest.invariant.shallow, ap size-Expr c.deref-rest.ensures);
+      same = refl;
+    }
+
+pub note_expr-returns-in-Var : goal.note_expr-returns-in-Var
+note_expr-returns-in-Var t c =
+    let at = c.args.at in
+    then_ok c.note_variable.result
+    (λ adds.
+    adds_last (of_names (names_in (plain_expr c.loop-rest.rest.now)) at) (of_names (names_in (plain_expr c.args.expr.now)) at) c.args.self.now c.loop-rest.self c.note_variable.new.self
+    (subst (λ names. AddsNames names at c.loop-rest.self c.note_variable.new.self) (sym (ap names_in (expr_variable c.loop-rest.rest.now c.in-Var.variable c.in-Var.is))) adds)
+    c.loop-rest.invariant.leaves)
+    c.note_variable.ensures
+
+pub note_expr-returns-in-Prefix : goal.note_expr-returns-in-Prefix
+note_expr-returns-in-Prefix t c =
+    let at = c.args.at in
+    then_ok c.note_expr-in-Prefix.result
+    (λ adds.
+    adds_last (of_names (names_in (plain_expr c.loop-rest.rest.now)) at) (of_names (names_in (plain_expr c.args.expr.now)) at) c.args.self.now c.loop-rest.self c.note_expr-in-Prefix.new.self
+    (subst (λ names. AddsNames names at c.loop-rest.self c.note_expr-in-Prefix.new.self)
+    (ap (λ e. names_in (plain_expr e)) c.deref-in-Prefix.ensures ∙ sym (ap names_in (expr_prefix c.loop-rest.rest.now c.in-Prefix.field-0 c.in-Prefix.operand c.in-Prefix.is))) adds)
+    c.loop-rest.invariant.leaves)
+    c.note_expr-in-Prefix.ensures
+
+pub note_expr-returns-in-Builtin : goal.note_expr-returns-in-Builtin
+note_expr-returns-in-Builtin t c =
+    let at = c.args.at in
+    then_ok c.note_exprs.result
+    (λ adds.
+    adds_last (of_names (names_in (plain_expr c.loop-rest.rest.now)) at) (of_names (names_in (plain_expr c.args.expr.now)) at) c.args.self.now c.loop-rest.self c.note_exprs.new.self
+    (subst (λ names. AddsNames names at c.loop-rest.self c.note_exprs.new.self)
+    (ap (λ es. names_in_all (plain_exprs es)) c.deref-in-Builtin.ensures.value ∙ sym (ap names_in (expr_builtin c.loop-rest.rest.now c.in-Builtin.field-0 c.in-Builtin.arguments c.in-Builtin.is))) adds)
+    c.loop-rest.invariant.leaves)
+    c.note_exprs.ensures
+
+pub note_expr-returns-in-Paren : goal.note_expr-returns-in-Paren
+note_expr-returns-in-Paren t c =
+    let at = c.args.at in
+    then_ok c.note_expr-in-Paren.result
+    (λ adds.
+    adds_last (of_names (names_in (plain_expr c.loop-rest.rest.now)) at) (of_names (names_in (plain_expr c.args.expr.now)) at) c.args.self.now c.loop-rest.self c.note_expr-in-Paren.new.self
+    (subst (λ names. AddsNames names at c.loop-rest.self c.note_expr-in-Paren.new.self)
+    (ap (λ e. names_in (plain_expr e)) c.deref-in-Paren.ensures ∙ sym (ap names_in (expr_paren c.loop-rest.rest.now c.in-Paren.inside c.in-Paren.is))) adds)
+    c.loop-rest.invariant.leaves)
+    c.note_expr-in-Paren.ensures
+
+pub note_variable-returns-in-Some : goal.note_variable-returns-in-Some
+note_variable-returns-in-Some t c =
+    let at = c.args.at in
+    let variable = c.args.variable.now in
+    let index = names_in (plain_expr c.in-Some.index.value) in
+    then_ok c.note_expr.result
+    (λ adds.
+    adds_both (of_names (variable.name ∷ []) at) (of_names index at) (of_names (reference_names (plain_var_ref variable)) at) c.args.self.now c.note.new.self c.note_expr.new.self
+    c.in_ok-note.ensures
+    (subst (λ e. AddsNames (names_in (plain_expr e)) at c.note.new.self c.note_expr.new.self) c.deref.ensures adds)
+    (λ name place. ap (λ r. of_names (reference_names r) at name place) (reference_subscripted variable c.in-Some.index c.in-Some.is)
+    ∙ of_names-append (variable.name ∷ []) index at name place))
+    c.note_expr.ensures

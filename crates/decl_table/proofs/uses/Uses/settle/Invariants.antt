@@ -1,0 +1,5 @@
+use Rattle.decl_table.proofs.SettledUses.{IsSettling}
+use Rattle.decl_table.proofs.uses.Uses.settle.Given as goal
+
+abbrev pub invariant-loop-k : goal.invariant-loop-k
+invariant-loop-k l = IsSettling l.k l.fn.self l.self-inside.places.entries

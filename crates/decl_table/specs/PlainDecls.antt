@@ -1,0 +1,34 @@
+-- A table of declarations as plain data.
+use Rattle.std.specs.Prelude.{ℕ, List, [], Option, bytes_eq, unwrap_or}
+use Rattle.std.specs.FinMap.{get}
+use Rattle.std.specs.Map.{lookup}
+use Rattle.plcs_base.specs.Scope.{ItemMap}
+use Rattle.plcs_base.specs.declared.declared.Declared.{Declared}
+use Rattle.plcs_base.specs.declared.place.PhraseAt.{PhraseAt}
+
+-- names with the slots of their headings
+abbrev pub HeadingList : Type 0
+HeadingList = List (List ℕ × ℕ)
+
+-- names with the places of the phrases that mention them
+abbrev pub UseList : Type 0
+UseList = List (List ℕ × List PhraseAt)
+
+-- a table: the effective items of each procedure by its slot, the slot of the effective heading of each name that has
+-- one, and where each name is mentioned
+pub record PlainDecls : Type 0 where
+  pub items : ItemMap
+  pub headings : HeadingList
+  pub uses : UseList
+
+-- the items of the procedure in the slot
+abbrev pub items_in : ItemMap → ℕ → List Declared
+items_in items slot = unwrap_or (get items slot) []
+
+-- the slot of the heading under the name
+abbrev pub slot_of : List ℕ → HeadingList → Option ℕ
+slot_of name headings = lookup (bytes_eq name) headings
+
+-- the places under the name
+abbrev pub places_of : List ℕ → UseList → List PhraseAt
+places_of name uses = unwrap_or (lookup (bytes_eq name) uses) []

@@ -1,0 +1,33 @@
+-- What the effective items of a procedure are seen as, and what is kept of them.
+use Rattle.std.specs.Prelude.{◌≡◌, ◌≤◌, ℕ, List, map, bytes_eq}
+use Rattle.std.specs.Coded.{Coded, coded_list}
+use Rattle.std.specs.List.{IsDistinct}
+use Rattle.std.specs.Map.{keys_of}
+use Rattle.plcs_base.specs.declared.declared.Declared.{Declared}
+use Rattle.plcs_base.specs.contracts.declared.Declared as declared_row
+use Rattle.template_tree.specs.Environment.{cells}
+use Rattle.template_tree.specs.Limit.{most_cells}
+use Rattle.decl_table.specs.declared.items.Shape.{Shape}
+use Rattle.decl_table.specs.declared.items.Items.TheInside.{Inside}
+
+-- the name with its type and size
+abbrev pub shaped : List ℕ → Shape → Declared
+shaped name shape = record { name = name; ty = shape.ty; size = shape.size }
+
+-- entries of the map as items
+abbrev pub items_of : List (List ℕ × Shape) → List Declared
+items_of entries = map (λ entry. shaped entry.0 entry.1) entries
+
+-- the items in the map's order
+abbrev pub seen : Inside → List Declared
+seen a = items_of a.shapes.entries
+
+-- no name stands twice, and the cells are counted and within the limit
+pub record IsKept (a : Inside) : Type 0 where
+  pub once : IsDistinct bytes_eq (keys_of a.shapes.entries)
+  pub counted : a.cells ≡ cells (items_of a.shapes.entries)
+  pub few : a.cells ≤ most_cells
+
+-- the code of items
+abbrev pub items_code : Coded (List Declared)
+items_code = coded_list declared_row.the_row.coded

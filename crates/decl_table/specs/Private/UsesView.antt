@@ -1,0 +1,55 @@
+-- The uses of names in memory, and what is noted of phrases.
+use Rattle.std.specs.Prelude.{◌≡◌, ◌↔◌, ℕ, Bool, ◌&&◌, ◌||◌, List, bytes_eq, Contains, Option}
+use Rattle.std.specs.Coded.{Coded, coded×, coded_list, coded_ℕ}
+use Rattle.std.specs.List.{list_any}
+use Rattle.std.specs.List.Sorted.{IsStrictlySortedBy}
+use Rattle.std.specs.Ordering.{eq_by_cmp}
+use Rattle.plcs_base.specs.Mark.{phrase_cmp}
+use Rattle.plcs_base.specs.declared.place.PhraseAt.{PhraseAt}
+use Rattle.plcs_base.specs.contracts.place.PhraseAt as place_row
+use Rattle.plcs_grammar.specs.PlainPhrase.{PlainPhrase}
+use Rattle.template_tree.specs.Mention.{mention, mentions, part_mentions}
+use Rattle.template_tree.specs.PlainTree.{Forest}
+use Rattle.decl_table.specs.PlainDecls.{UseList, places_of}
+
+-- the code of places
+abbrev pub places_code : Coded (List PhraseAt)
+places_code = coded_list place_row.the_row.coded
+
+-- the code of uses
+abbrev pub uses_code : Coded UseList
+uses_code = coded_list (coded× (coded_list coded_ℕ) places_code)
+
+-- whether the place is among these
+abbrev pub is_among : PhraseAt → List PhraseAt → Bool
+is_among at places = list_any (eq_by_cmp phrase_cmp at) places
+
+-- under each name there are more places: those for which the test of the name and the place holds
+abbrev pub Adds : (List ℕ → PhraseAt → Bool) → UseList → UseList → Type 0
+Adds test old new =
+    (name : List ℕ) (at : PhraseAt) → is_among at (places_of name new) ≡ (is_among at (places_of name old) || test name at)
+
+-- one place came under each of the names
+abbrev pub AddsNames : List (List ℕ) → PhraseAt → UseList → UseList → Type 0
+AddsNames names place = Adds (λ name at. list_any (bytes_eq name) names && eq_by_cmp phrase_cmp at place)
+
+-- what stands in a part was noted
+abbrev pub AddsPart : PhraseAt → Option PlainPhrase → UseList → UseList → Type 0
+AddsPart place phrase = Adds (λ name at. is_among at (mention name place phrase))
+
+-- the phrases in parts were noted
+abbrev pub AddsParts : (slot part : ℕ) → List (Option PlainPhrase) → UseList → UseList → Type 0
+AddsParts slot part parts = Adds (λ name at. is_among at (part_mentions name slot part parts))
+
+-- the phrases in nodes were noted
+abbrev pub AddsNodes : Forest → UseList → UseList → Type 0
+AddsNodes nodes = Adds (λ name at. is_among at (mentions name nodes))
+
+-- the places in order, each once
+pub record IsSettled (old new : List PhraseAt) : Type 0 where
+  pub increasing : IsStrictlySortedBy phrase_cmp new
+  pub each : (at : PhraseAt) → Contains new at ↔ Contains old at
+
+-- the places under each name are settled
+abbrev pub AreSettled : UseList → UseList → Type 0
+AreSettled old new = (name : List ℕ) → IsSettled (places_of name old) (places_of name new)

@@ -1,0 +1,115 @@
+//! The table of declarations.
+ghost use Rattle.std.specs.Prelude.{◌≡◌, ◌∷◌, ◌<◌, [], IfOk, OnOk, option_map};
+ghost use Rattle.template_tree.specs.Environment.{item_named};
+ghost use Rattle.template_tree.specs.Limit.{most_slots};
+ghost use Rattle.template_tree.specs.Program.{IsSubtree};
+ghost use Rattle.template_tree.specs.Slots.{count};
+ghost use Rattle.template_tree.specs.Tree.{IsTree};
+ghost use Rattle.decl_table.specs.Agreement.{IsDeclsOf};
+ghost use Rattle.decl_table.specs.PlainDecls.{items_in, places_of, slot_of};
+ghost use Rattle.decl_table.specs.Private.DeclsView.{TakesProcedure};
+
+use crate::headings::Headings;
+use crate::items::Items;
+use crate::scopes::Scopes;
+use crate::uses::Uses;
+use plcs_base::{Declared, Name, OutOfMemory, PhraseAt, Scope, Slot};
+use std::alloc::Global;
+use std::marker::Model;
+use template_tree::{Node, Path, Tree};
+
+/// The effective items of each procedure, the effective headings, and the phrases that mention each
+/// name. Contracts see the items as a finite map, and the others as pairs.
+#[derive(Drop)]
+pub struct Decls {
+    scopes: Scopes,
+    headings: Headings,
+    uses: Uses,
+}
+
+impl Model for Decls {
+    ghost use Rattle.decl_table.specs.PlainDecls.{PlainDecls};
+    ghost use Rattle.decl_table.specs.Private.DeclsView.{decls_code};
+
+    ghost Value = { PlainDecls };
+
+    ghost coded = { decls_code };
+
+    ghost view = { λ a. record { items = a.scopes; headings = a.headings; uses = a.uses } };
+}
+
+impl Decls {
+    /// The table of the tree. It takes time in proportion to the tree, but for the sorting of the uses.
+    pub fn new(alloc: Global, tree: &Tree) -> Result<Decls, OutOfMemory>
+        requires tree { IsTree tree.now }
+        ensures { IfOk result (λ decls. IsDeclsOf decls tree.now.items) }
+    {
+        let mut decls = Decls {
+            scopes: Scopes::new(alloc),
+            headings: Headings::new(alloc),
+            uses: Uses::new(alloc),
+        };
+        let mut k = tree.procedures() + 1;
+        // From the last on, so that the first heading of a name takes the place of later ones.
+        while k > 0 {
+            k -= 1;
+            if let Some(procedure) = tree.node(&path_of_item(k)) {
+                decls.take(alloc, procedure)?;
+            }
+        }
+        decls.uses.settle();
+        Ok(decls)
+    }
+
+    /// The procedure's effective item of the name, or `None` exactly where none has it. It takes no
+    /// memory.
+    pub fn type_of(&self, procedure: Slot, name: &Name) -> Option<Declared>
+        ensures { result ≡ item_named name.now (items_in self.now.items procedure.0) }
+    {
+        self.scopes.named(procedure, name)
+    }
+
+    /// The slot of the effective heading of the name, or `None` exactly where none has it. It takes no
+    /// memory.
+    pub fn signature(&self, name: &Name) -> Option<Slot>
+        ensures { option_map (λ slot. slot.0) result ≡ slot_of name.now self.now.headings }
+    {
+        self.headings.named(name)
+    }
+
+    /// The places of the phrases that mention the name, in order of slot and part. It takes no memory.
+    pub fn uses(&self, name: &Name) -> &[PhraseAt]
+        ensures { result.now ≡ places_of name.now self.now.uses }
+    {
+        self.uses.under(name)
+    }
+
+    /// Takes main or a procedure that stands before those that are taken.
+    fn take(&mut self, alloc: Global, procedure: &Node) -> Result<(), OutOfMemory>
+        requires subtree { IsSubtree procedure.now }
+        requires few { count procedure.now.inner < most_slots }
+        ensures { OnOk result (TakesProcedure procedure.now self.old self.new) }
+    {
+        self.scopes
+            .put(procedure.slot(), Items::of(alloc, procedure)?)?;
+        self.headings.take(procedure)?;
+        self.uses.note_node(alloc, procedure)
+    }
+}
+
+impl Scope for Decls {
+    ghost items = { λ decls. decls.items };
+
+    fn declared(&self, procedure: Slot, k: u32) -> Option<Declared> {
+        self.scopes.numbered(procedure, k as usize)
+    }
+}
+
+/// The path of the item of this number.
+fn path_of_item(k: u32) -> Path
+    ensures { result.items ≡ k ∷ [] }
+{
+    let mut path = Path::new();
+    path.push(k);
+    path
+}

@@ -1,0 +1,64 @@
+//! The effective headings.
+ghost use Rattle.std.specs.Prelude.{◌≡◌, [], OnOk, option_map};
+ghost use Rattle.decl_table.specs.PlainDecls.{slot_of};
+ghost use Rattle.decl_table.specs.Private.DeclsView.{TakesHeading};
+
+use crate::name_copy::name_copy;
+use crate::node_parts::{heading_name, may_be_called};
+use indexmap::IndexMap;
+use plcs_base::{Name, OutOfMemory, Slot};
+use std::alloc::Global;
+use std::marker::Model;
+use template_tree::Node;
+
+/// The slots of effective headings under their names, which contracts see as a list of pairs.
+#[derive(Drop)]
+pub(crate) struct Headings {
+    slots: IndexMap<Name, u32>,
+}
+
+impl Model for Headings {
+    ghost use Rattle.decl_table.specs.PlainDecls.{HeadingList};
+    ghost use Rattle.decl_table.specs.Private.DeclsView.{headings_code};
+
+    ghost Value = { HeadingList };
+
+    ghost coded = { headings_code };
+
+    ghost view = { λ a. a.slots.entries };
+}
+
+impl Headings {
+    /// No headings.
+    pub(crate) fn new(alloc: Global) -> Headings
+        ensures { result ≡ [] }
+    {
+        Headings {
+            slots: IndexMap::new(alloc),
+        }
+    }
+
+    /// Takes the heading of the procedure, if it may be effective, in place of another one of its name.
+    pub(crate) fn take(&mut self, procedure: &Node) -> Result<(), OutOfMemory>
+        ensures { OnOk result (TakesHeading procedure.now self.old self.new) }
+    {
+        let Some(name) = heading_name(procedure) else {
+            return Ok(());
+        };
+        if !may_be_called(name) {
+            return Ok(());
+        }
+        self.slots.insert(name_copy(name), procedure.slot().0)?;
+        Ok(())
+    }
+
+    /// The slot of the heading of the name, or `None` where there is none.
+    pub(crate) fn named(&self, name: &Name) -> Option<Slot>
+        ensures { option_map (λ slot. slot.0) result ≡ slot_of name.now self.now }
+    {
+        match self.slots.get(name) {
+            Some(slot) => Some(Slot(*slot)),
+            None => None,
+        }
+    }
+}

@@ -1,0 +1,16 @@
+//! The table of declarations: the effective items of each procedure, the effective headings, and the
+//! phrases that mention each name.
+#![tactic(auto)]
+
+mod decls;
+mod headings;
+mod items;
+mod name_copy;
+mod node_parts;
+mod places;
+mod scopes;
+#[cfg(test)]
+mod tests;
+mod uses;
+
+pub use decls::Decls;
