@@ -1,0 +1,26 @@
+-- `one_listing` and `read_listing`: what comes into a list is what its sections ask for
+pub mod Fillings
+-- `one_listing`, and each refusal of `read_listing`: the lines of a program lead the reader to it
+pub mod Arrivals
+-- `one_listing` and `read_listing`: a line's text tells what it says
+pub mod Heads
+-- `one_listing` and `read_listing`: a text is made of one list of lines alone
+pub mod Texts
+-- `one_listing`: the definitions' lines are those that are read
+pub mod ListedLines
+-- each answer of `read_listing`: what the reader has taken is the front of a listing
+pub mod Continuations
+-- `step` of the reader: the last of the open nodes is the innermost
+pub mod FrameStacks
+-- `read_segments` and `read_line`: what is read of a line is all that it may say
+pub mod PartTexts
+pub mod LineTexts
+-- `read_listing`: what is read, line after line, and the tree that comes of it
+pub mod ReadListings
+pub mod LoadedTrees
+-- `split_line`: where the first line of a text ends
+pub mod LineEnds
+-- `only` of `read_listing`
+pub mod OneOutcome
+-- `save`: bytes that are passed on to files, one after the other
+pub mod Sending

@@ -1,0 +1,10 @@
+use Rattle.std.proofs.Common.{length}
+use Rattle.file_store.specs.Private.Come.{come_of}
+use Rattle.file_store.proofs.ReadListings.{SoFar}
+use Rattle.file_store.proofs.reader.read_lines.Given as goal
+
+abbrev pub decreases-loop-line : goal.decreases-loop-line
+decreases-loop-line l = length l.rest
+
+abbrev pub invariant-loop-line : goal.invariant-loop-line
+invariant-loop-line l = SoFar l.fn.bytes l.rest (come_of l.reader)

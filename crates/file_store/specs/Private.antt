@@ -1,0 +1,10 @@
+pub mod LineLaws
+pub mod Reader
+pub mod LineReading
+pub mod Gives
+pub mod Views
+pub mod NextSegment
+pub mod Reading
+pub mod Come
+pub mod FilePart
+pub mod Desk

@@ -1,0 +1,7 @@
+-- How far the reader has come, as plain data.
+use Rattle.file_store.specs.declared.reader.Reader.{Reader}
+use Rattle.file_store.specs.Private.Reading.{Come}
+use Rattle.file_store.specs.Private.Views.{stack_of}
+
+abbrev pub come_of : Reader → Come
+come_of reader = record { stack = stack_of reader.stack; lines = reader.lines; opened = reader.opened }

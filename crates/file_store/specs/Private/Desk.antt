@@ -1,0 +1,49 @@
+-- What a sink that passes bytes on to files is seen as, and what becomes of bytes that are put into it.
+use Rattle.std.specs.Prelude.{◌≡◌, ℕ, List, Option, Some, None}
+use Rattle.std.specs.Io.KnownBytes.{Appends, append_known}
+use Rattle.synth_outside.specs.Cause.{RisesWith}
+use Rattle.synth_outside.specs.Files.{FileMap, NewContent, begun_bytes, begun_name}
+use Rattle.synth_outside.specs.declared.faults.FilesFault.{FilesFault}
+use Rattle.synth_outside.specs.declared.faults.FilesFault.TheVariants.{NoFile, Failed, OutOfMemory}
+
+-- the map, what is begun, the counts, the bytes that wait, and the fault that came, if one did
+pub record Desk : Type 0 where
+  pub stored : Option FileMap
+  pub begun : Option NewContent
+  pub faults : ℕ
+  pub wants : ℕ
+  pub wait : List ℕ
+  pub fault : Option FilesFault
+
+abbrev pub desk : Option FileMap → Option NewContent → (faults wants : ℕ) (wait : List ℕ) → Option FilesFault → Desk
+desk stored begun faults wants wait fault =
+    record { stored = stored; begun = begun; faults = faults; wants = wants; wait = wait; fault = fault }
+
+-- the bytes that are begun, with those that wait
+abbrev pub with_wait : Desk → Option (List ℕ)
+with_wait desk = append_known (begun_bytes desk.begun) desk.wait
+
+-- this fault came between two moments
+abbrev pub Came : FilesFault → Desk → Desk → Type 0
+Came fault before now = (before.fault ≡ None) × (now.fault ≡ Some fault)
+
+-- the bytes were put: they are passed on or wait, unless a fault came, which stays
+pub record Sent (before : Desk) (bytes : List ℕ) (now : Desk) : Type 0 where
+  pub stored : now.stored ≡ before.stored
+  pub name : begun_name now.begun ≡ begun_name before.begun
+  pub unfailed : now.fault ≡ None → before.fault ≡ None
+  pub told : now.fault ≡ None → Appends (with_wait before) (with_wait now) bytes
+  pub kept : (fault : FilesFault) → before.fault ≡ Some fault → now.fault ≡ Some fault
+  pub found : now.fault ≡ Some NoFile → before.fault ≡ Some NoFile
+  pub faults : RisesWith (Came Failed before now) before.faults now.faults
+  pub wants : RisesWith (Came OutOfMemory before now) before.wants now.wants
+
+-- the bytes were written behind what was begun, or this fault came
+pub record Written (old_stored : Option FileMap) (old_begun : Option NewContent) (old_faults old_wants : ℕ) (bytes : List ℕ)
+    (now_stored : Option FileMap) (now_begun : Option NewContent) (now_faults now_wants : ℕ) (fault : Option FilesFault) : Type 0 where
+  pub stored : now_stored ≡ old_stored
+  pub name : begun_name now_begun ≡ begun_name old_begun
+  pub told : fault ≡ None → Appends (begun_bytes old_begun) (begun_bytes now_begun) bytes
+  pub found : fault ≡ Some NoFile → ⊥
+  pub faults : RisesWith (fault ≡ Some Failed) old_faults now_faults
+  pub wants : RisesWith (fault ≡ Some OutOfMemory) old_wants now_wants

@@ -1,0 +1,237 @@
+-- The reader of lines as a machine over plain data: how far the open lists have come, and what each line does to them.
+use Rattle.std.specs.Prelude.{◌≡◌, ℕ, suc, ◌+◌, ◌-◌, Bool, true, false, ◌&&◌, ◌==◌, nat_le, if◌then◌else◌, bytes_eq, List, [], ◌∷◌, ◌++◌, length, codes, Option, Some, None, option_map, option_and_then, is_none, is_some}
+use Rattle.plcs_grammar.specs.declared.node_kind.NodeKind.{NodeKind}
+use Rattle.plcs_grammar.specs.declared.node_kind.Sort.{Sort}
+use Rattle.plcs_grammar.specs.declared.row.Amount.{Amount}
+use Rattle.plcs_grammar.specs.declared.template.Template.{Template}
+use Rattle.plcs_grammar.specs.PlainPhrase.{PlainPhrase}
+use Rattle.plcs_grammar.specs.Template.{PlainSection, row_of, program_sections}
+use Rattle.template_tree.specs.Build.{built_label}
+use Rattle.template_tree.specs.Line.{segments_text}
+use Rattle.template_tree.specs.PlainTree.{Forest, join}
+use Rattle.template_tree.specs.Program.{AreParts, parts_of, sort_of}
+use Rattle.template_tree.specs.Section.{same_sort, left_for, left_after, next_lead}
+
+-- ---- what a line says
+
+-- the kind of a node as its first line tells it: an IF may still become one with an ELSE
+abbrev pub shape : NodeKind → NodeKind
+shape (NodeKind.Filled Template.If) = NodeKind.Filled Template.IfElse
+shape kind = kind
+
+-- what a line says: it is the first line of a node of the shape with these parts, the line before a section, or the last
+-- line of a node
+pub data Saying : Type 0 where
+  head : NodeKind → List (Option PlainPhrase) → Saying
+  lead : List ℕ → Saying
+  last : List ℕ → Saying
+
+-- what is written for it
+abbrev pub text_of : Saying → List ℕ
+text_of (head kind parts) = segments_text (row_of kind).line parts
+text_of (lead text) = text
+text_of (last text) = text
+
+-- whether a node begins in it
+abbrev pub opens : Saying → Bool
+opens (head kind parts) = true
+opens (lead text) = false
+opens (last text) = false
+
+-- some listing may have it
+abbrev pub IsSaying : Saying → Type 0
+IsSaying (head kind parts) = (shape kind ≡ kind) × AreParts (parts_of (row_of kind).line) parts
+IsSaying (lead text) = text ≡ codes "ELSE"
+IsSaying (last text) = text ≡ codes "END;"
+
+-- a line: its level, and what it says
+pub record Said : Type 0 where
+  pub level : ℕ
+  pub saying : Saying
+
+-- ---- how far a list has come
+
+-- the sort of the list that goes on, if one does, and the sections that are left behind it
+pub record Filling : Type 0 where
+  pub going : Option Sort
+  pub left : List PlainSection
+
+-- no item has come yet
+abbrev pub unfilled : List PlainSection → Filling
+unfilled sections = record { going = None; left = sections }
+
+-- behind an item of the section
+abbrev pub behind : Amount → Sort → List PlainSection → Filling
+behind Amount.One sort left = record { going = None; left = left }
+behind Amount.Many sort left = record { going = Some sort; left = left }
+
+-- how an item comes into a list: the line before it, if there is one, and how far the list has come behind it
+pub record Entry : Type 0 where
+  pub before : Option (List ℕ)
+  pub next : Filling
+
+-- how an item of the sort comes into the first of the sections
+abbrev pub first_entry : Sort → List PlainSection → Option Entry
+first_entry sort [] = None
+first_entry sort (section ∷ left) =
+    if same_sort section.sort sort
+    then Some (record { before = section.lead; next = behind section.amount section.sort left })
+    else None
+
+-- whether a list of this sort goes on
+abbrev pub goes_on : Option Sort → Sort → Bool
+goes_on None sort = false
+goes_on (Some own) sort = same_sort own sort
+
+-- how an item of the sort comes into the list, if it may
+abbrev pub entry : Sort → Filling → Option Entry
+entry sort filling =
+    if goes_on filling.going sort then Some (record { before = None; next = filling }) else first_entry sort filling.left
+
+-- the list behind an item of the sort before which no line is wanted
+abbrev pub unled : Entry → Option Filling
+unled item = if is_none item.before then Some item.next else None
+
+abbrev pub advanced : Sort → Filling → Option Filling
+advanced sort filling = option_and_then unled (entry sort filling)
+
+-- whether the text is that line
+abbrev pub is_text : List ℕ → Option (List ℕ) → Bool
+is_text text None = false
+is_text text (Some own) = bytes_eq text own
+
+-- the list behind the line before a section
+abbrev pub led_sections : List ℕ → List PlainSection → Option Filling
+led_sections text [] = None
+led_sections text (section ∷ left) =
+    if is_text text section.lead then Some (unfilled (record section { lead = None } ∷ left)) else None
+
+-- whether the list may end here: a section with a line before it may be absent
+abbrev pub optional : List PlainSection → Bool
+optional [] = true
+optional (section ∷ left) = is_some section.lead && optional left
+
+-- ---- open lists
+
+-- a list that is open: its items so far, and how far it has come
+pub record OpenList : Type 0 where
+  pub items : Forest
+  pub filling : Filling
+
+-- a node that is open, and the list in which it stands, which has come behind it already
+pub record Frame : Type 0 where
+  pub kind : NodeKind
+  pub parts : List (Option PlainPhrase)
+  pub around : OpenList
+
+-- the innermost open list, and the open nodes from the innermost one outward
+pub record Stack : Type 0 where
+  pub own : OpenList
+  pub outer : List Frame
+
+-- no line was read yet
+abbrev pub unread : Stack
+unread = record { own = record { items = Forest.nil; filling = unfilled program_sections }; outer = [] }
+
+-- the kind of a node of the shape with these items: an IF with one body alone has no ELSE
+abbrev pub kind_with : NodeKind → Forest → NodeKind
+kind_with (NodeKind.Filled Template.IfElse) (Forest.cons label inner Forest.nil) = NodeKind.Filled Template.If
+kind_with kind items = kind
+
+-- the node that an open one becomes with these items
+abbrev pub node_of : Frame → Forest → Forest
+node_of frame items = Forest.cons (built_label (kind_with frame.kind items) frame.parts 0) items Forest.nil
+
+-- the list around a node behind it
+abbrev pub closed : OpenList → Frame → OpenList
+closed own frame = record frame.around { items = join frame.around.items (node_of frame own.items) }
+
+-- the innermost node ends without a line of its own, if it may
+abbrev pub shut : OpenList → Frame → Option OpenList
+shut own frame =
+    if is_none (row_of frame.kind).last && optional own.filling.left then Some (closed own frame) else None
+
+-- nodes end until no more than so many are open
+abbrev pub lowered : ℕ → OpenList → List Frame → Option Stack
+lowered level own [] = Some (record { own = own; outer = [] })
+lowered level own (frame ∷ outer) =
+    if nat_le (suc (length outer)) level
+    then Some (record { own = own; outer = frame ∷ outer })
+    else option_and_then (λ list. lowered level list outer) (shut own frame)
+
+-- exactly so many are open
+abbrev pub at_height : ℕ → Stack → Option Stack
+at_height level stack = if length stack.outer == level then Some stack else None
+
+abbrev pub lowered_to : ℕ → Stack → Option Stack
+lowered_to level stack = option_and_then (at_height level) (lowered level stack.own stack.outer)
+
+-- ---- what a line does
+
+-- a node is opened in the innermost list
+abbrev pub with_frame : NodeKind → List (Option PlainPhrase) → Stack → Filling → Stack
+with_frame kind parts stack filling =
+    record {
+      own = record { items = Forest.nil; filling = unfilled (row_of kind).sections };
+      outer = record { kind = kind; parts = parts; around = record stack.own { filling = filling } } ∷ stack.outer;
+    }
+
+abbrev pub begun : NodeKind → List (Option PlainPhrase) → Stack → Option Stack
+begun kind parts stack = option_map (with_frame kind parts stack) (advanced (sort_of kind) stack.own.filling)
+
+-- the line before a section of the innermost node
+abbrev pub with_filling : Stack → Filling → Stack
+with_filling stack filling = record stack { own = record stack.own { filling = filling } }
+
+abbrev pub led_in : List ℕ → Stack → List Frame → Option Stack
+led_in text stack [] = None
+led_in text stack (frame ∷ outer) = option_map (with_filling stack) (led_sections text stack.own.filling.left)
+
+-- the last line of the innermost node
+abbrev pub ended_in : List ℕ → OpenList → List Frame → Option Stack
+ended_in text own [] = None
+ended_in text own (frame ∷ outer) =
+    if is_text text (row_of frame.kind).last && optional own.filling.left
+    then Some (record { own = closed own frame; outer = outer })
+    else None
+
+-- what a line at the level does to the open lists, if some listing may go on with it
+abbrev pub step_at : Stack → ℕ → Saying → Option Stack
+step_at stack level (head kind parts) = option_and_then (begun kind parts) (lowered_to level stack)
+step_at stack level (lead text) = option_and_then (λ s. led_in text s s.outer) (lowered_to (suc level) stack)
+step_at stack level (last text) = option_and_then (λ s. ended_in text s.own s.outer) (lowered_to (suc level) stack)
+
+abbrev pub step : Stack → Said → Option Stack
+step stack said = step_at stack said.level said.saying
+
+-- the lines one after the other
+abbrev pub run : Stack → List Said → Option Stack
+run stack [] = Some stack
+run stack (said ∷ rest) = option_and_then (λ s. run s rest) (step stack said)
+
+-- the program, if the lines are its whole listing
+abbrev pub finished : OpenList → Option Forest
+finished own = if optional own.filling.left then Some own.items else None
+
+abbrev pub program_of : Stack → Option Forest
+program_of stack = option_and_then (λ s. finished s.own) (lowered 0 stack.own stack.outer)
+
+-- ---- the lines of nodes in this form
+
+abbrev pub said_lead : ℕ → Option (List ℕ) → List Said
+said_lead level None = []
+said_lead level (Some text) = record { level = level; saying = lead text } ∷ []
+
+abbrev pub said_last : ℕ → Option (List ℕ) → List Said
+said_last level None = []
+said_last level (Some text) = record { level = level; saying = last text } ∷ []
+
+abbrev pub sayings : (level : ℕ) (left : List PlainSection) → Forest → List Said
+sayings level left Forest.nil = []
+sayings level left (Forest.cons label inner rest) =
+    let here = left_for (sort_of label.kind) left in
+    said_lead (level - 1) (next_lead here)
+    ++ (record { level = level; saying = head (shape label.kind) label.parts }
+    ∷ (sayings (level + 1) (row_of label.kind).sections inner
+    ++ (said_last level (row_of label.kind).last
+    ++ sayings level (left_after here) rest)))

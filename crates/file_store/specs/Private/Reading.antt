@@ -1,0 +1,50 @@
+-- What one line does to the reader, and what the reader has taken.
+use Rattle.std.specs.Prelude.{◌≡◌, ℕ, Bool, Option, ◌+◌, ◌<◌, ◌≤◌, true, if◌then◌else◌, List, Some, None}
+use Rattle.template_tree.specs.Limit.{deepest_path, most_slots}
+use Rattle.file_store.specs.declared.refusal.FileRefusal.{FileRefusal}
+use Rattle.file_store.specs.Private.LineReading.{Says}
+use Rattle.file_store.specs.Private.Reader.{Said, Stack, opens, step}
+
+-- how far the reader has come: the open lists, how many lines were read, and in how many of them a node began
+pub record Come : Type 0 where
+  pub stack : Stack
+  pub lines : ℕ
+  pub opened : ℕ
+
+-- a node may begin in the line, behind so many others
+pub record MayOpen (said : Said) (opened : ℕ) : Type 0 where
+  pub shallow : opens said.saying ≡ true → said.level < deepest_path
+  pub few : opens said.saying ≡ true → opened < most_slots
+
+-- the line says something that leads the reader on
+pub record Taken (line : List ℕ) (before now : Come) (said : Said) : Type 0 where
+  pub says : Says line said
+  pub steps : step before.stack said ≡ Some now.stack
+  pub may_open : MayOpen said before.opened
+  pub lines : now.lines ≡ before.lines + 1
+  pub opened : now.opened ≡ (if opens said.saying then 1 else 0) + before.opened
+
+abbrev pub IsTaken : List ℕ → Come → Come → Type 0
+IsTaken line before now = (said : Said) × Taken line before now said
+
+-- it says something with which a listing may go on, but a node that begins in it is past a limit
+abbrev pub GoesOn : List ℕ → Come → Said → Type 0
+GoesOn line before said = (after : Stack) × Says line said × (step before.stack said ≡ Some after) × (opens said.saying ≡ true)
+
+abbrev pub IsLineRefused : List ℕ → Come → FileRefusal → Type 0
+IsLineRefused line before (FileRefusal.NotAListing k) =
+    (k ≡ before.lines + 1) × ((said : Said) → Says line said → step before.stack said ≡ None)
+IsLineRefused line before FileRefusal.TooDeep = (said : Said) × GoesOn line before said × (deepest_path ≤ said.level)
+IsLineRefused line before FileRefusal.TooLarge =
+    (said : Said) × GoesOn line before said × (said.level < deepest_path) × (most_slots ≤ before.opened)
+IsLineRefused line before FileRefusal.OutOfMemory = Unit {0}
+IsLineRefused line before FileRefusal.NoFile = ⊥
+IsLineRefused line before FileRefusal.FileFault = ⊥
+IsLineRefused line before FileRefusal.TooLong = ⊥
+
+-- what is past a limit where a node may begin at a level behind so many others
+abbrev pub IsPast : Bool → ℕ → ℕ → Option FileRefusal → Type 0
+IsPast opens level opened None = (opens ≡ true → level < deepest_path) × (opens ≡ true → opened < most_slots)
+IsPast opens level opened (Some FileRefusal.TooDeep) = (opens ≡ true) × (deepest_path ≤ level)
+IsPast opens level opened (Some FileRefusal.TooLarge) = (opens ≡ true) × (level < deepest_path) × (most_slots ≤ opened)
+IsPast opens level opened (Some refusal) = ⊥

@@ -1,0 +1,44 @@
+-- What the reader's values stand for.
+use Rattle.std.specs.Prelude.{Bool, true, false, List, [], ◌∷◌, map, codes, None}
+use Rattle.plcs_grammar.specs.Template.{PlainSection, plain_section}
+use Rattle.template_tree.specs.PlainPlace.{plain_place}
+use Rattle.template_tree.specs.PlainTree.{forest, roomless}
+use Rattle.file_store.specs.Private.Reader as machine
+use Rattle.file_store.specs.declared.reader.filling.Filling.{Filling}
+use Rattle.file_store.specs.declared.reader.said.Said.{Said}
+use Rattle.file_store.specs.declared.reader.said.Saying.{Saying}
+use Rattle.file_store.specs.declared.reader.said.Saying.TheVariants as saying
+use Rattle.file_store.specs.declared.reader.open_list.Frame.{Frame}
+use Rattle.file_store.specs.declared.reader.open_list.OpenList.{OpenList}
+use Rattle.file_store.specs.declared.reader.open_list.Stack.{Stack}
+
+-- sections of which the first has the line before it already
+abbrev pub led_if : Bool → List PlainSection → List PlainSection
+led_if false sections = sections
+led_if true [] = []
+led_if true (section ∷ sections) = record section { lead = None } ∷ sections
+
+abbrev pub filling_of : Filling → machine.Filling
+filling_of filling = record { going = filling.going; left = led_if filling.led (map plain_section filling.left.now) }
+
+abbrev pub saying_of : Saying → machine.Saying
+saying_of (saying.Head kind parts) = machine.Saying.head kind (map plain_place parts.items)
+saying_of saying.Lead = machine.Saying.lead (codes "ELSE")
+saying_of saying.Last = machine.Saying.last (codes "END;")
+
+abbrev pub said_of : Said → machine.Said
+said_of said = record { level = said.level; saying = saying_of said.saying }
+
+abbrev pub open_list_of : OpenList → machine.OpenList
+open_list_of list = record { items = roomless (forest list.items.items); filling = filling_of list.filling }
+
+abbrev pub frame_of : Frame → machine.Frame
+frame_of frame = record { kind = frame.kind; parts = map plain_place frame.parts.items; around = open_list_of frame.around }
+
+-- the open nodes, of which the innermost stands last
+abbrev pub frames_on : List machine.Frame → List Frame → List machine.Frame
+frames_on outer [] = outer
+frames_on outer (frame ∷ frames) = frames_on (frame_of frame ∷ outer) frames
+
+abbrev pub stack_of : Stack → machine.Stack
+stack_of stack = record { own = open_list_of stack.own; outer = frames_on [] stack.frames.items }

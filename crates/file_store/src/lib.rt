@@ -1,0 +1,22 @@
+//! Listing files: programs saved as their listings, and read from them again.
+#![tactic(auto)]
+
+mod file_out;
+mod limit;
+mod line_laws;
+mod listing_laws;
+mod loading;
+mod reader;
+#[cfg(test)]
+mod reader_tests;
+mod refusal;
+mod saving;
+#[cfg(test)]
+mod saving_tests;
+
+pub use limit::{LONGEST_INPUT, LONGEST_LISTING};
+pub use listing_laws::one_listing;
+pub use loading::{load, load_input};
+pub use reader::read_listing;
+pub use refusal::FileRefusal;
+pub use saving::{rescue, save};

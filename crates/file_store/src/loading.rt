@@ -1,0 +1,119 @@
+//! Files that are loaded.
+ghost use Rattle.std.specs.Prelude.{◌≡◌, ◌≢◌, ◌<◌, ◌≤◌, true, IfErr, IfOk, length};
+ghost use Rattle.synth_outside.specs.Cause.{HasCause};
+ghost use Rattle.synth_outside.specs.declared.faults.FilesFault.{FilesFault};
+ghost use Rattle.template_tree.specs.Tree.{IsTree};
+ghost use Rattle.file_store.specs.declared.refusal.FileRefusal.{FileRefusal};
+ghost use Rattle.file_store.specs.FileReading.{Holds, IsFileRefused, LoadingSays, refusal_of};
+ghost use Rattle.file_store.specs.Limit.{longest_input};
+ghost use Rattle.file_store.specs.Private.FilePart.{IsChunk, IsPartRead};
+
+use crate::limit::{LONGEST_INPUT, LONGEST_LISTING};
+use crate::reader::read_listing;
+use crate::refusal::FileRefusal;
+use std::alloc::Global;
+use std::vec::Vec;
+use synth_outside::{Files, FilesFault};
+use template_tree::Tree;
+
+/// The tree whose listing the file of the name is; a file that is too long is given up as soon as more
+/// bytes came than may.
+pub fn load<F: Files>(alloc: Global, name: &[u8], files: &mut F) -> Result<Tree, FileRefusal>
+    ensures says { LoadingSays (F.stored files.old) name.now result }
+    ensures tree { IfOk result IsTree }
+    ensures stored { F.stored files.new ≡ F.stored files.old }
+    ensures begun { F.begun files.new ≡ F.begun files.old }
+    ensures fault { HasCause FileRefusal.FileFault (F.faults files.old) (F.faults files.new) result }
+{
+    let bytes = match read_file(alloc, name, files, LONGEST_LISTING) {
+        Ok(bytes) => bytes,
+        Err(refusal) => return Err(refusal),
+    };
+    read_listing(alloc, &bytes)
+}
+
+/// The bytes of the file of the name.
+pub fn load_input<F: Files>(
+    alloc: Global,
+    name: &[u8],
+    files: &mut F,
+) -> Result<Vec<u8>, FileRefusal>
+    ensures bytes { IfOk result (λ bytes. Holds (F.stored files.old) name.now (λ x. x ≡ bytes.items)) }
+    ensures within { IfOk result (λ bytes. length bytes.items ≤ longest_input) }
+    ensures refused { IfErr result (IsFileRefused longest_input (F.stored files.old) name.now) }
+    ensures stored { F.stored files.new ≡ F.stored files.old }
+    ensures begun { F.begun files.new ≡ F.begun files.old }
+    ensures fault { HasCause FileRefusal.FileFault (F.faults files.old) (F.faults files.new) result }
+{
+    read_file(alloc, name, files, LONGEST_INPUT)
+}
+
+/// The bytes of the file of the name, if they are no more than so many.
+fn read_file<F: Files>(
+    alloc: Global,
+    name: &[u8],
+    files: &mut F,
+    most: usize,
+) -> Result<Vec<u8>, FileRefusal>
+    ensures bytes { IfOk result (λ bytes. Holds (F.stored files.old) name.now (λ x. x ≡ bytes.items)) }
+    ensures within { IfOk result (λ bytes. length bytes.items ≤ most) }
+    ensures refused { IfErr result (IsFileRefused most (F.stored files.old) name.now) }
+    ensures stored { F.stored files.new ≡ F.stored files.old }
+    ensures begun { F.begun files.new ≡ F.begun files.old }
+    ensures fault { HasCause FileRefusal.FileFault (F.faults files.old) (F.faults files.new) result }
+{
+    match files.open_read(name) {
+        Ok(()) => {}
+        Err(fault) => return Err(refusal_of(fault)),
+    }
+    let mut bytes = Vec::new(alloc);
+    loop {
+        match read_chunk(files, &mut bytes, most) {
+            Ok(true) => {}
+            Ok(false) => return Ok(bytes),
+            Err(refusal) => return Err(refusal),
+        }
+    }
+}
+
+/// Appends the next bytes of the open file, if any are left, and says whether there were some.
+fn read_chunk<F: Files>(
+    files: &mut F,
+    bytes: &mut Vec<u8>,
+    most: usize,
+) -> Result<bool, FileRefusal>
+    requires open_file { F.is_open files.old ≡ true }
+    requires within { length bytes.old.items ≤ most }
+    ensures chunk { IsChunk most (F.left files.old) (F.left files.new) bytes.old.items bytes.new.items result }
+    ensures readable { F.is_open files.new ≡ true }
+    ensures stored { F.stored files.new ≡ F.stored files.old }
+    ensures begun { F.begun files.new ≡ F.begun files.old }
+    ensures fault { HasCause FileRefusal.FileFault (F.faults files.old) (F.faults files.new) result }
+{
+    let mut buf = [0; 1024];
+    let count = match files.read(&mut buf) {
+        Ok(count) => count,
+        Err(fault) => return Err(refusal_of(fault)),
+    };
+    if count == 0 {
+        return Ok(false);
+    }
+    if count > most - bytes.len() {
+        return Err(FileRefusal::TooLong);
+    }
+    if let Err(_) = bytes.extend_from_slice(&buf[..count]) {
+        return Err(FileRefusal::OutOfMemory);
+    }
+    Ok(true)
+}
+
+/// The refusal that a fault of the files is.
+pub(crate) fn refusal_of(fault: FilesFault) -> FileRefusal
+    ensures { result ≡ refusal_of fault }
+{
+    match fault {
+        FilesFault::NoFile => FileRefusal::NoFile,
+        FilesFault::Failed => FileRefusal::FileFault,
+        FilesFault::OutOfMemory => FileRefusal::OutOfMemory,
+    }
+}

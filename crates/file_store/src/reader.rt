@@ -1,0 +1,197 @@
+//! The reader of listings.
+ghost use Rattle.std.specs.Prelude.{◌≡◌, ◌<◌, ◌≤◌, ◌+◌, ◌∷◌, ◌++◌, [], true, false, if◌then◌else◌, IfErr, IfOk, MatchOption, length};
+ghost use Rattle.template_tree.specs.Build.{built_tree};
+ghost use Rattle.template_tree.specs.Limit.{deepest_path, most_slots};
+ghost use Rattle.template_tree.specs.Listing.{Spells};
+ghost use Rattle.template_tree.specs.PlainTree.{Forest, forest};
+ghost use Rattle.template_tree.specs.Program.{IsProgram};
+ghost use Rattle.template_tree.specs.Slots.{count, depth};
+ghost use Rattle.template_tree.specs.Tree.{IsTree};
+ghost use Rattle.file_store.specs.Limit.{longest_listing};
+ghost use Rattle.file_store.specs.Loaded.{HasNoEnd, ReadingSays, ReadsOnly};
+ghost use Rattle.file_store.specs.Private.Come.{come_of};
+ghost use Rattle.file_store.specs.Private.Reader.{opens};
+ghost use Rattle.file_store.specs.Private.Reading.{IsLineRefused, IsPast, IsTaken};
+ghost use Rattle.file_store.specs.Private.Views.{saying_of};
+
+mod fault;
+mod filling;
+mod lines;
+mod open_list;
+mod parts;
+mod said;
+mod stack;
+
+use crate::limit::LONGEST_LISTING;
+use crate::line_laws::line_laws;
+use crate::reader::fault::ReadFault;
+use crate::reader::lines::read_line;
+use crate::reader::open_list::Stack;
+use crate::reader::said::Saying;
+use crate::reader::stack::{finish, step};
+use crate::refusal::FileRefusal;
+use std::alloc::Global;
+use template_tree::{DEEPEST_PATH, MOST_SLOTS, Nodes, Tree};
+
+/// The tree whose listing the bytes are; its slots are drawn from 0 in listing order, and nothing in it is
+/// elided.
+///
+/// It goes over the bytes once, and takes time and memory in proportion to them.
+pub fn read_listing(alloc: Global, bytes: &[u8]) -> Result<Tree, FileRefusal>
+    // What each answer says of the bytes.
+    ensures says { ReadingSays bytes.now result }
+    // The listing of a program within the limits is read as that program, unless memory runs out.
+    ensures only { (items : Forest) → Spells items bytes.now → depth items ≤ deepest_path → count items ≤ most_slots
+        → length bytes.now ≤ longest_listing → ReadsOnly result items }
+{
+    line_laws();
+    read_lines(alloc, bytes)
+}
+
+/// What the bytes are read as, line after line.
+fn read_lines(alloc: Global, bytes: &[u8]) -> Result<Tree, FileRefusal>
+    ensures { ReadingSays bytes.now result }
+{
+    line_laws();
+    if bytes.len() > LONGEST_LISTING {
+        return Err(FileRefusal::TooLong);
+    }
+    let mut reader = Reader {
+        stack: Stack::new(alloc),
+        lines: 0,
+        opened: 0,
+    };
+    let mut rest = bytes;
+    while let Some((line, more)) = split_line(rest) {
+        match reader.taken(alloc, line) {
+            Ok(next) => reader = next,
+            Err(refusal) => return Err(refusal),
+        }
+        rest = more;
+    }
+    let Reader { stack, lines, .. } = reader;
+    if is_left(rest) {
+        return Err(FileRefusal::NotAListing(lines + 1));
+    }
+    match finish(stack) {
+        Ok(items) => Ok(tree_of(items)),
+        Err(ReadFault::OutOfMemory) => Err(FileRefusal::OutOfMemory),
+        Err(ReadFault::Refused) => Err(FileRefusal::NotAListing(lines + 1)),
+    }
+}
+
+/// How far the reader has come.
+#[derive(Drop)]
+struct Reader {
+    stack: Stack,
+    /// How many lines were read.
+    lines: u32,
+    /// In how many of them a node began.
+    opened: u32,
+}
+
+impl Reader {
+    /// The reader behind the line.
+    fn taken(self, alloc: Global, line: &[u8]) -> Result<Reader, FileRefusal>
+        requires few { (come_of self).lines < longest_listing }
+        requires opened { (come_of self).opened ≤ most_slots }
+        requires short { length line.now ≤ longest_listing }
+        ensures taken { IfOk result (λ next. IsTaken line.now (come_of self) (come_of next)) }
+        ensures refused { IfErr result (IsLineRefused line.now (come_of self)) }
+    {
+        line_laws();
+        let Reader {
+            stack,
+            lines,
+            opened,
+        } = self;
+        let said = match read_line(alloc, line) {
+            Ok(said) => said,
+            Err(ReadFault::OutOfMemory) => return Err(FileRefusal::OutOfMemory),
+            Err(ReadFault::Refused) => return Err(FileRefusal::NotAListing(lines + 1)),
+        };
+        let level = said.level;
+        let opens = opens(&said.saying);
+        let stack = match step(alloc, stack, said) {
+            Ok(stack) => stack,
+            Err(ReadFault::OutOfMemory) => return Err(FileRefusal::OutOfMemory),
+            Err(ReadFault::Refused) => return Err(FileRefusal::NotAListing(lines + 1)),
+        };
+        match past_limit(opens, level, opened) {
+            Some(refusal) => Err(refusal),
+            None => Ok(Reader {
+                stack,
+                lines: lines + 1,
+                opened: counted(opens, opened),
+            }),
+        }
+    }
+}
+
+/// The limit that a node is past which begins in a line of the level, if one does, behind so many others.
+fn past_limit(opens: bool, level: usize, opened: u32) -> Option<FileRefusal>
+    ensures { IsPast opens level opened result }
+{
+    if !opens {
+        return None;
+    }
+    if level >= DEEPEST_PATH {
+        return Some(FileRefusal::TooDeep);
+    }
+    if opened >= MOST_SLOTS {
+        return Some(FileRefusal::TooLarge);
+    }
+    None
+}
+
+/// In how many lines a node began, with one more in which it may.
+fn counted(opens: bool, opened: u32) -> u32
+    requires { opened ≤ most_slots }
+    ensures { result ≡ (if opens then 1 else 0) + opened }
+{
+    if opens { opened + 1 } else { opened }
+}
+
+/// Whether a node begins in the line.
+fn opens(saying: &Saying) -> bool
+    ensures { result ≡ opens (saying_of saying.now) }
+{
+    matches!(saying, Saying::Head(_, _))
+}
+
+/// Whether something is left.
+fn is_left(bytes: &[u8]) -> bool
+    ensures left { result ≡ true → bytes.now ≡ [] → ⊥ }
+    ensures none { result ≡ false → bytes.now ≡ [] }
+{
+    bytes.len() > 0
+}
+
+/// The first line of the text, and what stands behind its end.
+fn split_line(text: &[u8]) -> Option<(&[u8], &[u8])>
+    ensures { MatchOption result (HasNoEnd text.now)
+        (λ parts. (text.now ≡ parts.0.now ++ (10 ∷ parts.1.now)) × HasNoEnd parts.0.now) }
+{
+    let mut place = 0;
+    while place < text.len() {
+        if text[place] == b'\n' {
+            return Some((&text[..place], &text[place + 1..]));
+        }
+        place += 1;
+    }
+    None
+}
+
+/// The tree of a program within the limits.
+fn tree_of(items: Nodes) -> Tree
+    requires program { IsProgram (forest items.items) }
+    requires shallow { depth (forest items.items) ≤ deepest_path }
+    requires few { count (forest items.items) ≤ most_slots }
+    ensures built { result ≡ built_tree items }
+    ensures tree { IsTree result }
+{
+    match Tree::built(items) {
+        Ok(tree) => tree,
+        Err(_) => unreachable!(),
+    }
+}

@@ -1,0 +1,116 @@
+//! What the lines of a text say.
+ghost use Rattle.std.specs.Prelude.{◌≡◌, ◌≢◌, ◌≤◌, IfOk, length, ◌∷◌, ◌++◌, ℕ, List, MatchOption, map};
+ghost use Rattle.std.specs.Bool.{Decides};
+ghost use Rattle.plcs_grammar.specs.Template.{row_of};
+ghost use Rattle.template_tree.specs.PlainPlace.{plain_place};
+ghost use Rattle.file_store.specs.Private.Gives.{Finds};
+ghost use Rattle.file_store.specs.Private.LineReading.{AreNoSegments, IsSegmentsText, OfEach, Says, SaysNothing, blanks};
+ghost use Rattle.file_store.specs.Private.Reader as machine;
+ghost use Rattle.file_store.specs.Private.Reader.{IsSaying, shape, text_of};
+ghost use Rattle.file_store.specs.Private.Views.{said_of, saying_of};
+
+use crate::line_laws::line_laws;
+use crate::reader::fault::ReadFault;
+use crate::reader::filling::{LAST, LEAD};
+use crate::reader::parts::{behind, read_segments};
+use crate::reader::said::{Said, Saying};
+use plcs_grammar::{NodeKind, Template};
+use std::alloc::Global;
+use template_tree::PhrasePlace;
+
+/// What the line says, if some listing may have it.
+pub(crate) fn read_line(alloc: Global, line: &[u8]) -> Result<Said, ReadFault>
+    ensures says { Finds (λ said. Says line.now (said_of said)) (SaysNothing line.now) result }
+    ensures small { IfOk result (λ said. said.level ≤ length line.now) }
+{
+    line_laws();
+    let (level, text) = unblanked(line);
+    match read_saying(alloc, text) {
+        Ok(saying) => Ok(Said { level, saying }),
+        Err(fault) => Err(fault),
+    }
+}
+
+/// The level that the blanks at the front of a line tell, and what stands behind them.
+#[tactic(auto, using(crate::proofs::LineTexts::next_level))]
+fn unblanked(line: &[u8]) -> (usize, &[u8])
+    ensures whole { line.now ≡ blanks result.0 ++ result.1.now }
+    ensures few { result.0 ≤ length line.now }
+    ensures all { (rest : List ℕ) → result.1.now ≢ 32 ∷ (32 ∷ rest) }
+{
+    let mut level = 0;
+    let mut rest = line;
+    while let Some(more) = behind(rest, b"  ") {
+        level += 1;
+        rest = more;
+    }
+    (level, rest)
+}
+
+/// What the text says behind its blanks.
+fn read_saying(alloc: Global, text: &[u8]) -> Result<Saying, ReadFault>
+    ensures { Finds (λ saying. IsSaying (saying_of saying) × (text_of (saying_of saying) ≡ text.now))
+        ((saying : machine.Saying) → IsSaying saying → text_of saying ≢ text.now) result }
+{
+    if is_same(text, LEAD) {
+        return Ok(Saying::Lead);
+    }
+    if is_same(text, LAST) {
+        return Ok(Saying::Last);
+    }
+    read_head(alloc, &SHAPES, text)
+}
+
+/// Whether two texts are one.
+fn is_same(one: &[u8], other: &[u8]) -> bool
+    ensures { Decides result (one.now ≡ other.now) }
+{
+    one == other
+}
+
+/// The node whose first line the text is, among these kinds.
+fn read_head(alloc: Global, kinds: &[NodeKind], text: &[u8]) -> Result<Saying, ReadFault>
+    requires shapes { OfEach (λ kind. shape kind ≡ kind) kinds.now }
+    ensures { Finds (λ saying. IsSaying (saying_of saying) × (text_of (saying_of saying) ≡ text.now))
+        (OfEach (λ kind. AreNoSegments (row_of kind).line text.now) kinds.now) result }
+{
+    let Some((kind, others)) = kinds.split_first() else {
+        return Err(ReadFault::Refused);
+    };
+    match read_parts(alloc, *kind, text) {
+        Ok(parts) => Ok(Saying::Head(*kind, parts)),
+        Err(ReadFault::OutOfMemory) => Err(ReadFault::OutOfMemory),
+        Err(ReadFault::Refused) => read_head(alloc, others, text),
+    }
+}
+
+/// The parts of the first line of a node of the kind, if the text is one.
+fn read_parts(alloc: Global, kind: NodeKind, text: &[u8]) -> Result<Vec<PhrasePlace>, ReadFault>
+    ensures { Finds (λ parts. IsSegmentsText (row_of kind).line text.now (map plain_place parts.items)) (AreNoSegments (row_of kind).line text.now) result }
+{
+    read_segments(alloc, kind.row().line, text, Vec::new(alloc))
+}
+
+/// The kinds of nodes as their first lines tell them, those first whose lines begin with words.
+pub(crate) const SHAPES: [NodeKind; 20] = [
+    NodeKind::StatementHole,
+    NodeKind::DeclarationHole,
+    NodeKind::ProcedureHole,
+    NodeKind::Main,
+    NodeKind::Filled(Template::Fixed),
+    NodeKind::Filled(Template::Bit),
+    NodeKind::Filled(Template::Char),
+    NodeKind::Filled(Template::IfElse),
+    NodeKind::Filled(Template::While),
+    NodeKind::Filled(Template::Group),
+    NodeKind::Filled(Template::For),
+    NodeKind::Filled(Template::Get),
+    NodeKind::Filled(Template::Put),
+    NodeKind::Filled(Template::PutSkip),
+    NodeKind::Filled(Template::Call),
+    NodeKind::Filled(Template::Return),
+    NodeKind::Filled(Template::Comment),
+    NodeKind::Filled(Template::ProcP),
+    NodeKind::Filled(Template::Proc),
+    NodeKind::Assign,
+];

@@ -1,0 +1,33 @@
+//! The lists and nodes that are open.
+ghost use Rattle.std.specs.Prelude.{◌≡◌, ◌^◌, ◌-◌, length, min};
+
+use crate::reader::filling::Filling;
+use plcs_grammar::NodeKind;
+use template_tree::{Nodes, PhrasePlace};
+
+/// A list that is open.
+#[derive(Drop)]
+pub(crate) struct OpenList {
+    /// Its items so far.
+    pub(crate) items: Nodes,
+    /// How many they are; at its last value the count stays.
+    pub(crate) count: usize,
+    /// How far the list has come.
+    pub(crate) filling: Filling,
+    ghost counted: { count ≡ min (length items.items) (2 ^ 64 - 1) },
+}
+
+/// A node that is open, and the list in which it stands, which has come behind it already.
+#[derive(Drop)]
+pub(crate) struct Frame {
+    pub(crate) kind: NodeKind,
+    pub(crate) parts: Vec<PhrasePlace>,
+    pub(crate) around: OpenList,
+}
+
+/// The innermost open list, and the open nodes, the innermost last.
+#[derive(Drop)]
+pub(crate) struct Stack {
+    pub(crate) own: OpenList,
+    pub(crate) frames: Vec<Frame>,
+}

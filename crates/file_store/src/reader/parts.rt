@@ -1,0 +1,248 @@
+//! The parts of lines.
+ghost use Rattle.std.specs.Prelude.{◌≡◌, ◌≢◌, ◌&&◌, ◌∷◌, ◌++◌, ℕ, List, [], MatchOption, Option, bytes_eq, length, map, option_map};
+ghost use Rattle.std.specs.Bool.{Decides};
+ghost use Rattle.plcs_grammar.specs.Canon.{Canon};
+ghost use Rattle.plcs_grammar.specs.Placeholder.{placeholder};
+ghost use Rattle.plcs_grammar.specs.PlainPhrase.{PlainPhrase, plain_phrase};
+ghost use Rattle.plcs_grammar.specs.Template.{PlainSegment, plain_segment};
+ghost use Rattle.template_tree.specs.PlainPlace.{plain_place};
+ghost use Rattle.template_tree.specs.Program.{may_be_empty};
+ghost use Rattle.file_store.specs.Private.Gives.{Finds};
+ghost use Rattle.file_store.specs.Private.NextSegment.{IsNext};
+ghost use Rattle.file_store.specs.Private.LineReading.{AreNoSegments, AreReadBehind, IsCut, IsFront, IsNoPart, IsPartText, IsSegmentsText, taken_off};
+
+use crate::line_laws::line_laws;
+use crate::reader::fault::ReadFault;
+use phrase_parser::{PhraseFault, cut_at, parse};
+use plcs_base::ByteOut;
+use plcs_grammar::{Category, Phrase, Segment, show};
+use std::alloc::Global;
+use template_tree::{LONGEST_PHRASE, PhrasePlace};
+
+/// The parts of a line with these segments, behind parts that were read before, if the text is such a line.
+pub(crate) fn read_segments(
+    alloc: Global,
+    segments: &[Segment],
+    text: &[u8],
+    parts: Vec<PhrasePlace>,
+) -> Result<Vec<PhrasePlace>, ReadFault>
+    requires cut { IsCut (map plain_segment segments.now) }
+    ensures { Finds (λ all. AreReadBehind (map plain_segment segments.now) text.now (map plain_place parts.items) (map plain_place all.items))
+        (AreNoSegments (map plain_segment segments.now) text.now) result }
+{
+    match next_segment(segments) {
+        Next::End => nothing_more(text, parts),
+        Next::Words(words, later) => {
+            let Some(rest) = behind(text, words) else {
+                return Err(ReadFault::Refused);
+            };
+            read_segments(alloc, later, rest, parts)
+        }
+        Next::Part(category, later) => {
+            let front = match read_front(alloc, category, later, text) {
+                Ok(front) => front,
+                Err(fault) => return Err(fault),
+            };
+            let Front { place, later, rest } = front;
+            let mut parts = parts;
+            if let Err(_) = parts.push(place) {
+                return Err(ReadFault::OutOfMemory);
+            }
+            read_segments(alloc, later, rest, parts)
+        }
+    }
+}
+
+/// What comes first of the segments, and those behind it.
+#[derive(Clone, Copy)]
+pub(crate) enum Next<'a> {
+    /// There are none.
+    End,
+    /// Words.
+    Words(&'static [u8], &'a [Segment]),
+    /// A part of the category.
+    Part(Category, &'a [Segment]),
+}
+
+/// What comes first.
+fn next_segment(segments: &[Segment]) -> Next
+    ensures { IsNext (map plain_segment segments.now) result }
+{
+    let Some((first, later)) = segments.split_first() else {
+        return Next::End;
+    };
+    match first {
+        Segment::Words(words) => Next::Words(*words, later),
+        Segment::Part(category) => Next::Part(*category, later),
+    }
+}
+
+/// The parts, if the text is at its end.
+fn nothing_more(text: &[u8], parts: Vec<PhrasePlace>) -> Result<Vec<PhrasePlace>, ReadFault>
+    ensures { Finds (λ all. (text.now ≡ []) × (all ≡ parts)) (text.now ≢ []) result }
+{
+    if is_empty(text) {
+        return Ok(parts);
+    }
+    Err(ReadFault::Refused)
+}
+
+/// Whether there is nothing.
+fn is_empty<T>(items: &[T]) -> bool
+    ensures { Decides result (items.now ≡ []) }
+{
+    matches!(items, [])
+}
+
+/// A part at the front of a text, and what is left behind it and the words that end it.
+#[derive(Drop)]
+struct Front<'a, 'b> {
+    place: PhrasePlace,
+    later: &'b [Segment],
+    rest: &'a [u8],
+}
+
+/// The part at the front of the text, which ends where the first of these segments begins.
+fn read_front<'a, 'b>(
+    alloc: Global,
+    category: Category,
+    segments: &'b [Segment],
+    text: &'a [u8],
+) -> Result<Front<'a, 'b>, ReadFault>
+    requires cut { IsCut (PlainSegment.part category ∷ map plain_segment segments.now) }
+    ensures { Finds
+        (λ front. IsFront category (map plain_segment segments.now) text.now (plain_place front.place)
+        (map plain_segment front.later.now) front.rest.now)
+        (AreNoSegments (PlainSegment.part category ∷ map plain_segment segments.now) text.now) result }
+{
+    let Next::Words(words, later) = next_segment(segments) else {
+        return Err(ReadFault::Refused);
+    };
+    if !is_empty(later) {
+        return read_divided(alloc, category, words, later, text);
+    }
+    match read_last(alloc, category, words, text) {
+        Ok(place) => Ok(Front {
+            place,
+            later,
+            rest: b"",
+        }),
+        Err(fault) => Err(fault),
+    }
+}
+
+/// The part before the last words of a line.
+fn read_last(
+    alloc: Global,
+    category: Category,
+    words: &[u8],
+    text: &[u8],
+) -> Result<PhrasePlace, ReadFault>
+    ensures { Finds (λ place. IsFront category (PlainSegment.words words.now ∷ []) text.now (plain_place place) [] [])
+        (AreNoSegments (PlainSegment.part category ∷ (PlainSegment.words words.now ∷ [])) text.now) result }
+{
+    let Some(part) = before(text, words) else {
+        return Err(ReadFault::Refused);
+    };
+    read_part(alloc, category, part)
+}
+
+/// The part before words that divide it from what stands behind them.
+fn read_divided<'a, 'b>(
+    alloc: Global,
+    category: Category,
+    words: &[u8],
+    later: &'b [Segment],
+    text: &'a [u8],
+) -> Result<Front<'a, 'b>, ReadFault>
+    requires some { map plain_segment later.now ≢ [] }
+    requires cut { IsCut (PlainSegment.part category ∷ (PlainSegment.words words.now ∷ map plain_segment later.now)) }
+    ensures { Finds
+        (λ front. IsFront category (PlainSegment.words words.now ∷ map plain_segment later.now) text.now (plain_place front.place)
+        (map plain_segment front.later.now) front.rest.now)
+        (AreNoSegments (PlainSegment.part category ∷ (PlainSegment.words words.now ∷ map plain_segment later.now)) text.now) result }
+{
+    line_laws();
+    let Some((part, rest)) = cut_at(text, words) else {
+        return Err(ReadFault::Refused);
+    };
+    match read_part(alloc, category, part) {
+        Ok(place) => Ok(Front { place, later, rest }),
+        Err(fault) => Err(fault),
+    }
+}
+
+/// What stands in a part of the category, if the text is one.
+fn read_part(alloc: Global, category: Category, text: &[u8]) -> Result<PhrasePlace, ReadFault>
+    ensures { Finds (λ place. IsPartText category text.now (plain_place place)) (IsNoPart category text.now) result }
+{
+    if is_placeholder(category, text) {
+        return Ok(PhrasePlace::Empty);
+    }
+    if text.len() > LONGEST_PHRASE as usize {
+        return Err(ReadFault::Refused);
+    }
+    let phrase = match parse(alloc, category, text) {
+        Ok(phrase) => phrase,
+        Err(PhraseFault::OutOfMemory) => return Err(ReadFault::OutOfMemory),
+        Err(_) => return Err(ReadFault::Refused),
+    };
+    if !is_shown_as(&phrase, text) {
+        return Err(ReadFault::Refused);
+    }
+    Ok(PhrasePlace::Filled(phrase))
+}
+
+/// Whether the text is the placeholder of a part that may be empty.
+fn is_placeholder(category: Category, text: &[u8]) -> bool
+    ensures { result ≡ (may_be_empty category && bytes_eq text.now (placeholder category)) }
+{
+    category != Category::Assignment && text == category.placeholder()
+}
+
+/// Whether the text is the phrase's canonical text.
+fn is_shown_as(phrase: &Phrase, text: &[u8]) -> bool
+    ensures { Decides result (Canon (plain_phrase phrase.now) ≡ text.now) }
+{
+    let mut out = Awaited { left: Some(text) };
+    show(phrase, &mut out);
+    match out.left {
+        Some(left) => is_empty(left),
+        None => false,
+    }
+}
+
+/// A sink that compares what is put with what is awaited; where they differ, nothing is left.
+#[derive(Drop)]
+struct Awaited<'a> {
+    left: Option<&'a [u8]>,
+}
+
+impl ByteOut for Awaited<'_> {
+    ghost puts = { λ before byte after. option_map (λ text. text.now) after.left ≡ taken_off byte (option_map (λ text. text.now) before.left) };
+
+    fn put(&mut self, byte: u8) {
+        let Some(text) = self.left else {
+            return;
+        };
+        let Some((first, rest)) = text.split_first() else {
+            self.left = None;
+            return;
+        };
+        self.left = if *first == byte { Some(rest) } else { None };
+    }
+}
+
+/// What stands behind the words, if the text begins with them.
+pub(crate) fn behind<'a>(text: &'a [u8], words: &[u8]) -> Option<&'a [u8]>
+    ensures { MatchOption result ((rest : List ℕ) → text.now ≢ words.now ++ rest) (λ rest. text.now ≡ words.now ++ rest.now) }
+{
+    text.strip_prefix(words)
+}
+
+/// What stands before the words, if the text ends with them.
+fn before<'a>(text: &'a [u8], words: &[u8]) -> Option<&'a [u8]>
+    ensures { MatchOption result ((front : List ℕ) → text.now ≢ front ++ words.now) (λ front. text.now ≡ front.now ++ words.now) }
+{
+    text.strip_suffix(words)
+}

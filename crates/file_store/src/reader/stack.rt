@@ -1,0 +1,246 @@
+//! The open lists and nodes, and what each line does to them.
+ghost use Rattle.std.specs.Prelude.{◌≡◌, ◌<◌, ◌^◌, ◌-◌, [], Some, map, codes, length, min};
+ghost use Rattle.plcs_grammar.specs.Template.{row_of};
+ghost use Rattle.template_tree.specs.PlainPlace.{plain_place};
+ghost use Rattle.template_tree.specs.PlainTree.{Forest, forest, join, nodes, roomless};
+ghost use Rattle.file_store.specs.Private.Gives.{Gives};
+ghost use Rattle.file_store.specs.Private.Reader.{begun, closed, ended_in, kind_with, led_in, lowered, lowered_to, program_of, shut, step, unread};
+ghost use Rattle.file_store.specs.Private.Views.{filling_of, frame_of, open_list_of, said_of, stack_of};
+
+use crate::reader::fault::ReadFault;
+use crate::reader::filling::{Filling, LAST, is_text};
+use crate::reader::open_list::{Frame, OpenList, Stack};
+use crate::reader::said::{Said, Saying};
+use plcs_grammar::{NodeKind, Template, program_sections};
+use std::alloc::Global;
+use template_tree::{Node, Nodes, PhrasePlace};
+
+impl OpenList {
+    /// No item has come yet.
+    fn new(alloc: Global, filling: Filling) -> OpenList
+        ensures { open_list_of result ≡ record { items = forest []; filling = filling_of filling } }
+    {
+        OpenList {
+            items: Nodes::new(alloc),
+            count: 0,
+            filling,
+        }
+    }
+}
+
+impl Stack {
+    /// No line was read yet.
+    pub(crate) fn new(alloc: Global) -> Stack
+        ensures { stack_of result ≡ unread }
+    {
+        Stack {
+            own: OpenList::new(alloc, Filling::of(program_sections())),
+            frames: Vec::new(alloc),
+        }
+    }
+}
+
+/// What a line does to the open lists, if some listing may go on with it.
+pub(crate) fn step(alloc: Global, stack: Stack, said: Said) -> Result<Stack, ReadFault>
+    requires small { said.level < 2 ^ 63 }
+    ensures { Gives stack_of result (step (stack_of stack) (said_of said)) }
+{
+    let Said { level, saying } = said;
+    match saying {
+        Saying::Head(kind, parts) => {
+            let stack = lowered_to(stack, level)?;
+            begun(alloc, stack, kind, parts)
+        }
+        Saying::Lead => {
+            let stack = lowered_to(stack, level + 1)?;
+            led(stack)
+        }
+        Saying::Last => {
+            let stack = lowered_to(stack, level + 1)?;
+            ended(stack)
+        }
+    }
+}
+
+/// The items of the program, if the lines are its whole listing.
+pub(crate) fn finish(stack: Stack) -> Result<Nodes, ReadFault>
+    ensures { Gives (λ list. roomless (forest list.items)) result (program_of (stack_of stack)) }
+{
+    let stack = lowered(stack, 0)?;
+    let Stack { own, frames: _ } = stack;
+    if !own.filling.may_end() {
+        return Err(ReadFault::Refused);
+    }
+    let OpenList { items, .. } = own;
+    Ok(items)
+}
+
+/// Nodes end until exactly so many are open, if they may.
+fn lowered_to(stack: Stack, level: usize) -> Result<Stack, ReadFault>
+    ensures { Gives stack_of result (lowered_to level (stack_of stack)) }
+{
+    let stack = lowered(stack, level)?;
+    if stack.frames.len() != level {
+        return Err(ReadFault::Refused);
+    }
+    Ok(stack)
+}
+
+/// Nodes end until no more than so many are open, if they may.
+fn lowered(stack: Stack, level: usize) -> Result<Stack, ReadFault>
+    ensures { Gives stack_of result (lowered level (stack_of stack).own (stack_of stack).outer) }
+{
+    let Stack { own, frames } = stack;
+    let mut own = own;
+    let mut frames = frames;
+    while frames.len() > level {
+        let Some(frame) = frames.pop() else {
+            return Ok(Stack { own, frames });
+        };
+        match shut(own, frame) {
+            Ok(list) => own = list,
+            Err(fault) => return Err(fault),
+        }
+    }
+    Ok(Stack { own, frames })
+}
+
+/// The innermost node ends without a line of its own, if it may.
+fn shut(own: OpenList, frame: Frame) -> Result<OpenList, ReadFault>
+    ensures { Gives open_list_of result (shut (open_list_of own) (frame_of frame)) }
+{
+    if frame.kind.row().last.is_some() {
+        return Err(ReadFault::Refused);
+    }
+    if !own.filling.may_end() {
+        return Err(ReadFault::Refused);
+    }
+    closed(own, frame)
+}
+
+/// The list around a node, behind it.
+fn closed(own: OpenList, frame: Frame) -> Result<OpenList, ReadFault>
+    ensures { Gives open_list_of result (Some (closed (open_list_of own) (frame_of frame))) }
+{
+    let Frame {
+        kind,
+        parts,
+        around,
+    } = frame;
+    let kind = kind_with(kind, own.count);
+    let OpenList { items, .. } = own;
+    let node = Node::built(kind, parts, items);
+    with_item(around, node)
+}
+
+/// The kind of a node of the shape with so many items: an IF with one body alone has no ELSE.
+fn kind_with(kind: NodeKind, count: usize) -> NodeKind
+    ensures { (items : Forest) → count ≡ min (length (nodes items)) (2 ^ 64 - 1) → result ≡ kind_with kind items }
+{
+    if count != 1 {
+        return kind;
+    }
+    match kind {
+        NodeKind::Filled(Template::IfElse) => NodeKind::Filled(Template::If),
+        kind => kind,
+    }
+}
+
+/// A list with one item more.
+fn with_item(list: OpenList, node: Node) -> Result<OpenList, ReadFault>
+    ensures { Gives open_list_of result (Some (record (open_list_of list) {
+      items = join (open_list_of list).items (roomless (Forest.cons node.label node.inner Forest.nil));
+    })) }
+{
+    let OpenList {
+        items,
+        count,
+        filling,
+    } = list;
+    let mut items = items;
+    if let Err(_) = items.push(node) {
+        return Err(ReadFault::OutOfMemory);
+    }
+    Ok(OpenList {
+        items,
+        count: count.saturating_add(1),
+        filling,
+    })
+}
+
+/// The list, which has come so far.
+fn with_filling(list: OpenList, filling: Filling) -> OpenList
+    ensures { open_list_of result ≡ record (open_list_of list) { filling = filling_of filling } }
+{
+    let OpenList { items, count, .. } = list;
+    OpenList {
+        items,
+        count,
+        filling,
+    }
+}
+
+/// A node is opened in the innermost list, if one may come there.
+#[tactic(auto, using(crate::proofs::FrameStacks::frames_push))]
+fn begun(
+    alloc: Global,
+    stack: Stack,
+    kind: NodeKind,
+    parts: Vec<PhrasePlace>,
+) -> Result<Stack, ReadFault>
+    ensures { Gives stack_of result (begun kind (map plain_place parts.items) (stack_of stack)) }
+{
+    let row = kind.row();
+    let Stack { own, frames } = stack;
+    let mut frames = frames;
+    let Some(filling) = own.filling.advanced(row.sort) else {
+        return Err(ReadFault::Refused);
+    };
+    let around = with_filling(own, filling);
+    frames.push(Frame {
+        kind,
+        parts,
+        around,
+    })?;
+    Ok(Stack {
+        own: OpenList::new(alloc, Filling::of(row.sections)),
+        frames,
+    })
+}
+
+/// The line before a section of the innermost node, if it is wanted.
+fn led(stack: Stack) -> Result<Stack, ReadFault>
+    ensures { Gives stack_of result (led_in (codes "ELSE") (stack_of stack) (stack_of stack).outer) }
+{
+    let Stack { own, frames } = stack;
+    if frames.is_empty() {
+        return Err(ReadFault::Refused);
+    }
+    let Some(filling) = own.filling.behind_lead() else {
+        return Err(ReadFault::Refused);
+    };
+    Ok(Stack {
+        own: with_filling(own, filling),
+        frames,
+    })
+}
+
+/// The last line of the innermost node, if it may end.
+#[tactic(auto, using(crate::proofs::FrameStacks::frames_push))]
+fn ended(stack: Stack) -> Result<Stack, ReadFault>
+    ensures { Gives stack_of result (ended_in (codes "END;") (stack_of stack).own (stack_of stack).outer) }
+{
+    let Stack { own, frames } = stack;
+    let mut frames = frames;
+    let Some(frame) = frames.pop() else {
+        return Err(ReadFault::Refused);
+    };
+    if !is_text(LAST, frame.kind.row().last) {
+        return Err(ReadFault::Refused);
+    }
+    if !own.filling.may_end() {
+        return Err(ReadFault::Refused);
+    }
+    let own = closed(own, frame)?;
+    Ok(Stack { own, frames })
+}

@@ -1,0 +1,78 @@
+//! Trees that are saved.
+ghost use Rattle.std.specs.Prelude.{◌≡◌, ◌≢◌, ◌⊎◌, Err, IfErr, IsSome, OnErr, OnOk, codes};
+ghost use Rattle.std.specs.Io.KnownBytes.{Appends};
+ghost use Rattle.synth_outside.specs.Cause.{HasCause};
+ghost use Rattle.synth_outside.specs.Files.{begun_bytes, begun_name};
+ghost use Rattle.synth_outside.specs.declared.faults.FilesFault.TheVariants.{NoFile, Failed, OutOfMemory};
+ghost use Rattle.template_tree.specs.Listing.{Listing};
+ghost use Rattle.template_tree.specs.Tree.{IsTree};
+ghost use Rattle.file_store.specs.declared.refusal.FileRefusal.{FileRefusal};
+ghost use Rattle.file_store.specs.Saved.{IsSaved};
+
+use crate::file_out::FileOut;
+use crate::loading::refusal_of;
+use crate::refusal::FileRefusal;
+use arrayvec::ArrayVec;
+use synth_outside::{Files, FilesFault};
+use template_tree::Tree;
+
+/// Saves the tree's listing under the name. It takes no memory of its own.
+pub fn save<F: Files>(tree: &Tree, name: &[u8], files: &mut F) -> Result<(), FileRefusal>
+    requires tree { IsTree tree.now }
+    // The map has the listing under the name, and every other name is as before.
+    ensures saved { OnOk result (IsSaved (F.stored files.old) (F.stored files.new) name.now (Listing tree.now.items)) }
+    ensures kept { OnErr result (F.stored files.new ≡ F.stored files.old) }
+    ensures only { IfErr result (λ refusal. (refusal ≡ FileRefusal.FileFault) ⊎ (refusal ≡ FileRefusal.OutOfMemory)) }
+    ensures fault { HasCause FileRefusal.FileFault (F.faults files.old) (F.faults files.new) result }
+    ensures want { HasCause FileRefusal.OutOfMemory (F.wants files.old) (F.wants files.new) result }
+{
+    match files.begin(name) {
+        Ok(()) => {}
+        Err(fault) => return Err(refusal_of(fault)),
+    }
+    match write_listing(tree, files) {
+        Ok(()) => {}
+        Err(fault) => return Err(refusal_of(fault)),
+    }
+    match files.commit() {
+        Ok(()) => Ok(()),
+        Err(fault) => Err(refusal_of(fault)),
+    }
+}
+
+/// Saves the tree's listing under the name `RESCUE`.
+pub fn rescue<F: Files>(tree: &Tree, files: &mut F) -> Result<(), FileRefusal>
+    requires tree { IsTree tree.now }
+    ensures saved { OnOk result (IsSaved (F.stored files.old) (F.stored files.new) (codes "RESCUE") (Listing tree.now.items)) }
+    ensures kept { OnErr result (F.stored files.new ≡ F.stored files.old) }
+    ensures only { IfErr result (λ refusal. (refusal ≡ FileRefusal.FileFault) ⊎ (refusal ≡ FileRefusal.OutOfMemory)) }
+    ensures fault { HasCause FileRefusal.FileFault (F.faults files.old) (F.faults files.new) result }
+    ensures want { HasCause FileRefusal.OutOfMemory (F.wants files.old) (F.wants files.new) result }
+{
+    save(tree, b"RESCUE", files)
+}
+
+/// Writes the listing behind what is begun.
+#[tactic(auto, using(crate::proofs::Sending::cause_ok, crate::proofs::Sending::cause_err))]
+fn write_listing<F: Files>(tree: &Tree, files: &mut F) -> Result<(), FilesFault>
+    requires tree { IsTree tree.now }
+    requires begun { IsSome (F.begun files.old) }
+    ensures told { OnOk result (Appends (begun_bytes (F.begun files.old)) (begun_bytes (F.begun files.new)) (Listing tree.now.items)) }
+    ensures stored { F.stored files.new ≡ F.stored files.old }
+    ensures name { begun_name (F.begun files.new) ≡ begun_name (F.begun files.old) }
+    ensures begun { IsSome (F.begun files.new) }
+    ensures found { result ≢ Err NoFile }
+    ensures cause { HasCause Failed (F.faults files.old) (F.faults files.new) result }
+    ensures want { HasCause OutOfMemory (F.wants files.old) (F.wants files.new) result }
+{
+    let mut out = FileOut {
+        files,
+        wait: ArrayVec::new(),
+        fault: None,
+    };
+    out.write_listing(tree);
+    match out.fault {
+        None => Ok(()),
+        Some(fault) => Err(fault),
+    }
+}
