@@ -10,5 +10,3 @@ pub mod Nodes
 pub mod Stops
 -- the programs that tests build are programs
 pub mod TestPrograms
--- the phrase that one of them has is one that a part may hold
-pub mod TestPhrases

@@ -51,7 +51,7 @@ abbrev pub marked_text : Option MarkKind → List ℕ
 marked_text None = []
 marked_text (Some mark) = mark_text mark
 
--- the part at which the cursor stands, as far as marks go: that of the stop, or at the node of an assignment its only one
+-- the part whose phrase is the one at the cursor: that of the stop, or at the node of an assignment its only one
 abbrev pub cursor_part : NodeKind → Option ℕ → Option ℕ
 cursor_part kind (Some part) = Some part
 cursor_part NodeKind.Assign None = Some 0

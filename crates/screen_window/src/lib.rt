@@ -29,6 +29,7 @@ mod view;
 pub use composing::compose;
 pub use grid::Grid;
 pub use limit::{FEWEST_COLS, FEWEST_ROWS, MOST_COLS, MOST_ROWS};
+pub use lower_rows::cursor_part;
 pub use painted_terminal::painted_terminal_shows;
 pub use painting::{paint, write_piece};
 pub use terminal::Terminal;

@@ -92,8 +92,9 @@ fn cursor_mark<M: Marked>(tree: &Tree, stop: &Stop, marks: &M) -> Option<MarkKin
     })
 }
 
-/// The part at which the cursor stands, as far as marks go.
-fn cursor_part(kind: NodeKind, part: Option<u8>) -> Option<u8>
+/// The part of a node of the kind whose phrase is the one at the cursor: the part at which the cursor stands,
+/// or at the node of an assignment its only one. It takes no memory.
+pub fn cursor_part(kind: NodeKind, part: Option<u8>) -> Option<u8>
     ensures { result ≡ cursor_part kind part }
 {
     match part {

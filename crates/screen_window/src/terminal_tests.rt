@@ -1,6 +1,7 @@
 //! What a terminal makes of bytes.
 
 use crate::terminal::Terminal;
+use std::alloc::Global;
 use std::test::Fail;
 
 /// Bytes that a new terminal takes, and what one of its rows and its cursor are then.
@@ -28,8 +29,8 @@ fn plain(taken: &'static [u8], text: &'static [u8], cursor: (u16, u16)) -> Case 
     }
 }
 
-/// The cases.
-fn cases() -> [Case; 23] {
+/// What places the cursor and erases, and what is no such sequence.
+fn plain_cases() -> [Case; 18] {
     [
         plain(b"ab", b"ab", (1, 3)),
         plain(b"a\x07\x80\n\x7fb", b"ab", (1, 3)),
@@ -44,6 +45,17 @@ fn cases() -> [Case; 23] {
         plain(b"a\x1b[3Hb\x1b[;Hc\x1b[;4Hd\x1b[1;Hf", b"abcdf", (1, 6)),
         plain(b"a\x1b[1;2;3Hb", b"ab", (1, 3)),
         plain(b"\x1b[77ma\x1b[mb\x1b[07mc\x1b[7;md", b"abcd", (1, 5)),
+        plain(b"\x1bcx", b"x", (1, 2)),
+        plain(b"\x1b\x1b[7mx", b"[7mx", (1, 5)),
+        plain(b"\x1b[\x1b[7mx", b"[7mx", (1, 5)),
+        plain(b"\x1b[1;5", b"", (1, 1)),
+        plain(b"\x1b[1;39Hxyz\x1b[1;1H\x1b[K", b"", (1, 1)),
+    ]
+}
+
+/// What turns the negative image on and off, and what is put in the last row.
+fn image_cases() -> [Case; 5] {
+    [
         Case {
             taken: b"\x1b[7ma\x1b[00mb\x1b[0mc",
             row: 1,
@@ -51,11 +63,6 @@ fn cases() -> [Case; 23] {
             negative: (0, 2),
             cursor: (1, 4),
         },
-        plain(b"\x1bcx", b"x", (1, 2)),
-        plain(b"\x1b\x1b[7mx", b"[7mx", (1, 5)),
-        plain(b"\x1b[\x1b[7mx", b"[7mx", (1, 5)),
-        plain(b"\x1b[1;5", b"", (1, 1)),
-        plain(b"\x1b[1;39Hxyz\x1b[1;1H\x1b[K", b"", (1, 1)),
         Case {
             taken: b"\x1b[12;39Hxyz",
             row: 12,
@@ -101,18 +108,30 @@ fn is_row(cells: &[u16], case: &Case) -> bool {
     same
 }
 
+/// Whether a new terminal makes of the bytes what the case says.
+fn is_shown(alloc: Global, case: &Case) -> Result<bool, Fail> {
+    let mut terminal = Terminal::new(alloc, 12, 40).map_err(|_| "a terminal")?;
+    terminal.take(case.taken);
+    let cells = match case.row {
+        1 => terminal.cells(1),
+        2 => terminal.cells(2),
+        _ => terminal.cells(12),
+    };
+    Ok(is_row(cells, case) && terminal.cursor() == case.cursor)
+}
+
 #[test]
 fn a_terminal_takes_each_sequence_as_it_is_spelled(rt: HostRuntime) -> Result<(), Fail> {
-    for case in &cases() {
-        let mut terminal = Terminal::new(rt.alloc(), 12, 40).map_err(|_| "a terminal")?;
-        terminal.take(case.taken);
-        let cells = match case.row {
-            1 => terminal.cells(1),
-            2 => terminal.cells(2),
-            _ => terminal.cells(12),
-        };
-        assert!(rt; is_row(cells, case));
-        assert_eq!(rt; terminal.cursor(), case.cursor);
+    for case in &plain_cases() {
+        assert!(rt; is_shown(rt.alloc(), case)?);
+    }
+    Ok(())
+}
+
+#[test]
+fn a_terminal_shows_negative_images(rt: HostRuntime) -> Result<(), Fail> {
+    for case in &image_cases() {
+        assert!(rt; is_shown(rt.alloc(), case)?);
     }
     Ok(())
 }

@@ -35,7 +35,6 @@ use Rattle.session_edit.specs.Private.ShownPath.{IsShown}
 use Rattle.session_edit.proofs.DropCommands.{item_listed, item_roomless_is, item_true}
 use Rattle.session_edit.proofs.Outcomes.{applied_is, edited_is, node_there, refused_is, stands_after}
 use Rattle.session_edit.proofs.PutCommands.{edit_there}
-use Rattle.session_edit.proofs.RoomlessEdits.{add_same}
 use Rattle.session_edit.specs.Private.RoomLaws.{RoomLaws}
 use Rattle.session_edit.proofs.StopTests.{is_false}
 use Rattle.session_edit.proofs.VisibleEdits.{first_comes, last_number, second_comes, seen_beside, seen_here, shelf_of, visible_node}
@@ -242,7 +241,7 @@ beside_applied room law tree after side path receipt stop_after t shown adds the
     let made = held_edit tree after side path receipt adds
     in
     applied_is room (beside_outcome tree side path) (TreeEdit.add side) (TreeEdit.add side) made.0.label.slot tree after receipt None stop_after
-    (node_stop (beside_path side path)) made.2.1 (add_same room tree made.0.label.slot side) (comes_beside room tree side path made.0 made.1 made.2.0) there
+    (node_stop (beside_path side path)) made.2.1 (room.edits (TreeEdit.add side) (TreeEdit.add side) tree made.0.label.slot refl) (comes_beside room tree side path made.0 made.1 made.2.0) there
     (subst (λ s. IsStop (roomless after.items) s) (sym there) (hole_stands room law tree after side path made.0 receipt t shown made.1 made.2.0 made.2.1)) tt
 
 not_item : (items : Forest) (path : List ℕ) → (IsSomeAnd (node_at items path) (IsListItem items path) → ⊥) → is_item items path ≡ false
@@ -334,8 +333,8 @@ beside_refused room tree side path fault refuses other =
         nothing TreeFault.SlotsUsedUp other h = h
         nothing TreeFault.OutOfMemory other h = h
     on_node (Some node) same h =
-        refused_is (TreeEdit.add side) (TreeEdit.add side) tree node (IsListItem tree.items path) (beside_outcome tree side path)
-        (node_stop (beside_path side path)) None (add_same room tree node.label.slot side)
+        refused_is room (TreeEdit.add side) (TreeEdit.add side) tree node (IsListItem tree.items path) (beside_outcome tree side path)
+        (node_stop (beside_path side path)) None (room.edits (TreeEdit.add side) (TreeEdit.add side) tree node.label.slot refl)
         (λ listed. comes_beside room tree side path node same listed)
         (λ missing. absurd (missing (here_of (TreeEdit.add side) node (IsListItem tree.items path) tree fault other h))) fault h
 

@@ -28,7 +28,6 @@ use Rattle.session_edit.specs.Here.{is_item, is_spare_hole}
 use Rattle.session_edit.specs.PlainEdit.{PlainEdit}
 use Rattle.session_edit.proofs.Outcomes.{Node, applied_is, edited_is, items_after, node_there, stands_after}
 use Rattle.session_edit.proofs.PutCommands.{edit_there, of_found}
-use Rattle.session_edit.proofs.RoomlessEdits.{drop_same}
 use Rattle.session_edit.specs.Private.RoomLaws.{RoomLaws}
 use Rattle.session_edit.proofs.Room.{item_roomless, itself}
 use Rattle.session_edit.proofs.StopTests.{is_false}
@@ -303,7 +302,7 @@ drop_applied room law tree after at receipt stop_after sort is_tree stop part ed
     same_Some sort kind (sort_is ∙ ap (option_map (λ (node : PlainNode). sort_of node.label.kind)) n.there)
     in
     let left : PlainTree = roomless_tree (tree_after TreeEdit.drop (roomless_tree tree) n.node.label.slot) in
-    let left_is : roomless_tree after ≡ left = made.1.became ∙ (drop_same room tree n.node.label.slot).tree in
+    let left_is : roomless_tree after ≡ left = made.1.became ∙ (room.edits TreeEdit.drop TreeEdit.drop tree n.node.label.slot refl).tree in
     let stop_is : plain_stop stop_after ≡ node_stop (path_after_drop kind after.items at.path) =
     there ∙ ap (λ s. node_stop (path_after_drop s after.items at.path)) same_kind
     in
@@ -312,6 +311,6 @@ drop_applied room law tree after at receipt stop_after sort is_tree stop part ed
     (sym (sort_roomless room kind after.items at.path) ∙ ap (λ (t : PlainTree). has_sort kind t.items at.path) left_is)
     in
     applied_is room (edited (roomless_tree tree) at PlainEdit.delete) TreeEdit.drop TreeEdit.drop n.node.label.slot tree after receipt None stop_after
-    (node_stop (path_after_drop kind left.items at.path)) made.1 (drop_same room tree n.node.label.slot)
+    (node_stop (path_after_drop kind left.items at.path)) made.1 (room.edits TreeEdit.drop TreeEdit.drop tree n.node.label.slot refl)
     (delete_if room tree at n true (spare_true room tree at n part made.0)) (stop_is ∙ ap node_stop in_left)
     (subst (λ s. IsStop (roomless after.items) s) (sym stop_is) (stop_left room law tree after at n receipt is_tree made.0 made.1)) tt

@@ -1,6 +1,5 @@
 -- ---- the room of lists makes no difference: `wanted` and `takes`, and all edits
 pub mod Room
-pub mod RoomlessEdits
 -- ---- what may be done at a stop: `wanted` and `takes`
 pub mod StopNodes
 -- ---- paths to slots: `shown_stop`

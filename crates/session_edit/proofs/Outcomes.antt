@@ -11,6 +11,7 @@ use Rattle.template_tree.specs.Path.{node_at}
 use Rattle.template_tree.specs.PlainTree.{PlainNode, PlainTree, roomless, roomless_node, roomless_tree}
 use Rattle.template_tree.specs.Program.{IsSubtree}
 use Rattle.template_tree.specs.Receipt.{PlainReceipt}
+use Rattle.template_tree.specs.RoomLaws.{IsSameAfter}
 use Rattle.template_tree.specs.Slots.{depth}
 use Rattle.template_tree.specs.Stop.{IsStop, MayStand, PlainStop, plain_stop, visible_at}
 use Rattle.template_tree.specs.Tree.{IsTree}
@@ -22,7 +23,6 @@ use Rattle.session_edit.specs.Edited.{Edited, comes, comes_onward, edited, outco
 use Rattle.session_edit.specs.PlainEdit.{PlainEdit}
 use Rattle.session_edit.specs.Private.RoomLaws.{RoomLaws}
 use Rattle.session_edit.proofs.Room.{stop_roomless, stop_with_room}
-use Rattle.session_edit.proofs.RoomlessEdits.{IsSameAfter, depth_roomless, differs_roomless}
 use Rattle.session_edit.proofs.VisibleEdits.{visible_node}
 
 is_false : (b : Bool) → (b ≡ true → ⊥) → b ≡ false
@@ -35,27 +35,27 @@ above a b h = (Decides-ltb a b).1 h
 not_above : (a b : ℕ) → b ≤ a → nat_lt a b ≡ false
 not_above a b h = is_false (nat_lt a b) (λ e. let over = (Decides-ltb a b).0 e in absurd (omega arith))
 
-within_depth : (tree : PlainTree) → depth tree.items ≤ deepest_path → nat_lt deepest_path (depth (roomless tree.items)) ≡ false
-within_depth tree h = not_above deepest_path (depth (roomless tree.items)) (omega (arith, depth_roomless tree.items))
+within_depth : RoomLaws → (tree : PlainTree) → depth tree.items ≤ deepest_path → nat_lt deepest_path (depth (roomless tree.items)) ≡ false
+within_depth room tree h = not_above deepest_path (depth (roomless tree.items)) (omega (arith, room.depths tree.items))
 
 -- a tree within the limits is over none
-pub within_is : (tree : PlainTree) → IsWithin tree → limit_reached (roomless_tree tree) ≡ None
-within_is tree h =
-    rw (within_depth tree h.shallow) (rw (not_above most_slots tree.live h.few) (rw (not_above most_drawn tree.drawn h.drawn_few) refl))
+pub within_is : RoomLaws → (tree : PlainTree) → IsWithin tree → limit_reached (roomless_tree tree) ≡ None
+within_is room tree h =
+    rw (within_depth room tree h.shallow) (rw (not_above most_slots tree.live h.few) (rw (not_above most_drawn tree.drawn h.drawn_few) refl))
 
 -- a tree is within the limits
 tree_within : (tree : PlainTree) → IsTree tree → IsWithin tree
 tree_within tree t = record { shallow = t.shallow; few = omega (arith, t.live, t.few); drawn_few = t.drawn_few }
 
-pub too_deep : (tree : PlainTree) → IsOver TreeFault.TooDeep tree → limit_reached (roomless_tree tree) ≡ Some TreeFault.TooDeep
-too_deep tree h = rw (above deepest_path (depth (roomless tree.items)) (omega (arith, depth_roomless tree.items))) refl
+pub too_deep : RoomLaws → (tree : PlainTree) → IsOver TreeFault.TooDeep tree → limit_reached (roomless_tree tree) ≡ Some TreeFault.TooDeep
+too_deep room tree h = rw (above deepest_path (depth (roomless tree.items)) (omega (arith, room.depths tree.items))) refl
 
-pub too_large : (tree : PlainTree) → IsOver TreeFault.TooLarge tree → limit_reached (roomless_tree tree) ≡ Some TreeFault.TooLarge
-too_large tree h = rw (within_depth tree h.0) (rw (above most_slots tree.live h.1) refl)
+pub too_large : RoomLaws → (tree : PlainTree) → IsOver TreeFault.TooLarge tree → limit_reached (roomless_tree tree) ≡ Some TreeFault.TooLarge
+too_large room tree h = rw (within_depth room tree h.0) (rw (above most_slots tree.live h.1) refl)
 
-pub used_up : (tree : PlainTree) → IsOver TreeFault.SlotsUsedUp tree → limit_reached (roomless_tree tree) ≡ Some TreeFault.SlotsUsedUp
-used_up tree h =
-    rw (within_depth tree h.0) (rw (not_above most_slots tree.live h.1) (rw (above most_drawn tree.drawn h.2) refl))
+pub used_up : RoomLaws → (tree : PlainTree) → IsOver TreeFault.SlotsUsedUp tree → limit_reached (roomless_tree tree) ≡ Some TreeFault.SlotsUsedUp
+used_up room tree h =
+    rw (within_depth room tree h.0) (rw (not_above most_slots tree.live h.1) (rw (above most_drawn tree.drawn h.2) refl))
 
 -- what comes of an edit where this is the tree after it
 abbrev outcome_with : TreeEdit → PlainTree → ℕ → PlainTree → PlainStop → Option PlainNode → Edited
@@ -82,11 +82,11 @@ applied_is room outcome one other slot before after receipt back stop at edit sa
       became =
           e ∙ (ap (λ t. made_with other before slot t at (option_map roomless_node back)) tree
           ∙ (ap (λ limit. unless limit (outcome_with other before slot (roomless_tree after) at (option_map roomless_node back)))
-          (within_is after (tree_within after edit.tree))
+          (within_is room after (tree_within after edit.tree))
           ∙ (λ i. Edited.became (roomless_tree after) (there i) (option_map roomless_node back) (what i) (changed i))));
       tree = edit.tree;
       stop = seen;
-      change = differs_roomless room before after receipt.change edit.differs;
+      change = room.changes before after receipt.change edit.differs;
       undoes = edit.undoes;
       can_undo = edit.can_undo;
       subtree = sound;
@@ -107,26 +107,26 @@ onward_applied room outcome one other slot before after receipt stop at edit sam
     seen tt
 
 -- why an edit is refused
-pub refused_is : (one other : TreeEdit) (before : PlainTree) (node : PlainNode) (Here : PlainNode → Type 0) (outcome : Edited)
+pub refused_is : RoomLaws → (one other : TreeEdit) (before : PlainTree) (node : PlainNode) (Here : PlainNode → Type 0) (outcome : Edited)
     (at : PlainStop) (taken : Option PlainNode)
     → IsSameAfter one other before node.label.slot
     → (Here node → outcome ≡ comes other (roomless_tree before) node.label.slot at taken)
     → ((Here node → ⊥) → outcome ≡ not_here)
     → (fault : TreeFault) → Refuses one (Some node) Here before fault → IsRefused true outcome fault
-refused_is one other before node Here outcome at taken same e missing TreeFault.NotHere h = missing h
-refused_is one other before node Here outcome at taken same e missing TreeFault.TooDeep h =
+refused_is room one other before node Here outcome at taken same e missing TreeFault.NotHere h = missing h
+refused_is room one other before node Here outcome at taken same e missing TreeFault.TooDeep h =
     e h.0 ∙ (ap (λ t. made_with other before node.label.slot t at taken) (sym same.tree)
-    ∙ ap (λ limit. unless limit (outcome_with other before node.label.slot (roomless_tree (tree_after one before node.label.slot)) at taken)) (too_deep (tree_after one before node.label.slot) h.1))
-refused_is one other before node Here outcome at taken same e missing TreeFault.TooLarge h =
+    ∙ ap (λ limit. unless limit (outcome_with other before node.label.slot (roomless_tree (tree_after one before node.label.slot)) at taken)) (too_deep room (tree_after one before node.label.slot) h.1))
+refused_is room one other before node Here outcome at taken same e missing TreeFault.TooLarge h =
     e h.0 ∙ (ap (λ t. made_with other before node.label.slot t at taken) (sym same.tree)
-    ∙ ap (λ limit. unless limit (outcome_with other before node.label.slot (roomless_tree (tree_after one before node.label.slot)) at taken)) (too_large (tree_after one before node.label.slot) h.1))
-refused_is one other before node Here outcome at taken same e missing TreeFault.SlotsUsedUp h =
+    ∙ ap (λ limit. unless limit (outcome_with other before node.label.slot (roomless_tree (tree_after one before node.label.slot)) at taken)) (too_large room (tree_after one before node.label.slot) h.1))
+refused_is room one other before node Here outcome at taken same e missing TreeFault.SlotsUsedUp h =
     e h.0 ∙ (ap (λ t. made_with other before node.label.slot t at taken) (sym same.tree)
-    ∙ ap (λ limit. unless limit (outcome_with other before node.label.slot (roomless_tree (tree_after one before node.label.slot)) at taken)) (used_up (tree_after one before node.label.slot) h.1))
-refused_is one other before node Here outcome at taken same e missing TreeFault.OutOfMemory h =
+    ∙ ap (λ limit. unless limit (outcome_with other before node.label.slot (roomless_tree (tree_after one before node.label.slot)) at taken)) (used_up room (tree_after one before node.label.slot) h.1))
+refused_is room one other before node Here outcome at taken same e missing TreeFault.OutOfMemory h =
     let made : outcome ≡ outcome_with other before node.label.slot (roomless_tree (tree_after one before node.label.slot)) at taken =
     e h.0 ∙ (ap (λ t. made_with other before node.label.slot t at taken) (sym same.tree)
-    ∙ ap (λ limit. unless limit (outcome_with other before node.label.slot (roomless_tree (tree_after one before node.label.slot)) at taken)) (within_is (tree_after one before node.label.slot) h.1))
+    ∙ ap (λ limit. unless limit (outcome_with other before node.label.slot (roomless_tree (tree_after one before node.label.slot)) at taken)) (within_is room (tree_after one before node.label.slot) h.1))
     in
     (refl, ap is_made made)
 

@@ -23,7 +23,6 @@ use Rattle.session_edit.specs.Here.{can_take, category_in, is_wanted, phrase_in,
 use Rattle.session_edit.specs.PlainEdit.{PlainEdit}
 use Rattle.session_edit.proofs.Outcomes.{Node, applied_is, edited_is, node_there, not_here_is, onward_applied, stands_after}
 use Rattle.session_edit.proofs.PutCommands.{edit_there, of_found}
-use Rattle.session_edit.proofs.RoomlessEdits.{part_same}
 use Rattle.session_edit.specs.Private.RoomLaws.{RoomLaws}
 use Rattle.session_edit.proofs.StopNodes.{takes_is}
 use Rattle.session_edit.proofs.StopTests.{is_false, part_empties, wanted_takes, wanted_true}
@@ -112,7 +111,7 @@ enter_applied room tree after at phrase receipt stop_after stop sets there seen 
     let s = setting at (Some phrase) tree after n receipt sets in
     let te : TreeEdit = TreeEdit.set_part s.part (Some phrase) in
     onward_applied room (edited (roomless_tree tree) at (PlainEdit.enter phrase)) te te n.node.label.slot tree after receipt stop_after at s.edit
-    (part_same room tree n.node.label.slot s.part (Some phrase))
+    (room.edits te te tree n.node.label.slot refl)
     (enter_if room tree at n phrase s.part true s.is (wanted_true phrase (part_category n.node.label.kind s.part) s.takes.1)) there seen
 
 -- the phrase isn't wanted where the stop doesn't take it
@@ -194,7 +193,7 @@ insert_applied room law tree after at phrase receipt stop_after is_tree stop emp
     ∙ wanted_true phrase (part_category n.node.label.kind s.part) s.takes.1
     in
     applied_is room (edited (roomless_tree tree) at (PlainEdit.insert (PlainFragment.phrase phrase))) te te n.node.label.slot tree after receipt None stop_after at
-    s.edit (part_same room tree n.node.label.slot s.part (Some phrase)) (insert_some room tree at n phrase s.part true s.is fits) there
+    s.edit (room.edits te te tree n.node.label.slot refl) (insert_some room tree at n phrase s.part true s.is fits) there
     (subst (λ q. IsStop (roomless_tree after).items q) (sym there) (stands room law tree after at n s.part (Some phrase) receipt is_tree s.edit)) tt
 
 false_and : (a b : Bool) → b ≡ false → (a && b) ≡ false
@@ -244,7 +243,7 @@ empty_applied room law tree after at receipt stop_after is_tree stop full sets t
     let s = setting at None tree after n receipt sets in
     let te : TreeEdit = TreeEdit.set_part s.part None in
     applied_is room (edited (roomless_tree tree) at PlainEdit.take) te te n.node.label.slot tree after receipt None stop_after at s.edit
-    (part_same room tree n.node.label.slot s.part None)
+    (room.edits te te tree n.node.label.slot refl)
     (empty_if room tree at n s.part true s.is (ap (λ (q : Option ℕ). can_take q n.node) (sym s.is) ∙ takes_there room tree at n true full)) there
     (subst (λ q. IsStop (roomless_tree after).items q) (sym there) (stands room law tree after at n s.part None receipt is_tree s.edit)) tt
 

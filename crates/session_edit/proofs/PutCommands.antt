@@ -27,7 +27,6 @@ use Rattle.session_edit.specs.Edited.{Edited, comes, comes_onward, edited, entry
 use Rattle.session_edit.specs.Here.{category_in, is_wanted, takes_nodes}
 use Rattle.session_edit.specs.PlainEdit.{PlainEdit}
 use Rattle.session_edit.proofs.Outcomes.{Node, applied_is, edited_is, node_there, not_here_is, onward_applied, refused_is, stands_after, without_memory}
-use Rattle.session_edit.proofs.RoomlessEdits.{put_same}
 use Rattle.session_edit.specs.Private.RoomLaws.{RoomLaws}
 use Rattle.session_edit.proofs.StopTests.{assignment_true, is_false, takes_assignment, takes_at_part, takes_false, takes_true}
 use Rattle.session_edit.proofs.VisibleEdits.{first_comes, last_number, seen_here, shelf_of}
@@ -98,9 +97,9 @@ fill_refused room tree at template fault stop part refuses =
     let n = node_there room tree at stop in
     let new : PlainNode = fresh_node (NodeKind.Filled template) in
     let to : PlainTree = roomless_tree (tree_after (TreeEdit.put new) (roomless_tree tree) n.node.label.slot) in
-    refused_is (TreeEdit.put new) (TreeEdit.put new) tree n.node (IsHoleFor (NodeKind.Filled template))
+    refused_is room (TreeEdit.put new) (TreeEdit.put new) tree n.node (IsHoleFor (NodeKind.Filled template))
     (edited (roomless_tree tree) at (PlainEdit.fill template)) (onward to.items at) None
-    (put_same room tree n.node.label.slot new new refl)
+    (room.edits (TreeEdit.put new) (TreeEdit.put new) tree n.node.label.slot refl)
     (λ here. fill_comes room tree at n template part here)
     (λ missing. fill_missing room tree at n template (takes_false (NodeKind.Filled template) at.part (roomless_node n.node) missing))
     fault
@@ -126,7 +125,7 @@ fill_applied room tree after at template receipt stop_after stop part edits ther
     let new : PlainNode = fresh_node (NodeKind.Filled template) in
     let made = edit_there (TreeEdit.put new) (node_at tree.items at.path) (IsHoleFor (NodeKind.Filled template)) tree after receipt n.node n.there edits in
     onward_applied room (edited (roomless_tree tree) at (PlainEdit.fill template)) (TreeEdit.put new) (TreeEdit.put new) n.node.label.slot tree after receipt
-    stop_after at made.1 (put_same room tree n.node.label.slot new new refl) (fill_comes room tree at n template part made.0) there seen
+    stop_after at made.1 (room.edits (TreeEdit.put new) (TreeEdit.put new) tree n.node.label.slot refl) (fill_comes room tree at n template part made.0) there seen
 
 -- assignments at holes and over others
 assign_if : RoomLaws → (tree : PlainTree) (at : PlainStop) (n : Node tree at) (phrase : PlainPhrase) (b : Bool) → at.part ≡ None
@@ -158,9 +157,9 @@ assign_refused room tree at phrase fault stop part refuses =
     let n = node_there room tree at stop in
     let new : PlainNode = assignment_node phrase in
     let to : PlainTree = roomless_tree (tree_after (TreeEdit.put new) (roomless_tree tree) n.node.label.slot) in
-    refused_is (TreeEdit.put new) (TreeEdit.put new) tree n.node (TakesAssignment phrase)
+    refused_is room (TreeEdit.put new) (TreeEdit.put new) tree n.node (TakesAssignment phrase)
     (edited (roomless_tree tree) at (PlainEdit.enter phrase)) (onward to.items at) None
-    (put_same room tree n.node.label.slot new new refl)
+    (room.edits (TreeEdit.put new) (TreeEdit.put new) tree n.node.label.slot refl)
     (λ here. assign_if room tree at n phrase true part (assignment_true phrase n.node here))
     (λ missing. assign_if room tree at n phrase false part
     (is_false (is_wanted phrase (category_in None n.node.label.kind)) (λ e. missing (takes_assignment phrase n.node e))))
@@ -187,7 +186,7 @@ assign_applied room tree after at phrase receipt stop_after stop part edits ther
     let new : PlainNode = assignment_node phrase in
     let made = edit_there (TreeEdit.put new) (node_at tree.items at.path) (TakesAssignment phrase) tree after receipt n.node n.there edits in
     onward_applied room (edited (roomless_tree tree) at (PlainEdit.enter phrase)) (TreeEdit.put new) (TreeEdit.put new) n.node.label.slot tree after receipt
-    stop_after at made.1 (put_same room tree n.node.label.slot new new refl)
+    stop_after at made.1 (room.edits (TreeEdit.put new) (TreeEdit.put new) tree n.node.label.slot refl)
     (assign_if room tree at n phrase true part (assignment_true phrase n.node made.0)) there seen
 
 -- nodes inserted
@@ -225,8 +224,8 @@ insert_refused room tree at new fault stop part refuses wants =
     let n = node_there room tree at stop in
     let outcome : Edited = edited (roomless_tree tree) at (PlainEdit.insert (PlainFragment.node (roomless_node new))) in
     without_memory outcome fault
-    (refused_is (TreeEdit.put new) (TreeEdit.put (roomless_node new)) tree n.node (IsHoleFor new.label.kind) outcome at None
-    (put_same room tree n.node.label.slot new (roomless_node new) (sym (node_twice room new)))
+    (refused_is room (TreeEdit.put new) (TreeEdit.put (roomless_node new)) tree n.node (IsHoleFor new.label.kind) outcome at None
+    (room.edits (TreeEdit.put new) (TreeEdit.put (roomless_node new)) tree n.node.label.slot (ap TreeEdit.put (sym (node_twice room new))))
     (λ here. insert_if room tree at n new true (takes_true new.label.kind at.part (roomless_node n.node) part here))
     (λ missing. insert_if room tree at n new false (takes_false new.label.kind at.part (roomless_node n.node) missing))
     fault
@@ -244,7 +243,7 @@ insert_applied room law tree after at new receipt stop_after is_tree stop part e
     let made = edit_there (TreeEdit.put new) (node_at tree.items at.path) (IsHoleFor new.label.kind) tree after receipt n.node n.there edits in
     applied_is room (edited (roomless_tree tree) at (PlainEdit.insert (PlainFragment.node (roomless_node new)))) (TreeEdit.put new)
     (TreeEdit.put (roomless_node new)) n.node.label.slot tree after receipt None stop_after at made.1
-    (put_same room tree n.node.label.slot new (roomless_node new) (sym (node_twice room new)))
+    (room.edits (TreeEdit.put new) (TreeEdit.put (roomless_node new)) tree n.node.label.slot (ap TreeEdit.put (sym (node_twice room new))))
     (insert_if room tree at n new true (takes_true new.label.kind at.part (roomless_node n.node) part made.0)) there
     (subst (λ s. IsStop (roomless_tree after).items s) (sym there) (put_stands room law tree after at n new receipt None part is_tree made.1)) tt
 
@@ -291,7 +290,7 @@ take_applied room law tree after at node receipt stop_after is_tree stop part fo
     subst (λ (h : Option NodeKind). IsEdit (TreeEdit.put (lone 0 (unwrap_or h node.label.kind))) node.label.slot tree after receipt (Some node)) hole.1 takes.is_edit
     in
     applied_is room (edited (roomless_tree tree) at PlainEdit.take) (TreeEdit.put (lone 0 hole.0)) (TreeEdit.put (lone 0 hole.0)) node.label.slot tree after
-    receipt (Some node) stop_after at made (put_same room tree node.label.slot (lone 0 hole.0) (lone 0 hole.0) refl)
+    receipt (Some node) stop_after at made (room.edits (TreeEdit.put (lone 0 hole.0)) (TreeEdit.put (lone 0 hole.0)) tree node.label.slot refl)
     (take_if room tree at n (Some hole.0) part hole.1) there
     (subst (λ s. IsStop (roomless_tree after).items s) (sym there) (put_stands room law tree after at n (lone 0 hole.0) receipt (Some node) part is_tree made))
     sound

@@ -1,17 +1,14 @@
 //! What may be done at a stop.
-ghost use Rattle.std.specs.Prelude.{◌≡◌, is_some, map, option_and_then, slice_get};
-ghost use Rattle.plcs_grammar.specs.Template.{plain_segment};
-ghost use Rattle.template_tree.specs.Edit.{hole_left};
+ghost use Rattle.std.specs.Prelude.{◌≡◌, is_some, option_and_then};
 ghost use Rattle.template_tree.specs.PlainPlace.{plain_place};
 ghost use Rattle.template_tree.specs.PlainTree.{roomless_tree};
-ghost use Rattle.template_tree.specs.Program.{parts_of};
 ghost use Rattle.template_tree.specs.Stop.{IsStop, plain_stop};
 ghost use Rattle.template_tree.specs.Tree.{IsTree};
 ghost use Rattle.session_edit.specs.Here.{can_take, category_at, category_in, is_typed, takes_at};
 
 use crate::room_laws::room_laws;
-use plcs_grammar::{Category, NodeKind, Segment, Sort};
-use template_tree::{Node, PhrasePlace, Stop, Tree};
+use plcs_grammar::{Category, NodeKind};
+use template_tree::{Node, PhrasePlace, Stop, Tree, hole_left, part_category};
 
 /// The category that phrase text has at the stop, or `None` where none is entered: at a node that is
 /// neither a statement hole nor an assignment. It takes no memory.
@@ -48,7 +45,7 @@ fn category_in(kind: NodeKind, part: Option<u8>) -> Option<Category>
     match part {
         None if is_typed(kind) => Some(Category::Assignment),
         None => None,
-        Some(part) => part_of(kind.row().line, part),
+        Some(part) => part_category(kind, part),
     }
 }
 
@@ -59,26 +56,12 @@ fn is_typed(kind: NodeKind) -> bool
     matches!(kind, NodeKind::StatementHole | NodeKind::Assign)
 }
 
-/// The category of this part of a line.
-fn part_of(line: &[Segment], part: u8) -> Option<Category>
-    ensures { result ≡ slice_get (parts_of (map plain_segment line.now)) part }
-{
-    let Some((segment, rest)) = line.split_first() else {
-        return None;
-    };
-    match segment {
-        Segment::Words(_) => part_of(rest, part),
-        Segment::Part(category) if part == 0 => Some(*category),
-        Segment::Part(_) => part_of(rest, part - 1),
-    }
-}
-
 /// Whether something can be taken out at the part of the node, or at the node itself.
 fn can_take(node: &Node, part: Option<u8>) -> bool
     ensures { result ≡ can_take part node.now }
 {
     match part {
-        None => leaves_hole(node.kind()),
+        None => hole_left(node.kind()).is_some(),
         Some(part) => is_filled(node.part(part)),
     }
 }
@@ -88,14 +71,4 @@ fn is_filled(place: Option<&PhrasePlace>) -> bool
     ensures { result ≡ is_some (option_and_then (λ there. plain_place there.now) place.entry) }
 {
     matches!(place, Some(PhrasePlace::Filled(_)))
-}
-
-/// Whether a hole stays where a node of the kind is taken out: it is neither main nor a hole.
-fn leaves_hole(kind: NodeKind) -> bool
-    ensures { result ≡ is_some (hole_left kind) }
-{
-    match kind {
-        NodeKind::DeclarationHole | NodeKind::StatementHole | NodeKind::ProcedureHole => false,
-        _ => kind.row().sort != Sort::Main,
-    }
 }

@@ -124,6 +124,114 @@ fn fragments_come_where_they_fit(rt: HostRuntime) -> Result<(), Fail> {
     Ok(())
 }
 
+/// Declarations, procedures and phrases at holes and parts of right and wrong kinds and categories.
+const KINDS: [Row; 19] = [
+    (
+        (&[0, 0], None),
+        Deed::Fill(Template::Fixed),
+        Ok(((&[0, 0], Some(0)), 1, What::Node, 4)),
+    ),
+    (
+        (&[1], None),
+        Deed::Fill(Template::Proc),
+        Ok(((&[1], Some(0)), 3, What::Node, 6)),
+    ),
+    (
+        (&[0, 0], None),
+        Deed::Beside(Side::After),
+        Ok(((&[0, 1], None), 6, What::Added, 7)),
+    ),
+    (
+        (&[1], None),
+        Deed::Beside(Side::After),
+        Ok(((&[2], None), 7, What::Added, 8)),
+    ),
+    ((&[0, 2], None), Deed::Copy(&[0, 0]), NOT_HERE),
+    ((&[2], None), Deed::Copy(&[0, 0]), NOT_HERE),
+    ((&[0, 1], None), Deed::Copy(&[1]), NOT_HERE),
+    ((&[0, 2], None), Deed::Copy(&[1]), NOT_HERE),
+    ((&[1], Some(0)), Deed::Copy(&[1]), NOT_HERE),
+    (
+        (&[0, 1], None),
+        Deed::Copy(&[0, 0]),
+        Ok(((&[0, 1], None), 6, What::Node, 8)),
+    ),
+    (
+        (&[2], None),
+        Deed::Copy(&[1]),
+        Ok(((&[2], None), 7, What::Node, 10)),
+    ),
+    (
+        (&[2], Some(0)),
+        Deed::Insert(Category::ProcedureName, b"p"),
+        Ok(((&[2], Some(0)), 7, What::Part(0), 10)),
+    ),
+    (
+        (&[0, 2], None),
+        Deed::Fill(Template::While),
+        Ok(((&[0, 2], Some(0)), 2, What::Node, 11)),
+    ),
+    (
+        (&[0, 2], Some(0)),
+        Deed::Insert(Category::Expression, b"1"),
+        NOT_HERE,
+    ),
+    (
+        (&[0, 2], Some(0)),
+        Deed::Insert(Category::Condition, b"x < 1"),
+        Ok(((&[0, 2], Some(0)), 2, What::Part(0), 11)),
+    ),
+    (
+        (&[0, 2, 0], None),
+        Deed::Fill(Template::For),
+        Ok(((&[0, 2, 0], Some(0)), 10, What::Node, 12)),
+    ),
+    (
+        (&[0, 2, 0], Some(1)),
+        Deed::Insert(Category::Condition, b"1"),
+        NOT_HERE,
+    ),
+    (
+        (&[0, 2, 0], Some(1)),
+        Deed::Insert(Category::Expression, b"1"),
+        Ok(((&[0, 2, 0], Some(1)), 10, What::Part(1), 12)),
+    ),
+    (
+        (&[0, 2, 0, 0], None),
+        Deed::Insert(Category::Assignment, b"x = 1"),
+        NOT_HERE,
+    ),
+];
+
+/// The listing after them.
+const OF_KINDS: [&[u8]; 17] = [
+    b"main: PROCEDURE OPTIONS ( MAIN );",
+    b"  DECLARE ( {names} ) FIXED;",
+    b"  DECLARE ( {names} ) FIXED;",
+    b"  DO WHILE ( x < 1 );",
+    b"    DO {variable} = 1 TO {expression} BY {expression};",
+    b"      {statement}",
+    b"    END;",
+    b"  END;",
+    b"END;",
+    b"{name}: PROCEDURE;",
+    b"  {declaration}",
+    b"  {statement}",
+    b"END;",
+    b"p: PROCEDURE;",
+    b"  {declaration}",
+    b"  {statement}",
+    b"END;",
+];
+
+#[test]
+fn fragments_come_where_their_kind_and_category_fit(rt: HostRuntime) -> Result<(), Fail> {
+    let mut tree = new_tree(rt.alloc())?;
+    assert!(rt; difference(rt.alloc(), &mut tree, &KINDS)? == None);
+    assert!(rt; is_listed(&tree, &OF_KINDS));
+    Ok(())
+}
+
 /// A write is copied behind itself; the hole before the copy that is dropped leaves a slot that is drawn no more.
 const COPIES: [Row; 8] = [
     (

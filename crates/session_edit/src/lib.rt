@@ -9,6 +9,8 @@ mod edit;
 mod entry;
 #[cfg(test)]
 mod entry_tests;
+#[cfg(test)]
+mod fill_tests;
 mod here;
 mod insertion;
 #[cfg(test)]

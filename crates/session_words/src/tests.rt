@@ -134,14 +134,53 @@ fn other_lines_are_no_command(rt: HostRuntime) {
 }
 
 #[test]
-fn wrong_arguments_are_refused(rt: HostRuntime) {
-    let lines: [&[u8]; 28] = [
-        b".put x",
+fn templates_take_no_argument(rt: HostRuntime) {
+    let lines: [&[u8]; 16] = [
+        b".proc p",
+        b".procp p",
+        b".fixed x",
+        b".bit x",
+        b".char x",
+        b".if x",
+        b".ifelse x",
+        b".while x",
+        b".for 1",
+        b".group 1",
+        b".get x",
+        b".put 1",
+        b".puts 1",
+        b".call p",
+        b".return 1",
+        b".comment a",
+    ];
+    for line in lines {
+        assert!(rt; answer(line) == Err(CommandFault::WrongArgument));
+    }
+}
+
+#[test]
+fn commands_without_an_argument_take_none(rt: HostRuntime) {
+    let lines: [&[u8]; 11] = [
         b".float 1",
         b".before a",
-        b".quit now",
+        b".after a",
+        b".del 1",
+        b".elide a",
+        b".top 1",
+        b".bottom 1",
         b".run 1",
         b".resume 1",
+        b".trace on",
+        b".quit now",
+    ];
+    for line in lines {
+        assert!(rt; answer(line) == Err(CommandFault::WrongArgument));
+    }
+}
+
+#[test]
+fn wrong_arguments_are_refused(rt: HostRuntime) {
+    let lines: [&[u8]; 22] = [
         b".cut 1a",
         b".cut a b",
         b".copy END",

@@ -19,7 +19,6 @@ pub mod RoomlessLines
 pub mod TurnedBones
 -- `lay`: the cells of a line while they are put
 pub mod PutCells
--- tests: the mark that they have, the phrase that they put into a part, and the stops whose lines they ask for
+-- tests: the mark that they have, and the stops whose lines they ask for
 pub mod OneMarks
-pub mod TestPhrases
 pub mod TestStops

@@ -5,7 +5,7 @@ use Rattle.std.specs.Coded.{Coded, code_by, coded×, coded⊎, coded_ℕ, coded_
 use Rattle.plcs_grammar.specs.PlainPhrase.{PlainPhrase}
 use Rattle.template_tree.specs.PlainTree.{PlainNode}
 use Rattle.template_tree.specs.contracts.node.Node as node_row
-use Rattle.template_tree.specs.Private.PhraseCode.{phrase_code}
+use Rattle.plcs_grammar.specs.Private.PhraseCode.{phrase_code}
 use Rattle.clip_store.specs.PlainFragment.{PlainFragment}
 use Rattle.clip_store.specs.PlainClips.{Pair, PlainClips}
 

@@ -1,9 +1,12 @@
 -- What trees tell of the room of lists.
-use Rattle.template_tree.specs.RoomLaws.{CountsIgnoreRoom, NodesIgnoreRoom, RoomGoesOnce, StandingIgnoresRoom}
+use Rattle.template_tree.specs.RoomLaws.{ChangesIgnoreRoom, DepthsIgnoreRoom, EditsIgnoreRoom, NodesIgnoreRoom, RoomGoesOnce, StandingIgnoresRoom}
 
--- the room of lists plays no part in how many nodes stand there, in what stands at a path, and in where the cursor may stand
+-- the room of lists plays no part in what stands at a path, in where the cursor may stand, in how deep nodes are, and in
+-- what edits make of trees
 pub record RoomLaws : Type 0 where
   pub once : RoomGoesOnce
-  pub counts : CountsIgnoreRoom
   pub nodes : NodesIgnoreRoom
   pub standing : StandingIgnoresRoom
+  pub depths : DepthsIgnoreRoom
+  pub edits : EditsIgnoreRoom
+  pub changes : ChangesIgnoreRoom

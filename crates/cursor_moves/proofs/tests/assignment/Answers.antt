@@ -4,7 +4,7 @@ use Rattle.std.proofs.Math.Bool.{false≢true}
 use Rattle.plcs_grammar.specs.declared.category.Category.{Category}
 use Rattle.template_tree.specs.PlainTree.{forest}
 use Rattle.template_tree.specs.Program.{AreNodes, AreParts, sorts}
-use Rattle.cursor_moves.proofs.TestPhrases.{assignment_is}
+use Rattle.template_tree.proofs.TestPhrases.{x_gets_y_is}
 use Rattle.cursor_moves.proofs.tests.assignment.Goals as goal
 
 pub returns-clause-node : goal.returns-clause-node
@@ -13,7 +13,7 @@ returns-clause-node c =
     record {
       parts =
           subst (AreParts (Category.Assignment ∷ []))
-          (sym (c.in_ok-parts.ensures ∙ ap (λ phrase. Some phrase ∷ []) c.in_ok-copying.ensures)) (assignment_is, tt);
+          (sym (c.in_ok-parts.ensures ∙ ap (λ phrase. Some phrase ∷ []) c.in_ok-copying.ensures)) (x_gets_y_is, tt);
       inner = ap (λ items. sorts (forest items)) c.new.ensures;
       elision = λ e. absurd (false≢true e);
     }
