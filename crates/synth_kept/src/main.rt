@@ -9,28 +9,11 @@ use kept::synth_kept;
 use key_journal::StdDisk;
 use plcs_base::Counts;
 use status::KeptStatus;
-use std::alloc::Global;
+use std::io;
 use std::io::ErrorKind;
 use std::process::ExitCode;
-use std::rt::Env;
-use std::{env, io};
 use synth_outside::{MemFiles, StdSink, StdSource};
-use synth_top::Status;
-
-/// The words that follow the program's name. One that isn't text is no word of the command.
-fn words_of<R: Env + AllocGlobal>(rt: &R, alloc: Global) -> Result<Vec<String>, Status> {
-    let arguments = env::args(rt).map_err(|error| match error.kind() {
-        ErrorKind::OutOfMemory => Status::NoMemory,
-        _ => Status::BadWords,
-    })?;
-    let mut words = Vec::new(alloc);
-    for word in arguments.skip(1) {
-        if words.push(word).is_err() {
-            return Err(Status::NoMemory);
-        }
-    }
-    Ok(words)
-}
+use synth_top::{Status, words_of};
 
 /// How a session ends whose journal's file can't be opened.
 fn status_of(error: &io::Error) -> KeptStatus {

@@ -2,28 +2,9 @@
 #![tactic(auto)]
 
 use plcs_base::Counts;
-use std::alloc::Global;
-use std::env;
-use std::io::ErrorKind;
 use std::process::ExitCode;
-use std::rt::Env;
 use synth_outside::{MemFiles, StdSink, StdSource};
-use synth_top::{Status, synth};
-
-/// The words that follow the program's name. One that isn't text is no word of the command.
-fn words_of<R: Env + AllocGlobal>(rt: &R, alloc: Global) -> Result<Vec<String>, Status> {
-    let arguments = env::args(rt).map_err(|error| match error.kind() {
-        ErrorKind::OutOfMemory => Status::NoMemory,
-        _ => Status::BadWords,
-    })?;
-    let mut words = Vec::new(alloc);
-    for word in arguments.skip(1) {
-        if words.push(word).is_err() {
-            return Err(Status::NoMemory);
-        }
-    }
-    Ok(words)
-}
+use synth_top::{Status, synth, words_of};
 
 /// Edits over the system's streams.
 fn run(rt: &HostRuntime) -> Status {

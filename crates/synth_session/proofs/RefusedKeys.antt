@@ -31,7 +31,7 @@ use Rattle.synth_session.specs.declared.answer.Refusal.TheVariants as why
 use Rattle.synth_session.specs.declared.typed_line.TheConstants.{LINE_LIMIT}
 use Rattle.synth_session.specs.PlainSession.{PlainSession}
 use Rattle.synth_session.specs.RefusalText.{refusal_text}
-use Rattle.synth_session.specs.Outcome.{Outcome, done, line_done, refused}
+use Rattle.synth_session.specs.KeyOutcome.{KeyOutcome, acceptance_outcome, line_acceptance_outcome, refusal_outcome}
 use Rattle.synth_session.specs.TypedLine.{cursor_phrase, text_typed}
 use Rattle.synth_session.specs.CursorKeys.{cursor_goes, cursor_moved}
 use Rattle.synth_session.specs.ClipCommands.{copy_outcome, cut_outcome, fragment_inserted, fragment_there, slots_there}
@@ -42,22 +42,22 @@ use Rattle.synth_session.specs.TextStanding.{standing_of}
 use Rattle.synth_session.specs.Press.{RefusedKeysChangeTheMessage, press}
 
 -- where this is the outcome of a refused key, the message alone changes
-record Alone (s : PlainSession) (outcome : Outcome) : Type 0 where
+record Alone (s : PlainSession) (outcome : KeyOutcome) : Type 0 where
   pub alone : (reason : Refusal) → outcome.answer ≡ Answer.Refused reason → outcome.after ≡ record s { message = refusal_text reason }
 
 -- a refusal does
-refused_alone : (s : PlainSession) (reason : Refusal) → Alone s (refused s reason)
+refused_alone : (s : PlainSession) (reason : Refusal) → Alone s (refusal_outcome s reason)
 refused_alone s reason = record { alone = λ other is. cc }
 
 -- a key that isn't refused says nothing of that
-taken_alone : (s : PlainSession) (outcome : Outcome) → outcome.answer ≡ Answer.Done → Alone s outcome
+taken_alone : (s : PlainSession) (outcome : KeyOutcome) → outcome.answer ≡ Answer.Done → Alone s outcome
 taken_alone s outcome taken = record { alone = λ reason is. absurd (cc) }
 
-ended_alone : (s : PlainSession) (outcome : Outcome) → outcome.answer ≡ Answer.Quit → Alone s outcome
+ended_alone : (s : PlainSession) (outcome : KeyOutcome) → outcome.answer ≡ Answer.Quit → Alone s outcome
 ended_alone s outcome ended = record { alone = λ reason is. absurd (cc) }
 
 -- of two outcomes either
-either_alone : (s : PlainSession) (test : Bool) (one other : Outcome) → Alone s one → Alone s other → Alone s (if test then one else other)
+either_alone : (s : PlainSession) (test : Bool) (one other : KeyOutcome) → Alone s one → Alone s other → Alone s (if test then one else other)
 either_alone s true one other h k = h
 either_alone s false one other h k = k
 
@@ -69,14 +69,14 @@ goes_alone s (Some stop) = taken_alone s _ refl
 -- a move, where nothing is typed
 moves_alone : (s : PlainSession) (move : Forest → PlainStop → Option PlainStop) → Alone s (cursor_moved s move)
 moves_alone s move =
-    either_alone s (length s.typed == 0) (cursor_goes s (move s.tree.items s.stop)) (refused s why.NotHere)
+    either_alone s (length s.typed == 0) (cursor_goes s (move s.tree.items s.stop)) (refusal_outcome s why.NotHere)
     (goes_alone s (move s.tree.items s.stop)) (refused_alone s why.NotHere)
 
 -- a phrase's text that is typed, or too long
 typed_alone : (s : PlainSession) (phrase : Option PlainPhrase) → Alone s (text_typed s phrase)
 typed_alone s None = refused_alone s why.NotHere
 typed_alone s (Some phrase) =
-    either_alone s (nat_lt LINE_LIMIT (length (Canon phrase))) (refused s why.PhraseFull) (done (record s { typed = Canon phrase }))
+    either_alone s (nat_lt LINE_LIMIT (length (Canon phrase))) (refusal_outcome s why.PhraseFull) (acceptance_outcome (record s { typed = Canon phrase }))
     (refused_alone s why.PhraseFull) (taken_alone s _ refl)
 
 -- an edit that is made or refused
@@ -101,15 +101,15 @@ cut_alone s name (Edited.became tree stop taken what slot) None = refused_alone 
 cut_alone s name (Edited.became tree stop taken what slot) (Some fragment) = taken_alone s _ refl
 
 -- what can be taken out, where the clips have room
-clips_alone : (s : PlainSession) (name : List ℕ) (outcome : Outcome) → Alone s outcome
+clips_alone : (s : PlainSession) (name : List ℕ) (outcome : KeyOutcome) → Alone s outcome
     → Alone s
     (if takes_at s.tree s.stop
-    then (if is_full name (slots_there s.tree s.stop) s.clips then refused s (why.Clip ClipRefusal.Full) else outcome)
-    else refused s why.NotHere)
+    then (if is_full name (slots_there s.tree s.stop) s.clips then refusal_outcome s (why.Clip ClipRefusal.Full) else outcome)
+    else refusal_outcome s why.NotHere)
 clips_alone s name outcome alone =
     either_alone s (takes_at s.tree s.stop)
-    (if is_full name (slots_there s.tree s.stop) s.clips then refused s (why.Clip ClipRefusal.Full) else outcome) (refused s why.NotHere)
-    (either_alone s (is_full name (slots_there s.tree s.stop) s.clips) (refused s (why.Clip ClipRefusal.Full)) outcome
+    (if is_full name (slots_there s.tree s.stop) s.clips then refusal_outcome s (why.Clip ClipRefusal.Full) else outcome) (refusal_outcome s why.NotHere)
+    (either_alone s (is_full name (slots_there s.tree s.stop) s.clips) (refusal_outcome s (why.Clip ClipRefusal.Full)) outcome
     (refused_alone s (why.Clip ClipRefusal.Full)) alone)
     (refused_alone s why.NotHere)
 
@@ -121,7 +121,7 @@ inserted_alone s (Some fragment) = edited_alone s (PlainEdit.insert (whole_fragm
 -- a comment turned
 turned_alone : (s : PlainSession) → Alone s (comment_turned s)
 turned_alone s =
-    either_alone s (is_at_comment s.tree s.stop) (line_done (record s { tree = with_turn_at s.stop.path s.tree })) (refused s why.NotHere)
+    either_alone s (is_at_comment s.tree s.stop) (line_acceptance_outcome (record s { tree = with_turn_at s.stop.path s.tree })) (refusal_outcome s why.NotHere)
     (taken_alone s _ refl) (refused_alone s why.NotHere)
 
 -- a command
@@ -160,13 +160,13 @@ reading_alone s (Err line.WrongArgument) = refused_alone s why.WrongArgument
 
 command_line_alone : (s : PlainSession) → Alone s (command_line_outcome s)
 command_line_alone s =
-    either_alone s (is_unbuilt s.typed) (refused s why.NotBuilt) (reading_outcome s (command_of s.typed))
+    either_alone s (is_unbuilt s.typed) (refusal_outcome s why.NotBuilt) (reading_outcome s (command_of s.typed))
     (refused_alone s why.NotBuilt) (reading_alone s (command_of s.typed))
 
 -- phrase text that is this
 standing_alone : (s : PlainSession) (standing : Standing) → Alone s (standing_entered s standing)
 standing_alone s (Standing.phrase phrase) =
-    either_alone s (nat_lt longest_phrase (length (Canon phrase))) (refused s why.PhraseFull) (edited_by s (PlainEdit.enter phrase))
+    either_alone s (nat_lt longest_phrase (length (Canon phrase))) (refusal_outcome s why.PhraseFull) (edited_by s (PlainEdit.enter phrase))
     (refused_alone s why.PhraseFull) (edited_alone s (PlainEdit.enter phrase))
 standing_alone s (Standing.over (OverLimit.number_too_large place)) = refused_alone s (why.Phrase (fault.NumberTooLarge place))
 standing_alone s (Standing.over (OverLimit.too_deep place)) = refused_alone s (why.Phrase (fault.TooDeep place))
@@ -190,15 +190,15 @@ line_alone s =
 key_alone : (s : PlainSession) (key : Key) → Alone s (press s key)
 unfolding press
 key_alone s (Char byte) =
-    either_alone s (nat_lt (length s.typed) LINE_LIMIT) (done (record s { typed = s.typed ++ byte ∷ [] })) (refused s why.PhraseFull)
+    either_alone s (nat_lt (length s.typed) LINE_LIMIT) (acceptance_outcome (record s { typed = s.typed ++ byte ∷ [] })) (refusal_outcome s why.PhraseFull)
     (taken_alone s _ refl) (refused_alone s why.PhraseFull)
 key_alone s Enter = line_alone s
 key_alone s Erase =
-    either_alone s (length s.typed == 0) (refused s why.NotHere) (done (record s { typed = take (length s.typed - 1) s.typed }))
+    either_alone s (length s.typed == 0) (refusal_outcome s why.NotHere) (acceptance_outcome (record s { typed = take (length s.typed - 1) s.typed }))
     (refused_alone s why.NotHere) (taken_alone s _ refl)
 key_alone s Clear = taken_alone s _ refl
 key_alone s Tab =
-    either_alone s (length s.typed == 0) (text_typed s (cursor_phrase s.tree s.stop)) (refused s why.NotHere)
+    either_alone s (length s.typed == 0) (text_typed s (cursor_phrase s.tree s.stop)) (refusal_outcome s why.NotHere)
     (typed_alone s (cursor_phrase s.tree s.stop)) (refused_alone s why.NotHere)
 key_alone s Up = moves_alone s stop_up
 key_alone s Down = moves_alone s stop_down

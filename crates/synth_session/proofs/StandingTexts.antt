@@ -13,7 +13,7 @@ use Rattle.phrase_parser.specs.Standing.{Standing, HasStanding}
 use Rattle.phrase_parser.proofs.Readings.Standings.{one_standing}
 use Rattle.synth_session.specs.declared.answer.Refusal.TheVariants as why
 use Rattle.synth_session.specs.EnteredLine.{standing_entered}
-use Rattle.synth_session.specs.Outcome.{refused}
+use Rattle.synth_session.specs.KeyOutcome.{refusal_outcome}
 use Rattle.synth_session.specs.PlainSession.{PlainSession}
 use Rattle.synth_session.specs.Private.TextFault.{IsFaultOf}
 use Rattle.synth_session.specs.TextStanding.{TextsStandSo, standing_of}
@@ -52,7 +52,7 @@ own_form c (Err fault) formed is = tt
 
 -- what comes of phrase text with a fault
 pub fault_entered : (s : PlainSession) (standing : Standing) (fault : PhraseFault) → IsFaultOf fault standing
-    → (fault ≡ OutOfMemory → ⊥) → standing_entered s standing ≡ refused s (why.Phrase fault)
+    → (fault ≡ OutOfMemory → ⊥) → standing_entered s standing ≡ refusal_outcome s (why.Phrase fault)
 fault_entered s standing (Syntax place) is isnt = ap (standing_entered s) is
 fault_entered s standing (NumberTooLarge place) is isnt = ap (standing_entered s) is
 fault_entered s standing (TooDeep place) is isnt = ap (standing_entered s) is

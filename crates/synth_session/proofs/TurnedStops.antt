@@ -7,12 +7,12 @@ use Rattle.template_tree.specs.PlainTree.{Forest, PlainNode, nodes}
 use Rattle.template_tree.specs.Stop.{IsStop, MayStand, PlainStop, visible_at, visible_below}
 
 -- a comment turned, or another node as it is
-abbrev turned : PlainNode → PlainNode
-turned node = if is_comment node.label.kind then record node { label = record node.label { elided = not node.label.elided } } else node
+abbrev turned_node : PlainNode → PlainNode
+turned_node node = if is_comment node.label.kind then record node { label = record node.label { elided = not node.label.elided } } else node
 
 -- a node with the one at the path below it turned
 abbrev turned_below : List ℕ → PlainNode → PlainNode
-turned_below [] node = turned node
+turned_below [] node = turned_node node
 turned_below (k ∷ path) node = record node { inner = give_way (edit_below turn path) k node.inner }
 
 -- the turn below a node gives that one node
@@ -28,22 +28,22 @@ gives_one change one same zero (Forest.cons label inner rest) = rw (same record 
 gives_one change one same (suc k) (Forest.cons label inner rest) = gives_one change one same k rest
 
 -- the same choice of two on both sides
-unless_elided : (b : Bool) (one other : Option PlainNode) → one ≡ option_map turned other
-    → (if b then None else one) ≡ option_map turned (if b then None else other)
+unless_elided : (b : Bool) (one other : Option PlainNode) → one ≡ option_map turned_node other
+    → (if b then None else one) ≡ option_map turned_node (if b then None else other)
 unless_elided true one other same = refl
 unless_elided false one other same = same
 
 -- what is found among inner nodes, after the turn there
 seen_among : (path : List ℕ)
-    → ((node : PlainNode) → visible_below (turned_below path node) path ≡ option_map turned (visible_below node path))
+    → ((node : PlainNode) → visible_below (turned_below path node) path ≡ option_map turned_node (visible_below node path))
     → (found : Option PlainNode)
     → option_and_then (λ item. visible_below item path) (option_map (turned_below path) found)
-    ≡ option_map turned (option_and_then (λ item. visible_below item path) found)
+    ≡ option_map turned_node (option_and_then (λ item. visible_below item path) found)
 seen_among path each None = refl
 seen_among path each (Some item) = each item
 
 -- the visible node at a path below a node, after the turn there
-seen_below : (path : List ℕ) (node : PlainNode) → visible_below (turned_below path node) path ≡ option_map turned (visible_below node path)
+seen_below : (path : List ℕ) (node : PlainNode) → visible_below (turned_below path node) path ≡ option_map turned_node (visible_below node path)
 seen_below [] node = refl
 seen_below (k ∷ path) node =
     unless_elided node.label.elided
@@ -53,7 +53,7 @@ seen_below (k ∷ path) node =
     ∙ seen_among path (seen_below path) (slice_get (nodes node.inner) k))
 
 -- the visible node at a path, after the turn there
-seen_at : (items : Forest) (path : List ℕ) → visible_at (edit_at turn path items) path ≡ option_map turned (visible_at items path)
+seen_at : (items : Forest) (path : List ℕ) → visible_at (edit_at turn path items) path ≡ option_map turned_node (visible_at items path)
 seen_at items [] = refl
 seen_at items (k ∷ path) =
     ap (option_and_then (λ item. visible_below item path)) (gives_one (edit_below turn path) (turned_below path) (turns_one path) k items)
@@ -67,7 +67,7 @@ kind_kept part node true may = may
 kind_kept part node false may = may
 
 stands_on : (part : Option ℕ) (found : Option PlainNode) → IsSomeAnd found (λ node. MayStand part node.label.kind)
-    → IsSomeAnd (option_map turned found) (λ node. MayStand part node.label.kind)
+    → IsSomeAnd (option_map turned_node found) (λ node. MayStand part node.label.kind)
 stands_on part None stands = stands
 stands_on part (Some node) stands = kind_kept part node (is_comment node.label.kind) stands
 

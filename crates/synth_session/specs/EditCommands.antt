@@ -4,7 +4,7 @@ use Rattle.session_edit.specs.Edited.{Edited, edited}
 use Rattle.session_edit.specs.PlainEdit.{PlainEdit}
 use Rattle.synth_session.specs.declared.answer.Refusal.{Refusal}
 use Rattle.synth_session.specs.declared.answer.Refusal.TheVariants as why
-use Rattle.synth_session.specs.Outcome.{Outcome, line_done, refused}
+use Rattle.synth_session.specs.KeyOutcome.{KeyOutcome, line_acceptance_outcome, refusal_outcome}
 use Rattle.synth_session.specs.PlainSession.{PlainSession}
 
 -- the refusal of an edit for this
@@ -16,10 +16,10 @@ edit_refusal TreeFault.SlotsUsedUp = why.Tree TreeFault.SlotsUsedUp
 edit_refusal TreeFault.OutOfMemory = why.Tree TreeFault.OutOfMemory
 
 -- what comes of an edit of the program: the tree and the cursor behind it, or its refusal
-abbrev pub edit_outcome : PlainSession → Edited → Outcome
-edit_outcome s (Edited.became tree stop taken what slot) = line_done (record s { tree = tree; stop = stop })
-edit_outcome s (Edited.refused fault) = refused s (edit_refusal fault)
+abbrev pub edit_outcome : PlainSession → Edited → KeyOutcome
+edit_outcome s (Edited.became tree stop taken what slot) = line_acceptance_outcome (record s { tree = tree; stop = stop })
+edit_outcome s (Edited.refused fault) = refusal_outcome s (edit_refusal fault)
 
 -- the program is edited at the cursor
-unfoldable pub edited_by : PlainSession → PlainEdit → Outcome
+unfoldable pub edited_by : PlainSession → PlainEdit → KeyOutcome
 edited_by s edit = edit_outcome s (edited s.tree s.stop edit)

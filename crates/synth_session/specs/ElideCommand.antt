@@ -6,7 +6,7 @@ use Rattle.template_tree.specs.Path.{node_at}
 use Rattle.template_tree.specs.PlainTree.{PlainTree}
 use Rattle.template_tree.specs.Stop.{PlainStop}
 use Rattle.synth_session.specs.declared.answer.Refusal.TheVariants as why
-use Rattle.synth_session.specs.Outcome.{Outcome, line_done, refused}
+use Rattle.synth_session.specs.KeyOutcome.{KeyOutcome, line_acceptance_outcome, refusal_outcome}
 use Rattle.synth_session.specs.PlainSession.{PlainSession}
 
 -- whether the cursor stands on a comment, or at its text
@@ -14,6 +14,6 @@ unfoldable pub is_at_comment : PlainTree → PlainStop → Bool
 is_at_comment tree stop = option_map_or (λ node. is_comment node.label.kind) (node_at tree.items stop.path) false
 
 -- the refinement of the comment at the cursor is hidden, or shown again
-abbrev pub comment_turned : PlainSession → Outcome
+abbrev pub comment_turned : PlainSession → KeyOutcome
 comment_turned s =
-    if is_at_comment s.tree s.stop then line_done (record s { tree = with_turn_at s.stop.path s.tree }) else refused s why.NotHere
+    if is_at_comment s.tree s.stop then line_acceptance_outcome (record s { tree = with_turn_at s.stop.path s.tree }) else refusal_outcome s why.NotHere

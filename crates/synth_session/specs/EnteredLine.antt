@@ -22,7 +22,7 @@ use Rattle.synth_session.specs.CursorKeys.{cursor_moved}
 use Rattle.synth_session.specs.ClipCommands.{clip_inserted, copied_to_clip, cut_to_clip}
 use Rattle.synth_session.specs.EditCommands.{edited_by}
 use Rattle.synth_session.specs.ElideCommand.{comment_turned}
-use Rattle.synth_session.specs.Outcome.{Outcome, line_done, refused}
+use Rattle.synth_session.specs.KeyOutcome.{KeyOutcome, line_acceptance_outcome, refusal_outcome}
 use Rattle.synth_session.specs.PlainSession.{PlainSession}
 use Rattle.synth_session.specs.TextStanding.{standing_of}
 
@@ -43,13 +43,13 @@ unfoldable pub is_unbuilt : List ℕ → Bool
 is_unbuilt line = option_map_or is_unbuilt_word (command_word line) false
 
 -- the session ends, and nothing is shown any more
-abbrev pub quit_outcome : PlainSession → Outcome
+abbrev pub quit_outcome : PlainSession → KeyOutcome
 quit_outcome s = record { after = s; answer = Answer.Quit }
 
 -- what each command does
-abbrev pub command_outcome : PlainSession → PlainCommand → Outcome
+abbrev pub command_outcome : PlainSession → PlainCommand → KeyOutcome
 command_outcome s (PlainCommand.template template) = edited_by s (PlainEdit.fill template)
-command_outcome s PlainCommand.float = refused s why.FloatNotThere
+command_outcome s PlainCommand.float = refusal_outcome s why.FloatNotThere
 command_outcome s PlainCommand.before = edited_by s (PlainEdit.beside Side.Before)
 command_outcome s PlainCommand.after = edited_by s (PlainEdit.beside Side.After)
 command_outcome s PlainCommand.del = edited_by s PlainEdit.delete
@@ -57,49 +57,49 @@ command_outcome s (PlainCommand.cut name) = cut_to_clip s name
 command_outcome s (PlainCommand.copy name) = copied_to_clip s name
 command_outcome s (PlainCommand.insert name) = clip_inserted s name
 command_outcome s PlainCommand.elide = comment_turned s
-command_outcome s PlainCommand.top = line_done (record s { stop = first_stop s.tree.items })
-command_outcome s PlainCommand.bottom = line_done (record s { stop = last_stop s.tree.items })
-command_outcome s PlainCommand.run = refused s why.NotBuilt
-command_outcome s (PlainCommand.step n) = refused s why.NotBuilt
-command_outcome s PlainCommand.resume = refused s why.NotBuilt
-command_outcome s (PlainCommand.back n) = refused s why.NotBuilt
-command_outcome s PlainCommand.trace = refused s why.NotBuilt
-command_outcome s (PlainCommand.input text) = refused s why.NotBuilt
-command_outcome s (PlainCommand.save file) = refused s why.NotBuilt
-command_outcome s (PlainCommand.load file) = refused s why.NotBuilt
-command_outcome s (PlainCommand.code n) = refused s why.NotBuilt
+command_outcome s PlainCommand.top = line_acceptance_outcome (record s { stop = first_stop s.tree.items })
+command_outcome s PlainCommand.bottom = line_acceptance_outcome (record s { stop = last_stop s.tree.items })
+command_outcome s PlainCommand.run = refusal_outcome s why.NotBuilt
+command_outcome s (PlainCommand.step n) = refusal_outcome s why.NotBuilt
+command_outcome s PlainCommand.resume = refusal_outcome s why.NotBuilt
+command_outcome s (PlainCommand.back n) = refusal_outcome s why.NotBuilt
+command_outcome s PlainCommand.trace = refusal_outcome s why.NotBuilt
+command_outcome s (PlainCommand.input text) = refusal_outcome s why.NotBuilt
+command_outcome s (PlainCommand.save file) = refusal_outcome s why.NotBuilt
+command_outcome s (PlainCommand.load file) = refusal_outcome s why.NotBuilt
+command_outcome s (PlainCommand.code n) = refusal_outcome s why.NotBuilt
 command_outcome s PlainCommand.quit = quit_outcome s
 
 -- what a line does that is this command, or none for this reason
-abbrev pub reading_outcome : PlainSession → PlainReading → Outcome
+abbrev pub reading_outcome : PlainSession → PlainReading → KeyOutcome
 reading_outcome s (Ok command) = command_outcome s command
-reading_outcome s (Err line.UnknownCommand) = refused s why.UnknownCommand
-reading_outcome s (Err line.WrongArgument) = refused s why.WrongArgument
+reading_outcome s (Err line.UnknownCommand) = refusal_outcome s why.UnknownCommand
+reading_outcome s (Err line.WrongArgument) = refusal_outcome s why.WrongArgument
 
 -- what a command line does; that a command isn't built comes before every other refusal
-abbrev pub command_line_outcome : PlainSession → Outcome
-command_line_outcome s = if is_unbuilt s.typed then refused s why.NotBuilt else reading_outcome s (command_of s.typed)
+abbrev pub command_line_outcome : PlainSession → KeyOutcome
+command_line_outcome s = if is_unbuilt s.typed then refusal_outcome s why.NotBuilt else reading_outcome s (command_of s.typed)
 
 -- ---- phrase text
 
 -- what comes of phrase text that is this: a phrase is entered where its canonical text isn't too long
-abbrev pub standing_entered : PlainSession → Standing → Outcome
+abbrev pub standing_entered : PlainSession → Standing → KeyOutcome
 standing_entered s (Standing.phrase phrase) =
-    if nat_lt longest_phrase (length (Canon phrase)) then refused s why.PhraseFull else edited_by s (PlainEdit.enter phrase)
-standing_entered s (Standing.over (OverLimit.number_too_large place)) = refused s (why.Phrase (fault.NumberTooLarge place))
-standing_entered s (Standing.over (OverLimit.too_deep place)) = refused s (why.Phrase (fault.TooDeep place))
-standing_entered s (Standing.wrong_at place) = refused s (why.Phrase (fault.Syntax place))
+    if nat_lt longest_phrase (length (Canon phrase)) then refusal_outcome s why.PhraseFull else edited_by s (PlainEdit.enter phrase)
+standing_entered s (Standing.over (OverLimit.number_too_large place)) = refusal_outcome s (why.Phrase (fault.NumberTooLarge place))
+standing_entered s (Standing.over (OverLimit.too_deep place)) = refusal_outcome s (why.Phrase (fault.TooDeep place))
+standing_entered s (Standing.wrong_at place) = refusal_outcome s (why.Phrase (fault.Syntax place))
 
 -- what comes of the typed line as phrase text of a category, where the cursor wants one
-abbrev pub text_entered : PlainSession → Option Category → Outcome
-text_entered s None = refused s why.NotHere
+abbrev pub text_entered : PlainSession → Option Category → KeyOutcome
+text_entered s None = refusal_outcome s why.NotHere
 text_entered s (Some category) = standing_entered s (standing_of category s.typed)
 
 -- ---- the line
 
 -- what Enter does: on an empty line it moves the cursor right, a line with a point first is a command, and any other is
 -- phrase text
-abbrev pub line_entered : PlainSession → Outcome
+abbrev pub line_entered : PlainSession → KeyOutcome
 line_entered s =
     if length s.typed == 0
     then cursor_moved s stop_right

@@ -6,7 +6,7 @@ pub mod PlainSession
 pub mod RefusalText
 pub mod Window
 pub mod OpenedSession
-pub mod Outcome
+pub mod KeyOutcome
 -- ---- what each key does
 pub mod TypedLine
 pub mod CursorKeys

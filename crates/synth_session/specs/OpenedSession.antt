@@ -6,7 +6,7 @@ use Rattle.template_tree.specs.Stop.{PlainStop, node_stop}
 use Rattle.cursor_moves.specs.Move.{first_stop}
 use Rattle.synth_session.specs.Extent.{Extent}
 use Rattle.synth_session.specs.PlainSession.{PlainSession}
-use Rattle.synth_session.specs.Window.{scrolled}
+use Rattle.synth_session.specs.Window.{with_cursor_seen}
 
 -- the new program: main with a hole for a declaration and one for a statement, and a hole for a procedure
 abbrev pub new_tree : PlainTree
@@ -26,7 +26,7 @@ stop_at_first (Some tree) = first_stop tree.items
 -- window begins at the first line from which the cursor is seen
 abbrev pub session_over : Extent → PlainTree → PlainStop → PlainSession
 session_over size tree stop =
-    scrolled record { size = size; tree = tree; stop = stop; top = 0; typed = []; clips = []; message = [] }
+    with_cursor_seen record { size = size; tree = tree; stop = stop; top = 0; typed = []; clips = []; message = [] }
 
 -- the session with which an editor is opened, over the program that is given or a new one
 unfoldable pub opened_session : Extent → Option PlainTree → PlainSession

@@ -2,10 +2,10 @@
 use Rattle.std.specs.Prelude.{◌≡◌}
 use Rattle.screen_window.specs.PlainGrid.{PlainGrid}
 
--- the screen that was painted last, and the one that was drawn last
+-- the screen that was painted last, and the one that is painted next
 pub record PlainScreens : Type 0 where
   pub shown : PlainGrid
-  pub drawn : PlainGrid
+  pub next : PlainGrid
 
 -- two screens have as many rows and columns
 pub record HaveOneSize (one other : PlainGrid) : Type 0 where

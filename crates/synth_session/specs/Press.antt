@@ -10,13 +10,13 @@ use Rattle.synth_session.specs.declared.answer.Refusal.{Refusal}
 use Rattle.synth_session.specs.declared.answer.Refusal.TheVariants as why
 use Rattle.synth_session.specs.CursorKeys.{cursor_moved}
 use Rattle.synth_session.specs.EnteredLine.{line_entered}
-use Rattle.synth_session.specs.Outcome.{Outcome, refused}
+use Rattle.synth_session.specs.KeyOutcome.{KeyOutcome, refusal_outcome}
 use Rattle.synth_session.specs.PlainSession.{PlainSession}
 use Rattle.synth_session.specs.RefusalText.{refusal_text}
 use Rattle.synth_session.specs.TypedLine.{char_typed, last_erased, line_cleared, phrase_typed}
 
 -- what a key makes of a session
-unfoldable pub press : PlainSession → Key → Outcome
+unfoldable pub press : PlainSession → Key → KeyOutcome
 press s (Char byte) = char_typed s byte
 press s Enter = line_entered s
 press s Erase = last_erased s
@@ -26,7 +26,7 @@ press s Up = cursor_moved s stop_up
 press s Down = cursor_moved s stop_down
 press s Left = cursor_moved s stop_left
 press s Right = cursor_moved s stop_right
-press s Other = refused s why.UnknownCommand
+press s Other = refusal_outcome s why.UnknownCommand
 
 -- the law of refused keys: such a key changes the message alone
 abbrev pub RefusedKeysChangeTheMessage : Type 0

@@ -3,7 +3,9 @@
 pub mod EditFault
 -- ---- the bytes of a typed line that are put one by one
 pub mod LineText
--- ---- what a key that takes no memory answers
-pub mod KeyAnswer
+-- ---- what comes of a key that takes no memory
+pub mod MemorylessKey
 -- ---- the fault of phrase text
 pub mod TextFault
+-- ---- what comes of taking something out of the program
+pub mod TakenFragment

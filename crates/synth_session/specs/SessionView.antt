@@ -12,7 +12,7 @@ use Rattle.screen_window.specs.Screen.{window_rows}
 use Rattle.synth_session.specs.declared.answer.Answer.{Answer}
 use Rattle.synth_session.specs.declared.program.Program.{Program}
 use Rattle.synth_session.specs.declared.session.Session.{Session}
-use Rattle.synth_session.specs.Outcome.{Outcome}
+use Rattle.synth_session.specs.KeyOutcome.{KeyOutcome}
 use Rattle.synth_session.specs.PlainSession.{PlainSession}
 use Rattle.synth_session.specs.RefusalText.{shown_message}
 
@@ -32,9 +32,9 @@ plain_session s = record {
 abbrev pub shown_grid : {W : Type 0} → Session W → PlainGrid
 shown_grid s = s.screens.shown
 
--- the screen that a session drew last
-abbrev pub drawn_grid : {W : Type 0} → Session W → PlainGrid
-drawn_grid s = s.screens.drawn
+-- the screen that a session paints next: the one that it drew
+abbrev pub next_grid : {W : Type 0} → Session W → PlainGrid
+next_grid s = s.screens.next
 
 -- what depends on the program is that of the program
 pub record Agrees {W : Type 0} (program : Program W) : Type 0 where
@@ -58,12 +58,12 @@ pub record IsSession {W : Type 0} (s : Session W) : Type 0 where
   pub seen : IsSeen (plain_session s)
 
 -- what became of a key that may take memory, or may not: its outcome, or memory ran out and the session is as it was
-abbrev pub Meets : (may_take_memory : Bool) → Outcome → PlainSession → PlainSession → Result Answer OutOfMemory → Type 0
+abbrev pub Meets : (may_take_memory : Bool) → KeyOutcome → PlainSession → PlainSession → Result Answer OutOfMemory → Type 0
 Meets may_take_memory outcome before now (Ok answer) = (now ≡ outcome.after) × (answer ≡ outcome.answer)
 Meets may_take_memory outcome before now (Err error) = IsTrue may_take_memory × (now ≡ before)
 
 -- a key did this, as far as memory allows; the session's parts keep their conditions, and its screens stay
-pub record Does {W : Type 0} (may_take_memory : Bool) (outcome : Outcome) (before now : Session W) (result : Result Answer OutOfMemory)
+pub record Does {W : Type 0} (may_take_memory : Bool) (outcome : KeyOutcome) (before now : Session W) (result : Result Answer OutOfMemory)
     : Type 0 where
   pub session : IsSession now
   pub screens : now.screens ≡ before.screens

@@ -9,22 +9,22 @@ use Rattle.screen_window.specs.LowerRows.{cursor_part}
 use Rattle.session_edit.specs.Here.{phrase_in}
 use Rattle.synth_session.specs.declared.answer.Refusal.TheVariants as why
 use Rattle.synth_session.specs.declared.typed_line.TheConstants.{LINE_LIMIT}
-use Rattle.synth_session.specs.Outcome.{Outcome, done, refused}
+use Rattle.synth_session.specs.KeyOutcome.{KeyOutcome, acceptance_outcome, refusal_outcome}
 use Rattle.synth_session.specs.PlainSession.{PlainSession}
 
 -- a printable byte comes behind the typed line, where that has room
-abbrev pub char_typed : PlainSession → ℕ → Outcome
+abbrev pub char_typed : PlainSession → ℕ → KeyOutcome
 char_typed s byte =
-    if nat_lt (length s.typed) LINE_LIMIT then done (record s { typed = s.typed ++ byte ∷ [] }) else refused s why.PhraseFull
+    if nat_lt (length s.typed) LINE_LIMIT then acceptance_outcome (record s { typed = s.typed ++ byte ∷ [] }) else refusal_outcome s why.PhraseFull
 
 -- the last byte of the typed line goes, where there is one
-abbrev pub last_erased : PlainSession → Outcome
+abbrev pub last_erased : PlainSession → KeyOutcome
 last_erased s =
-    if length s.typed == 0 then refused s why.NotHere else done (record s { typed = take (length s.typed - 1) s.typed })
+    if length s.typed == 0 then refusal_outcome s why.NotHere else acceptance_outcome (record s { typed = take (length s.typed - 1) s.typed })
 
 -- the whole typed line goes
-abbrev pub line_cleared : PlainSession → Outcome
-line_cleared s = done (record s { typed = [] })
+abbrev pub line_cleared : PlainSession → KeyOutcome
+line_cleared s = acceptance_outcome (record s { typed = [] })
 
 -- the phrase at the cursor: the one in the part at which it stands, or of the assignment on which it stands
 unfoldable pub cursor_phrase : PlainTree → PlainStop → Option PlainPhrase
@@ -33,11 +33,11 @@ cursor_phrase tree stop =
     (node_at tree.items stop.path)
 
 -- the canonical text of a phrase comes into the line, where there is a phrase and the line has room for it
-abbrev pub text_typed : PlainSession → Option PlainPhrase → Outcome
-text_typed s None = refused s why.NotHere
+abbrev pub text_typed : PlainSession → Option PlainPhrase → KeyOutcome
+text_typed s None = refusal_outcome s why.NotHere
 text_typed s (Some phrase) =
-    if nat_lt LINE_LIMIT (length (Canon phrase)) then refused s why.PhraseFull else done (record s { typed = Canon phrase })
+    if nat_lt LINE_LIMIT (length (Canon phrase)) then refusal_outcome s why.PhraseFull else acceptance_outcome (record s { typed = Canon phrase })
 
 -- the text of the phrase at the cursor comes into the line, where that is empty
-abbrev pub phrase_typed : PlainSession → Outcome
-phrase_typed s = if length s.typed == 0 then text_typed s (cursor_phrase s.tree s.stop) else refused s why.NotHere
+abbrev pub phrase_typed : PlainSession → KeyOutcome
+phrase_typed s = if length s.typed == 0 then text_typed s (cursor_phrase s.tree s.stop) else refusal_outcome s why.NotHere

@@ -10,5 +10,5 @@ unfoldable pub top_for : (rows top line : ℕ) → ℕ
 top_for rows top line = if nat_lt line top then line else (if nat_le (top + rows) line then line + 1 - rows else top)
 
 -- the session with its window where the cursor is seen
-abbrev pub scrolled : PlainSession → PlainSession
-scrolled s = record s { top = top_for (window_rows s.size.rows) s.top (line_at s.tree.items s.stop) }
+abbrev pub with_cursor_seen : PlainSession → PlainSession
+with_cursor_seen s = record s { top = top_for (window_rows s.size.rows) s.top (line_at s.tree.items s.stop) }

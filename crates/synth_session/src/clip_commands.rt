@@ -45,7 +45,7 @@ impl<W: Work> Session<W> {
             return Ok(self.refuse(Refusal::NotHere));
         };
         keep(&mut self.clips, name, copy);
-        Ok(self.line_done())
+        Ok(self.accept_line())
     }
 
     /// Takes what stands at the cursor out into the clip of the name.
@@ -68,7 +68,7 @@ impl<W: Work> Session<W> {
             Ok(taken) => {
                 self.stop = taken.stop;
                 keep(&mut self.clips, name, taken.fragment);
-                Ok(self.line_done())
+                Ok(self.accept_line())
             }
             Err(TreeFault::OutOfMemory) => Err(OutOfMemory),
             Err(fault) => Ok(self.refuse(edit_refusal(fault))),

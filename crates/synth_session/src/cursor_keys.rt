@@ -3,8 +3,8 @@ ghost use Rattle.std.specs.Prelude.{◌≡◌, ◌==◌, IfSome, length, if◌th
 ghost use Rattle.template_tree.specs.Stop.{IsStop};
 ghost use Rattle.cursor_moves.specs.Move.{first_stop, last_stop, moved_to, stop_down, stop_left, stop_right, stop_up};
 ghost use Rattle.synth_session.specs.CursorKeys.{cursor_goes, cursor_moved};
-ghost use Rattle.synth_session.specs.Outcome.{line_done, refused};
-ghost use Rattle.synth_session.specs.Private.KeyAnswer.{AnswersKey};
+ghost use Rattle.synth_session.specs.KeyOutcome.{line_acceptance_outcome, refusal_outcome};
+ghost use Rattle.synth_session.specs.Private.MemorylessKey.{HasOutcome};
 ghost use Rattle.synth_session.specs.SessionView.{IsSession, plain_session};
 
 use crate::answer::{Answer, Refusal};
@@ -16,7 +16,7 @@ impl<W: Work> Session<W> {
     /// Moves the cursor to an earlier line.
     pub(crate) fn move_up(&mut self) -> Answer
         requires { IsSession self.old }
-        ensures { AnswersKey (cursor_moved (plain_session self.old) stop_up) self.old self.new result }
+        ensures { HasOutcome (cursor_moved (plain_session self.old) stop_up) self.old self.new result }
     {
         let to = up(&self.program.tree, &self.stop);
         self.go(to)
@@ -25,7 +25,7 @@ impl<W: Work> Session<W> {
     /// Moves the cursor to a later line.
     pub(crate) fn move_down(&mut self) -> Answer
         requires { IsSession self.old }
-        ensures { AnswersKey (cursor_moved (plain_session self.old) stop_down) self.old self.new result }
+        ensures { HasOutcome (cursor_moved (plain_session self.old) stop_down) self.old self.new result }
     {
         let to = down(&self.program.tree, &self.stop);
         self.go(to)
@@ -34,7 +34,7 @@ impl<W: Work> Session<W> {
     /// Moves the cursor to the stop before.
     pub(crate) fn move_left(&mut self) -> Answer
         requires { IsSession self.old }
-        ensures { AnswersKey (cursor_moved (plain_session self.old) stop_left) self.old self.new result }
+        ensures { HasOutcome (cursor_moved (plain_session self.old) stop_left) self.old self.new result }
     {
         let to = left(&self.program.tree, &self.stop);
         self.go(to)
@@ -43,7 +43,7 @@ impl<W: Work> Session<W> {
     /// Moves the cursor to the next stop.
     pub(crate) fn move_right(&mut self) -> Answer
         requires { IsSession self.old }
-        ensures { AnswersKey (cursor_moved (plain_session self.old) stop_right) self.old self.new result }
+        ensures { HasOutcome (cursor_moved (plain_session self.old) stop_right) self.old self.new result }
     {
         let to = right(&self.program.tree, &self.stop);
         self.go(to)
@@ -52,27 +52,27 @@ impl<W: Work> Session<W> {
     /// Goes to the first stop.
     pub(crate) fn go_to_top(&mut self) -> Answer
         requires { IsSession self.old }
-        ensures { AnswersKey (line_done (record (plain_session self.old) { stop = first_stop (plain_session self.old).tree.items })) self.old self.new result }
+        ensures { HasOutcome (line_acceptance_outcome (record (plain_session self.old) { stop = first_stop (plain_session self.old).tree.items })) self.old self.new result }
     {
         self.stop = top(&self.program.tree);
-        self.line_done()
+        self.accept_line()
     }
 
     /// Goes to the last stop.
     pub(crate) fn go_to_bottom(&mut self) -> Answer
         requires { IsSession self.old }
-        ensures { AnswersKey (line_done (record (plain_session self.old) { stop = last_stop (plain_session self.old).tree.items })) self.old self.new result }
+        ensures { HasOutcome (line_acceptance_outcome (record (plain_session self.old) { stop = last_stop (plain_session self.old).tree.items })) self.old self.new result }
     {
         self.stop = bottom(&self.program.tree);
-        self.line_done()
+        self.accept_line()
     }
 
     /// Lets the cursor go where a move leads, where nothing is typed.
     fn go(&mut self, to: Move) -> Answer
         requires session { IsSession self.old }
         requires stop { IfSome (moved_to to) (IsStop (plain_session self.old).tree.items) }
-        ensures { AnswersKey (if length self.old.typed.items == 0 then cursor_goes (plain_session self.old) (moved_to to)
-            else refused (plain_session self.old) Refusal.NotHere) self.old self.new result }
+        ensures { HasOutcome (if length self.old.typed.items == 0 then cursor_goes (plain_session self.old) (moved_to to)
+            else refusal_outcome (plain_session self.old) Refusal.NotHere) self.old self.new result }
     {
         if !self.typed.is_empty() {
             return self.refuse(Refusal::NotHere);
@@ -80,7 +80,7 @@ impl<W: Work> Session<W> {
         match to {
             Move::Moved(stop) => {
                 self.stop = stop;
-                self.done()
+                self.accept()
             }
             Move::AtEdge => self.refuse(Refusal::AtEdge),
         }

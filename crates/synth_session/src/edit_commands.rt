@@ -22,7 +22,7 @@ impl<W: Work> Session<W> {
         match self.program.change(alloc, &self.stop, edit) {
             Ok(changed) => {
                 self.stop = changed.stop;
-                Ok(self.line_done())
+                Ok(self.accept_line())
             }
             Err(TreeFault::OutOfMemory) => Err(OutOfMemory),
             Err(fault) => Ok(self.refuse(edit_refusal(fault))),

@@ -2,7 +2,7 @@
 ghost use Rattle.std.specs.Prelude.{◌≡◌};
 ghost use Rattle.template_tree.specs.Elision.{is_comment};
 ghost use Rattle.synth_session.specs.ElideCommand.{comment_turned, is_at_comment};
-ghost use Rattle.synth_session.specs.Private.KeyAnswer.{AnswersKey};
+ghost use Rattle.synth_session.specs.Private.MemorylessKey.{HasOutcome};
 ghost use Rattle.synth_session.specs.SessionView.{IsSession, plain_session};
 
 use crate::answer::{Answer, Refusal};
@@ -15,13 +15,13 @@ impl<W: Work> Session<W> {
     /// Hides the refinement of the comment at the cursor, or shows it again.
     pub(crate) fn turn_comment(&mut self) -> Answer
         requires { IsSession self.old }
-        ensures { AnswersKey (comment_turned (plain_session self.old)) self.old self.new result }
+        ensures { HasOutcome (comment_turned (plain_session self.old)) self.old self.new result }
     {
         if !self.is_at_comment() {
             return self.refuse(Refusal::NotHere);
         }
         self.program.turn(&self.stop.path);
-        self.line_done()
+        self.accept_line()
     }
 
     /// Whether the cursor stands on a comment, or at its text.

@@ -1,18 +1,17 @@
 //! The program with all that depends on it, and the four steps of its edits.
-ghost use Rattle.std.specs.Prelude.{◌≡◌, true, IfErr, IfOk, IfSome, IsSome, None, Some, option_map};
+ghost use Rattle.std.specs.Prelude.{◌≡◌, true, IfErr, IfOk, IfSome, IsSome, None, option_map};
 ghost use Rattle.template_tree.specs.Elision.{with_turn_at};
 ghost use Rattle.template_tree.specs.PlainTree.{roomless_node, roomless_tree};
 ghost use Rattle.template_tree.specs.Program.{IsSubtree};
 ghost use Rattle.template_tree.specs.Stop.{IsStop, plain_stop};
 ghost use Rattle.template_tree.specs.Tree.{IsTree};
 ghost use Rattle.unparse_layout.specs.Agreement.{IsLayoutOf};
-ghost use Rattle.clip_store.specs.PlainFragment.{IsFragment, plain_fragment, roomless_fragment};
 ghost use Rattle.session_edit.specs.Edited.{Edited, edited};
 ghost use Rattle.session_edit.specs.Here.{takes_at};
-ghost use Rattle.session_edit.specs.PlainEdit.{BringsWhatMayStand, PlainEdit, plain_edit};
-ghost use Rattle.synth_session.specs.ClipCommands.{fragment_there};
+ghost use Rattle.session_edit.specs.PlainEdit.{BringsWhatMayStand, plain_edit};
 ghost use Rattle.synth_session.specs.SessionView.{Agrees};
-ghost use Rattle.synth_session.specs.Private.EditFault.{HasBecome, IsEditFault};
+ghost use Rattle.synth_session.specs.Private.EditFault.{IsEditFault};
+ghost use Rattle.synth_session.specs.Private.TakenFragment.{TakesOut};
 
 use crate::clip_commands::copy_phrase_at;
 use clip_store::Fragment;
@@ -107,16 +106,7 @@ impl<W: Work> Program<W> {
         requires agrees { Agrees self.old }
         requires stop { IsStop (roomless_tree self.old.tree).items (plain_stop at.now) }
         requires taken { takes_at (roomless_tree self.old.tree) (plain_stop at.now) ≡ true }
-        ensures agrees { Agrees self.new }
-        ensures became { IfOk result (λ taken. HasBecome (edited (roomless_tree self.old.tree) (plain_stop at.now) PlainEdit.take)
-            (roomless_tree self.new.tree) (plain_stop taken.stop)) }
-        ensures fragment { IfOk result (λ taken.
-            fragment_there (roomless_tree self.old.tree) (plain_stop at.now) at.now.part
-            ≡ Some (roomless_fragment (plain_fragment taken.fragment))) }
-        ensures stop { IfOk result (λ taken. IsStop (roomless_tree self.new.tree).items (plain_stop taken.stop)) }
-        ensures sound { IfOk result (λ taken. IsFragment (plain_fragment taken.fragment)) }
-        ensures refused { IfErr result (IsEditFault (edited (roomless_tree self.old.tree) (plain_stop at.now) PlainEdit.take)) }
-        ensures same { IfErr result (λ _. roomless_tree self.new.tree ≡ roomless_tree self.old.tree) }
+        ensures { TakesOut self.old self.new at.now result }
     {
         match at.part {
             None => self.take_node(alloc, at),
@@ -130,16 +120,7 @@ impl<W: Work> Program<W> {
         requires stop { IsStop (roomless_tree self.old.tree).items (plain_stop at.now) }
         requires node { at.now.part ≡ None }
         requires taken { takes_at (roomless_tree self.old.tree) (plain_stop at.now) ≡ true }
-        ensures agrees { Agrees self.new }
-        ensures became { IfOk result (λ taken. HasBecome (edited (roomless_tree self.old.tree) (plain_stop at.now) PlainEdit.take)
-            (roomless_tree self.new.tree) (plain_stop taken.stop)) }
-        ensures fragment { IfOk result (λ taken.
-            fragment_there (roomless_tree self.old.tree) (plain_stop at.now) at.now.part
-            ≡ Some (roomless_fragment (plain_fragment taken.fragment))) }
-        ensures stop { IfOk result (λ taken. IsStop (roomless_tree self.new.tree).items (plain_stop taken.stop)) }
-        ensures sound { IfOk result (λ taken. IsFragment (plain_fragment taken.fragment)) }
-        ensures refused { IfErr result (IsEditFault (edited (roomless_tree self.old.tree) (plain_stop at.now) PlainEdit.take)) }
-        ensures same { IfErr result (λ _. roomless_tree self.new.tree ≡ roomless_tree self.old.tree) }
+        ensures { TakesOut self.old self.new at.now result }
     {
         let Changed { stop, taken, .. } = self.change(alloc, at, Edit::Take)?;
         match taken {
@@ -157,16 +138,7 @@ impl<W: Work> Program<W> {
         requires stop { IsStop (roomless_tree self.old.tree).items (plain_stop at.now) }
         requires part { IsSome at.now.part }
         requires taken { takes_at (roomless_tree self.old.tree) (plain_stop at.now) ≡ true }
-        ensures agrees { Agrees self.new }
-        ensures became { IfOk result (λ taken. HasBecome (edited (roomless_tree self.old.tree) (plain_stop at.now) PlainEdit.take)
-            (roomless_tree self.new.tree) (plain_stop taken.stop)) }
-        ensures fragment { IfOk result (λ taken.
-            fragment_there (roomless_tree self.old.tree) (plain_stop at.now) at.now.part
-            ≡ Some (roomless_fragment (plain_fragment taken.fragment))) }
-        ensures stop { IfOk result (λ taken. IsStop (roomless_tree self.new.tree).items (plain_stop taken.stop)) }
-        ensures sound { IfOk result (λ taken. IsFragment (plain_fragment taken.fragment)) }
-        ensures refused { IfErr result (IsEditFault (edited (roomless_tree self.old.tree) (plain_stop at.now) PlainEdit.take)) }
-        ensures same { IfErr result (λ _. roomless_tree self.new.tree ≡ roomless_tree self.old.tree) }
+        ensures { TakesOut self.old self.new at.now result }
     {
         let Some(phrase) = copy_phrase_at(alloc, &self.tree, at)? else {
             return Err(TreeFault::OutOfMemory);

@@ -1,4 +1,4 @@
-//! The screen that is shown, and the one that is drawn to be shown next.
+//! The screen that is shown, and the one that is shown next.
 ghost use Rattle.std.specs.Prelude.{◌≡◌, ◌+◌, ◌≤◌, ◌<◌, ◌^◌, IfOk, OnErr, OnOk};
 ghost use Rattle.template_tree.specs.Tree.{IsTree};
 ghost use Rattle.unparse_layout.specs.Agreement.{IsLayoutOf};
@@ -17,11 +17,11 @@ use std::marker::Model;
 use std::mem;
 use synth_outside::{Sink, SinkFault};
 
-/// The screen that was painted last, and the one that was drawn last; they have one size.
+/// The screen that was painted last, and the one that is painted next; they have one size.
 #[derive(Drop)]
 pub struct Screens {
     shown: Grid,
-    drawn: Grid,
+    next: Grid,
 }
 
 impl Model for Screens {
@@ -29,21 +29,21 @@ impl Model for Screens {
 
     ghost Value = { PlainScreens };
 
-    ghost view = { λ screens. record { shown = screens.shown; drawn = screens.drawn } };
+    ghost view = { λ screens. record { shown = screens.shown; next = screens.next } };
 
-    ghost invariant = { λ screens. HaveOneSize screens.shown screens.drawn };
+    ghost invariant = { λ screens. HaveOneSize screens.shown screens.next };
 }
 
 impl Screens {
     /// Two blank screens.
     pub(crate) fn new(alloc: Global, size: ScreenSize) -> Result<Screens, OutOfMemory>
         ensures shown { IfOk result (λ screens. screens.shown ≡ blank_grid size.rows size.cols) }
-        ensures drawn { IfOk result (λ screens. screens.drawn ≡ blank_grid size.rows size.cols) }
+        ensures next { IfOk result (λ screens. screens.next ≡ blank_grid size.rows size.cols) }
     {
         let (rows, cols) = (size.rows(), size.cols());
         Ok(Screens {
             shown: Grid::new(alloc, rows, cols)?,
-            drawn: Grid::new(alloc, rows, cols)?,
+            next: Grid::new(alloc, rows, cols)?,
         })
     }
 
@@ -55,12 +55,21 @@ impl Screens {
         self.shown.rows() - OTHER_ROWS
     }
 
+    /// The screen that was painted last.
+    #[cfg(test)]
+    pub(crate) fn shown(&self) -> &Grid
+        ensures { result.now ≡ self.now.shown }
+    {
+        let _ = &self.next;
+        &self.shown
+    }
+
     /// Draws a view on the screen that is shown next.
     pub(crate) fn draw<W: Work, M: Marked>(&mut self, view: &View<'_, W, M>, work: &mut W)
         requires tree { IsTree view.now.tree.now }
         requires layout { IsLayoutOf view.now.layout.now view.now.tree.now }
         requires top { view.now.top + MOST_ROWS < 2 ^ 32 }
-        ensures drawn { self.new.drawn ≡ Screen self.old.shown.rows self.old.shown.cols (plain_view M.marks view.now) }
+        ensures next { self.new.next ≡ Screen self.old.shown.rows self.old.shown.cols (plain_view M.marks view.now) }
         ensures shown { self.new.shown ≡ self.old.shown }
         ensures laid { W.laid work.new ≤ W.laid work.old + window_rows self.old.shown.rows }
         ensures lays { W.laid work.old ≤ W.laid work.new }
@@ -68,21 +77,21 @@ impl Screens {
         ensures checked { W.checked work.new ≡ W.checked work.old }
         ensures fetched { W.fetched work.new ≡ W.fetched work.old }
     {
-        let _ = self.drawn.rows();
-        compose(&mut self.drawn, view, work);
+        let _ = self.next.rows();
+        compose(&mut self.next, view, work);
     }
 
-    /// Paints the screen that was drawn over the one that is shown, and shows it then.
+    /// Paints the next screen over the one that is shown, and shows it then.
     pub(crate) fn paint<K: Sink>(&mut self, sink: &mut K) -> Result<(), SinkFault>
-        ensures wrote { Writes (Paint self.old.shown self.old.drawn) result
+        ensures wrote { Writes (Paint self.old.shown self.old.next) result
             (K.taken sink.old) (K.taken sink.new) (K.faults sink.old) (K.faults sink.new) }
-        ensures shown { OnOk result (self.new.shown ≡ self.old.drawn) }
+        ensures shown { OnOk result (self.new.shown ≡ self.old.next) }
         ensures failed { OnErr result (self.new ≡ self.old) }
         ensures rows { self.new.shown.rows ≡ self.old.shown.rows }
         ensures cols { self.new.shown.cols ≡ self.old.shown.cols }
     {
-        paint(&self.shown, &self.drawn, sink)?;
-        mem::swap(&mut self.shown, &mut self.drawn);
+        paint(&self.shown, &self.next, sink)?;
+        mem::swap(&mut self.shown, &mut self.next);
         Ok(())
     }
 }

@@ -7,11 +7,11 @@ ghost use Rattle.template_tree.specs.Slots.{count};
 ghost use Rattle.template_tree.specs.Stop.{IsStop, plain_stop};
 ghost use Rattle.template_tree.specs.Tree.{IsTree};
 ghost use Rattle.screen_window.specs.PlainGrid.{blank_grid};
-ghost use Rattle.synth_session.specs.Outcome.{done, line_done, refused};
+ghost use Rattle.synth_session.specs.KeyOutcome.{acceptance_outcome, line_acceptance_outcome, refusal_outcome};
 ghost use Rattle.synth_session.specs.OpenedSession.{new_tree, opened_session, session_over, stop_at_first};
 ghost use Rattle.synth_session.specs.RefusalText.{refusal_text};
-ghost use Rattle.synth_session.specs.Private.KeyAnswer.{AnswersKey};
-ghost use Rattle.synth_session.specs.SessionView.{Agrees, IsPlaced, IsSession, drawn_grid, plain_session, shown_grid};
+ghost use Rattle.synth_session.specs.Private.MemorylessKey.{HasOutcome};
+ghost use Rattle.synth_session.specs.SessionView.{Agrees, IsPlaced, IsSession, next_grid, plain_session, shown_grid};
 
 use crate::answer::{Answer, Refusal, Tick};
 use crate::program::Program;
@@ -53,7 +53,7 @@ impl<W: Work> Session<W> {
         ensures session { IfOk result (λ session. IsSession session) }
         ensures opened { IfOk result (λ session. plain_session session ≡ opened_session size (option_map roomless_tree tree)) }
         ensures shown { IfOk result (λ session. shown_grid session ≡ blank_grid size.rows size.cols) }
-        ensures drawn { IfOk result (λ session. drawn_grid session ≡ blank_grid size.rows size.cols) }
+        ensures next { IfOk result (λ session. next_grid session ≡ blank_grid size.rows size.cols) }
     {
         match tree {
             Some(tree) => {
@@ -79,7 +79,7 @@ impl<W: Work> Session<W> {
         ensures session { IfOk result (λ session. IsSession session) }
         ensures opened { IfOk result (λ session. plain_session session ≡ session_over size (roomless_tree tree) (plain_stop stop)) }
         ensures shown { IfOk result (λ session. shown_grid session ≡ blank_grid size.rows size.cols) }
-        ensures drawn { IfOk result (λ session. drawn_grid session ≡ blank_grid size.rows size.cols) }
+        ensures next { IfOk result (λ session. next_grid session ≡ blank_grid size.rows size.cols) }
     {
         let screens = Screens::new(alloc, size)?;
         let clips = Clips::new(alloc)?;
@@ -93,7 +93,7 @@ impl<W: Work> Session<W> {
             message: None,
             screens,
         };
-        let _ = session.done();
+        let _ = session.accept();
         Ok(session)
     }
 
@@ -121,7 +121,7 @@ impl<W: Work> Session<W> {
         ensures session { IsSession self.new }
         ensures message { plain_session self.new ≡ record (plain_session self.old) { message = refusal_text refusal } }
         ensures shown { shown_grid self.new ≡ shown_grid self.old }
-        ensures drawn { drawn_grid self.new ≡ drawn_grid self.old }
+        ensures next { next_grid self.new ≡ next_grid self.old }
     {
         self.message = refusal.message();
     }
@@ -141,17 +141,17 @@ impl<W: Work> Session<W> {
     /// Refuses a key, which changes the message alone.
     pub(crate) fn refuse(&mut self, why: Refusal) -> Answer
         requires { IsSession self.old }
-        ensures { AnswersKey (refused (plain_session self.old) why) self.old self.new result }
+        ensures { HasOutcome (refusal_outcome (plain_session self.old) why) self.old self.new result }
     {
         self.message = why.message();
         Answer::Refused(why)
     }
 
     /// Ends a key that was taken: no message is shown, and the window follows the cursor.
-    pub(crate) fn done(&mut self) -> Answer
+    pub(crate) fn accept(&mut self) -> Answer
         requires agrees { Agrees self.old.program }
         requires placed { IsPlaced (plain_session self.old) }
-        ensures { AnswersKey (done (plain_session self.old)) self.old self.new result }
+        ensures { HasOutcome (acceptance_outcome (plain_session self.old)) self.old self.new result }
     {
         let line = self.program.layout.line_of(&self.program.tree, &self.stop);
         self.top = top_for(self.screens.window_rows(), self.top, line);
@@ -160,13 +160,13 @@ impl<W: Work> Session<W> {
     }
 
     /// Ends a key that took the whole typed line.
-    pub(crate) fn line_done(&mut self) -> Answer
+    pub(crate) fn accept_line(&mut self) -> Answer
         requires agrees { Agrees self.old.program }
         requires placed { IsPlaced (plain_session self.old) }
-        ensures { AnswersKey (line_done (plain_session self.old)) self.old self.new result }
+        ensures { HasOutcome (line_acceptance_outcome (plain_session self.old)) self.old self.new result }
     {
         self.typed.clear();
-        self.done()
+        self.accept()
     }
 }
 

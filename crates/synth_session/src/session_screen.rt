@@ -9,7 +9,7 @@ ghost use Rattle.screen_window.specs.Screen.{Screen, window_rows};
 ghost use Rattle.screen_window.specs.Writes.{Writes};
 ghost use Rattle.synth_session.specs.RefusalText.{shown_message};
 ghost use Rattle.synth_session.specs.SessionScreen.{grid, no_marks, prompt, sort_word, word_at};
-ghost use Rattle.synth_session.specs.SessionView.{Agrees, IsSession, drawn_grid, plain_session, shown_grid};
+ghost use Rattle.synth_session.specs.SessionView.{Agrees, IsSession, next_grid, plain_session, shown_grid};
 
 use crate::program::Program;
 use crate::screens::Screens;
@@ -30,7 +30,7 @@ impl<W: Work> Session<W> {
     pub fn draw(&mut self, work: &mut W)
         requires { IsSession self.old }
         ensures session { IsSession self.new }
-        ensures drawn { drawn_grid self.new ≡ grid (plain_session self.old) }
+        ensures next { next_grid self.new ≡ grid (plain_session self.old) }
         ensures shown { shown_grid self.new ≡ shown_grid self.old }
         ensures same { plain_session self.new ≡ plain_session self.old }
         ensures laid { W.laid work.new ≤ W.laid work.old + window_rows (plain_session self.old).size.rows }
@@ -57,9 +57,9 @@ impl<W: Work> Session<W> {
     pub fn paint<K: Sink>(&mut self, sink: &mut K) -> Result<(), SinkFault>
         requires { IsSession self.old }
         ensures session { IsSession self.new }
-        ensures wrote { Writes (Paint (shown_grid self.old) (drawn_grid self.old)) result
+        ensures wrote { Writes (Paint (shown_grid self.old) (next_grid self.old)) result
             (K.taken sink.old) (K.taken sink.new) (K.faults sink.old) (K.faults sink.new) }
-        ensures shown { OnOk result (shown_grid self.new ≡ drawn_grid self.old) }
+        ensures shown { OnOk result (shown_grid self.new ≡ next_grid self.old) }
         ensures failed { OnErr result (shown_grid self.new ≡ shown_grid self.old) }
         ensures same { plain_session self.new ≡ plain_session self.old }
     {
@@ -90,7 +90,7 @@ fn draw_on<'a, W: Work>(
 )
     requires agrees { Agrees program.now }
     requires top { top ≤ 4 * most_slots }
-    ensures drawn { screens.new.drawn ≡ Screen screens.old.shown.rows screens.old.shown.cols (record {
+    ensures next { screens.new.next ≡ Screen screens.old.shown.rows screens.old.shown.cols (record {
       items = (roomless_tree program.entry.now.tree).items;
       marks = no_marks;
       stop = plain_stop stop.entry.now;

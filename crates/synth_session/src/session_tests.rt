@@ -1,10 +1,12 @@
 //! Sessions played key by key on a screen of 12 rows and 40 columns.
-ghost use Rattle.std.specs.Prelude.{IfOk};
-ghost use Rattle.synth_session.specs.SessionView.{IsSession};
+ghost use Rattle.std.specs.Prelude.{◌≡◌, IfOk};
+ghost use Rattle.screen_window.specs.PlainGrid.{blank_grid};
+ghost use Rattle.synth_session.specs.SessionView.{IsSession, plain_session, shown_grid};
 
 use super::*;
 use phrase_parser::PhraseFault;
-use plcs_base::{ByteOut, Counts};
+use plcs_base::{ByteOut, Counts, Slot};
+use screen_window::{Grid, Terminal};
 use std::alloc::Global;
 use std::test::Fail;
 use synth_outside::MemSink;
@@ -45,7 +47,8 @@ fn key_of(byte: u8) -> Key {
 
 /// A session over a new program.
 fn opened(alloc: Global) -> Result<Session<Counts>, Fail>
-    ensures { IfOk result (λ session. IsSession session) }
+    ensures session { IfOk result (λ session. IsSession session) }
+    ensures shown { IfOk result (λ session. shown_grid session ≡ blank_grid 12 40) }
 {
     let session = Session::open(alloc, ScreenSize::new(12, 40), None).map_err(|_| "a session")?;
     Ok(session)
@@ -211,5 +214,161 @@ fn a_refusal_is_shown_and_painted(rt: HostRuntime) -> Result<(), Fail> {
     let before = sink.bytes().len();
     assert!(rt; session.paint(&mut sink).is_ok());
     assert!(rt; &sink.bytes()[before..] == b"\x1b[11;1HTREE TOO LARGE\x1b[K\x1b[3;5H".as_slice());
+    Ok(())
+}
+
+/// Some keys, a slot, and the path at which it stands behind them in the session that the rows before left, or
+/// an empty path where it isn't live.
+type SlotRow = (&'static [u8], u32, &'static [u32]);
+
+/// A copy is inserted after a node and a hole before it, and the hole is deleted; its slot isn't drawn again.
+const COPIED: [SlotRow; 10] = [
+    (b".put\r1\r\x03.copy\r.after\r.insert\r", 2, &[0, 1]),
+    (b"", 4, &[0, 2]),
+    (b"", 5, &[]),
+    (b".before\r", 5, &[0, 2]),
+    (b"", 4, &[0, 3]),
+    (b".del\r", 5, &[]),
+    (b"", 2, &[0, 1]),
+    (b"", 4, &[0, 2]),
+    (b"", 6, &[]),
+    (b".after\r", 6, &[0, 3]),
+];
+
+/// Whether the slot stands at the path, or isn't live where that is empty.
+fn stands_at(session: &Session<Counts>, slot: u32, path: &[u32]) -> bool
+    requires { IsSession session.now }
+{
+    match session.program.tree.path_of(Slot(slot)) {
+        Some(found) => found.as_slice() == path,
+        None => path.is_empty(),
+    }
+}
+
+/// The number of the first row behind whose keys its slot doesn't stand where it says, if there is one.
+fn first_misplaced(
+    alloc: Global,
+    session: &mut Session<Counts>,
+    rows: &[SlotRow],
+    k: usize,
+) -> Result<Option<usize>, Fail>
+    requires { IsSession session.old }
+    ensures { IsSession session.new }
+{
+    let Some((row, rest)) = rows.split_first() else {
+        return Ok(None);
+    };
+    let _ = press_all(alloc, session, row.0, Answer::Done)?;
+    if !stands_at(session, row.1, row.2) {
+        return Ok(Some(k));
+    }
+    first_misplaced(alloc, session, rest, k.saturating_add(1))
+}
+
+/// The listing behind the copy, and again behind the deletion.
+const TWO_PUTS: &[u8] =
+    b"main: PROCEDURE OPTIONS ( MAIN );\n  {declaration}\n  PUT LIST ( 1 );\n  PUT LIST ( 1 );\nEND;\n{procedure}\n";
+
+#[test]
+fn a_copy_draws_slots(rt: HostRuntime) -> Result<(), Fail> {
+    let mut session = opened(rt.alloc())?;
+    assert!(rt; first_misplaced(rt.alloc(), &mut session, &COPIED[..3], 0)? == None);
+    assert!(rt; is_listed(&session, TWO_PUTS));
+    assert!(rt; first_misplaced(rt.alloc(), &mut session, &COPIED[3..9], 3)? == None);
+    assert!(rt; is_listed(&session, TWO_PUTS));
+    assert!(rt; first_misplaced(rt.alloc(), &mut session, &COPIED[9..], 9)? == None);
+    Ok(())
+}
+
+/// Whether a terminal shows a grid, with its cursor.
+fn shows(terminal: &Terminal, grid: &Grid) -> bool
+    requires { terminal.now.rows ≡ grid.now.rows }
+{
+    let mut same = terminal.cursor() == grid.cursor();
+    for row in 0..grid.rows() {
+        same = same && terminal.cells(row + 1) == grid.cells(row + 1);
+    }
+    same
+}
+
+/// Draws the session's screen and paints it on a terminal, and tells whether that shows it then.
+fn is_painted(
+    alloc: Global,
+    session: &mut Session<Counts>,
+    terminal: &mut Terminal,
+) -> Result<bool, Fail>
+    requires session { IsSession session.old }
+    requires rows { terminal.old.rows ≡ (plain_session session.old).size.rows }
+    ensures session { IsSession session.new }
+    ensures rows { terminal.new.rows ≡ (plain_session session.new).size.rows }
+{
+    let mut work = Counts::default();
+    let mut sink = MemSink::new(alloc, Vec::new(alloc));
+    session.draw(&mut work);
+    session.paint(&mut sink).map_err(|_| "a paint")?;
+    terminal.take(sink.bytes());
+    Ok(shows(terminal, session.screens.shown()))
+}
+
+/// The number of the first of these keys behind which the terminal doesn't show the session's screen, if there
+/// is one.
+fn other_screen(
+    alloc: Global,
+    session: &mut Session<Counts>,
+    terminal: &mut Terminal,
+    keys: &[u8],
+    k: usize,
+) -> Result<Option<usize>, Fail>
+    requires session { IsSession session.old }
+    requires rows { terminal.old.rows ≡ (plain_session session.old).size.rows }
+    ensures session { IsSession session.new }
+    ensures rows { terminal.new.rows ≡ (plain_session session.new).size.rows }
+{
+    let Some((byte, rest)) = keys.split_first() else {
+        return Ok(None);
+    };
+    let _ = session.press(alloc, key_of(*byte)).map_err(|_| "memory")?;
+    if !is_painted(alloc, session, terminal)? {
+        return Ok(Some(k));
+    }
+    other_screen(alloc, session, terminal, rest, k.saturating_add(1))
+}
+
+/// The number of the first row of which the terminal doesn't show each screen, if there is one.
+fn other_screens(
+    alloc: Global,
+    session: &mut Session<Counts>,
+    terminal: &mut Terminal,
+    rows: &[Row],
+    k: usize,
+) -> Result<Option<usize>, Fail>
+    requires session { IsSession session.old }
+    requires rows { terminal.old.rows ≡ (plain_session session.old).size.rows }
+{
+    let Some((row, rest)) = rows.split_first() else {
+        return Ok(None);
+    };
+    if other_screen(alloc, session, terminal, row.0, 0)? != None {
+        return Ok(Some(k));
+    }
+    other_screens(alloc, session, terminal, rest, k.saturating_add(1))
+}
+
+#[test]
+fn a_terminal_shows_each_screen_of_the_stored_run(rt: HostRuntime) -> Result<(), Fail> {
+    let mut session = opened(rt.alloc())?;
+    let mut terminal = Terminal::new(rt.alloc(), 12, 40).map_err(|_| "a terminal")?;
+    assert!(rt; is_painted(rt.alloc(), &mut session, &mut terminal)?);
+    let keys = b".put\r7\r.quit\r";
+    assert!(rt; other_screen(rt.alloc(), &mut session, &mut terminal, keys, 0)? == None);
+    Ok(())
+}
+
+#[test]
+fn a_terminal_shows_each_screen_of_the_rows(rt: HostRuntime) -> Result<(), Fail> {
+    let mut session = opened(rt.alloc())?;
+    let mut terminal = Terminal::new(rt.alloc(), 12, 40).map_err(|_| "a terminal")?;
+    assert!(rt; is_painted(rt.alloc(), &mut session, &mut terminal)?);
+    assert!(rt; other_screens(rt.alloc(), &mut session, &mut terminal, &ROWS, 0)? == None);
     Ok(())
 }

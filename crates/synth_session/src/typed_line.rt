@@ -5,7 +5,7 @@ ghost use Rattle.plcs_grammar.specs.PlainPhrase.{plain_phrase};
 ghost use Rattle.template_tree.specs.PlainTree.{roomless_tree};
 ghost use Rattle.template_tree.specs.Stop.{plain_stop};
 ghost use Rattle.template_tree.specs.Tree.{IsTree};
-ghost use Rattle.synth_session.specs.Private.KeyAnswer.{AnswersKey};
+ghost use Rattle.synth_session.specs.Private.MemorylessKey.{HasOutcome};
 ghost use Rattle.synth_session.specs.SessionView.{IsSession, plain_session};
 ghost use Rattle.synth_session.specs.TypedLine.{char_typed, cursor_phrase, last_erased, line_cleared, phrase_typed};
 
@@ -13,7 +13,8 @@ use crate::answer::{Answer, Refusal};
 use crate::session::Session;
 use arrayvec::ArrayVec;
 use plcs_base::{ByteOut, Work};
-use plcs_grammar::{NodeKind, Phrase, show, shown_len};
+use plcs_grammar::{Phrase, show, shown_len};
+use screen_window::cursor_part;
 use template_tree::{PhrasePlace, Stop, Tree, room_is_not_shown};
 
 /// How many bytes the typed line holds.
@@ -23,40 +24,40 @@ impl<W: Work> Session<W> {
     /// Appends a byte to the typed line.
     pub(crate) fn type_char(&mut self, byte: u8) -> Answer
         requires { IsSession self.old }
-        ensures { AnswersKey (char_typed (plain_session self.old) byte) self.old self.new result }
+        ensures { HasOutcome (char_typed (plain_session self.old) byte) self.old self.new result }
     {
         if self.typed.is_full() {
             return self.refuse(Refusal::PhraseFull);
         }
         self.typed.push(byte);
-        self.done()
+        self.accept()
     }
 
     /// Takes the last byte of the typed line back.
     pub(crate) fn erase(&mut self) -> Answer
         requires { IsSession self.old }
-        ensures { AnswersKey (last_erased (plain_session self.old)) self.old self.new result }
+        ensures { HasOutcome (last_erased (plain_session self.old)) self.old self.new result }
     {
         if self.typed.is_empty() {
             return self.refuse(Refusal::NotHere);
         }
         let _ = self.typed.pop();
-        self.done()
+        self.accept()
     }
 
     /// Takes the whole typed line back.
     pub(crate) fn clear(&mut self) -> Answer
         requires { IsSession self.old }
-        ensures { AnswersKey (line_cleared (plain_session self.old)) self.old self.new result }
+        ensures { HasOutcome (line_cleared (plain_session self.old)) self.old self.new result }
     {
         self.typed.clear();
-        self.done()
+        self.accept()
     }
 
     /// Takes the text of the phrase at the cursor into the empty line.
     pub(crate) fn type_phrase(&mut self) -> Answer
         requires { IsSession self.old }
-        ensures { AnswersKey (phrase_typed (plain_session self.old)) self.old self.new result }
+        ensures { HasOutcome (phrase_typed (plain_session self.old)) self.old self.new result }
     {
         if !self.typed.is_empty() {
             return self.refuse(Refusal::NotHere);
@@ -68,7 +69,7 @@ impl<W: Work> Session<W> {
             return self.refuse(Refusal::PhraseFull);
         };
         self.typed = text;
-        self.done()
+        self.accept()
     }
 }
 
@@ -80,12 +81,7 @@ pub(crate) fn phrase_at<'a>(tree: &'a Tree, stop: &Stop) -> Option<&'a Phrase>
 {
     room_is_not_shown();
     let node = tree.node(&stop.path)?;
-    let part = match stop.part {
-        Some(part) => part,
-        None if node.kind() == NodeKind::Assign => 0,
-        None => return None,
-    };
-    match node.part(part) {
+    match node.part(cursor_part(node.kind(), stop.part)?) {
         Some(PhrasePlace::Filled(phrase)) => Some(phrase),
         _ => None,
     }

@@ -20,7 +20,7 @@ use Rattle.synth_top.specs.Run.{Told, NoRescue, EndRead, LimitTaken, IsFront, Is
 use Rattle.synth_top.specs.Reply.{Reply}
 use Rattle.synth_top.specs.Turn.{State, PressedKey, ends, grids, turn}
 use Rattle.synth_top.specs.Options.{PlainOptions}
-use Rattle.synth_top.proofs.Courses.{Opened, InTurn, first_session, told_at, all_course, all_going, all_takes, last_course, at_last, one_byte, last_ends, last_all}
+use Rattle.synth_top.proofs.Courses.{Opened, InTurn, told_at, all_course, all_going, all_takes, last_course, at_last, one_byte, last_ends, last_all}
 use Rattle.synth_top.proofs.KeysInOrder.{keys_pressed-append, after_more, both_shown, then_up_to, front_behind, wanted_behind, ends_more, painted_more}
 use Rattle.synth_top.proofs.OneKey.{none_shown}
 

@@ -5,7 +5,7 @@ use Rattle.screen_window.specs.PlainGrid.{PlainGrid}
 use Rattle.synth_session.specs.declared.answer.Answer.{Answer}
 use Rattle.synth_session.specs.declared.answer.Answer.TheVariants.{Done, Refused, Quit}
 use Rattle.synth_session.specs.declared.key.Key.{Key}
-use Rattle.synth_session.specs.Outcome.{Outcome}
+use Rattle.synth_session.specs.KeyOutcome.{KeyOutcome}
 use Rattle.synth_session.specs.PlainSession.{PlainSession}
 use Rattle.synth_session.specs.Press.{press}
 use Rattle.synth_session.specs.SessionScreen.{grid}
@@ -42,7 +42,7 @@ pub record Turn : Type 0 where
   pub ends : Bool
 
 -- the turn of a key with this outcome: one screen, but none where the session ends
-abbrev pub turn_with : State → Outcome → Turn
+abbrev pub turn_with : State → KeyOutcome → Turn
 turn_with state outcome = record {
   grids = if is_quit outcome.answer then [] else grid outcome.after ∷ [];
   after = record state { session = outcome.after };

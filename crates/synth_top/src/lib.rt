@@ -12,6 +12,7 @@ mod number;
 mod options;
 mod run;
 mod status;
+mod words;
 
 pub use key::{KeyReader, Keys};
 use options::Options;
@@ -21,6 +22,7 @@ pub use status::Status;
 use std::alloc::Global;
 use synth_outside::{Files, Sink, Source};
 pub use synth_session::Key;
+pub use words::words_of;
 
 /// Edits a program: reads the words that follow the program's name, and then writes the opening
 /// screen and one screen after each key to the screen's sink, until a key ends the session or the

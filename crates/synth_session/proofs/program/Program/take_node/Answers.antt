@@ -1,24 +1,27 @@
-use Rattle.std.proofs.Common.{option_map, sym, ap, ◌∙◌}
+use Rattle.std.proofs.Common.{rules, option_map, sym, ap, ◌∙◌}
 use Rattle.template_tree.specs.PlainTree.{roomless_node, roomless_tree}
 use Rattle.template_tree.specs.Stop.{plain_stop}
 use Rattle.synth_session.proofs.ClipFragments.{fragment_given, node_there}
 use Rattle.synth_session.proofs.TakenNodes.{node_taken}
 use Rattle.synth_session.proofs.program.Program.take_node.Goals as goal
 
-pub returns-in-Some-clause-fragment : goal.returns-in-Some-clause-fragment
-returns-in-Some-clause-fragment g c =
-    fragment_given (roomless_tree c.args.self.now.tree) (plain_stop c.args.at.now) (roomless_node c.in-Some.node) c.requires.node
-    (sym (ap (option_map roomless_node) c.in-Some.is)
-    ∙ node_taken (roomless_tree c.args.self.now.tree) (plain_stop c.args.at.now) c.requires.node c.in_ok-stop.ensures.became)
+pub returns-in-Some : goal.returns-in-Some
+returns-in-Some g c =
+    record {
+      agrees = c.in_ok-stop.ensures.agrees;
+      became = search rules;
+      fragment =
+          fragment_given (roomless_tree c.args.self.now.tree) (plain_stop c.args.at.now) (roomless_node c.in-Some.node) c.requires.node
+          (sym (ap (option_map roomless_node) c.in-Some.is)
+          ∙ node_taken (roomless_tree c.args.self.now.tree) (plain_stop c.args.at.now) c.requires.node c.in_ok-stop.ensures.became);
+      stop = c.in_ok-stop.ensures.stop;
+      sound = search rules;
+      refused = tt;
+      same = tt;
+    }
 
-pub returns-in-None-clause-refused : goal.returns-in-None-clause-refused
-returns-in-None-clause-refused g c =
-    absurd (node_there (roomless_tree c.args.self.now.tree) (plain_stop c.args.at.now) c.requires.node c.requires.taken
-    (sym (ap (option_map roomless_node) c.in-None.is)
-    ∙ node_taken (roomless_tree c.args.self.now.tree) (plain_stop c.args.at.now) c.requires.node c.in_ok-stop.ensures.became))
-
-pub returns-in-None-clause-same : goal.returns-in-None-clause-same
-returns-in-None-clause-same g c =
+pub returns-in-None : goal.returns-in-None
+returns-in-None g c =
     absurd (node_there (roomless_tree c.args.self.now.tree) (plain_stop c.args.at.now) c.requires.node c.requires.taken
     (sym (ap (option_map roomless_node) c.in-None.is)
     ∙ node_taken (roomless_tree c.args.self.now.tree) (plain_stop c.args.at.now) c.requires.node c.in_ok-stop.ensures.became))

@@ -4,8 +4,8 @@ use Rattle.template_tree.specs.Stop.{IsStop, plain_stop}
 use Rattle.synth_session.proofs.TurnedStops.{turned_stop}
 use Rattle.synth_session.proofs.session.Session.turn_comment.Goals as goal
 
-pub line_done-requires-clause-placed : goal.line_done-requires-clause-placed
-line_done-requires-clause-placed c c' =
+pub accept_line-requires-clause-placed : goal.accept_line-requires-clause-placed
+accept_line-requires-clause-placed c c' =
     record {
       stop = subst (λ (t : PlainTree). IsStop t.items (plain_stop c'.args.self.now.stop)) (sym c'.turn.ensures.turned)
           (turned_stop (roomless_tree c'.args.self.now.program.tree).items (plain_stop c'.args.self.now.stop) c'.requires.placed.stop);

@@ -1,4 +1,4 @@
-use Rattle.std.proofs.Common.{◌≡◌, ap, refl, arith, inl, inr, Err}
+use Rattle.std.proofs.Common.{ap, refl, arith, inl, inr, Err}
 use Rattle.synth_session.specs.PlainScreens.{PlainScreens}
 use Rattle.synth_session.specs.PlainSession.{PlainSession}
 use Rattle.synth_top.proofs.OneKey.{is_pressed, one_shown, one_quit, one_cut, one_wanted}

@@ -1,0 +1,25 @@
+-- What a key comes to.
+use Rattle.std.specs.Prelude.{[]}
+use Rattle.synth_session.specs.declared.answer.Answer.{Answer}
+use Rattle.synth_session.specs.declared.answer.Refusal.{Refusal}
+use Rattle.synth_session.specs.PlainSession.{PlainSession}
+use Rattle.synth_session.specs.RefusalText.{refusal_text}
+use Rattle.synth_session.specs.Window.{with_cursor_seen}
+
+-- the session behind a key, and the answer to the key
+pub record KeyOutcome : Type 0 where
+  pub after : PlainSession
+  pub answer : Answer
+
+-- what comes of a key that is refused for this: it changes the message alone
+abbrev pub refusal_outcome : PlainSession → Refusal → KeyOutcome
+refusal_outcome s reason = record { after = record s { message = refusal_text reason }; answer = Answer.Refused reason }
+
+-- what comes of a key that is accepted, and leaves this but for message and window: the message is cleared, and the window
+-- follows the cursor
+abbrev pub acceptance_outcome : PlainSession → KeyOutcome
+acceptance_outcome s = record { after = record (with_cursor_seen s) { message = [] }; answer = Answer.Done }
+
+-- what comes of a line that is accepted: it is typed no more
+abbrev pub line_acceptance_outcome : PlainSession → KeyOutcome
+line_acceptance_outcome s = acceptance_outcome (record s { typed = [] })
