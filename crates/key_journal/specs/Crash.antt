@@ -17,6 +17,10 @@ LeavesOnly keys = EachRecovers (λ found. found ≡ keys)
 abbrev pub LeavesOneOf : List ℕ → List ℕ → DiskState → Type 0
 LeavesOneOf keys taken = EachRecovers (λ found. (found ≡ keys) ⊎ (found ≡ keys ++ taken))
 
+-- these keys are recovered, and perhaps others behind them
+abbrev pub LeavesAllOf : List ℕ → DiskState → Type 0
+LeavesAllOf keys = EachRecovers (λ found. (rest : List ℕ) × (found ≡ keys ++ rest))
+
 -- at least so many keys are recovered
 abbrev pub LeavesAtLeast : ℕ → DiskState → Type 0
 LeavesAtLeast count = EachRecovers (λ found. count ≤ length found)

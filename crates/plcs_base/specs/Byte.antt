@@ -13,6 +13,10 @@ is_digit byte = nat_le 48 byte && nat_le byte 57
 abbrev pub is_name_byte : ℕ → Bool
 is_name_byte byte = is_letter byte || (is_digit byte || (byte == 95))
 
+-- whether the byte is a blank
+abbrev pub is_blank : ℕ → Bool
+is_blank byte = byte == 32
+
 -- whether a phrase may have the byte: the blank, and what is seen
 abbrev pub is_printable : ℕ → Bool
 is_printable byte = nat_le 32 byte && nat_le byte 126

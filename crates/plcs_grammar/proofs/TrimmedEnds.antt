@@ -3,7 +3,8 @@ use Rattle.std.proofs.Common.{◌≡◌, ℕ, suc, ◌+◌, ◌-◌, ◌≤◌, 
 use Rattle.std.specs.List.{prefix_len}
 use Rattle.std.proofs.lemmas.Bool.{cond_both, eq-eqb}
 use Rattle.std.proofs.lemmas.List.{reverse-append, reverse-reverse, length-reverse, length-drop}
-use Rattle.plcs_grammar.specs.Cuts.{is_blank, blanks, unblanked}
+use Rattle.plcs_base.specs.Byte.{is_blank}
+use Rattle.plcs_grammar.specs.Cuts.{blanks, unblanked}
 use Rattle.plcs_grammar.specs.Comment.{trimmed}
 
 -- no blank is left at the front of a text without its first blanks

@@ -4,7 +4,8 @@ use Rattle.std.specs.List.{prefix_len}
 use Rattle.std.proofs.lemmas.Bool.{cond-false, false_from_ne_true}
 use Rattle.std.proofs.lemmas.Bool.Decides.{Decides-eqb}
 use Rattle.std.proofs.lemmas.List.{reverse-append, reverse-reverse}
-use Rattle.plcs_grammar.specs.Cuts.{is_blank, unblanked}
+use Rattle.plcs_base.specs.Byte.{is_blank}
+use Rattle.plcs_grammar.specs.Cuts.{unblanked}
 
 -- one byte more is dropped
 drop_one_more : (x : ℕ) (xs : List ℕ) (n : ℕ) → drop (1 + n) (x ∷ xs) ≡ drop n xs

@@ -1,6 +1,7 @@
 -- A whole text cut into tokens with their places.
-use Rattle.std.specs.Prelude.{◌≡◌, ◌≢◌, ℕ, ◌+◌, Bool, ◌==◌, List, [], ◌∷◌, map, length, drop, Option, Some, None}
+use Rattle.std.specs.Prelude.{◌≡◌, ◌≢◌, ℕ, ◌+◌, List, [], ◌∷◌, map, length, drop, Option, Some, None}
 use Rattle.std.specs.List.{prefix_len}
+use Rattle.plcs_base.specs.Byte.{is_blank}
 use Rattle.plcs_grammar.specs.Token.{Token, First, NoToken}
 
 -- a piece of a text: a token, the place of its first byte, and the place behind its last
@@ -12,10 +13,6 @@ pub record Piece : Type 0 where
 -- the tokens of the pieces
 abbrev pub tokens_of : List Piece → List Token
 tokens_of pieces = map (λ piece. piece.token) pieces
-
--- whether the byte is a blank
-abbrev pub is_blank : ℕ → Bool
-is_blank byte = byte == 32
 
 -- how many blanks the text begins with
 abbrev pub blanks : List ℕ → ℕ

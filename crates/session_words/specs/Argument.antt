@@ -1,9 +1,8 @@
 -- What may stand behind a command's word.
 use Rattle.std.specs.Prelude.{ℕ, Bool, ◌&&◌, not, nat_le, List, [], ◌∷◌, length, codes, Option, None, Some, Ok, Err, if◌then◌else◌}
 use Rattle.std.specs.List.{list_all}
-use Rattle.plcs_base.specs.Byte.{is_digit, is_printable}
+use Rattle.plcs_base.specs.Byte.{is_blank, is_digit, is_printable}
 use Rattle.plcs_base.specs.Name.{is_name}
-use Rattle.plcs_grammar.specs.Cuts.{is_blank}
 use Rattle.plcs_grammar.specs.Token.{numeral_value}
 use Rattle.session_words.specs.declared.command.CommandFault.TheVariants.{WrongArgument}
 use Rattle.session_words.specs.declared.limit.TheConstants.{LONGEST_FILE_NAME}

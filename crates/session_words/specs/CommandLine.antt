@@ -1,9 +1,8 @@
 -- Which command a line is.
 use Rattle.std.specs.Prelude.{ℕ, Bool, true, ◌==◌, List, [], ◌∷◌, take, drop, Option, None, Some, Err, if◌then◌else◌}
 use Rattle.std.specs.List.{prefix_len}
-use Rattle.plcs_base.specs.Byte.{is_letter}
+use Rattle.plcs_base.specs.Byte.{is_blank, is_letter}
 use Rattle.plcs_grammar.specs.Comment.{trimmed}
-use Rattle.plcs_grammar.specs.Cuts.{is_blank}
 use Rattle.plcs_grammar.specs.Token.{begins_with}
 use Rattle.session_words.specs.declared.command.CommandFault.TheVariants.{UnknownCommand}
 use Rattle.session_words.specs.PlainCommand.{PlainReading}

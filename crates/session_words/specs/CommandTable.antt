@@ -50,6 +50,7 @@ argument_rule_in rows word = option_map (λ r. r.rule) (find (λ r. bytes_eq wor
 abbrev pub template_rule : Template → PlainArgumentRule
 template_rule t = argument.nothing (command.template t)
 
--- what the command of the word takes, if there is one: the words of templates stand in their own table
+-- what the command of the word takes, if there is one: the words of templates stand in the table of
+-- templates
 unfoldable pub argument_rule_of : List ℕ → Option PlainArgumentRule
 argument_rule_of word = option_or (option_map template_rule (template_of word)) (argument_rule_in other_commands word)

@@ -4,9 +4,9 @@ use Rattle.std.specs.List.{list_all, prefix_len}
 use Rattle.std.proofs.lemmas.Bool.{and_parts, cond-false, cond_both}
 use Rattle.std.proofs.lemmas.List.{reverse-append, reverse-reverse, take-append-drop}
 use Rattle.std.proofs.lemmas.List.Folds.{list_all-append}
-use Rattle.plcs_base.specs.Byte.{is_printable}
+use Rattle.plcs_base.specs.Byte.{is_blank, is_printable}
 use Rattle.plcs_grammar.specs.Token.{begins_with}
-use Rattle.plcs_grammar.specs.Cuts.{is_blank, blanks, unblanked}
+use Rattle.plcs_grammar.specs.Cuts.{blanks, unblanked}
 use Rattle.plcs_grammar.specs.Comment.{trimmed, IsCommentText}
 use Rattle.phrase_parser.proofs.Tokens.ByteRuns.{run_none, run_ends, drop_one_more}
 

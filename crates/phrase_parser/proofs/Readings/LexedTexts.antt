@@ -5,12 +5,12 @@ use Rattle.std.specs.List.{list_all}
 use Rattle.std.proofs.lemmas.Bool.{and_parts, or_parts, false≢true, not_from_false}
 use Rattle.std.proofs.lemmas.Bool.Decides.{nat_tests}
 use Rattle.std.proofs.lemmas.List.{append_assoc, append-nil, length-append, map-append}
-use Rattle.plcs_base.specs.Byte.{is_letter, is_digit, is_name_byte}
+use Rattle.plcs_base.specs.Byte.{is_letter, is_digit, is_name_byte, is_blank}
 use Rattle.plcs_base.specs.Name.{is_word, IsName}
 use Rattle.plcs_grammar.specs.declared.sign.Sign.{Sign}
 use Rattle.plcs_grammar.specs.Sign.{sign_bytes}
 use Rattle.plcs_grammar.specs.Token.{Token, IsToken, First, NoToken, IsNumeral, IsConstantText, begins_with, is_quote, numeral_value, quoted, bit_bytes}
-use Rattle.plcs_grammar.specs.Cuts.{Piece, Cuts, blanks, unblanked, is_blank, tokens_of}
+use Rattle.plcs_grammar.specs.Cuts.{Piece, Cuts, blanks, unblanked, tokens_of}
 use Rattle.phrase_parser.specs.declared.front.Front.{Front}
 use Rattle.phrase_parser.specs.Private.Kept.{kept_kind}
 use Rattle.phrase_parser.specs.Private.Front.{front_of}

@@ -6,7 +6,8 @@ use Rattle.std.proofs.lemmas.List.{take_at, drop_at, drop-drop, length-append, l
 use Rattle.std.proofs.lemmas.List.Sums.{prefix_len-le-length}
 use Rattle.plcs_base.specs.Name.{IsName, is_keyword}
 use Rattle.plcs_grammar.specs.Token.{Token, IsToken, IsConstantText}
-use Rattle.plcs_grammar.specs.Cuts.{Piece, Cuts, blanks, unblanked, is_blank, tokens_of}
+use Rattle.plcs_base.specs.Byte.{is_blank}
+use Rattle.plcs_grammar.specs.Cuts.{Piece, Cuts, blanks, unblanked, tokens_of}
 use Rattle.phrase_parser.proofs.Tokens.OneCut.{token_not_empty}
 
 -- what a token of a text is, whatever stands round it: a name is a name, and a constant can be a value

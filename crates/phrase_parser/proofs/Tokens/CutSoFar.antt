@@ -4,7 +4,8 @@ use Rattle.std.proofs.lemmas.List.{drop_at, drop-drop, length-append, length-dro
 use Rattle.std.proofs.lemmas.List.Sums.{prefix_len-le-length}
 use Rattle.std.proofs.lemmas.Option.{same_Some, none-some}
 use Rattle.plcs_grammar.specs.Token.{Token, First, NoToken}
-use Rattle.plcs_grammar.specs.Cuts.{Piece, Cuts, blanks, unblanked, is_blank}
+use Rattle.plcs_base.specs.Byte.{is_blank}
+use Rattle.plcs_grammar.specs.Cuts.{Piece, Cuts, blanks, unblanked}
 use Rattle.phrase_parser.specs.declared.front.Front.{Front}
 use Rattle.phrase_parser.specs.declared.token.Placed.{Placed}
 use Rattle.phrase_parser.specs.Private.Kept.{kept, kept_kind, AreTokens}

@@ -3,10 +3,9 @@ use Rattle.std.specs.Prelude.{ℕ, ◌+◌, min, Bool, true, false, ◌&&◌, �
 use Rattle.std.specs.List.{prefix_len}
 use Rattle.phrase_parser.specs.Private.Kept.{greatest_kept}
 use Rattle.plcs_base.specs.Text.{longest_text}
-use Rattle.plcs_base.specs.Byte.{is_letter, is_digit, is_name_byte, is_printable}
+use Rattle.plcs_base.specs.Byte.{is_letter, is_digit, is_name_byte, is_printable, is_blank}
 use Rattle.plcs_base.specs.Name.{is_name, longest_name}
 use Rattle.plcs_grammar.specs.Token.{begins_with, is_quote, numeral_value}
-use Rattle.plcs_grammar.specs.Cuts.{is_blank}
 use Rattle.plcs_grammar.specs.declared.sign.Sign.{Sign}
 use Rattle.plcs_grammar.specs.Sign.{sign_of}
 use Rattle.phrase_parser.specs.declared.byte_class.ByteClass.{ByteClass}
