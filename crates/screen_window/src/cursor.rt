@@ -3,7 +3,8 @@
 ghost use Rattle.std.specs.Prelude.{◌≡◌, ◌+◌, ◌≤◌, length, map};
 ghost use Rattle.plcs_grammar.specs.Template.{plain_segment, row_of};
 ghost use Rattle.template_tree.specs.Line.{part_text};
-ghost use Rattle.unparse_layout.specs.OwnedLine.{part_at, stretches_of};
+ghost use Rattle.template_tree.specs.Part.{part_at};
+ghost use Rattle.unparse_layout.specs.OwnedLine.{stretches_of};
 ghost use Rattle.screen_window.specs.Cursor.{bytes_before, cut_col, stop_col, stop_offset};
 ghost use Rattle.screen_window.specs.Private.Capped.{capped};
 

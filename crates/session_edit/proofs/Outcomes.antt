@@ -6,7 +6,7 @@ use Rattle.template_tree.specs.declared.stop.Stop.{Stop}
 use Rattle.template_tree.specs.declared.tree_fault.TreeFault.{TreeFault}
 use Rattle.template_tree.specs.Edit.{edit_at, edit_slot, with_items}
 use Rattle.template_tree.specs.EditAnswer.{IsEdit, IsOver, IsWithin, Refuses}
-use Rattle.template_tree.specs.Limit.{deepest_path, most_slots, most_drawn}
+use Rattle.template_tree.specs.Limit.{deepest_path, most_slots, most_drawn_slots}
 use Rattle.template_tree.specs.Path.{node_at}
 use Rattle.template_tree.specs.PlainTree.{PlainNode, PlainTree, roomless, roomless_node, roomless_tree}
 use Rattle.template_tree.specs.Program.{IsSubtree}
@@ -41,7 +41,7 @@ within_depth room tree h = not_above deepest_path (depth (roomless tree.items)) 
 -- a tree within the limits is over none
 pub within_is : RoomLaws → (tree : PlainTree) → IsWithin tree → limit_reached (roomless_tree tree) ≡ None
 within_is room tree h =
-    rw (within_depth room tree h.shallow) (rw (not_above most_slots tree.live h.few) (rw (not_above most_drawn tree.drawn h.drawn_few) refl))
+    rw (within_depth room tree h.shallow) (rw (not_above most_slots tree.live h.few) (rw (not_above most_drawn_slots tree.drawn h.drawn_few) refl))
 
 -- a tree is within the limits
 tree_within : (tree : PlainTree) → IsTree tree → IsWithin tree
@@ -55,7 +55,7 @@ too_large room tree h = rw (within_depth room tree h.0) (rw (above most_slots tr
 
 pub used_up : RoomLaws → (tree : PlainTree) → IsOver TreeFault.SlotsUsedUp tree → limit_reached (roomless_tree tree) ≡ Some TreeFault.SlotsUsedUp
 used_up room tree h =
-    rw (within_depth room tree h.0) (rw (not_above most_slots tree.live h.1) (rw (above most_drawn tree.drawn h.2) refl))
+    rw (within_depth room tree h.0) (rw (not_above most_slots tree.live h.1) (rw (above most_drawn_slots tree.drawn h.2) refl))
 
 -- what comes of an edit where this is the tree after it
 abbrev outcome_with : TreeEdit → PlainTree → ℕ → PlainTree → PlainStop → Option PlainNode → Edited

@@ -9,7 +9,7 @@ use Rattle.template_tree.specs.declared.change.What.{What}
 use Rattle.template_tree.specs.declared.tree_fault.TreeFault.{TreeFault}
 use Rattle.template_tree.specs.Edit.{hole_left, lone}
 use Rattle.template_tree.specs.FreshNode.{assignment_node, fresh_node}
-use Rattle.template_tree.specs.Limit.{deepest_path, most_slots, most_drawn}
+use Rattle.template_tree.specs.Limit.{deepest_path, most_slots, most_drawn_slots}
 use Rattle.template_tree.specs.Path.{node_at}
 use Rattle.template_tree.specs.PlainTree.{PlainNode, PlainTree, roomless_tree}
 use Rattle.template_tree.specs.Program.{sort_of}
@@ -35,7 +35,7 @@ limit_reached tree =
     else
     (if nat_lt most_slots tree.live
     then Some TreeFault.TooLarge
-    else (if nat_lt most_drawn tree.drawn then Some TreeFault.SlotsUsedUp else None))
+    else (if nat_lt most_drawn_slots tree.drawn then Some TreeFault.SlotsUsedUp else None))
 
 -- the edit is refused for the limit that was reached, if one was
 abbrev pub unless : Option TreeFault → Edited → Edited

@@ -8,13 +8,13 @@ use Rattle.std.proofs.lemmas.Bool.{and_parts, leb-true}
 use Rattle.std.proofs.lemmas.Bool.Decides.{nat_tests}
 use Rattle.std.proofs.lemmas.List.{append-nil}
 use Rattle.std.proofs.lemmas.List.Elements.{All-nil}
-use Rattle.plcs_base.specs.Byte.{is_letter, is_name_byte}
+use Rattle.plcs_base.specs.Byte.{is_blank, is_letter, is_name_byte}
 use Rattle.plcs_base.specs.Name.{IsName, is_word, is_keyword, longest_name}
 use Rattle.plcs_grammar.specs.declared.category.Category.{Category}
 use Rattle.plcs_grammar.specs.declared.item.Item.{Item}
 use Rattle.plcs_grammar.specs.declared.sign.Sign.{Sign}
 use Rattle.plcs_grammar.specs.Canon.{Canon}
-use Rattle.plcs_grammar.specs.Cuts.{Cuts, Piece, blanks, is_blank}
+use Rattle.plcs_grammar.specs.Cuts.{Cuts, Piece, blanks}
 use Rattle.plcs_grammar.specs.Limit.{IsWithinLimits, greatest_nesting, greatest_number, phrase_nesting, phrase_numbers}
 use Rattle.plcs_grammar.specs.PhraseForm.{Form}
 use Rattle.plcs_grammar.specs.PlainPhrase.{PlainExpr, PlainExprs, PlainVarRef, PlainPhrase, category_of}

@@ -4,7 +4,7 @@ use Rattle.plcs_grammar.specs.declared.category.Category.{Category}
 use Rattle.plcs_grammar.specs.declared.node_kind.NodeKind.{NodeKind}
 use Rattle.plcs_grammar.specs.PlainPhrase.{PlainPhrase, category_of}
 use Rattle.template_tree.specs.declared.tree_fault.TreeFault.{TreeFault}
-use Rattle.template_tree.specs.Limit.{deepest_path, most_slots, most_drawn}
+use Rattle.template_tree.specs.Limit.{deepest_path, most_slots, most_drawn_slots}
 use Rattle.template_tree.specs.PlainTree.{Forest, PlainNode, PlainTree, roomless_tree}
 use Rattle.template_tree.specs.Slots.{depth}
 use Rattle.template_tree.specs.Tree.{IsTree}
@@ -42,14 +42,14 @@ pub record Edits (edit : TreeEdit) (there : Option PlainNode) (Here : PlainNode 
 pub record IsWithin (tree : PlainTree) : Type 0 where
   pub shallow : depth tree.items ≤ deepest_path
   pub few : tree.live ≤ most_slots
-  pub drawn_few : tree.drawn ≤ most_drawn
+  pub drawn_few : tree.drawn ≤ most_drawn_slots
 
 -- a tree is over a limit, and over none that is asked for before it; where memory is wanting, it is over none
 abbrev pub IsOver : TreeFault → PlainTree → Type 0
 IsOver TreeFault.NotHere tree = ⊥
 IsOver TreeFault.TooDeep tree = deepest_path < depth tree.items
 IsOver TreeFault.TooLarge tree = (depth tree.items ≤ deepest_path) × (most_slots < tree.live)
-IsOver TreeFault.SlotsUsedUp tree = (depth tree.items ≤ deepest_path) × (tree.live ≤ most_slots) × (most_drawn < tree.drawn)
+IsOver TreeFault.SlotsUsedUp tree = (depth tree.items ≤ deepest_path) × (tree.live ≤ most_slots) × (most_drawn_slots < tree.drawn)
 IsOver TreeFault.OutOfMemory tree = IsWithin tree
 
 -- an edit is refused at a node, if there is one, of which this has to hold: it doesn't, or the tree after the edit would be

@@ -1,8 +1,8 @@
 -- What the declarations and headings of a program say: the effective items of each procedure, and the effective heading
 -- of each name.
-use Rattle.std.specs.Prelude.{ℕ, ◌+◌, ◌==◌, Bool, not, ◌&&◌, nat_lt, if◌then◌else◌, bytes_eq, List, [], ◌∷◌, ◌++◌, codes, find, map, sum_by, Option, Some, None, is_some, option_and_then, option_map, slice_get, unwrap_or}
+use Rattle.std.specs.Prelude.{ℕ, ◌+◌, ◌==◌, Bool, not, ◌&&◌, nat_lt, if◌then◌else◌, bytes_eq, List, [], ◌∷◌, ◌++◌, codes, find, map, sum_by, Option, Some, None, is_some, option_and_then, option_map, unwrap_or}
 use Rattle.std.specs.List.{list_any}
-use Rattle.std.specs.Option.{option_flatten, option_or}
+use Rattle.std.specs.Option.{option_or}
 use Rattle.plcs_base.specs.declared.declared.Declared.{Declared}
 use Rattle.plcs_base.specs.declared.declared.ItemType.{ItemType}
 use Rattle.plcs_base.specs.declared.mark.MarkKind.{MarkKind}
@@ -13,13 +13,10 @@ use Rattle.plcs_grammar.specs.declared.template.Template.{Template}
 use Rattle.plcs_grammar.specs.Builtin.{is_builtin_name}
 use Rattle.plcs_grammar.specs.PlainPhrase.{PlainPhrase}
 use Rattle.template_tree.specs.Limit.{most_cells}
+use Rattle.template_tree.specs.Part.{part_at}
 use Rattle.template_tree.specs.PlainTree.{Label, Forest, PlainNode}
 
 -- ---- what a declaration declares
-
--- the phrase that stands in the part of this number, if one does
-abbrev pub part_at : List (Option PlainPhrase) → ℕ → Option PlainPhrase
-part_at parts part = option_flatten (slice_get parts part)
 
 -- the items of a declared list
 abbrev pub items_of_list : PlainPhrase → List Item

@@ -23,19 +23,24 @@ pub mod ListItem
 pub mod EditAnswer
 -- ---- copies
 pub mod Copy
--- ---- declarations and headings
+-- ---- declarations, headings and marks
 pub mod Environment
 pub mod Mention
+pub mod KindTable
+pub mod Verdict
+pub mod Marks
 -- ---- places of a run
 pub mod Place
 -- ---- the laws
 pub mod TreeLaws
 pub mod RoomLaws
+pub mod CheckLaws
 -- ---- the listing, and what the cursor may stand on
 pub mod Section
 pub mod PlainLeft
 pub mod Line
 pub mod Listing
+pub mod Bare
 pub mod Stop
 -- ---- what private contracts alone cite
 pub mod Private

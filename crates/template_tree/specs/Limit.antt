@@ -1,6 +1,6 @@
 -- The limits of a tree.
 use Rattle.std.specs.Prelude.{ℕ}
-use Rattle.template_tree.specs.declared.limit.TheConstants.{DEEPEST_PATH, MOST_SLOTS, MOST_DRAWN, LONGEST_PHRASE, MOST_CELLS}
+use Rattle.template_tree.specs.declared.limit.TheConstants.{DEEPEST_PATH, MOST_SLOTS, MOST_DRAWN_SLOTS, LONGEST_PHRASE, MOST_CELLS}
 
 -- how many numbers a path may have
 abbrev pub deepest_path : ℕ
@@ -11,8 +11,8 @@ abbrev pub most_slots : ℕ
 most_slots = MOST_SLOTS
 
 -- how many slots may be drawn
-abbrev pub most_drawn : ℕ
-most_drawn = MOST_DRAWN
+abbrev pub most_drawn_slots : ℕ
+most_drawn_slots = MOST_DRAWN_SLOTS
 
 -- how many bytes the canonical text of a phrase may have
 abbrev pub longest_phrase : ℕ

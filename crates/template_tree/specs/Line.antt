@@ -40,7 +40,7 @@ abbrev pub segments_text : List PlainSegment → List (Option PlainPhrase) → L
 segments_text [] parts = []
 segments_text (segment ∷ segments) parts = segment_text segment parts ++ segments_text segments (parts_after segment parts)
 
--- a line of the table that is there or not
+-- a line that the table of templates has as it stands, before a section or last in a node: one line, or none where it has none
 abbrev pub fixed_line : ℕ → Option (List ℕ) → List Line
 fixed_line level None = []
 fixed_line level (Some text) = record { level = level; text = text } ∷ []

@@ -1,11 +1,16 @@
 -- Parts of nodes, and what they take.
-use Rattle.std.specs.Prelude.{◌≡◌, ℕ, IsTrue, Option, Some, None, slice_get, slice_set}
+use Rattle.std.specs.Prelude.{◌≡◌, ℕ, List, IsTrue, Option, Some, None, slice_get, slice_set}
+use Rattle.std.specs.Option.{option_flatten}
 use Rattle.plcs_grammar.specs.declared.category.Category.{Category}
 use Rattle.plcs_grammar.specs.declared.node_kind.NodeKind.{NodeKind}
 use Rattle.plcs_grammar.specs.PlainPhrase.{PlainPhrase, category_of}
 use Rattle.plcs_grammar.specs.Template.{row_of}
 use Rattle.template_tree.specs.PlainTree.{PlainNode}
 use Rattle.template_tree.specs.Program.{parts_of, may_be_empty, IsPhrase}
+
+-- the phrase that stands in the part of this number, if one does
+abbrev pub part_at : List (Option PlainPhrase) → ℕ → Option PlainPhrase
+part_at parts part = option_flatten (slice_get parts part)
 
 -- the category of a part of a node of the kind, if it has this part
 abbrev pub part_category : NodeKind → ℕ → Option Category

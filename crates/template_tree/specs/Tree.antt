@@ -1,6 +1,6 @@
 -- Which plain data are trees within the limits.
 use Rattle.std.specs.Prelude.{◌≡◌, ℕ, ◌≤◌}
-use Rattle.template_tree.specs.Limit.{deepest_path, most_slots, most_drawn}
+use Rattle.template_tree.specs.Limit.{deepest_path, most_slots, most_drawn_slots}
 use Rattle.template_tree.specs.PlainTree.{PlainTree}
 use Rattle.template_tree.specs.Program.{IsProgram}
 use Rattle.template_tree.specs.Slots.{count, depth, times, AllBelow}
@@ -10,7 +10,7 @@ pub record IsTree (tree : PlainTree) : Type 0 where
   pub program : IsProgram tree.items
   pub shallow : depth tree.items ≤ deepest_path
   pub few : count tree.items ≤ most_slots
-  pub drawn_few : tree.drawn ≤ most_drawn
+  pub drawn_few : tree.drawn ≤ most_drawn_slots
   pub drawn : AllBelow tree.drawn tree.items
   pub once : (slot : ℕ) → times slot tree.items ≤ 1
   pub live : tree.live ≡ count tree.items

@@ -3,7 +3,7 @@ use Rattle.std.specs.Prelude.{◌≡◌, ℕ, ◌+◌, ◌≤◌, List, Option, 
 use Rattle.plcs_grammar.specs.PlainPhrase.{PlainPhrase}
 use Rattle.template_tree.specs.declared.side.Side.{Side}
 use Rattle.template_tree.specs.EditAnswer.{IsListItem, IsSpareHole}
-use Rattle.template_tree.specs.Limit.{deepest_path, most_slots, most_drawn}
+use Rattle.template_tree.specs.Limit.{deepest_path, most_slots, most_drawn_slots}
 use Rattle.template_tree.specs.Program.{IsSubtree, sort_of}
 use Rattle.template_tree.specs.PlainTree.{Forest, PlainNode, PlainTree, roomless_tree}
 use Rattle.template_tree.specs.Part.{IsPlace, Takes, part_category, with_part}
@@ -46,7 +46,7 @@ PutKeepsTree =
     → IsSubtree new → sort_of new.label.kind ≡ sort_of node.label.kind
     → depth (Put tree node.label.slot new).items ≤ deepest_path
     → (Put tree node.label.slot new).live ≤ most_slots
-    → (Put tree node.label.slot new).drawn ≤ most_drawn
+    → (Put tree node.label.slot new).drawn ≤ most_drawn_slots
     → IsTree (Put tree node.label.slot new)
     × ((Put tree node.label.slot new).live + count node.inner ≡ tree.live + count new.inner)
 
@@ -56,7 +56,7 @@ AddKeepsTree =
     (tree : PlainTree) (path : List ℕ) (node : PlainNode) (side : Side)
     → IsTree tree → node_at tree.items path ≡ Some node → IsListItem tree.items path node
     → (Add tree node.label.slot side).live ≤ most_slots
-    → (Add tree node.label.slot side).drawn ≤ most_drawn
+    → (Add tree node.label.slot side).drawn ≤ most_drawn_slots
     → IsTree (Add tree node.label.slot side)
     × ((Add tree node.label.slot side).live ≡ tree.live + 1)
     × (depth (Add tree node.label.slot side).items ≡ depth tree.items)

@@ -1,5 +1,5 @@
 //! Nodes and trees built from their leaves.
-ghost use Rattle.std.specs.Prelude.{◌≡◌, ◌↔◌, ◌+◌, ◌<◌, ◌≤◌, IfErr, IfNone, IfOk, IfSome, IsTrue, map};
+ghost use Rattle.std.specs.Prelude.{◌≡◌, ◌+◌, ◌≤◌, IfErr, IfOk, map};
 ghost use Rattle.template_tree.specs.Build.{Over, built_label, built_tree};
 ghost use Rattle.template_tree.specs.Limit.{deepest_path, most_slots};
 ghost use Rattle.template_tree.specs.PlainPlace.{plain_place};
@@ -9,6 +9,7 @@ ghost use Rattle.template_tree.specs.Slots.{count, depth, with_slots_from};
 ghost use Rattle.template_tree.specs.Tree.{IsTree};
 
 use crate::limit::{DEEPEST_PATH, MOST_SLOTS};
+use crate::limit_reached::{is_within_depth, slots_left};
 use crate::node::{Node, Nodes};
 use crate::phrase_place::PhrasePlace;
 use crate::tree::Tree;
@@ -65,39 +66,6 @@ impl Tree {
             live: MOST_SLOTS - left,
         })
     }
-}
-
-/// Whether no path in these nodes has more than so many numbers. Its stack grows with that number.
-pub(crate) fn is_within_depth(nodes: &[Node], most: u32) -> bool
-    ensures { IsTrue result ↔ (depth (forest nodes.now) ≤ most) }
-{
-    for node in nodes {
-        let Some(below) = most.checked_sub(1) else {
-            return false;
-        };
-        if !is_within_depth(node.inner.as_slice(), below) {
-            return false;
-        }
-    }
-    true
-}
-
-/// How many slots are left of so many when each node has one, or `None` where they are too few.
-pub(crate) fn slots_left(nodes: &[Node], slots: u32) -> Option<u32>
-    ensures left { IfSome result (λ left. left + count (forest nodes.now) ≡ slots) }
-    ensures few { IfNone result (slots < count (forest nodes.now)) }
-{
-    let mut left = slots;
-    for node in nodes {
-        let Some(others) = left.checked_sub(1) else {
-            return None;
-        };
-        let Some(rest) = slots_left(node.inner.as_slice(), others) else {
-            return None;
-        };
-        left = rest;
-    }
-    Some(left)
 }
 
 /// Gives the nodes the slots from this number on in listing order, and says which number is next.

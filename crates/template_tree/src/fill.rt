@@ -1,11 +1,10 @@
 //! Holes filled with templates.
-ghost use Rattle.std.specs.Prelude.{◌≡◌, ◌+◌, ◌≤◌, ◌↔◌, IfErr, IfOk, IsTrue, None, OnOk, length, map, min};
+ghost use Rattle.std.specs.Prelude.{◌≡◌, ◌+◌, IfErr, IfOk, None, OnOk, length, map, min};
 ghost use Rattle.plcs_grammar.specs.Template.{plain_section, plain_segment};
 ghost use Rattle.plcs_grammar.specs.declared.node_kind.NodeKind.{NodeKind};
 ghost use Rattle.template_tree.specs.Edit.{hole_list, hole_of};
 ghost use Rattle.template_tree.specs.EditAnswer.{Edits, IsHoleFor, Refuses};
 ghost use Rattle.template_tree.specs.FreshNode.{fresh_node, section_holes};
-ghost use Rattle.template_tree.specs.Limit.{deepest_path};
 ghost use Rattle.template_tree.specs.Path.{node_at};
 ghost use Rattle.template_tree.specs.PlainPlace.{plain_place};
 ghost use Rattle.template_tree.specs.PlainTree.{forest, join, roomless, roomless_node};
@@ -16,7 +15,7 @@ ghost use Rattle.template_tree.specs.Tree.{IsTree};
 ghost use Rattle.template_tree.specs.TreeEdit.{TreeEdit};
 
 use crate::hole::{hole_of, is_hole_for};
-use crate::limit::DEEPEST_PATH;
+use crate::limit_reached::depth_allows;
 use crate::node::{Node, Nodes};
 use crate::path::Path;
 use crate::phrase_place::PhrasePlace;
@@ -51,7 +50,7 @@ impl Tree {
             return Err(TreeFault::NotHere);
         }
         let slots = hole_count(kind.row().sections);
-        if let Some(fault) = self.limit_reached(is_shallow(path, slots), slots) {
+        if let Some(fault) = self.limit_reached(depth_allows(path, slots), slots) {
             return Err(fault);
         }
         let Ok(node) = Node::fresh(alloc, kind) else {
@@ -137,11 +136,4 @@ fn hole_count(sections: &[Section]) -> u32
         Some(_) => rest.saturating_add(1),
         None => rest,
     }
-}
-
-/// Whether so many holes may stand inside the node at the path.
-fn is_shallow(path: &Path, slots: u32) -> bool
-    ensures { IsTrue result ↔ (length path.now.items + min slots 1 ≤ deepest_path) }
-{
-    path.len() + slots.min(1) as usize <= DEEPEST_PATH
 }

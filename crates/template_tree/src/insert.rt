@@ -8,10 +8,9 @@ ghost use Rattle.template_tree.specs.Tree.{IsTree};
 ghost use Rattle.template_tree.specs.TreeEdit.{TreeEdit};
 ghost use Rattle.template_tree.specs.declared.tree_fault.TreeFault.{TreeFault};
 
-use crate::build::is_within_depth;
 use crate::hole::is_hole_for;
 use crate::limit::DEEPEST_PATH;
-use crate::limit_reached::slots_up_to_limit;
+use crate::limit_reached::{is_within_depth, slots_up_to_limit};
 use crate::node::Node;
 use crate::path::Path;
 use crate::receipt::Receipt;

@@ -1,11 +1,13 @@
 //! The tree of templates: programs, their listing, and how they are read.
 #![tactic(auto)]
 
+mod around_path;
 mod beside;
 mod build;
 #[cfg(test)]
 mod build_tests;
 mod change;
+mod check_laws;
 mod copy;
 #[cfg(test)]
 mod copy_tests;
@@ -64,8 +66,9 @@ mod undo_tests;
 
 pub use build::OverLimit;
 pub use change::{Change, What};
+pub use check_laws::checks_ignore_room_and_elision;
 pub use hole::hole_left;
-pub use limit::{DEEPEST_PATH, LONGEST_PHRASE, MOST_CELLS, MOST_DRAWN, MOST_SLOTS};
+pub use limit::{DEEPEST_PATH, LONGEST_PHRASE, MOST_CELLS, MOST_DRAWN_SLOTS, MOST_SLOTS};
 pub use listing::listing_splits_in_lines;
 pub use node::{Node, Nodes};
 pub use path::Path;

@@ -7,7 +7,7 @@ pub const DEEPEST_PATH: usize = 64;
 pub const MOST_SLOTS: u32 = 20_000;
 
 /// How many slots may be drawn.
-pub const MOST_DRAWN: u32 = 2_147_483_648;
+pub const MOST_DRAWN_SLOTS: u32 = 2_147_483_648;
 
 /// How many bytes the canonical text of a phrase in a tree may have.
 pub const LONGEST_PHRASE: u32 = 400;

@@ -1,6 +1,6 @@
 //! Tests of edits at the limits of a tree.
 ghost use Rattle.std.specs.Prelude.{◌≤◌, IfOk};
-ghost use Rattle.template_tree.specs.Limit.{most_drawn};
+ghost use Rattle.template_tree.specs.Limit.{most_drawn_slots};
 ghost use Rattle.template_tree.specs.Tree.{IsTree};
 
 use super::*;
@@ -44,7 +44,7 @@ fn add_holes(alloc: Global, tree: &mut Tree, holes: u32) -> Result<(), Fail>
 fn with_drawn(tree: Tree, drawn: u32) -> Tree
     requires tree { IsTree tree }
     requires more { tree.drawn ≤ drawn }
-    requires few { drawn ≤ most_drawn }
+    requires few { drawn ≤ most_drawn_slots }
     ensures { IsTree result }
 {
     let mut tree = tree;
@@ -225,7 +225,7 @@ fn slots_are_live_up_to_20000(rt: HostRuntime) -> Result<(), Fail> {
 
 /// A tree with a group, a RETURN and two holes behind each other, where so many slots were drawn.
 fn drawn(alloc: Global, drawn: u32) -> Result<Tree, Fail>
-    requires { drawn ≤ most_drawn }
+    requires { drawn ≤ most_drawn_slots }
     ensures { IfOk result IsTree }
 {
     let mut tree = new_tree(alloc)?;
@@ -266,9 +266,9 @@ fn used_up(draws: bool) -> Option<TreeFault> {
 /// is drawn then.
 fn draws_last(alloc: Global, edit: Edit, draws: bool) -> Result<bool, Fail> {
     let (hole, item) = (path(&[0, 3])?, path(&[1])?);
-    let mut full = drawn(alloc, MOST_DRAWN)?;
+    let mut full = drawn(alloc, MOST_DRAWN_SLOTS)?;
     let at_end = fault_of(alloc, &mut full, edit, &hole);
-    let mut other = drawn(alloc, MOST_DRAWN - 1)?;
+    let mut other = drawn(alloc, MOST_DRAWN_SLOTS - 1)?;
     let before_end = fault_of(alloc, &mut other, edit, &hole);
     let behind = fault_of(alloc, &mut other, Edit::Add(Side::After), &item);
     Ok(at_end == used_up(draws) && before_end.is_none() && behind == used_up(draws))
@@ -294,13 +294,13 @@ fn no_slot_is_drawn_past_the_last(rt: HostRuntime) -> Result<(), Fail> {
 fn no_slot_is_drawn_past_the_last_for_a_node(rt: HostRuntime) -> Result<(), Fail> {
     let alloc = rt.alloc();
     let hole = path(&[0, 3])?;
-    let mut full = drawn(alloc, MOST_DRAWN)?;
+    let mut full = drawn(alloc, MOST_DRAWN_SLOTS)?;
     let fault = fault_of_insert(alloc, &mut full, &[0, 1], &hole)?;
     assert!(rt; fault == Some(TreeFault::SlotsUsedUp));
     assert!(rt; fault_of_insert(alloc, &mut full, &[0, 2], &hole)? == None);
-    let mut other = drawn(alloc, MOST_DRAWN - 1)?;
+    let mut other = drawn(alloc, MOST_DRAWN_SLOTS - 1)?;
     assert!(rt; fault_of_insert(alloc, &mut other, &[0, 1], &hole)? == None);
-    assert!(rt; stands_at(&other, MOST_DRAWN - 1, &[0, 3, 0]));
+    assert!(rt; stands_at(&other, MOST_DRAWN_SLOTS - 1, &[0, 3, 0]));
     Ok(())
 }
 
@@ -310,11 +310,11 @@ fn limits_are_asked_in_their_order(rt: HostRuntime) -> Result<(), Fail> {
     let mut tree = new_tree(alloc)?;
     let hole = nested(alloc, &mut tree, 62)?;
     add_holes(alloc, &mut tree, 19_934)?;
-    assert!(rt; tree.slots() == MOST_SLOTS && tree.drawn <= MOST_DRAWN);
-    if tree.drawn > MOST_DRAWN {
+    assert!(rt; tree.slots() == MOST_SLOTS && tree.drawn <= MOST_DRAWN_SLOTS);
+    if tree.drawn > MOST_DRAWN_SLOTS {
         return Err(Fail::from("fewer slots"));
     }
-    let mut tree = with_drawn(tree, MOST_DRAWN);
+    let mut tree = with_drawn(tree, MOST_DRAWN_SLOTS);
     let group = Edit::Fill(Template::Group);
     let fixed = Edit::Fill(Template::Fixed);
     let other = path(&[0, 2])?;

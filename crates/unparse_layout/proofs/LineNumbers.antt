@@ -11,7 +11,8 @@ use Rattle.template_tree.specs.Program.{sort_of}
 use Rattle.template_tree.specs.Section.{left_for, left_after, next_lead}
 use Rattle.template_tree.specs.Line.{Line, lines, fixed_line, elision_line, segment_text, segments_text, parts_after, part_text}
 use Rattle.unparse_layout.specs.declared.line.LineKind.{LineKind}
-use Rattle.unparse_layout.specs.OwnedLine.{OwnedLine, Stretch, bare_line, first_line, owned_lines, part_at, partless_line, stretches_of, table_line}
+use Rattle.template_tree.specs.Part.{part_at}
+use Rattle.unparse_layout.specs.OwnedLine.{OwnedLine, Stretch, bare_line, first_line, owned_lines, partless_line, stretches_of, table_line}
 use Rattle.unparse_layout.specs.Bones.{bones_of}
 use Rattle.unparse_layout.specs.Private.PlainNodeLayout.{node_layout_of}
 use Rattle.unparse_layout.specs.Private.Height.{line_count, one_if, height, heights}

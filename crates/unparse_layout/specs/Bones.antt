@@ -6,7 +6,8 @@ use Rattle.template_tree.specs.PlainTree.{Forest}
 use Rattle.template_tree.specs.Program.{sort_of}
 use Rattle.template_tree.specs.Section.{left_for, left_after, next_lead}
 
--- what is kept of a node: its slot, its kind, whether it is elided, and whether a line of the table stands before it
+-- what is kept of a node: its slot, its kind, whether it is elided, and whether a line stands before it that
+-- the table of templates has there
 pub record Bone : Type 0 where
   pub slot : ℕ
   pub kind : NodeKind

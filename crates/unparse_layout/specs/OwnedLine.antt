@@ -1,7 +1,8 @@
 -- The lines of the screen, each with the node to which it belongs.
-use Rattle.std.specs.Prelude.{◌≡◌, ℕ, ◌+◌, ◌-◌, if◌then◌else◌, List, [], ◌∷◌, ◌++◌, map, flat_map, codes, Option, Some, None, option_and_then, slice_get}
+use Rattle.std.specs.Prelude.{◌≡◌, ℕ, ◌+◌, ◌-◌, if◌then◌else◌, List, [], ◌∷◌, ◌++◌, map, flat_map, codes, Option, Some, None}
 use Rattle.plcs_grammar.specs.PlainPhrase.{PlainPhrase}
 use Rattle.plcs_grammar.specs.Template.{PlainSegment, PlainSection, row_of, program_sections}
+use Rattle.template_tree.specs.Part.{part_at}
 use Rattle.template_tree.specs.PlainTree.{Label, Forest}
 use Rattle.template_tree.specs.Program.{sort_of}
 use Rattle.template_tree.specs.Section.{left_for, left_after, next_lead}
@@ -20,10 +21,6 @@ pub record OwnedLine : Type 0 where
   pub kind : LineKind
   pub level : ℕ
   pub stretches : List Stretch
-
--- what stands in the part of this number, if anything does
-abbrev pub part_at : List (Option PlainPhrase) → ℕ → Option PlainPhrase
-part_at parts part = option_and_then (λ place. place) (slice_get parts part)
 
 -- what is written for a segment, where the next part has this number
 abbrev pub stretch_of : (next : ℕ) → PlainSegment → List (Option PlainPhrase) → Stretch
@@ -45,7 +42,7 @@ abbrev pub partless_line : ℕ → LineKind → ℕ → List ℕ → OwnedLine
 partless_line slot kind level bytes =
     record { slot = slot; kind = kind; level = level; stretches = record { part = None; bytes = bytes } ∷ [] }
 
--- a line of the table that is there or not
+-- a line that the table of templates has as it stands, or none where it has none
 abbrev pub table_line : ℕ → LineKind → ℕ → Option (List ℕ) → List OwnedLine
 table_line slot kind level None = []
 table_line slot kind level (Some bytes) = partless_line slot kind level bytes ∷ []

@@ -6,7 +6,8 @@ ghost use Rattle.template_tree.specs.Limit.{deepest_path};
 ghost use Rattle.template_tree.specs.Line.{part_text};
 ghost use Rattle.template_tree.specs.PlainPlace.{plain_place};
 ghost use Rattle.unparse_layout.specs.LaidLine.{cell, laid_line, longest_line, stretch_cells};
-ghost use Rattle.unparse_layout.specs.OwnedLine.{first_line, next_after, part_at, stretch_of, stretches_of};
+ghost use Rattle.template_tree.specs.Part.{part_at};
+ghost use Rattle.unparse_layout.specs.OwnedLine.{first_line, next_after, stretch_of, stretches_of};
 ghost use Rattle.unparse_layout.specs.Private.Cells.{PutsAside};
 ghost use Rattle.unparse_layout.specs.Private.PlainPlan.{planned};
 

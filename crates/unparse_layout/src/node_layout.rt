@@ -1,4 +1,4 @@
-//! Nodes of a layout, and the lists in which they stand.
+//! What a layout keeps of a node and of the nodes inside it.
 ghost use Rattle.std.specs.Prelude.{◌≡◌, ◌+◌, ◌<◌, ◌^◌, ◌++◌, ◌∷◌, [], OnErr, OnOk, Some, None, length, option_map, slice_get, sum, map, false};
 ghost use Rattle.std.specs.Borrow.{LendsIf, sem};
 ghost use Rattle.unparse_layout.specs.contracts.node_layout.NodeLayout as node_layout_row;
@@ -26,7 +26,7 @@ pub(crate) struct NodeLayout {
     pub(crate) heights: PrefixSums,
 }
 
-/// Nodes of a layout in order.
+/// What a layout keeps of the nodes of a list, in order.
 #[cycle(node_layout)]
 #[derive(Drop)]
 pub(crate) struct NodeLayouts {
@@ -73,7 +73,7 @@ impl Model for NodeLayouts {
 }
 
 impl NodeLayout {
-    /// A node with nothing inside. It takes no memory.
+    /// What is kept of a node with nothing inside. It takes no memory.
     pub(crate) fn bare(
         alloc: Global,
         slot: Slot,
@@ -93,7 +93,7 @@ impl NodeLayout {
         }
     }
 
-    /// Puts an item behind the nodes inside it.
+    /// Puts what is kept of one more node behind those inside.
     #[tactic(auto, using(crate::specs::Private::PlainNodeLayout::node_layouts_bones))]
     pub(crate) fn push(&mut self, item: NodeLayout) -> Result<(), OutOfMemory>
         requires few { length (node_layouts self.old.inner) < 2 ^ 32 }
@@ -114,7 +114,7 @@ impl NodeLayout {
         self.heights.total()
     }
 
-    /// How many lines it has, the line before it among them.
+    /// How many lines the node has, the line before it among them.
     pub(crate) fn height(&self) -> u32
         requires fits { height self.now < 2 ^ 32 }
         ensures { result ≡ height self.now }
@@ -147,7 +147,7 @@ impl NodeLayouts {
         }
     }
 
-    /// Puts a node behind those of the list.
+    /// Puts what is kept of one more node at the end.
     fn push(&mut self, item: NodeLayout) -> Result<(), OutOfMemory>
         ensures put { OnOk result (self.new.items ≡ self.old.items ++ item ∷ []) }
         ensures same { OnErr result (self.new.items ≡ self.old.items) }
@@ -156,14 +156,14 @@ impl NodeLayouts {
         Ok(())
     }
 
-    /// The node of this number.
+    /// What is kept of the node of this number, counted from 0.
     pub(crate) fn get(&self, k: usize) -> Option<&NodeLayout>
         ensures { option_map (λ node_layout. node_layout.now) result ≡ slice_get self.now.items k }
     {
         self.list.get(k)
     }
 
-    /// Lends the node of this number.
+    /// Lends what is kept of the node of this number, counted from 0.
     pub(crate) fn get_mut(&mut self, k: usize) -> Option<&mut NodeLayout>
         ensures* writes_back { sem 𝓛 (LendsIf list_row.the_row node_layout_row.the_row self.entry result (with_item self.old k) self.old) }
         ensures found { option_map (λ node_layout. node_layout.now) result ≡ slice_get self.old.items k }

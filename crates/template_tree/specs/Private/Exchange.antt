@@ -3,7 +3,7 @@ use Rattle.std.specs.Prelude.{◌≡◌, ℕ, ◌<◌, ◌≤◌, Bool, true, fa
 use Rattle.template_tree.specs.declared.change.Change.{Change}
 use Rattle.template_tree.specs.declared.change.What.{What}
 use Rattle.template_tree.specs.declared.tree_fault.TreeFault.{TreeFault}
-use Rattle.template_tree.specs.Limit.{most_slots, most_drawn}
+use Rattle.template_tree.specs.Limit.{most_slots, most_drawn_slots}
 use Rattle.template_tree.specs.PlainTree.{Forest, PlainNode, PlainTree, nodes}
 use Rattle.template_tree.specs.Program.{IsSubtree, sort_of}
 use Rattle.template_tree.specs.Edit.{Put, procedure_of}
@@ -32,5 +32,5 @@ abbrev pub MeetsLimit : Bool → (live drawn : ℕ) → TreeFault → Type 0
 MeetsLimit shallow live drawn TreeFault.NotHere = ⊥
 MeetsLimit shallow live drawn TreeFault.TooDeep = shallow ≡ false
 MeetsLimit shallow live drawn TreeFault.TooLarge = (shallow ≡ true) × (most_slots < live)
-MeetsLimit shallow live drawn TreeFault.SlotsUsedUp = (shallow ≡ true) × (live ≤ most_slots) × (most_drawn < drawn)
+MeetsLimit shallow live drawn TreeFault.SlotsUsedUp = (shallow ≡ true) × (live ≤ most_slots) × (most_drawn_slots < drawn)
 MeetsLimit shallow live drawn TreeFault.OutOfMemory = ⊥

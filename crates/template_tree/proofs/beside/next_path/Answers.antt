@@ -1,6 +1,6 @@
 use Rattle.std.specs.Prelude.{suc}
 use Rattle.std.proofs.Common.{arith, sym, ◌∙◌, add-one}
-use Rattle.template_tree.proofs.BesidePaths.{last_is, other_last}
+use Rattle.template_tree.proofs.Lists.BesidePaths.{last_is, other_last}
 use Rattle.template_tree.proofs.beside.next_path.Goals as goal
 
 pub overflow_add-last : goal.overflow_add-last

@@ -1,6 +1,6 @@
 use Rattle.std.specs.Prelude.{◌≡◌, ◌-◌, ℕ, zero, suc, pred, refl}
 use Rattle.std.proofs.Common.{arith, sym, ◌∙◌}
-use Rattle.template_tree.proofs.BesidePaths.{other_last}
+use Rattle.template_tree.proofs.Lists.BesidePaths.{other_last}
 use Rattle.template_tree.proofs.beside.path_before.Goals as goal
 
 less_one : (n : ℕ) → n - 1 ≡ pred n

@@ -1,5 +1,5 @@
 use Rattle.std.proofs.Common.{sym, ◌∙◌}
-use Rattle.template_tree.proofs.BesidePaths.{side_first, side_later}
+use Rattle.template_tree.proofs.Lists.BesidePaths.{side_first, side_later}
 use Rattle.template_tree.proofs.beside.side_left.Goals as goal
 
 pub returns-then-last-eq0 : goal.returns-then-last-eq0

@@ -2,7 +2,7 @@ use Rattle.std.specs.Prelude.{◌≡◌, slice_get, Some}
 use Rattle.std.proofs.Common.{arith, sym, ap, ◌∙◌}
 use Rattle.std.proofs.lemmas.List.{length-set}
 use Rattle.template_tree.specs.contracts.node.Node.{the_view}
-use Rattle.template_tree.proofs.DrawnSlots.{step, fewer, written, list_is, all_done}
+use Rattle.template_tree.proofs.Trees.DrawnSlots.{step, fewer, written, list_is, all_done}
 use Rattle.template_tree.proofs.build.+draw_slots.Goals as goal
 
 pub overflow_add-next : goal.overflow_add-next

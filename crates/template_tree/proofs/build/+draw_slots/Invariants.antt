@@ -1,7 +1,7 @@
 use Rattle.std.specs.Prelude.{◌≡◌, ◌+◌, ◌≤◌, drop, length}
 use Rattle.template_tree.specs.PlainTree.{nodes, forest}
 use Rattle.template_tree.specs.Slots.{count, with_slots_from}
-use Rattle.template_tree.proofs.DrawnSlots.{numbered_after}
+use Rattle.template_tree.proofs.Trees.DrawnSlots.{numbered_after}
 use Rattle.template_tree.proofs.build.+draw_slots.Given as goal
 
 abbrev pub decreases-draw_slots : goal.decreases-draw_slots

@@ -2,7 +2,7 @@ use Rattle.std.specs.Prelude.{◌≡◌, [], ◌∷◌}
 use Rattle.std.proofs.Common.{ap, ◌∙◌}
 use Rattle.template_tree.specs.PlainTree.{forest}
 use Rattle.template_tree.specs.Program.{sorts}
-use Rattle.template_tree.proofs.BuiltProgram.{alone_filled}
+use Rattle.template_tree.proofs.Trees.BuiltProgram.{alone_filled}
 use Rattle.template_tree.proofs.build_tests.around.Goals as goal
 
 pub group-requires-clause-statements : goal.group-requires-clause-statements

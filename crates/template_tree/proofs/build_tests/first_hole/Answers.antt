@@ -2,7 +2,7 @@ use Rattle.std.specs.Prelude.{◌≡◌, [], ◌∷◌}
 use Rattle.std.proofs.Common.{ap, ◌∙◌}
 use Rattle.template_tree.specs.PlainTree.{forest}
 use Rattle.template_tree.specs.Program.{sort_of, sorts}
-use Rattle.template_tree.proofs.BuiltProgram.{alone_filled}
+use Rattle.template_tree.proofs.Trees.BuiltProgram.{alone_filled}
 use Rattle.template_tree.proofs.build_tests.first_hole.Goals as goal
 
 pub returns-clause-statements : goal.returns-clause-statements

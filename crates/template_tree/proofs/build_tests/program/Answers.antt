@@ -1,5 +1,5 @@
 use Rattle.std.specs.Prelude.{◌≡◌}
-use Rattle.template_tree.proofs.NewPrograms.{block_filled, program_filled}
+use Rattle.template_tree.proofs.Trees.NewPrograms.{block_filled, program_filled}
 use Rattle.template_tree.proofs.build_tests.program.Goals as goal
 
 pub partless-main-requires-clause-inner : goal.partless-main-requires-clause-inner

@@ -2,7 +2,7 @@ use Rattle.std.specs.Prelude.{◌≡◌, ◌++◌, ◌∷◌, []}
 use Rattle.std.proofs.Common.{ap, sym, ◌∙◌, subst}
 use Rattle.template_tree.specs.PlainTree.{forest}
 use Rattle.template_tree.specs.Program.{AreNodes, sorts}
-use Rattle.template_tree.proofs.BuiltProgram.{nodes_push, sorts_push}
+use Rattle.template_tree.proofs.Trees.BuiltProgram.{nodes_push, sorts_push}
 use Rattle.template_tree.proofs.build_tests.with.Goals as goal
 
 pub returns-clause-nodes : goal.returns-clause-nodes

@@ -2,8 +2,8 @@ use Rattle.std.specs.Prelude.{◌≡◌, slice_get, Some, false}
 use Rattle.std.proofs.Common.{arith, sym, ap, ◌∙◌}
 use Rattle.std.proofs.lemmas.List.{length-set}
 use Rattle.template_tree.specs.contracts.node.Node.{the_view}
-use Rattle.template_tree.proofs.DrawnSlots.{fewer, list_is}
-use Rattle.template_tree.proofs.RevealedNodes.{step, written, all_done}
+use Rattle.template_tree.proofs.Trees.DrawnSlots.{fewer, list_is}
+use Rattle.template_tree.proofs.Edits.RevealedNodes.{step, written, all_done}
 use Rattle.template_tree.proofs.exchange.+reveal.Goals as goal
 
 pub reveal-requires : goal.reveal-requires

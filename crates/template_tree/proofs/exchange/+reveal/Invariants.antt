@@ -2,7 +2,7 @@ use Rattle.std.specs.Prelude.{◌≡◌, ◌≤◌, drop, length}
 use Rattle.template_tree.specs.PlainTree.{nodes, forest}
 use Rattle.template_tree.specs.Edit.{whole}
 use Rattle.template_tree.specs.Slots.{count}
-use Rattle.template_tree.proofs.RevealedNodes.{whole_after}
+use Rattle.template_tree.proofs.Edits.RevealedNodes.{whole_after}
 use Rattle.template_tree.proofs.exchange.+reveal.Given as goal
 
 abbrev pub decreases-reveal : goal.decreases-reveal

@@ -5,7 +5,7 @@ use Rattle.plcs_grammar.specs.Template.{plain_section}
 use Rattle.template_tree.specs.PlainTree.{forest, join, roomless}
 use Rattle.template_tree.specs.Edit.{hole_list, hole_of}
 use Rattle.template_tree.specs.FreshNode.{section_holes}
-use Rattle.template_tree.proofs.FreshNodes.{one_more, join_nil, on_ok}
+use Rattle.template_tree.proofs.Puts.FreshNodes.{one_more, join_nil, on_ok}
 use Rattle.template_tree.proofs.fill.+push_holes.Goals as goal
 
 pub returns-in_default : goal.returns-in_default

@@ -1,6 +1,6 @@
 use Rattle.std.specs.Prelude.{◌≡◌, ◌++◌, map, drop}
 use Rattle.template_tree.specs.PlainPlace.{plain_place}
-use Rattle.template_tree.proofs.FreshNodes.{empty_parts}
+use Rattle.template_tree.proofs.Puts.FreshNodes.{empty_parts}
 use Rattle.template_tree.proofs.fill.empty_parts.Given as goal
 
 abbrev pub invariant-loop-segment : goal.invariant-loop-segment

@@ -1,4 +1,4 @@
-use Rattle.template_tree.proofs.PutTrees.{more_drawn}
+use Rattle.template_tree.proofs.Puts.PutTrees.{more_drawn}
 use Rattle.template_tree.proofs.limit_tests.with_drawn.Goals as goal
 
 pub returns : goal.returns

@@ -5,7 +5,7 @@ use Rattle.std.proofs.lemmas.List.{drop_all}
 use Rattle.template_tree.specs.ListItem.{how_many}
 use Rattle.template_tree.specs.PlainTree.{forest}
 use Rattle.template_tree.specs.Program.{sorts}
-use Rattle.template_tree.proofs.BesidePaths.{next_counts, one_at_most}
+use Rattle.template_tree.proofs.Lists.BesidePaths.{next_counts, one_at_most}
 use Rattle.template_tree.proofs.list_item.are_two.Goals as goal
 
 pub returns-then-seen-eq2 : goal.returns-then-seen-eq2

@@ -8,7 +8,7 @@ use Rattle.template_tree.specs.PlainPlace.{plain_place}
 use Rattle.template_tree.specs.PlainTree.{PlainNode, forest}
 use Rattle.template_tree.specs.PlainLeft.{plain_left}
 use Rattle.template_tree.specs.Section.{left_for}
-use Rattle.template_tree.proofs.PutLines.{item_light, item_shallow, bytes_append, put_next, nothing_left}
+use Rattle.template_tree.proofs.Listings.PutLines.{item_light, item_shallow, bytes_append, put_next, nothing_left}
 use Rattle.template_tree.proofs.listing.+lines.Goals as goal
 
 pub put_node-returns : goal.put_node-returns

@@ -4,7 +4,7 @@ use Rattle.plcs_base.proofs.Putting.{puts_same}
 use Rattle.plcs_grammar.specs.Template.{plain_segment}
 use Rattle.template_tree.specs.Line.{segments_text}
 use Rattle.template_tree.specs.PlainPlace.{plain_place}
-use Rattle.template_tree.proofs.PutLines.{nothing_left, put_next_segment}
+use Rattle.template_tree.proofs.Listings.PutLines.{nothing_left, put_next_segment}
 use Rattle.template_tree.proofs.listing.put_segments.Goals as goal
 
 pub loop-segment-preserved : goal.loop-segment-preserved

@@ -5,9 +5,9 @@ use Rattle.template_tree.specs.Part.{with_part}
 use Rattle.template_tree.specs.PlainPlace.{plain_place}
 use Rattle.template_tree.specs.Tree.{IsTree}
 use Rattle.template_tree.specs.TreeLend.{with_node}
-use Rattle.template_tree.proofs.KeptTrees.{kept_tree, part_relabels}
-use Rattle.template_tree.proofs.PartEdits.{with_node_same}
-use Rattle.template_tree.proofs.Subtrees.{subtree_at}
+use Rattle.template_tree.proofs.Parts.KeptTrees.{kept_tree, part_relabels}
+use Rattle.template_tree.proofs.Parts.PartEdits.{with_node_same}
+use Rattle.template_tree.proofs.Trees.Subtrees.{subtree_at}
 use Rattle.template_tree.proofs.part_tests.put_at.Goals as goal
 
 pub returns-in-Err : goal.returns-in-Err

@@ -1,5 +1,5 @@
-use Rattle.template_tree.proofs.Rooms.{depth_roomless}
-use Rattle.template_tree.proofs.RoomlessChanges.{differs_roomless, same_after}
+use Rattle.template_tree.proofs.Room.Rooms.{depth_roomless}
+use Rattle.template_tree.proofs.Room.RoomlessChanges.{differs_roomless, same_after}
 use Rattle.template_tree.proofs.room_laws.edits_ignore_room.Goals as goal
 
 pub returns-clause-edits : goal.returns-clause-edits

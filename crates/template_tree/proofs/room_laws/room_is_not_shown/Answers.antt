@@ -2,12 +2,12 @@ use Rattle.std.specs.Prelude.{false, true}
 use Rattle.std.proofs.Common.{ap}
 use Rattle.plcs_grammar.specs.Template.{program_sections}
 use Rattle.template_tree.specs.Listing.{bytes_of}
-use Rattle.template_tree.proofs.Rooms.{count_roomless}
-use Rattle.template_tree.proofs.RoomlessEdits.{roomless_twice}
-use Rattle.template_tree.proofs.RoomlessNodes.{node_roomless, slot_at_roomless, stop_roomless, stop_with_room, visible_roomless}
-use Rattle.template_tree.proofs.RoomlessStops.{lines_roomless, stops_roomless}
-use Rattle.template_tree.proofs.RoomlessTrees.{tree_with_room, tree_without_room}
-use Rattle.template_tree.proofs.RoomlessTurns.{hidden_roomless, turn_roomless}
+use Rattle.template_tree.proofs.Room.Rooms.{count_roomless}
+use Rattle.template_tree.proofs.Room.RoomlessEdits.{roomless_twice}
+use Rattle.template_tree.proofs.Room.RoomlessNodes.{node_roomless, slot_at_roomless, stop_roomless, stop_with_room, visible_roomless}
+use Rattle.template_tree.proofs.Room.RoomlessStops.{lines_roomless, stops_roomless}
+use Rattle.template_tree.proofs.Room.RoomlessTrees.{tree_with_room, tree_without_room}
+use Rattle.template_tree.proofs.Room.RoomlessTurns.{hidden_roomless, turn_roomless}
 use Rattle.template_tree.proofs.room_laws.room_is_not_shown.Goals as goal
 
 pub returns-clause-once : goal.returns-clause-once

@@ -1,5 +1,5 @@
 use Rattle.template_tree.proofs.tree_laws.put_keeps_tree.Goals as goal
-use Rattle.template_tree.proofs.PutTrees.{put_keeps_tree}
+use Rattle.template_tree.proofs.Puts.PutTrees.{put_keeps_tree}
 
 pub returns : goal.returns
 returns c = put_keeps_tree

@@ -4,7 +4,7 @@ use Rattle.std.proofs.Common.{false, ap, ◌∙◌, subst}
 use Rattle.plcs_grammar.specs.PlainPhrase.{PlainPhrase}
 use Rattle.template_tree.specs.Line.{part_text}
 use Rattle.unparse_layout.specs.LaidLine.{cell, is_marked}
-use Rattle.unparse_layout.specs.OwnedLine.{part_at}
+use Rattle.template_tree.specs.Part.{part_at}
 use Rattle.unparse_layout.specs.Private.Cells.{PutsAside}
 use Rattle.unparse_layout.proofs.PutCells.{part_put}
 use Rattle.unparse_layout.proofs.lay.put_part.Goals as goal

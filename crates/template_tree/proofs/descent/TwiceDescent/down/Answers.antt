@@ -7,7 +7,7 @@ use Rattle.template_tree.specs.contracts.node.Node as node_row
 use Rattle.template_tree.specs.PlainTree.{PlainNode}
 use Rattle.template_tree.specs.Descent.{put_in}
 use Rattle.template_tree.specs.Path.{below}
-use Rattle.template_tree.proofs.LentNodes.{lost_below, lost_in, with_below, lent_twice, lent_back, found_twice, both}
+use Rattle.template_tree.proofs.Trees.LentNodes.{lost_below, lost_in, with_below, lent_twice, lent_back, found_twice, both}
 use Rattle.template_tree.proofs.descent.TwiceDescent.down.Goals as goal
 
 pub returns-in_default-down : goal.returns-in_default-down

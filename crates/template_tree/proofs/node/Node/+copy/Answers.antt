@@ -6,8 +6,8 @@ use Rattle.template_tree.specs.PlainTree.{PlainNode, forest, roomless}
 use Rattle.template_tree.specs.Edit.{whole}
 use Rattle.template_tree.specs.contracts.node.Node.{the_view}
 use Rattle.template_tree.specs.Private.Weight.{weight, forest_weight}
-use Rattle.template_tree.proofs.Counts.{item_lighter}
-use Rattle.template_tree.proofs.CopiedNodes.{all_copied, put_together, copy_subtree, copy_count, copy_depth}
+use Rattle.template_tree.proofs.Trees.Counts.{item_lighter}
+use Rattle.template_tree.proofs.Trees.CopiedNodes.{all_copied, put_together, copy_subtree, copy_count, copy_depth}
 use Rattle.template_tree.proofs.node.Node.+copy.Goals as goal
 
 pub copy-requires : goal.copy-requires

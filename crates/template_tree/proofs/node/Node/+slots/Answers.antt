@@ -1,7 +1,7 @@
 use Rattle.std.specs.Prelude.{◌≤◌}
 use Rattle.std.proofs.Common.{arith, subst}
 use Rattle.template_tree.specs.Private.Weight.{weight, forest_weight}
-use Rattle.template_tree.proofs.Counts.{left_begins, item_lighter}
+use Rattle.template_tree.proofs.Trees.Counts.{left_begins, item_lighter}
 use Rattle.template_tree.proofs.node.Node.+slots.Goals as goal
 
 pub slots-slots-requires : goal.slots-slots-requires

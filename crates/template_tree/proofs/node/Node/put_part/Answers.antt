@@ -8,7 +8,7 @@ use Rattle.template_tree.specs.contracts.node.Node.{the_view}
 use Rattle.template_tree.specs.Part.{Takes, part_category}
 use Rattle.template_tree.specs.PlainPlace.{plain_place}
 use Rattle.template_tree.specs.PlainTree.{PlainNode}
-use Rattle.template_tree.proofs.PartLists.{takes_in_node, part_read, part_written}
+use Rattle.template_tree.proofs.Parts.PartLists.{takes_in_node, part_read, part_written}
 use Rattle.template_tree.proofs.node.Node.put_part.Goals as goal
 
 pub returns-in_default-clause-fits : goal.returns-in_default-clause-fits

@@ -2,7 +2,7 @@ use Rattle.std.specs.Prelude.{List, Option}
 use Rattle.std.proofs.Common.{ap}
 use Rattle.plcs_grammar.specs.PlainPhrase.{PlainPhrase}
 use Rattle.template_tree.specs.contracts.node.Node.{the_view}
-use Rattle.template_tree.proofs.PartLists.{part_written}
+use Rattle.template_tree.proofs.Parts.PartLists.{part_written}
 use Rattle.template_tree.proofs.node.Node.restore_part.Goals as goal
 
 pub returns : goal.returns

@@ -4,7 +4,7 @@ use Rattle.template_tree.specs.contracts.node.Node.{the_view}
 use Rattle.template_tree.specs.PlainTree.{forest, roomless_node}
 use Rattle.template_tree.specs.Edit.{edit_at}
 use Rattle.template_tree.specs.Receipt.{with_beside}
-use Rattle.template_tree.proofs.ListChanges.{beside_here, level_ok, err_same, no_item}
+use Rattle.template_tree.proofs.Lists.ListChanges.{beside_here, level_ok, err_same, no_item}
 use Rattle.template_tree.proofs.node.Nodes.+add_at.Goals as goal
 
 pub returns-in_default-clause-added : goal.returns-in_default-clause-added

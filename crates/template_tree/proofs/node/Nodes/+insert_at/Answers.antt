@@ -3,7 +3,7 @@ use Rattle.std.proofs.Common.{arith, ap, sym, ◌∙◌}
 use Rattle.template_tree.specs.contracts.node.Node.{the_view}
 use Rattle.template_tree.specs.PlainTree.{forest, roomless_node}
 use Rattle.template_tree.specs.Receipt.{list_room, with_beside}
-use Rattle.template_tree.proofs.ListChanges.{beside_here, level_of, room_of, room_at_end, no_item}
+use Rattle.template_tree.proofs.Lists.ListChanges.{beside_here, level_of, room_of, room_at_end, no_item}
 use Rattle.template_tree.proofs.node.Nodes.+insert_at.Goals as goal
 
 pub insert_beside-requires : goal.insert_beside-requires

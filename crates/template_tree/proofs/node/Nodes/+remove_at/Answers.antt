@@ -3,7 +3,7 @@ use Rattle.std.proofs.Common.{arith, ap, sym, ◌∙◌}
 use Rattle.template_tree.specs.contracts.node.Node.{the_view}
 use Rattle.template_tree.specs.PlainTree.{PlainNode, forest}
 use Rattle.template_tree.specs.Receipt.{list_room}
-use Rattle.template_tree.proofs.ListChanges.{item_there, taken_here, room_here, no_item, level_of, none_same, room_up, some_room}
+use Rattle.template_tree.proofs.Lists.ListChanges.{item_there, taken_here, room_here, no_item, level_of, none_same, room_up, some_room}
 use Rattle.template_tree.proofs.node.Nodes.+remove_at.Goals as goal
 
 pub returns-in_default-clause-taken : goal.returns-in_default-clause-taken

@@ -4,7 +4,7 @@ use Rattle.std.proofs.Common.{arith, ap, sym, ◌∙◌, add-one}
 use Rattle.template_tree.specs.PlainTree.{PlainNodes, forest}
 use Rattle.template_tree.specs.Edit.{edit_at}
 use Rattle.template_tree.specs.Receipt.{with_beside}
-use Rattle.template_tree.proofs.ListChanges.{put_nowhere, put_before, put_behind}
+use Rattle.template_tree.proofs.Lists.ListChanges.{put_nowhere, put_before, put_behind}
 use Rattle.template_tree.proofs.node.Nodes.insert_beside.Goals as goal
 
 pub returns-then-k-len : goal.returns-then-k-len

@@ -17,11 +17,11 @@ use Rattle.template_tree.specs.Private.Exchange.{first_item}
 use Rattle.template_tree.specs.Private.Beside.{added_path}
 use Rattle.template_tree.specs.Receipt.{PlainReceipt, PlainUndoing, with_beside}
 use Rattle.template_tree.specs.TreeEdit.{TreeEdit}
-use Rattle.template_tree.proofs.Holes.{bare_is}
-use Rattle.template_tree.proofs.PutEdits.{at_there, edits_at}
-use Rattle.template_tree.proofs.Refusals.{refused_by}
-use Rattle.template_tree.proofs.ListTrees.{hole_kind}
-use Rattle.template_tree.proofs.ListEdits.{add_edit, add_over, add_within, last_small}
+use Rattle.template_tree.proofs.Puts.Holes.{bare_is}
+use Rattle.template_tree.proofs.Puts.PutEdits.{at_there, edits_at}
+use Rattle.template_tree.proofs.Puts.Refusals.{refused_by}
+use Rattle.template_tree.proofs.Lists.ListTrees.{hole_kind}
+use Rattle.template_tree.proofs.Lists.ListEdits.{add_edit, add_over, add_within, last_small}
 use Rattle.template_tree.proofs.tree.Tree.add_hole.Goals as goal
 
 pub returns-in_default-hole_of-clause-refused : goal.returns-in_default-hole_of-clause-refused

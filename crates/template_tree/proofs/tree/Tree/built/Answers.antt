@@ -4,7 +4,7 @@ use Rattle.template_tree.specs.Limit.{deepest_path, most_slots}
 use Rattle.template_tree.specs.PlainTree.{forest}
 use Rattle.template_tree.specs.Slots.{count, depth}
 use Rattle.template_tree.specs.Tree.{IsTree}
-use Rattle.template_tree.proofs.DrawnSlots.{built_is, built_is_tree}
+use Rattle.template_tree.proofs.Trees.DrawnSlots.{built_is, built_is_tree}
 use Rattle.template_tree.proofs.tree.Tree.built.Goals as goal
 
 pub returns-clause-built : goal.returns-clause-built

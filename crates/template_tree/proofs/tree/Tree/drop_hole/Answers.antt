@@ -9,9 +9,9 @@ use Rattle.template_tree.specs.Edit.{edit_at}
 use Rattle.template_tree.specs.EditAnswer.{IsEdit, IsSpareHole}
 use Rattle.template_tree.specs.Receipt.{PlainReceipt, PlainUndoing, list_room}
 use Rattle.template_tree.specs.TreeEdit.{TreeEdit}
-use Rattle.template_tree.proofs.Counts.{counted_below}
-use Rattle.template_tree.proofs.PutEdits.{edits_at, of_there}
-use Rattle.template_tree.proofs.ListEdits.{drop_edit}
+use Rattle.template_tree.proofs.Trees.Counts.{counted_below}
+use Rattle.template_tree.proofs.Puts.PutEdits.{edits_at, of_there}
+use Rattle.template_tree.proofs.Lists.ListEdits.{drop_edit}
 use Rattle.template_tree.proofs.tree.Tree.drop_hole.Goals as goal
 
 pub overflow_sub-self : goal.overflow_sub-self

@@ -2,8 +2,8 @@ use Rattle.std.specs.Prelude.{◌∷◌, []}
 use Rattle.std.proofs.Common.{ap, sym}
 use Rattle.template_tree.specs.PlainTree.{Forest}
 use Rattle.template_tree.specs.Elision.{turn}
-use Rattle.template_tree.proofs.KeptTrees.{kept_tree, turned_relabels}
-use Rattle.template_tree.proofs.SameEdits.{edits_alike, edit_nowhere}
+use Rattle.template_tree.proofs.Parts.KeptTrees.{kept_tree, turned_relabels}
+use Rattle.template_tree.proofs.Edits.SameEdits.{edits_alike, edit_nowhere}
 use Rattle.template_tree.proofs.tree.Tree.elide.Goals as goal
 
 pub returns-in_default-clause-changed : goal.returns-in_default-clause-changed

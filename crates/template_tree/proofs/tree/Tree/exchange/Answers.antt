@@ -6,8 +6,8 @@ use Rattle.template_tree.specs.Path.{node_at}
 use Rattle.template_tree.specs.Slots.{count}
 use Rattle.template_tree.specs.Edit.{node_in_slot}
 use Rattle.template_tree.specs.Private.Exchange.{MayReplace}
-use Rattle.template_tree.proofs.Counts.{counted_below}
-use Rattle.template_tree.proofs.PutEdits.{come, exchanged_is, put_change, of_there}
+use Rattle.template_tree.proofs.Trees.Counts.{counted_below}
+use Rattle.template_tree.proofs.Puts.PutEdits.{come, exchanged_is, put_change, of_there}
 use Rattle.template_tree.proofs.tree.Tree.exchange.Goals as goal
 
 -- the old node stands at the path

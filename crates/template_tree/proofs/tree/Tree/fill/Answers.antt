@@ -9,11 +9,11 @@ use Rattle.template_tree.specs.Slots.{count}
 use Rattle.template_tree.specs.FreshNode.{fresh_node, section_holes}
 use Rattle.template_tree.specs.Edit.{hole_of, Put}
 use Rattle.template_tree.specs.EditAnswer.{IsHoleFor, IsWithin, slot_in}
-use Rattle.template_tree.proofs.PutEdits.{at_there, edit_like}
-use Rattle.template_tree.proofs.RoomlessEdits.{same_roomless}
-use Rattle.template_tree.proofs.Holes.{subtree_with_room}
-use Rattle.template_tree.proofs.FreshNodes.{fresh_asked, fresh_subtree}
-use Rattle.template_tree.proofs.Refusals.{limit_refused, limit_kept, may_come, within_like}
+use Rattle.template_tree.proofs.Puts.PutEdits.{at_there, edit_like}
+use Rattle.template_tree.proofs.Room.RoomlessEdits.{same_roomless}
+use Rattle.template_tree.proofs.Puts.Holes.{subtree_with_room}
+use Rattle.template_tree.proofs.Puts.FreshNodes.{fresh_asked, fresh_subtree}
+use Rattle.template_tree.proofs.Puts.Refusals.{limit_refused, limit_kept, may_come, within_like}
 use Rattle.template_tree.proofs.tree.Tree.fill.Goals as goal
 
 pub returns-in-Some-limit_reached-clause-refused : goal.returns-in-Some-limit_reached-clause-refused
@@ -22,10 +22,10 @@ returns-in-Some-limit_reached-clause-refused c =
     let at = sym c.in-Some.ensures.found in
     let here : IsHoleFor kind c.in-Some.there.now =
     c.is_hole_for.ensures.0 c.if-not-is_hole_for.false ∙ ap (λ (n : PlainNode). Some n.label.kind) c.there.view_is in
-    limit_refused c.args.self.now c.args.path.now.items c.in-Some.there.now (fresh_node kind) c.is_shallow.result c.hole_count-slots.result
+    limit_refused c.args.self.now c.args.path.now.items c.in-Some.there.now (fresh_node kind) c.depth_allows.result c.hole_count-slots.result
     c.in-Some-limit_reached.fault c.requires.tree at here
-    (fresh_asked (length c.args.path.now.items) kind c.is_shallow.result c.hole_count-slots.result
-    (c.hole_count-slots.ensures ∙ ap (λ (r : PlainRow). min (count (section_holes r.sections)) 4294967295) c.row.ensures) c.is_shallow.ensures)
+    (fresh_asked (length c.args.path.now.items) kind c.depth_allows.result c.hole_count-slots.result
+    (c.hole_count-slots.ensures ∙ ap (λ (r : PlainRow). min (count (section_holes r.sections)) 4294967295) c.row.ensures) c.depth_allows.ensures)
     c.in-Some-limit_reached.ensures.over
 
 pub returns-in_default-fresh-clause-refused : goal.returns-in_default-fresh-clause-refused
@@ -35,10 +35,10 @@ returns-in_default-fresh-clause-refused c =
     let here : IsHoleFor kind c.in-Some.there.now =
     c.is_hole_for.ensures.0 c.if-not-is_hole_for.false ∙ ap (λ (n : PlainNode). Some n.label.kind) c.there.view_is in
     let kept : IsWithin (Put c.args.self.now c.in-Some.there.now.label.slot (fresh_node kind)) =
-    limit_kept c.args.self.now c.args.path.now.items c.in-Some.there.now (fresh_node kind) c.is_shallow.result c.hole_count-slots.result
+    limit_kept c.args.self.now c.args.path.now.items c.in-Some.there.now (fresh_node kind) c.depth_allows.result c.hole_count-slots.result
     c.requires.tree at here
-    (fresh_asked (length c.args.path.now.items) kind c.is_shallow.result c.hole_count-slots.result
-    (c.hole_count-slots.ensures ∙ ap (λ (r : PlainRow). min (count (section_holes r.sections)) 4294967295) c.row.ensures) c.is_shallow.ensures)
+    (fresh_asked (length c.args.path.now.items) kind c.depth_allows.result c.hole_count-slots.result
+    (c.hole_count-slots.ensures ∙ ap (λ (r : PlainRow). min (count (section_holes r.sections)) 4294967295) c.row.ensures) c.depth_allows.ensures)
     c.in_default-limit_reached.ensures.within
     in
     at_there (node_at c.args.self.now.items c.args.path.now.items)
@@ -52,10 +52,10 @@ put-requires-clause-fits c =
     let here : IsHoleFor kind c.in-Some.there.now =
     c.is_hole_for.ensures.0 c.if-not-is_hole_for.false ∙ ap (λ (n : PlainNode). Some n.label.kind) c.there.view_is in
     let kept : IsWithin (Put c.args.self.now c.in-Some.there.now.label.slot (fresh_node kind)) =
-    limit_kept c.args.self.now c.args.path.now.items c.in-Some.there.now (fresh_node kind) c.is_shallow.result c.hole_count-slots.result
+    limit_kept c.args.self.now c.args.path.now.items c.in-Some.there.now (fresh_node kind) c.depth_allows.result c.hole_count-slots.result
     c.requires.tree at here
-    (fresh_asked (length c.args.path.now.items) kind c.is_shallow.result c.hole_count-slots.result
-    (c.hole_count-slots.ensures ∙ ap (λ (r : PlainRow). min (count (section_holes r.sections)) 4294967295) c.row.ensures) c.is_shallow.ensures)
+    (fresh_asked (length c.args.path.now.items) kind c.depth_allows.result c.hole_count-slots.result
+    (c.hole_count-slots.ensures ∙ ap (λ (r : PlainRow). min (count (section_holes r.sections)) 4294967295) c.row.ensures) c.depth_allows.ensures)
     c.in_default-limit_reached.ensures.within
     in
     let same : roomless_node c.in-Ok.node ≡ fresh_node kind = c.in-Ok.ensures in

@@ -8,9 +8,9 @@ use Rattle.template_tree.specs.FreshNode.{assignment_node}
 use Rattle.template_tree.specs.Edit.{Put}
 use Rattle.template_tree.specs.EditAnswer.{IsWithin, TakesAssignment, slot_in}
 use Rattle.template_tree.specs.Private.Exchange.{MayReplace}
-use Rattle.template_tree.proofs.PutEdits.{at_there, edit_like}
-use Rattle.template_tree.proofs.RoomlessEdits.{same_roomless}
-use Rattle.template_tree.proofs.Assignments.{assignment_may_replace, assignment_within}
+use Rattle.template_tree.proofs.Puts.PutEdits.{at_there, edit_like}
+use Rattle.template_tree.proofs.Room.RoomlessEdits.{same_roomless}
+use Rattle.template_tree.proofs.Puts.Assignments.{assignment_may_replace, assignment_within}
 use Rattle.template_tree.proofs.tree.Tree.fill_assign.Goals as goal
 
 pub put-requires-clause-fits : goal.put-requires-clause-fits

@@ -7,9 +7,9 @@ use Rattle.template_tree.specs.Slots.{count}
 use Rattle.template_tree.specs.Edit.{hole_of}
 use Rattle.template_tree.specs.EditAnswer.{IsHoleFor}
 use Rattle.template_tree.specs.Path.{node_at}
-use Rattle.template_tree.proofs.PutEdits.{at_there}
-use Rattle.template_tree.proofs.PutLimits.{path_short}
-use Rattle.template_tree.proofs.Refusals.{limit_refused, limit_kept, may_come, asked_of}
+use Rattle.template_tree.proofs.Puts.PutEdits.{at_there}
+use Rattle.template_tree.proofs.Puts.PutLimits.{path_short}
+use Rattle.template_tree.proofs.Puts.Refusals.{limit_refused, limit_kept, may_come, asked_of}
 use Rattle.template_tree.proofs.tree.Tree.insert.Goals as goal
 
 pub returns-in-Some-limit_reached-clause-refused : goal.returns-in-Some-limit_reached-clause-refused

@@ -5,7 +5,7 @@ use Rattle.plcs_grammar.specs.declared.node_kind.NodeKind.{NodeKind}
 use Rattle.template_tree.specs.PlainPlace.{plain_place}
 use Rattle.template_tree.specs.PlainTree.{PlainNode, forest, roomless}
 use Rattle.template_tree.specs.NewTree.{bare_label, new_items}
-use Rattle.template_tree.proofs.NewPrograms.{new_is, new_is_tree}
+use Rattle.template_tree.proofs.Trees.NewPrograms.{new_is, new_is_tree}
 use Rattle.template_tree.proofs.tree.Tree.new.Goals as goal
 
 -- the items are those of the new program

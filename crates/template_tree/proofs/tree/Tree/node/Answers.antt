@@ -5,9 +5,9 @@ use Rattle.template_tree.specs.PlainTree.{nodes}
 use Rattle.template_tree.specs.Path.{below, node_at}
 use Rattle.template_tree.specs.Program.{IsSubtree}
 use Rattle.template_tree.specs.Slots.{count}
-use Rattle.template_tree.proofs.Counts.{counted_below, items_few}
-use Rattle.template_tree.proofs.PutNodes.{found_in_tree}
-use Rattle.template_tree.proofs.Subtrees.{subtree_at, lent}
+use Rattle.template_tree.proofs.Trees.Counts.{counted_below, items_few}
+use Rattle.template_tree.proofs.Trees.PutNodes.{found_in_tree}
+use Rattle.template_tree.proofs.Trees.Subtrees.{subtree_at, lent}
 use Rattle.template_tree.proofs.tree.Tree.node.Goals as goal
 
 pub returns : goal.returns

@@ -8,10 +8,10 @@ use Rattle.template_tree.specs.PlainTree.{nodes}
 use Rattle.template_tree.specs.Path.{node_at}
 use Rattle.template_tree.specs.Program.{IsSubtree}
 use Rattle.template_tree.specs.Slots.{count}
-use Rattle.template_tree.proofs.Counts.{counted_below, items_few}
-use Rattle.template_tree.proofs.LentNodes.{both}
-use Rattle.template_tree.proofs.PutNodes.{put_in_tree, found_in_tree}
-use Rattle.template_tree.proofs.Subtrees.{subtree_at, lent}
+use Rattle.template_tree.proofs.Trees.Counts.{counted_below, items_few}
+use Rattle.template_tree.proofs.Trees.LentNodes.{both}
+use Rattle.template_tree.proofs.Trees.PutNodes.{put_in_tree, found_in_tree}
+use Rattle.template_tree.proofs.Trees.Subtrees.{subtree_at, lent}
 use Rattle.template_tree.proofs.tree.Tree.node_mut.Goals as goal
 
 pub returns : goal.returns

@@ -2,7 +2,7 @@ use Rattle.std.proofs.Common.{◌≡◌, ◌∙◌, ap, subst}
 use Rattle.std.specs.Prelude.{IsNone, ◌↔◌}
 use Rattle.template_tree.specs.PlainTree.{PlainTree, Forest, forest}
 use Rattle.template_tree.specs.Slots.{times}
-use Rattle.template_tree.proofs.SlotPaths.{settled}
+use Rattle.template_tree.proofs.Trees.SlotPaths.{settled}
 use Rattle.template_tree.proofs.tree.Tree.path_of.Goals as goal
 
 pub returns-clause-none : goal.returns-clause-none

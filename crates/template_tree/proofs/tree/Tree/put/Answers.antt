@@ -5,7 +5,7 @@ use Rattle.template_tree.specs.Path.{node_at}
 use Rattle.template_tree.specs.Receipt.{PlainUndoing}
 use Rattle.template_tree.specs.TreeEdit.{TreeEdit}
 use Rattle.template_tree.specs.Private.Exchange.{MayReplace}
-use Rattle.template_tree.proofs.PutEdits.{edit_there, put_receipt, of_there}
+use Rattle.template_tree.proofs.Puts.PutEdits.{edit_there, put_receipt, of_there}
 use Rattle.template_tree.proofs.tree.Tree.put.Goals as goal
 
 pub returns-clause-edit : goal.returns-clause-edit

@@ -1,7 +1,7 @@
 use Rattle.std.specs.Prelude.{refl, [], ◌∷◌}
 use Rattle.std.proofs.Common.{ap, sym}
 use Rattle.template_tree.specs.PlainTree.{Forest, PlainTree, roomless_node, roomless_tree}
-use Rattle.template_tree.proofs.RoomlessEdits.{with_edit_is, nowhere_is, stays}
+use Rattle.template_tree.proofs.Room.RoomlessEdits.{with_edit_is, nowhere_is, stays}
 use Rattle.template_tree.proofs.tree.Tree.restore_node.Goals as goal
 
 pub returns-in_default : goal.returns-in_default

@@ -10,9 +10,9 @@ use Rattle.template_tree.specs.Tree.{IsTree}
 use Rattle.template_tree.specs.TreeEdit.{TreeEdit}
 use Rattle.template_tree.specs.EditAnswer.{TakesAtStop}
 use Rattle.template_tree.specs.TreeLend.{with_node}
-use Rattle.template_tree.proofs.PutEdits.{edits_at}
-use Rattle.template_tree.proofs.KeptTrees.{part_keeps_tree}
-use Rattle.template_tree.proofs.PartEdits.{with_node_same, part_edit, part_is, part_stop}
+use Rattle.template_tree.proofs.Puts.PutEdits.{edits_at}
+use Rattle.template_tree.proofs.Parts.KeptTrees.{part_keeps_tree}
+use Rattle.template_tree.proofs.Parts.PartEdits.{with_node_same, part_edit, part_is, part_stop}
 use Rattle.template_tree.proofs.tree.Tree.set_phrase.Goals as goal
 
 pub returns-then-is_assignment-clause-unchanged : goal.returns-then-is_assignment-clause-unchanged

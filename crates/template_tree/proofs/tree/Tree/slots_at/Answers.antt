@@ -1,5 +1,5 @@
 use Rattle.std.proofs.Common.{arith, sym}
-use Rattle.template_tree.proofs.Counts.{counted_below}
+use Rattle.template_tree.proofs.Trees.Counts.{counted_below}
 use Rattle.template_tree.proofs.tree.Tree.slots_at.Goals as goal
 
 pub slots-requires : goal.slots-requires

@@ -7,9 +7,9 @@ use Rattle.template_tree.specs.EditAnswer.{IsEdit}
 use Rattle.template_tree.specs.TreeEdit.{TreeEdit}
 use Rattle.template_tree.specs.Receipt.{PlainUndoing}
 use Rattle.template_tree.specs.Private.Exchange.{MayReplace}
-use Rattle.template_tree.proofs.SameEdits.{taken}
-use Rattle.template_tree.proofs.PutEdits.{at_there, edit_like, put_receipt}
-use Rattle.template_tree.proofs.Holes.{hole_may_replace, bare_is, taken_out}
+use Rattle.template_tree.proofs.Edits.SameEdits.{taken}
+use Rattle.template_tree.proofs.Puts.PutEdits.{at_there, edit_like, put_receipt}
+use Rattle.template_tree.proofs.Puts.Holes.{hole_may_replace, bare_is, taken_out}
 use Rattle.template_tree.proofs.tree.Tree.take.Goals as goal
 
 pub exchange-node-requires : goal.exchange-node-requires

@@ -1,5 +1,0 @@
-use Rattle.std.specs.Prelude.{length}
-use Rattle.template_tree.proofs.list_item.+sections_of.Given as goal
-
-abbrev pub decreases-sections_of : goal.decreases-sections_of
-decreases-sections_of l = length l.path.now

@@ -1,5 +1,0 @@
-use Rattle.std.specs.Prelude.{length}
-use Rattle.template_tree.proofs.list_item.+siblings_of.Given as goal
-
-abbrev pub decreases-siblings_of : goal.decreases-siblings_of
-decreases-siblings_of l = length l.path.now
