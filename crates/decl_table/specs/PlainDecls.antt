@@ -14,8 +14,8 @@ HeadingList = List (List ℕ × ℕ)
 abbrev pub UseList : Type 0
 UseList = List (List ℕ × List PhraseAt)
 
--- a table: the effective items of each procedure by its slot, the slot of the effective heading of each name that has
--- one, and where each name is mentioned
+-- a table of declarations: the effective items of each procedure by its slot, the slot of the effective heading of
+-- each name that has one, and where each name is mentioned
 pub record PlainDecls : Type 0 where
   pub items : ItemMap
   pub headings : HeadingList

@@ -14,3 +14,6 @@ mod tests;
 mod uses;
 
 pub use decls::Decls;
+pub use node_parts::{
+    heading_name, list_items, may_be_called, parameters_given, phrase_in, type_given,
+};

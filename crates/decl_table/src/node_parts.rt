@@ -2,14 +2,15 @@
 ghost use Rattle.std.specs.Prelude.{◌≡◌, option_map};
 ghost use Rattle.plcs_base.specs.declared.declared.ItemType.{ItemType};
 ghost use Rattle.plcs_grammar.specs.PlainPhrase.{plain_phrase};
-ghost use Rattle.template_tree.specs.Environment.{heading_of, heading_with, items_of_list, length_given, list_items, name_given, name_of_procedure, may_be_called, names_of_list, number_of_length, parameters_given, part_at, template_heading, template_type, type_given};
+ghost use Rattle.template_tree.specs.Part.{part_at};
+ghost use Rattle.template_tree.specs.Environment.{heading_of, heading_with, items_of_list, length_given, list_items, name_given, name_of_procedure, may_be_called, names_of_list, number_of_length, parameters_given, template_heading, template_type, type_given};
 
 use plcs_base::{ItemType, Name};
 use plcs_grammar::{Builtin, Item, NodeKind, Phrase, Template};
 use template_tree::{Node, PhrasePlace};
 
 /// The phrase in the part of this number; `None` where there is no such part, or an empty one.
-pub(crate) fn phrase_in(node: &Node, part: u8) -> Option<&Phrase>
+pub fn phrase_in(node: &Node, part: u8) -> Option<&Phrase>
     ensures { option_map (λ phrase. plain_phrase phrase.now) result ≡ part_at node.now.label.parts part }
 {
     match node.part(part) {
@@ -18,8 +19,9 @@ pub(crate) fn phrase_in(node: &Node, part: u8) -> Option<&Phrase>
     }
 }
 
-/// The type that the node gives to the names that it declares, if it gives one.
-pub(crate) fn type_given(node: &Node) -> Option<ItemType>
+/// The type that the node gives to the names that it declares, or `None` where it is no declaration, or
+/// one of texts without their length.
+pub fn type_given(node: &Node) -> Option<ItemType>
     ensures { result ≡ type_given node.now.label.kind node.now.label.parts }
 {
     match node.kind() {
@@ -70,8 +72,8 @@ fn number_of_length(phrase: &Phrase) -> Option<u16>
     }
 }
 
-/// The items in the first part.
-pub(crate) fn list_items(node: &Node) -> &[Item]
+/// The items in the first part: none where no declared list stands there.
+pub fn list_items(node: &Node) -> &[Item]
     ensures { result.now ≡ list_items node.now.label.parts }
 {
     let Some(phrase) = phrase_in(node, 0) else {
@@ -110,8 +112,8 @@ fn name_of_procedure(phrase: &Phrase) -> Option<&Name>
     }
 }
 
-/// The parameters in the second part, if they are there.
-pub(crate) fn parameters_given(node: &Node) -> Option<&[Name]>
+/// The parameters in the second part, or `None` where no list of them stands there.
+pub fn parameters_given(node: &Node) -> Option<&[Name]>
     ensures { option_map (λ names. names.now) result ≡ parameters_given node.now.label.parts }
 {
     let Some(phrase) = phrase_in(node, 1) else {
@@ -130,8 +132,9 @@ fn names_of_list(phrase: &Phrase) -> Option<&[Name]>
     }
 }
 
-/// The name in the heading of a procedure, if all parts of it are filled.
-pub(crate) fn heading_name(node: &Node) -> Option<&Name>
+/// The name in the heading of a procedure, or `None` where a part of it is empty or the node is no
+/// procedure.
+pub fn heading_name(node: &Node) -> Option<&Name>
     ensures { option_map (λ name. name.now) result ≡ option_map (λ heading. heading.name) (heading_of node.now.label.kind node.now.label.parts) }
 {
     match node.kind() {
@@ -161,9 +164,9 @@ fn long_heading_name(node: &Node) -> Option<&Name>
     name_given(node)
 }
 
-/// Whether a procedure of the name may be called.
+/// Whether a procedure of the name may be called: it is neither a built-in function's nor that of main.
 #[tactic(auto, unfolding(plcs_grammar::specs::Builtin::is_builtin_name))]
-pub(crate) fn may_be_called(name: &Name) -> bool
+pub fn may_be_called(name: &Name) -> bool
     ensures { result ≡ may_be_called name.now }
 {
     Builtin::read(name.as_bytes()).is_none() && name.as_bytes() != b"main".as_slice()

@@ -1,0 +1,53 @@
+use Rattle.std.proofs.Common.{◌≡◌, ◌∙◌, ◌+◌, drop, sym, ap, arith}
+use Rattle.std.proofs.lemmas.Option.{slice_get_within}
+use Rattle.template_tree.specs.PlainTree.{Forest, forest, forest_nodes, nodes}
+use Rattle.decl_table.proofs.NodeLists.{left_from, nodes_few, none_left}
+use Rattle.template_tree.specs.Marks.{type_in}
+use Rattle.type_marks.proofs.ChildLists.{type_behind, type_here}
+use Rattle.type_marks.proofs.declared_items.type_in.Goals as goal
+
+pub loop-node-init : goal.loop-node-init
+loop-node-init c = record {
+  left = ap (λ (ns : Forest). type_in ns c.args.slot.0) (forest_nodes c.args.procedure.now.inner);
+  within = omega arith;
+}
+
+pub overflow_add-k : goal.overflow_add-k
+overflow_add-k c =
+    let within = slice_get_within (nodes c.args.procedure.now.inner) c.loop-node.k c.in-Some.node.now (sym c.in-Some.ensures) in
+    omega (arith, within, nodes_few c.args.procedure.now.inner, c.requires.few)
+
+pub loop-node-smaller : goal.loop-node-smaller
+loop-node-smaller c =
+    let within = slice_get_within (nodes c.args.procedure.now.inner) c.loop-node.k c.in-Some.node.now (sym c.in-Some.ensures) in
+    omega (arith, within)
+
+pub returns-then-stands_in : goal.returns-then-stands_in
+returns-then-stands_in c =
+    let all = nodes c.args.procedure.now.inner in
+    let k = c.loop-node.k in
+    let node = c.in-Some.node.now in
+    let rest = forest (drop (k + 1) all) in
+    let first : forest (drop k all) ≡ Forest.cons node.label node.inner rest = ap forest (left_from all k node (sym c.in-Some.ensures)) in
+    c.type_given.ensures
+    ∙ sym (type_here (forest (drop k all)) node rest first c.args.slot.0 (sym c.stands_in.ensures ∙ c.if-stands_in.true))
+    ∙ c.loop-node.invariant.left
+
+pub loop-node-preserved : goal.loop-node-preserved
+loop-node-preserved c =
+    let all = nodes c.args.procedure.now.inner in
+    let k = c.loop-node.k in
+    let node = c.in-Some.node.now in
+    let rest = forest (drop (k + 1) all) in
+    let first : forest (drop k all) ≡ Forest.cons node.label node.inner rest = ap forest (left_from all k node (sym c.in-Some.ensures)) in
+    record {
+      left =
+          type_behind (forest (drop k all)) node rest first c.args.slot.0 (sym c.stands_in.ensures ∙ c.if-stands_in.false)
+          ∙ c.loop-node.invariant.left;
+      within = omega (arith, slice_get_within all k node (sym c.in-Some.ensures));
+    }
+
+pub returns : goal.returns
+returns c =
+    ap (λ ns. type_in (forest ns) c.args.slot.0) (sym (none_left (nodes c.args.procedure.now.inner) c.loop-node.k (sym c.in_default.ensures)))
+    ∙ c.loop-node.invariant.left

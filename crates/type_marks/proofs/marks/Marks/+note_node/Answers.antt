@@ -1,0 +1,101 @@
+use Rattle.std.proofs.Common.{◌≡◌, ◌+◌, ◌-◌, Some, slice_get, sym, ◌∙◌, arith}
+use Rattle.decl_table.proofs.AddedUses.{then_ok}
+use Rattle.decl_table.proofs.NodeLists.{item_few, item_subtree, nodes_few, past_where_none}
+use Rattle.template_tree.specs.PlainTree.{nodes}
+use Rattle.type_marks.proofs.NotedVerdicts.{all_more, node_more, noted_all, noted_node}
+use Rattle.type_marks.proofs.Programs.{child_in, listed_in}
+use Rattle.type_marks.proofs.marks.Marks.+note_node.Goals as goal
+
+pub children-k-requires : goal.children-k-requires
+children-k-requires g t c = omega (arith, nodes_few c.args.node.now.inner, c.requires.few)
+
+pub note_node-requires : goal.note_node-requires
+note_node-requires g t c κs within =
+    let inner = c.args.node.now.inner in
+    let child = c.in-Some.child.now in
+    let k = c.loop-k.k - 1 in
+    let there : slice_get (nodes inner) k ≡ Some child = sym c.in-Some.ensures in
+    let few = item_few inner k child there in (
+      omega (arith, few),
+      (
+        within,
+        (
+          c.requires.tree,
+          (
+            c.requires.decls,
+            (
+              c.requires.item,
+              (
+                child_in c.args.procedure.now c.args.node.now k child c.requires.inside there,
+                (item_subtree inner k child there c.requires.subtree.1, omega (arith, few, c.requires.few)),
+              ),
+            ),
+          ),
+        ),
+      ),
+    )
+
+pub loop-k-preserved-in-Continue-1 : goal.loop-k-preserved-in-Continue-1
+loop-k-preserved-in-Continue-1 g t c =
+    let program = c.args.tree.now.items in
+    let procedure = c.args.procedure.now in
+    let items = nodes c.args.node.now.inner in
+    let child = c.in-Some.child.now in
+    let k = c.loop-k.k - 1 in
+    let there : slice_get items k ≡ Some child = sym c.in-Some.ensures in
+    let next : k + 1 ≡ c.loop-k.k = omega (arith, c.loop-k-test.true) in
+    record {
+      noted =
+          noted_node program procedure items k c.loop-k.k child there next c.args.self.now c.loop-k.self c.note_node.new.self c.loop-k.invariant.noted
+          c.in_ok-note_node.ensures.noted;
+      within = omega (arith, c.loop-k.invariant.within);
+      checked =
+          omega (arith, c.loop-k.invariant.checked, c.note_node.ensures.checked, node_more program procedure items k c.loop-k.k child there next);
+      later = omega (arith, c.loop-k.invariant.later, c.note_node.ensures.later);
+      emitted = c.note_node.ensures.emitted ∙ c.loop-k.invariant.emitted;
+      fetched = c.note_node.ensures.fetched ∙ c.loop-k.invariant.fetched;
+      laid = c.note_node.ensures.laid ∙ c.loop-k.invariant.laid;
+    }
+
+pub returns-in_err-note_node-clause-checked : goal.returns-in_err-note_node-clause-checked
+returns-in_err-note_node-clause-checked g t c =
+    let program = c.args.tree.now.items in
+    let procedure = c.args.procedure.now in
+    let items = nodes c.args.node.now.inner in
+    let child = c.in-Some.child.now in
+    let k = c.loop-k.k - 1 in
+    let there : slice_get items k ≡ Some child = sym c.in-Some.ensures in
+    let next : k + 1 ≡ c.loop-k.k = omega (arith, c.loop-k-test.true) in
+    omega (
+      arith,
+      c.loop-k.invariant.checked,
+      c.note_node.ensures.checked,
+      node_more program procedure items k c.loop-k.k child there next,
+      all_more program procedure c.args.node.now k,
+    )
+
+pub loop-k-preserved : goal.loop-k-preserved
+loop-k-preserved g t c =
+    let items = nodes c.args.node.now.inner in
+    absurd (omega (arith, past_where_none items (c.loop-k.k - 1) (sym c.in_default.ensures), c.loop-k-test.true, c.loop-k.invariant.within))
+
+pub note_parts-requires-clause-listed : goal.note_parts-requires-clause-listed
+note_parts-requires-clause-listed g t c =
+    listed_in c.args.tree.now.items c.args.procedure.now c.args.node.now c.requires.item c.requires.inside c.requires.subtree
+
+pub returns-clause-noted : goal.returns-clause-noted
+returns-clause-noted g t c =
+    let none : c.loop-k.k ≡ 0 = omega (arith, c.loop-k-test.false) in
+    then_ok c.note_parts.result
+    (noted_all c.args.tree.now.items c.args.procedure.now c.args.node.now c.loop-k.k c.args.self.now c.loop-k.self c.note_parts.new.self none
+    c.loop-k.invariant.noted)
+    c.note_parts.ensures.noted
+
+pub returns-clause-checked : goal.returns-clause-checked
+returns-clause-checked g t c =
+    omega (
+      arith,
+      c.loop-k.invariant.checked,
+      c.note_parts.ensures.checked,
+      all_more c.args.tree.now.items c.args.procedure.now c.args.node.now c.loop-k.k,
+    )

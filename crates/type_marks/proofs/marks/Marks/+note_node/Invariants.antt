@@ -1,0 +1,25 @@
+use Rattle.std.proofs.Common.{◌≡◌, ◌+◌, ◌≤◌, drop, length}
+use Rattle.template_tree.specs.Marks.{node_verdicts}
+use Rattle.template_tree.specs.PlainTree.{forest, nodes}
+use Rattle.template_tree.specs.Slots.{count}
+use Rattle.type_marks.specs.Private.MarksView.{with_all}
+use Rattle.type_marks.proofs.marks.Marks.+note_node.Given as goal
+
+abbrev pub decreases-note_node : goal.decreases-note_node
+decreases-note_node g l = count l.node.now.inner
+
+abbrev pub decreases-loop-k : goal.decreases-loop-k
+decreases-loop-k g l = l.k
+
+abbrev pub invariant-loop-k : goal.invariant-loop-k
+invariant-loop-k g l = record {
+  noted : l.self ≡ with_all (node_verdicts l.tree.items l.procedure (forest (drop l.k (nodes l.node.inner)))) l.fn.self;
+  within : l.k ≤ length (nodes l.node.inner);
+  checked :
+      g.W.Work.checked l.work
+      ≤ g.W.Work.checked l.fn.work + length (node_verdicts l.tree.items l.procedure (forest (drop l.k (nodes l.node.inner))));
+  later : g.W.Work.checked l.fn.work ≤ g.W.Work.checked l.work;
+  emitted : g.W.Work.emitted l.work ≡ g.W.Work.emitted l.fn.work;
+  fetched : g.W.Work.fetched l.work ≡ g.W.Work.fetched l.fn.work;
+  laid : g.W.Work.laid l.work ≡ g.W.Work.laid l.fn.work;
+}

@@ -1,0 +1,101 @@
+use Rattle.std.proofs.Common.{◌≡◌, ℕ, Some, None, length, slice_get, sym, ap, subst, ◌∙◌, arith}
+use Rattle.std.proofs.lemmas.Option.{slice_get_within}
+use Rattle.std.specs.Option.{option_flatten}
+use Rattle.plcs_base.specs.declared.place.PhraseAt.{PhraseAt}
+use Rattle.plcs_grammar.specs.PlainPhrase.{plain_phrase}
+use Rattle.decl_table.proofs.AddedUses.{then_ok}
+use Rattle.template_tree.specs.Marks.{VerdictList, surroundings}
+use Rattle.template_tree.specs.Mention.{phrase_place}
+use Rattle.template_tree.specs.PlainPlace.{plain_place}
+use Rattle.template_tree.specs.Verdict.{verdict}
+use Rattle.type_marks.specs.Private.DeclaredItems.{IsListIn}
+use Rattle.type_marks.specs.Private.MarksView.{with_all}
+use Rattle.type_marks.proofs.NotedVerdicts.{noted_none, noted_part, part_empty, part_filled, parts_shorter, raised_more}
+use Rattle.type_marks.proofs.marks.Marks.+note_parts.Goals as goal
+
+pub returns-in_default-clause-noted : goal.returns-in_default-clause-noted
+returns-in_default-clause-noted g t c =
+    let slot = c.args.node.now.label.slot in
+    noted_none (surroundings c.args.tree.now.items c.args.procedure.now slot) slot c.args.part c.args.node.now.label.parts c.args.self.now
+    (sym c.in_default.ensures)
+
+pub overflow_add-part : goal.overflow_add-part
+overflow_add-part g t c =
+    omega (arith, slice_get_within c.args.node.now.label.parts c.args.part (plain_place c.in-Some.place.now) (sym c.in-Some.ensures), c.requires.few)
+
+pub note_parts-requires : goal.note_parts-requires
+note_parts-requires g t c κs within =
+    let there = slice_get_within c.args.node.now.label.parts c.args.part (plain_place c.in-Some.place.now) (sym c.in-Some.ensures) in (
+      omega (arith, there),
+      (within, (c.requires.tree, (c.requires.decls, (c.requires.item, (c.requires.listed, c.requires.few))))),
+    )
+
+pub returns-in_err-note_parts-clause-checked : goal.returns-in_err-note_parts-clause-checked
+returns-in_err-note_parts-clause-checked g t c =
+    let slot = c.args.node.now.label.slot in
+    omega (
+      arith,
+      c.note_parts.ensures.checked,
+      parts_shorter (surroundings c.args.tree.now.items c.args.procedure.now slot) slot c.args.part c.args.node.now.label.parts
+          (plain_place c.in-Some.place.now) (sym c.in-Some.ensures),
+    )
+
+pub returns-in_default-place-clause-noted : goal.returns-in_default-place-clause-noted
+returns-in_default-place-clause-noted g t c =
+    let slot = c.args.node.now.label.slot in
+    let parts = c.args.node.now.label.parts in
+    let there : slice_get parts c.args.part ≡ Some None = sym c.in-Some.ensures ∙ ap (λ p. Some (plain_place p)) c.in_default-place.is in
+    c.in_ok-note_parts.ensures.noted
+    ∙ ap (λ (verdicts : VerdictList). with_all verdicts c.args.self.now)
+    (sym (part_empty (surroundings c.args.tree.now.items c.args.procedure.now slot) slot c.args.part parts there))
+
+pub returns-in_default-place-clause-checked : goal.returns-in_default-place-clause-checked
+returns-in_default-place-clause-checked g t c =
+    let slot = c.args.node.now.label.slot in
+    omega (
+      arith,
+      c.note_parts.ensures.checked,
+      parts_shorter (surroundings c.args.tree.now.items c.args.procedure.now slot) slot c.args.part c.args.node.now.label.parts
+          (plain_place c.in-Some.place.now) (sym c.in-Some.ensures),
+    )
+
+pub checked-verdict-requires-clause-listed : goal.checked-verdict-requires-clause-listed
+checked-verdict-requires-clause-listed g t c =
+    let parts = c.args.node.now.label.parts in
+    let phrase = plain_phrase c.in-Filled.phrase in
+    let there : slice_get parts c.args.part ≡ Some (Some phrase) = sym c.in-Some.ensures ∙ ap (λ p. Some (plain_place p)) c.in-Filled.is in
+    subst (λ (slot : ℕ). IsListIn c.args.procedure.now.inner slot phrase) (sym c.slot-2.ensures)
+    (c.requires.listed c.args.part phrase (ap option_flatten there))
+
+pub returns-clause-noted : goal.returns-clause-noted
+returns-clause-noted g t c =
+    let program = c.args.tree.now.items in
+    let procedure = c.args.procedure.now in
+    let slot = c.args.node.now.label.slot in
+    let parts = c.args.node.now.label.parts in
+    let part = c.args.part in
+    let phrase = plain_phrase c.in-Filled.phrase in
+    let there : slice_get parts part ≡ Some (Some phrase) = sym c.in-Some.ensures ∙ ap (λ p. Some (plain_place p)) c.in-Filled.is in
+    let at : PhraseAt = record { slot = c.slot.result; part = part } in
+    let at_is : at ≡ phrase_place slot part = ap (λ (n : ℕ). phrase_place n part) c.slot.ensures in
+    let found_is : c.checked-verdict.result ≡ verdict (surroundings program procedure slot) phrase =
+    c.checked-verdict.ensures.verdict ∙ ap (λ (n : ℕ). verdict (surroundings program procedure n) phrase) c.slot-2.ensures in
+    then_ok c.note.result
+    (noted_part (surroundings program procedure slot) slot part parts phrase c.args.self.now c.note_parts.new.self c.note.new.self at c.checked-verdict.result there at_is found_is
+    c.in_ok-note_parts.ensures.noted)
+    c.note.ensures
+
+pub returns-clause-checked : goal.returns-clause-checked
+returns-clause-checked g t c =
+    let slot = c.args.node.now.label.slot in
+    let parts = c.args.node.now.label.parts in
+    let phrase = plain_phrase c.in-Filled.phrase in
+    let there : slice_get parts c.args.part ≡ Some (Some phrase) = sym c.in-Some.ensures ∙ ap (λ p. Some (plain_place p)) c.in-Filled.is in
+    let more = part_filled (surroundings c.args.tree.now.items c.args.procedure.now slot) slot c.args.part parts phrase there in
+    omega (
+      arith,
+      c.checked-verdict.ensures.checked,
+      raised_more (g.W.Work.checked c.note_parts.new.work),
+      c.note_parts.ensures.checked,
+      ap (λ (verdicts : VerdictList). length verdicts) more,
+    )

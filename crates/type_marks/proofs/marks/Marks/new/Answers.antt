@@ -1,0 +1,75 @@
+use Rattle.std.proofs.Common.{◌≡◌, ℕ, ◌+◌, ◌-◌, Some, drop, length, slice_get, sym, ap, ◌∙◌, arith}
+use Rattle.std.specs.FinMap.{from_entries}
+use Rattle.decl_table.proofs.NodeLists.{nodes_few, past_where_none}
+use Rattle.template_tree.specs.Marks.{VerdictMap, procedure_verdicts}
+use Rattle.template_tree.specs.PlainTree.{Forest, forest, forest_nodes, nodes}
+use Rattle.type_marks.proofs.NotedVerdicts.{noted_procedure, procedure_more, procedures_shorter}
+use Rattle.type_marks.proofs.Programs.{is_item}
+use Rattle.type_marks.proofs.marks.Marks.new.Goals as goal
+
+pub overflow_add-k : goal.overflow_add-k
+overflow_add-k g c = omega (arith, c.procedures-k.ensures, nodes_few c.args.tree.now.items, c.requires.tree.few)
+
+pub note_node-requires-clause-item : goal.note_node-requires-clause-item
+note_node-requires-clause-item g c =
+    is_item c.args.tree.now (c.loop-k.k - 1) c.in-Some.procedure.now c.requires.tree (sym c.in-Some.ensures.item) c.in-Some.ensures.subtree
+    c.in-Some.ensures.few
+
+pub loop-k-preserved-in-Continue-1 : goal.loop-k-preserved-in-Continue-1
+loop-k-preserved-in-Continue-1 g c =
+    let program = c.args.tree.now.items in
+    let items = nodes program in
+    let procedure = c.in-Some.procedure.now in
+    let k = c.loop-k.k - 1 in
+    let there : slice_get items k ≡ Some procedure = sym c.in-Some.ensures.item in
+    let next : k + 1 ≡ c.loop-k.k = omega (arith, c.loop-k-test.true) in
+    record {
+      noted = noted_procedure program items k c.loop-k.k procedure there next c.loop-k.marks c.note_node.new.self c.loop-k.invariant.noted c.in_ok-note_node.ensures.noted;
+      within = omega (arith, c.loop-k.invariant.within);
+      checked = omega (arith, c.loop-k.invariant.checked, c.note_node.ensures.checked, procedure_more program items k c.loop-k.k procedure there next);
+      later = omega (arith, c.loop-k.invariant.later, c.note_node.ensures.later);
+      emitted = c.note_node.ensures.emitted ∙ c.loop-k.invariant.emitted;
+      fetched = c.note_node.ensures.fetched ∙ c.loop-k.invariant.fetched;
+      laid = c.note_node.ensures.laid ∙ c.loop-k.invariant.laid;
+    }
+
+pub returns-in_err-note_node-clause-checked : goal.returns-in_err-note_node-clause-checked
+returns-in_err-note_node-clause-checked g c =
+    let program = c.args.tree.now.items in
+    let items = nodes program in
+    let procedure = c.in-Some.procedure.now in
+    let k = c.loop-k.k - 1 in
+    let there : slice_get items k ≡ Some procedure = sym c.in-Some.ensures.item in
+    let next : k + 1 ≡ c.loop-k.k = omega (arith, c.loop-k-test.true) in
+    omega (
+      arith,
+      c.loop-k.invariant.checked,
+      c.note_node.ensures.checked,
+      procedure_more program items k c.loop-k.k procedure there next,
+      procedures_shorter program k items,
+      ap (λ (all : Forest). length (procedure_verdicts program all)) (forest_nodes program),
+    )
+
+pub loop-k-preserved : goal.loop-k-preserved
+loop-k-preserved g c =
+    absurd
+    (omega
+    (arith, past_where_none (nodes c.args.tree.now.items) (c.loop-k.k - 1) (sym c.in_default.ensures.item), c.loop-k-test.true, c.loop-k.invariant.within))
+
+pub returns-clause-verdicts : goal.returns-clause-verdicts
+returns-clause-verdicts g c =
+    let program = c.args.tree.now.items in
+    let none : c.loop-k.k ≡ 0 = omega (arith, c.loop-k-test.false) in
+    c.loop-k.invariant.noted
+    ∙ ap (λ (k : ℕ). let m : VerdictMap = from_entries (procedure_verdicts program (forest (drop k (nodes program)))) in m) none
+    ∙ ap (λ (all : Forest). let m : VerdictMap = from_entries (procedure_verdicts program all) in m) (forest_nodes program)
+
+pub returns-clause-checked : goal.returns-clause-checked
+returns-clause-checked g c =
+    let program = c.args.tree.now.items in
+    omega (
+      arith,
+      c.loop-k.invariant.checked,
+      procedures_shorter program c.loop-k.k (nodes program),
+      ap (λ (all : Forest). length (procedure_verdicts program all)) (forest_nodes program),
+    )

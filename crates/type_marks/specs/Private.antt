@@ -1,0 +1,13 @@
+-- Words that private contracts alone cite: nobody has to believe them.
+-- ---- the table of built-in functions in the code, and their arguments
+pub mod PlainRow
+pub mod Arguments
+-- ---- chains of operators
+pub mod Chain
+-- ---- headings with parameters, and the arguments of a call
+pub mod LongHeading
+pub mod CallArguments
+-- ---- declared items, one after the other
+pub mod DeclaredItems
+-- ---- what verdicts and marks are in memory, and how they are noted
+pub mod MarksView

@@ -1,0 +1,28 @@
+-- The arguments of a built-in function, gone through one after the other.
+use Rattle.std.specs.Prelude.{ℕ, Bool, true, if◌then◌else◌, List, ◌++◌, length, Option, Some, None, option_to_list, Result, Ok, Err}
+use Rattle.plcs_base.specs.declared.mark.MarkKind.{MarkKind}
+use Rattle.plcs_base.specs.declared.value.Kind.{Kind}
+use Rattle.template_tree.specs.KindTable.{same_kind}
+use Rattle.template_tree.specs.Verdict.{fit, is_count, then_found}
+use Rattle.type_marks.specs.declared.kind_table.BuiltinRow.{BuiltinRow}
+
+-- the kinds that are taken, with the one that perhaps is
+abbrev pub taken_of : BuiltinRow → List Kind
+taken_of row = row.takes.now ++ option_to_list row.perhaps
+
+-- whether a kind is right where this is taken, or nothing is
+abbrev pub takes_kind : Option Kind → Kind → Bool
+takes_kind None kind = true
+takes_kind (Some wanted) kind = same_kind wanted kind
+
+-- whether the kinds that are found fit
+abbrev pub fit_found : List Kind → Result (List Kind) MarkKind → Result Bool MarkKind
+fit_found taken found = then_found found (λ kinds. Ok (fit taken kinds))
+
+-- the kind of the value for so many arguments
+abbrev pub judged : BuiltinRow → ℕ → Result Bool MarkKind → Result Kind MarkKind
+judged row count found =
+    then_found found
+    (λ fits.
+    if is_count (length row.takes.now) row.perhaps count
+    then (if fits then Ok row.gives else Err MarkKind.TypeMismatch) else Err MarkKind.WrongCount)

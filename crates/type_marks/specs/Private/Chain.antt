@@ -1,0 +1,28 @@
+-- What is found in a chain of operators that is gone through from its end on.
+use Rattle.std.specs.Prelude.{◌≡◌, Option, Some, None, Result, Ok, Err}
+use Rattle.plcs_base.specs.declared.mark.MarkKind.{MarkKind}
+use Rattle.plcs_base.specs.declared.value.Kind.{Kind}
+use Rattle.plcs_grammar.specs.declared.operator.InfixOp.{InfixOp}
+use Rattle.template_tree.specs.Verdict.{both_found, infix_found}
+use Rattle.type_marks.specs.declared.chain.Chain.{Chain}
+use Rattle.type_marks.specs.declared.chain.Link.{Link}
+
+-- what is found in the whole, where this is found in the front: an offence there comes before a later one
+abbrev pub with_later : (later : Option MarkKind) → (gives : Kind) → Result Kind MarkKind → Result Kind MarkKind
+with_later later gives (Err offence) = Err offence
+with_later None gives (Ok kind) = Ok gives
+with_later (Some offence) gives (Ok kind) = Err offence
+
+-- the same with the operator that is furthest to the left, if there is one
+abbrev pub ended : Option Link → Option MarkKind → Kind → Result Kind MarkKind → Result Kind MarkKind
+ended None later gives found = found
+ended (Some link) later gives found = with_later later gives (both_found found link.right (infix_found link.op))
+
+-- what is found in the whole chain, where this is found in the operand to the left of it
+abbrev pub chain_end : Chain → Result Kind MarkKind → Result Kind MarkKind
+chain_end chain found = ended chain.first chain.later chain.gives found
+
+-- the other chain has an operator before those of the one
+abbrev pub EndsBefore : Chain → InfixOp → Result Kind MarkKind → Chain → Type 0
+EndsBefore one op right other =
+    (found : Result Kind MarkKind) → chain_end other found ≡ chain_end one (both_found found right (infix_found op))

@@ -1,0 +1,58 @@
+-- What verdicts and marks in memory are seen as, and how verdicts are noted.
+use Rattle.std.specs.Prelude.{◌≡◌, ℕ, ◌<◌, ◌≤◌, List, [], ◌∷◌, Option, Some, None, slice_get}
+use Rattle.std.specs.Coded.{Coded, coded_option}
+use Rattle.std.specs.FinMap.{code, insert}
+use Rattle.plcs_base.specs.declared.mark.MarkKind.{MarkKind}
+use Rattle.plcs_base.specs.contracts.mark.MarkKind as mark_row
+use Rattle.plcs_base.specs.contracts.place.PhraseAt as place_row
+use Rattle.decl_table.specs.PlainDecls.{PlainDecls, items_in}
+use Rattle.template_tree.specs.Marks.{VerdictList, VerdictMap, surroundings}
+use Rattle.template_tree.specs.Part.{part_at}
+use Rattle.template_tree.specs.Environment.{procedure_at}
+use Rattle.template_tree.specs.Limit.{most_slots}
+use Rattle.template_tree.specs.Path.{below}
+use Rattle.template_tree.specs.PlainTree.{Forest, Label, PlainNode, forest, nodes}
+use Rattle.template_tree.specs.Program.{IsSubtree}
+use Rattle.template_tree.specs.Slots.{count, times}
+use Rattle.plcs_grammar.specs.PlainPhrase.{PlainPhrase}
+use Rattle.type_marks.specs.Private.DeclaredItems.{IsListIn}
+use Rattle.template_tree.specs.Verdict.{Surroundings}
+
+-- the code of a verdict
+abbrev pub verdict_code : Coded (Option MarkKind)
+verdict_code = coded_option mark_row.the_row.coded
+
+-- the code of verdicts by the places of their phrases
+abbrev pub verdicts_code : Coded VerdictMap
+verdicts_code = code place_row.the_row.coded verdict_code
+
+-- the map with these before what it has
+abbrev pub with_all : VerdictList → VerdictMap → VerdictMap
+with_all [] verdicts = verdicts
+with_all (entry ∷ entries) verdicts = insert (with_all entries verdicts) entry.0 entry.1
+
+-- the surroundings of a phrase, with the items that a table has
+abbrev pub known_surroundings : PlainDecls → (program : Forest) (procedure : PlainNode) (slot : ℕ) → Surroundings
+known_surroundings decls program procedure slot =
+    record (surroundings program procedure slot) { items = items_in decls.items procedure.label.slot }
+
+-- the node is main or a procedure of the program: the one that is found by its slot, a subtree, with each slot but once
+pub record IsItem (program : Forest) (procedure : PlainNode) : Type 0 where
+  pub found : procedure_at program procedure.label.slot ≡ Some procedure
+  pub subtree : IsSubtree procedure
+  pub few : count procedure.inner < most_slots
+  pub once : (slot : ℕ) → times slot (forest (procedure ∷ [])) ≤ 1
+
+-- the node stands in the procedure, or is it
+abbrev pub IsIn : (procedure node : PlainNode) → Type 0
+IsIn procedure node = (path : List ℕ) × (below procedure path ≡ Some node)
+
+-- each declared list in the node's parts stands in the declaration in its slot, if that is one of the nodes
+abbrev pub AreListed : (inner : Forest) → Label → Type 0
+AreListed inner label =
+    (part : ℕ) (phrase : PlainPhrase) → part_at label.parts part ≡ Some phrase → IsListIn inner label.slot phrase
+
+-- main or the procedure to which the path leads, or in which it leads to a node
+abbrev pub item_on : (program : Forest) → (path : List ℕ) → Option PlainNode
+item_on program [] = None
+item_on program (k ∷ path) = slice_get (nodes program) k

@@ -1,0 +1,170 @@
+//! The verdicts of all phrases of a program.
+ghost use Rattle.std.specs.Prelude.{◌≡◌, ◌∷◌, ◌+◌, ◌<◌, ◌≤◌, [], IfOk, OnOk, drop, length, option_map};
+ghost use Rattle.std.specs.FinMap.{get, insert};
+ghost use Rattle.decl_table.specs.Agreement.{IsDeclsOf};
+ghost use Rattle.template_tree.specs.Limit.{most_slots};
+ghost use Rattle.template_tree.specs.Marks.{Verdicts, node_verdicts, offences, part_verdicts, procedure_verdicts, surroundings};
+ghost use Rattle.template_tree.specs.PlainTree.{forest};
+ghost use Rattle.template_tree.specs.Program.{IsSubtree};
+ghost use Rattle.template_tree.specs.Slots.{count};
+ghost use Rattle.template_tree.specs.Tree.{IsTree};
+ghost use Rattle.type_marks.specs.Private.MarksView.{AreListed, IsIn, IsItem, with_all};
+
+use crate::procedures::item;
+use crate::verdict::{Verdict, checked};
+use decl_table::Decls;
+use indexmap::IndexMap;
+use plcs_base::{MarkKind, Marked, OutOfMemory, PhraseAt, Work};
+use std::alloc::Global;
+use std::marker::Model;
+use template_tree::{Node, PhrasePlace, Tree};
+
+/// The verdicts of a program's phrases by their places, which contracts see as a finite map.
+#[derive(Drop)]
+pub struct Marks<W> {
+    verdicts: IndexMap<PhraseAt, Verdict<W>>,
+}
+
+impl<W> Model for Marks<W> {
+    ghost use Rattle.std.specs.FinMap.{from_entries};
+    ghost use Rattle.template_tree.specs.Marks.{VerdictMap};
+    ghost use Rattle.type_marks.specs.Private.MarksView.{verdicts_code};
+
+    ghost Value = { VerdictMap };
+
+    ghost coded = { verdicts_code };
+
+    ghost view = { λ a. from_entries a.verdicts.entries };
+}
+
+impl<W> Marks<W> {
+    /// The verdict of the phrase at the place, or `None` exactly where no phrase stands there. It takes no
+    /// memory.
+    pub fn verdict(&self, at: PhraseAt) -> Option<&Verdict<W>>
+        ensures { option_map (λ verdict. verdict.now) result ≡ get self.now at }
+    {
+        self.verdicts.get(&at)
+    }
+}
+
+impl<W> Marked for Marks<W> {
+    ghost marks = { λ verdicts. offences verdicts };
+
+    fn mark(&self, at: PhraseAt) -> Option<MarkKind> {
+        match self.verdict(at) {
+            Some(verdict) => verdict.kind(),
+            None => None,
+        }
+    }
+}
+
+impl<W: Work> Marks<W> {
+    /// The verdicts of all phrases of the tree, each of which is counted as one check.
+    pub fn new(
+        alloc: Global,
+        tree: &Tree,
+        decls: &Decls,
+        work: &mut W,
+    ) -> Result<Marks<W>, OutOfMemory>
+        requires tree { IsTree tree.now }
+        requires decls { IsDeclsOf decls.now tree.now.items }
+        ensures verdicts { IfOk result (λ marks. marks ≡ Verdicts tree.now.items) }
+        ensures checked { W.checked work.new ≤ W.checked work.old + length (procedure_verdicts tree.now.items tree.now.items) }
+        ensures later { W.checked work.old ≤ W.checked work.new }
+        ensures emitted { W.emitted work.new ≡ W.emitted work.old }
+        ensures fetched { W.fetched work.new ≡ W.fetched work.old }
+        ensures laid { W.laid work.new ≡ W.laid work.old }
+    {
+        let mut marks = Marks {
+            verdicts: IndexMap::new(alloc),
+        };
+        let mut k = tree.procedures() + 1;
+        // From the last phrase on, as in the table of declarations.
+        while k > 0 {
+            k -= 1;
+            if let Some(procedure) = item(tree, k) {
+                marks.note_node(tree, decls, procedure, procedure, work)?;
+            }
+        }
+        Ok(marks)
+    }
+
+    /// Notes the verdicts of the phrases of the node, which stands in main or the procedure or is it, and
+    /// of the nodes in it, from the last one on.
+    fn note_node(
+        &mut self,
+        tree: &Tree,
+        decls: &Decls,
+        procedure: &Node,
+        node: &Node,
+        work: &mut W,
+    ) -> Result<(), OutOfMemory>
+        requires tree { IsTree tree.now }
+        requires decls { IsDeclsOf decls.now tree.now.items }
+        requires item { IsItem tree.now.items procedure.now }
+        requires inside { IsIn procedure.now node.now }
+        requires subtree { IsSubtree node.now }
+        requires few { count node.now.inner < most_slots }
+        ensures noted { OnOk result (self.new ≡ with_all (node_verdicts tree.now.items procedure.now (forest (node.now ∷ []))) self.old) }
+        ensures checked { W.checked work.new ≤ W.checked work.old + length (node_verdicts tree.now.items procedure.now (forest (node.now ∷ []))) }
+        ensures later { W.checked work.old ≤ W.checked work.new }
+        ensures emitted { W.emitted work.new ≡ W.emitted work.old }
+        ensures fetched { W.fetched work.new ≡ W.fetched work.old }
+        ensures laid { W.laid work.new ≡ W.laid work.old }
+    {
+        let mut k = node.children();
+        while k > 0 {
+            k -= 1;
+            if let Some(child) = node.child(k) {
+                self.note_node(tree, decls, procedure, child, work)?;
+            }
+        }
+        self.note_parts(tree, decls, procedure, node, 0, work)
+    }
+
+    /// Notes the verdicts of the phrases in the parts of the node, from the last one to the part of this
+    /// number.
+    fn note_parts(
+        &mut self,
+        tree: &Tree,
+        decls: &Decls,
+        procedure: &Node,
+        node: &Node,
+        part: u8,
+        work: &mut W,
+    ) -> Result<(), OutOfMemory>
+        requires tree { IsTree tree.now }
+        requires decls { IsDeclsOf decls.now tree.now.items }
+        requires item { IsItem tree.now.items procedure.now }
+        requires listed { AreListed procedure.now.inner node.now.label }
+        requires few { length node.now.label.parts < 256 }
+        ensures noted { OnOk result (self.new ≡ with_all (part_verdicts (surroundings tree.now.items procedure.now node.now.label.slot) node.now.label.slot part (drop part node.now.label.parts)) self.old) }
+        ensures checked { W.checked work.new ≤ W.checked work.old + length (part_verdicts (surroundings tree.now.items procedure.now node.now.label.slot) node.now.label.slot part (drop part node.now.label.parts)) }
+        ensures later { W.checked work.old ≤ W.checked work.new }
+        ensures emitted { W.emitted work.new ≡ W.emitted work.old }
+        ensures fetched { W.fetched work.new ≡ W.fetched work.old }
+        ensures laid { W.laid work.new ≡ W.laid work.old }
+    {
+        let Some(place) = node.part(part) else {
+            return Ok(());
+        };
+        self.note_parts(tree, decls, procedure, node, part + 1, work)?;
+        let PhrasePlace::Filled(phrase) = place else {
+            return Ok(());
+        };
+        let at = PhraseAt {
+            slot: node.slot(),
+            part,
+        };
+        let verdict = checked(tree, decls, procedure, node.slot(), phrase, work);
+        self.note(at, verdict)
+    }
+
+    /// Notes the verdict of the phrase at the place.
+    fn note(&mut self, at: PhraseAt, verdict: Verdict<W>) -> Result<(), OutOfMemory>
+        ensures { OnOk result (self.new ≡ insert self.old at verdict) }
+    {
+        self.verdicts.insert(at, verdict)?;
+        Ok(())
+    }
+}

@@ -1,0 +1,76 @@
+//! Names where variables are used.
+ghost use Rattle.std.specs.Prelude.{◌≡◌};
+ghost use Rattle.decl_table.specs.PlainDecls.{items_in};
+ghost use Rattle.template_tree.specs.Environment.{kind_of_type};
+ghost use Rattle.template_tree.specs.Verdict.{array_kind, cell_found, item_found, name_kind, scalar_found};
+
+use decl_table::Decls;
+use plcs_base::{Declared, ItemType, Kind, MarkKind, Name, Slot};
+use plcs_grammar::Builtin;
+
+/// The kind of a name without a subscript, or what is wrong with it.
+pub(crate) fn name_kind(decls: &Decls, procedure: Slot, name: &Name) -> Result<Kind, MarkKind>
+    ensures { result ≡ name_kind (items_in decls.now.items procedure.0) name.now }
+{
+    match item_found(decls, procedure, name) {
+        Ok(item) => scalar_found(&item),
+        Err(offence) => Err(offence),
+    }
+}
+
+/// The kind of a name with a subscript, or what is wrong with it.
+pub(crate) fn array_kind(decls: &Decls, procedure: Slot, name: &Name) -> Result<Kind, MarkKind>
+    ensures { result ≡ array_kind (items_in decls.now.items procedure.0) name.now }
+{
+    match item_found(decls, procedure, name) {
+        Ok(item) => cell_found(&item),
+        Err(offence) => Err(offence),
+    }
+}
+
+/// The effective item of the name. A reserved name comes before one that isn't declared.
+#[tactic(auto, unfolding(plcs_grammar::specs::Builtin::is_builtin_name))]
+fn item_found(decls: &Decls, procedure: Slot, name: &Name) -> Result<Declared, MarkKind>
+    ensures { result ≡ item_found (items_in decls.now.items procedure.0) name.now }
+{
+    if Builtin::read(name.as_bytes()).is_some() {
+        return Err(MarkKind::Reserved);
+    }
+    match decls.type_of(procedure, name) {
+        Some(item) => Ok(item),
+        None => Err(MarkKind::Undeclared),
+    }
+}
+
+/// The kind of an item that stands without a subscript.
+fn scalar_found(item: &Declared) -> Result<Kind, MarkKind>
+    ensures { result ≡ scalar_found item.now }
+{
+    if item.size == 0 {
+        Ok(kind_of_type(item.ty))
+    } else {
+        Err(MarkKind::NeedsSubscript)
+    }
+}
+
+/// The kind of an item that stands with a subscript.
+fn cell_found(item: &Declared) -> Result<Kind, MarkKind>
+    ensures { result ≡ cell_found item.now }
+{
+    if item.size == 0 {
+        Err(MarkKind::NotArray)
+    } else {
+        Ok(kind_of_type(item.ty))
+    }
+}
+
+/// The kind of the values of a type.
+pub(crate) fn kind_of_type(ty: ItemType) -> Kind
+    ensures { result ≡ kind_of_type ty }
+{
+    match ty {
+        ItemType::Fixed => Kind::Fixed,
+        ItemType::Bit => Kind::Bit,
+        ItemType::Text(_) => Kind::Text,
+    }
+}

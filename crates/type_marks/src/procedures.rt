@@ -1,0 +1,136 @@
+//! Main and the procedures of a program, by number, slot and name.
+ghost use Rattle.std.specs.Prelude.{◌≡◌, ◌∷◌, ◌+◌, ◌≤◌, [], IfSome, is_some, nat_eq, option_map, slice_get};
+ghost use Rattle.template_tree.specs.Environment.{Sig, procedure_at, signature_for};
+ghost use Rattle.template_tree.specs.Limit.{most_slots};
+ghost use Rattle.template_tree.specs.Marks.{procedures_before};
+ghost use Rattle.template_tree.specs.PlainTree.{nodes};
+ghost use Rattle.template_tree.specs.Program.{IsSubtree};
+ghost use Rattle.template_tree.specs.Slots.{count};
+ghost use Rattle.template_tree.specs.Tree.{IsTree};
+ghost use Rattle.type_marks.specs.Agreement.{heading_parameters};
+ghost use Rattle.type_marks.specs.Private.LongHeading.{has_parameters, takes_parameters};
+ghost use Rattle.type_marks.specs.Private.MarksView.{item_on};
+
+use decl_table::{heading_name, may_be_called, parameters_given};
+use plcs_base::{Name, Slot};
+use plcs_grammar::{NodeKind, Template};
+use template_tree::{Node, Path, Tree};
+
+/// Main or the procedure in the slot, or `None` where none of them has it.
+pub(crate) fn procedure_in(tree: &Tree, slot: Slot) -> Option<&Node>
+    requires tree { IsTree tree.now }
+    ensures { option_map (λ node. node.now) result ≡ procedure_at tree.now.items slot.0 }
+{
+    let mut k = 0;
+    while let Some(node) = item(tree, k) {
+        if stands_in(node, slot) {
+            return Some(node);
+        }
+        k += 1;
+    }
+    None
+}
+
+/// Whether a procedure before the one in the slot has an effective heading of the name, or would have
+/// it where no earlier one does.
+pub(crate) fn is_named_before(tree: &Tree, slot: Slot, name: &Name) -> bool
+    requires tree { IsTree tree.now }
+    ensures { result ≡ is_some (Sig (procedures_before tree.now.items slot.0) name.now) }
+{
+    let mut k = 0;
+    while let Some(node) = item(tree, k) {
+        if stands_in(node, slot) {
+            return false;
+        }
+        if may_be_called_by(node, name) {
+            return true;
+        }
+        k += 1;
+    }
+    false
+}
+
+/// Whether the heading is whole and has the name, and a procedure of the name may be called.
+fn may_be_called_by(node: &Node, name: &Name) -> bool
+    ensures { result ≡ is_some (signature_for name.now node.now) }
+{
+    let Some(other) = heading_name(node) else {
+        return false;
+    };
+    name == other && may_be_called(name)
+}
+
+/// The parameters in the heading of a procedure: none where it isn't whole.
+pub(crate) fn heading_parameters(node: &Node) -> &[Name]
+    ensures { result.now ≡ heading_parameters node.now }
+{
+    if !takes_parameters(node.kind()) {
+        return &[];
+    }
+    if heading_name(node).is_none() {
+        return &[];
+    }
+    match parameters_given(node) {
+        Some(names) => names,
+        None => &[],
+    }
+}
+
+/// Whether it is the kind of a procedure with parameters.
+fn takes_parameters(kind: NodeKind) -> bool
+    ensures { result ≡ takes_parameters kind }
+{
+    match kind {
+        NodeKind::Filled(template) => has_parameters(template),
+        _ => false,
+    }
+}
+
+/// Whether it is the template of a procedure with parameters.
+fn has_parameters(template: Template) -> bool
+    ensures { result ≡ has_parameters template }
+{
+    match template {
+        Template::ProcP => true,
+        _ => false,
+    }
+}
+
+/// Whether it is the node in the slot.
+pub(crate) fn stands_in(node: &Node, slot: Slot) -> bool
+    ensures { result ≡ nat_eq node.now.label.slot slot.0 }
+{
+    node.slot().0 == slot.0
+}
+
+/// The item of this number: main is 0, and then come the procedures.
+pub(crate) fn item(tree: &Tree, k: u32) -> Option<&Node>
+    requires tree { IsTree tree.now }
+    ensures item { option_map (λ node. node.now) result ≡ slice_get (nodes tree.now.items) k }
+    ensures subtree { IfSome result (λ node. IsSubtree node.now) }
+    ensures few { IfSome result (λ node. count node.now.inner + 1 ≤ most_slots) }
+{
+    tree.node(&path_of_item(k))
+}
+
+/// Main or the procedure in which the path leads to a node, or is it.
+pub(crate) fn item_on<'a>(tree: &'a Tree, path: &Path) -> Option<&'a Node>
+    requires tree { IsTree tree.now }
+    ensures item { option_map (λ node. node.now) result ≡ item_on tree.now.items path.now.items }
+    ensures subtree { IfSome result (λ node. IsSubtree node.now) }
+    ensures few { IfSome result (λ node. count node.now.inner + 1 ≤ most_slots) }
+{
+    let Some((k, _)) = path.split_first() else {
+        return None;
+    };
+    item(tree, *k)
+}
+
+/// The path of the item of this number.
+fn path_of_item(k: u32) -> Path
+    ensures { result.items ≡ k ∷ [] }
+{
+    let mut path = Path::new();
+    path.push(k);
+    path
+}
