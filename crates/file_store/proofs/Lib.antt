@@ -1,3 +1,5 @@
+-- the value of each limit
+pub mod Limits
 -- `one_listing` and `read_listing`: what comes into a list is what its sections ask for
 pub mod Fillings
 -- `one_listing`, and each refusal of `read_listing`: the lines of a program lead the reader to it
@@ -20,7 +22,13 @@ pub mod ReadListings
 pub mod LoadedTrees
 -- `split_line`: where the first line of a text ends
 pub mod LineEnds
+-- `only` of `read_listing`: the listing of a program within the limits isn't too long
+pub mod ListingLengths
 -- `only` of `read_listing`
 pub mod OneOutcome
+-- `refused` of `read_listing`, and `one_outcome`
+pub mod Outcomes
+-- `only`, `refused` and `missing` of `load`
+pub mod LoadedFiles
 -- `save`: bytes that are passed on to files, one after the other
 pub mod Sending

@@ -15,7 +15,7 @@ use Rattle.template_tree.specs.Listing.{bytes_of}
 use Rattle.template_tree.specs.PlainTree.{Forest}
 use Rattle.template_tree.specs.Program.{AreNodes, AreParts, IsProgram, parts_of, sort_of}
 use Rattle.template_tree.specs.Section.{same_sort, left_for, left_in, left_after, next_lead}
-use Rattle.file_store.specs.ListedLine.{ListedLine, listed_fixed, listed, text_of_lines}
+use Rattle.file_store.specs.ListedLine.{ListedLine, listed_fixed, listed, listed_program, text_of_lines}
 use Rattle.file_store.specs.ListingLaws.{OneListing}
 use Rattle.file_store.specs.Private.LineLaws.{LineLaws}
 use Rattle.file_store.specs.Private.Reader.{shape, Saying, Said, text_of, opens, unread, run, program_of, said_lead, said_last, sayings}
@@ -42,7 +42,7 @@ last_row : (level : ℕ) (text : Option (List ℕ)) → map listed_row (said_las
 last_row level None = refl
 last_row level (Some text) = refl
 
-shape_line : (kind : NodeKind) (parts : List (Option PlainPhrase)) → segments_text (row_of (shape kind)).line parts ≡ segments_text (row_of kind).line parts
+pub shape_line : (kind : NodeKind) (parts : List (Option PlainPhrase)) → segments_text (row_of (shape kind)).line parts ≡ segments_text (row_of kind).line parts
 shape_line (NodeKind.Filled Template.If) parts = refl
 shape_line kind parts = refl
 
@@ -86,6 +86,9 @@ lines_are level left (Forest.cons label inner rest) =
     (ap (λ z. lines false (level + 1) (row_of label.kind).sections inner ++ z)
     (map_lines last more ∙ rw (fixed_lines level (row_of label.kind).last, lines_are level (left_after here) rest) refl))))
 
+pub program_lines : (items : Forest) → map (λ (row : ListedLine). row.line) (listed_program items) ≡ listing_lines items
+program_lines items = lines_are 0 program_sections items
+
 -- and their bytes are the same
 pub text_said : (ls : List Said) → text_of_lines (map listed_row ls) ≡ said_text ls
 text_said [] = refl
@@ -108,16 +111,16 @@ abbrev is_else : Option (List ℕ) → Bool
 is_else None = true
 is_else (Some text) = bytes_eq text (codes "ELSE")
 
-abbrev else_leads : List PlainSection → Bool
+abbrev pub else_leads : List PlainSection → Bool
 else_leads = list_all (λ section. is_else section.lead)
 
-row_leads : (kind : NodeKind) → IsTrue (else_leads (row_of kind).sections)
+pub row_leads : (kind : NodeKind) → IsTrue (else_leads (row_of kind).sections)
 row_leads (NodeKind.Filled Template.Fixed) = refl
 row_leads (NodeKind.Filled template) = refl
 row_leads NodeKind.Main = refl
 row_leads kind = refl
 
-leads_for : (sort : Sort) (left : List PlainSection) → IsTrue (else_leads left) → IsTrue (else_leads (left_for sort left))
+pub leads_for : (sort : Sort) (left : List PlainSection) → IsTrue (else_leads left) → IsTrue (else_leads (left_for sort left))
 leads_for sort [] h = refl
 leads_for sort (section ∷ sections) h =
     left_or (same_sort section.sort sort) (section ∷ sections) (left_for sort sections) h
@@ -128,7 +131,7 @@ leads_for sort (section ∷ sections) h =
     left_or true one other h k = h
     left_or false one other h k = k
 
-leads_after : (left : List PlainSection) → IsTrue (else_leads left) → IsTrue (else_leads (left_after left))
+pub leads_after : (left : List PlainSection) → IsTrue (else_leads left) → IsTrue (else_leads (left_after left))
 leads_after [] h = refl
 leads_after (section ∷ sections) h = by section.amount (and_parts (is_else section.lead) (else_leads sections) h).1
   where
@@ -136,7 +139,7 @@ leads_after (section ∷ sections) h = by section.amount (and_parts (is_else sec
     by Amount.One h = h
     by Amount.Many h = h
 
-lead_sayings : (level : ℕ) (left : List PlainSection) → IsTrue (else_leads left) → AreSayings (said_lead level (next_lead left))
+pub lead_sayings : (level : ℕ) (left : List PlainSection) → IsTrue (else_leads left) → AreSayings (said_lead level (next_lead left))
 lead_sayings level [] h = tt
 lead_sayings level (section ∷ sections) h = by section.lead (and_parts (is_else section.lead) (else_leads sections) h).0
   where
@@ -144,7 +147,7 @@ lead_sayings level (section ∷ sections) h = by section.lead (and_parts (is_els
     by None h = tt
     by (Some text) h = ((bytes_eq-Decides text (codes "ELSE")).0 h, tt)
 
-last_sayings : (level : ℕ) (kind : NodeKind) → AreSayings (said_last level (row_of kind).last)
+pub last_sayings : (level : ℕ) (kind : NodeKind) → AreSayings (said_last level (row_of kind).last)
 last_sayings level NodeKind.Main = (refl, tt)
 last_sayings level (NodeKind.Filled Template.Fixed) = tt
 last_sayings level (NodeKind.Filled Template.Proc) = (refl, tt)

@@ -1,5 +1,5 @@
 -- The tree that is read has the bytes as its listing.
-use Rattle.std.specs.Prelude.{◌≡◌, refl, ℕ, ◌+◌, ◌≤◌, false, List, [], ◌∷◌, ◌++◌, length, Some}
+use Rattle.std.specs.Prelude.{◌≡◌, refl, ℕ, ◌+◌, ◌≤◌, false, List, [], ◌∷◌, ◌++◌, Some}
 use Rattle.std.proofs.Common.{ap, sym, ◌∙◌, arith, subst}
 use Rattle.std.proofs.lemmas.List.{append-nil}
 use Rattle.plcs_grammar.specs.Template.{PlainSection, row_of, program_sections}
@@ -12,9 +12,8 @@ use Rattle.template_tree.specs.Program.{AreNodes, Fill, IsProgram, sorts, sort_o
 use Rattle.template_tree.specs.Section.{left_for, left_after}
 use Rattle.template_tree.specs.Slots.{count, depth, with_slots_from}
 use Rattle.template_tree.specs.Tree.{IsTree}
-use Rattle.file_store.specs.Bare.{Bare}
-use Rattle.file_store.specs.Limit.{longest_listing}
-use Rattle.file_store.specs.Loaded.{Loaded}
+use Rattle.template_tree.specs.Bare.{Bare}
+use Rattle.file_store.specs.Loaded.{IsListingOf}
 use Rattle.file_store.specs.Private.Reader.{program_of, run, sayings, unread}
 use Rattle.file_store.specs.Private.Reading.{Come}
 use Rattle.file_store.proofs.Arrivals.{program_arrives}
@@ -129,9 +128,9 @@ fits x rest come list far e =
       few = omega (arith, sym (count_said 0 program_sections (forest list.items)) ∙ ap opened_in read.1, far.opened, far.few);
     }
 
-pub loaded : (x rest : List ℕ) (come : Come) (list : PlainNodes) (tree : PlainTree) → length x ≤ longest_listing → (far : SoFar x rest come) → rest ≡ []
-    → program_of come.stack ≡ Some (roomless (forest list.items)) → tree ≡ built_tree list → IsTree tree → Loaded x tree
-loaded x rest come list tree short far empty e is is_tree =
+pub loaded : (x rest : List ℕ) (come : Come) (list : PlainNodes) (tree : PlainTree) → (far : SoFar x rest come) → rest ≡ []
+    → program_of come.stack ≡ Some (roomless (forest list.items)) → tree ≡ built_tree list → IsTree tree → IsListingOf x tree
+loaded x rest come list tree far empty e is is_tree =
     let items = forest list.items in
     let read = read_items x rest come list far e in
     let all = program_arrives (roomless items) read.0 in
@@ -153,5 +152,4 @@ loaded x rest come list tree short far empty e is is_tree =
       slots = rw items_are (slots_again 0 items);
       drawn = ap (λ (t : PlainTree). t.drawn) is ∙ sym (count_slots 0 items) ∙ ap count (sym items_are);
       unelided = rw items_are (whole_slots 0 items (are_whole items bare));
-      short = short;
     }

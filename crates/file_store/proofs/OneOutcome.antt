@@ -13,9 +13,10 @@ use Rattle.template_tree.specs.Slots.{count, depth}
 use Rattle.file_store.specs.declared.refusal.FileRefusal.{FileRefusal}
 use Rattle.file_store.specs.Limit.{longest_listing}
 use Rattle.file_store.specs.ListedLine.{ListedLine, text_of_lines}
-use Rattle.file_store.specs.Loaded.{BeginsListing, NoListing, ReadingSays, ReadsOnly, Refused, opened}
+use Rattle.file_store.specs.Loaded.{BeginsListing, NoListing, Loaded, ReadsOnly, Refused, opened}
 use Rattle.file_store.specs.Private.LineLaws.{LineLaws}
 use Rattle.file_store.specs.Private.Reader.{Said, opens, sayings, said_lead, said_last}
+use Rattle.file_store.proofs.ListingLengths.{listing_short}
 use Rattle.file_store.proofs.ListedLines.{listed_row, listing_said, one_program, program_sayings, rows_are, text_said}
 use Rattle.file_store.proofs.ReadListings.{AreShallow, count_said, opened_in, opened_more}
 use Rattle.file_store.proofs.Texts.{AreSayings, said_text, text_front}
@@ -48,7 +49,7 @@ said_shallow level left (Forest.cons label inner rest) h =
 
 -- ---- lines that are listed were said
 
-front_said : (ls : List Said) (rows : List ListedLine) (more : List ListedLine) → AreSayings ls → map listed_row ls ≡ rows ++ more
+pub front_said : (ls : List Said) (rows : List ListedLine) (more : List ListedLine) → AreSayings ls → map listed_row ls ≡ rows ++ more
     → (front back : List Said) × (ls ≡ front ++ back) × (map listed_row front ≡ rows) × AreSayings front
 front_said ls [] more h e = ([], ls, refl, refl, tt)
 front_said [] (row ∷ rows) more h e = absurd (omega (arith, ap length e))
@@ -116,14 +117,14 @@ rows_text : (a b : List ListedLine) → text_of_lines (a ++ b) ≡ text_of_lines
 rows_text [] b = refl
 rows_text (row ∷ a) b = ap (λ z. line_bytes row.line ++ (10 ∷ z)) (rows_text a b) ∙ sym (append_assoc (line_bytes row.line) (10 ∷ text_of_lines a) (text_of_lines b))
 
-line_behind : (rows : List ListedLine) (row : ListedLine) (rest : List ℕ)
+pub line_behind : (rows : List ListedLine) (row : ListedLine) (rest : List ℕ)
     → text_of_lines rows ++ (line_bytes row.line ++ (10 ∷ rest)) ≡ text_of_lines (rows ++ (row ∷ [])) ++ rest
 line_behind rows row rest =
     ap (λ z. text_of_lines rows ++ z) (sym (append_assoc (line_bytes row.line) (10 ∷ []) rest))
     ∙ sym (append_assoc (text_of_lines rows) (line_bytes row.line ++ (10 ∷ [])) rest)
     ∙ ap (λ z. z ++ rest) (sym (rows_text rows (row ∷ [])))
 
-opened_row : (rows : List ListedLine) (row : ListedLine) → row.opens ≡ true → opened (rows ++ (row ∷ [])) ≡ opened rows + 1
+pub opened_row : (rows : List ListedLine) (row : ListedLine) → row.opens ≡ true → opened (rows ++ (row ∷ [])) ≡ opened rows + 1
 opened_row [] row h = rw h refl
 opened_row (first ∷ rows) row h = omega (arith, opened_row rows row h)
 
@@ -153,13 +154,18 @@ not_refused laws items x FileRefusal.NoFile spells deep many short h = h
 not_refused laws items x FileRefusal.FileFault spells deep many short h = h
 not_refused laws items x FileRefusal.OutOfMemory spells deep many short h = h
 
+pub never_refused : LineLaws → (items : Forest) (x : List ℕ) (refusal : FileRefusal) → Spells items x → depth items ≤ deepest_path → count items ≤ most_slots
+    → Refused x refusal → ⊥
+never_refused laws items x refusal spells deep many h = not_refused laws items x refusal spells deep many (listing_short items x spells deep many) h
+
 pub reads_only : LineLaws → (items : Forest) (x : List ℕ) (result : Result PlainTree FileRefusal) → Spells items x → depth items ≤ deepest_path
-    → count items ≤ most_slots → length x ≤ longest_listing → ReadingSays x result → ReadsOnly result items
-reads_only laws items x (Ok tree) spells deep many short h = one_program laws tree.items items x h.spells spells
-reads_only laws items x (Err FileRefusal.OutOfMemory) spells deep many short h = refl
-reads_only laws items x (Err FileRefusal.TooLong) spells deep many short h = absurd (not_refused laws items x FileRefusal.TooLong spells deep many short h)
-reads_only laws items x (Err (FileRefusal.NotAListing k)) spells deep many short h = absurd (not_refused laws items x (FileRefusal.NotAListing k) spells deep many short h)
-reads_only laws items x (Err FileRefusal.TooDeep) spells deep many short h = absurd (not_refused laws items x FileRefusal.TooDeep spells deep many short h)
-reads_only laws items x (Err FileRefusal.TooLarge) spells deep many short h = absurd (not_refused laws items x FileRefusal.TooLarge spells deep many short h)
-reads_only laws items x (Err FileRefusal.NoFile) spells deep many short h = absurd h
-reads_only laws items x (Err FileRefusal.FileFault) spells deep many short h = absurd h
+    → count items ≤ most_slots → Loaded x result → ReadsOnly result items
+reads_only laws items x (Ok tree) spells deep many h = one_program laws tree.items items x h.spells spells
+reads_only laws items x (Err FileRefusal.OutOfMemory) spells deep many h = refl
+reads_only laws items x (Err FileRefusal.TooLong) spells deep many h = absurd (never_refused laws items x FileRefusal.TooLong spells deep many h)
+reads_only laws items x (Err (FileRefusal.NotAListing k)) spells deep many h =
+    absurd (never_refused laws items x (FileRefusal.NotAListing k) spells deep many h)
+reads_only laws items x (Err FileRefusal.TooDeep) spells deep many h = absurd (never_refused laws items x FileRefusal.TooDeep spells deep many h)
+reads_only laws items x (Err FileRefusal.TooLarge) spells deep many h = absurd (never_refused laws items x FileRefusal.TooLarge spells deep many h)
+reads_only laws items x (Err FileRefusal.NoFile) spells deep many h = absurd h
+reads_only laws items x (Err FileRefusal.FileFault) spells deep many h = absurd h

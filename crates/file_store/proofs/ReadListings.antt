@@ -13,7 +13,7 @@ use Rattle.template_tree.specs.Section.{left_for, left_after, next_lead}
 use Rattle.template_tree.specs.Slots.{count, depth}
 use Rattle.file_store.specs.declared.refusal.FileRefusal.{FileRefusal}
 use Rattle.file_store.specs.Limit.{longest_listing}
-use Rattle.file_store.specs.ListedLine.{ListedLine, text_of_lines}
+use Rattle.file_store.specs.ListedLine.{ListedLine, listed_program, text_of_lines}
 use Rattle.file_store.specs.Loaded.{BeginsListing, Fine, HasNoEnd, NextLine, OpensTooDeep, OpensTooMany, RefusalSays, Refused, opened}
 use Rattle.file_store.specs.Private.LineLaws.{LineLaws}
 use Rattle.file_store.specs.Private.LineReading.{Says, said_bytes}
@@ -51,7 +51,7 @@ at_first x come e =
 
 -- ---- one line more
 
-said_append : (a b : List Said) → said_text (a ++ b) ≡ said_text a ++ said_text b
+pub said_append : (a b : List Said) → said_text (a ++ b) ≡ said_text a ++ said_text b
 said_append [] b = refl
 said_append (x ∷ a) b = ap (λ z. said_bytes x ++ (10 ∷ z)) (said_append a b) ∙ sym (append_assoc (said_bytes x) (10 ∷ said_text a) (said_text b))
 
@@ -118,7 +118,7 @@ fine x rest come far =
       few = omega (arith, far.opened, far.few);
     }
 
-rows_length : (ls : List Said) → length (map listed_row ls) ≡ length ls
+pub rows_length : (ls : List Said) → length (map listed_row ls) ≡ length ls
 rows_length [] = refl
 rows_length (said ∷ ls) = ap suc (rows_length ls)
 
@@ -278,6 +278,9 @@ count_said level left (Forest.cons label inner rest) =
       count_said (level + 1) (row_of label.kind).sections inner,
       count_said level (left_after here) rest,
     ) (omega arith)
+
+pub program_opened : (items : Forest) → opened (listed_program items) ≡ count items
+program_opened items = ap opened (sym (rows_are 0 program_sections items)) ∙ count_said 0 program_sections items
 
 -- ---- the number of lines
 

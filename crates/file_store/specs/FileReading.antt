@@ -1,11 +1,14 @@
 -- What a file is read as.
-use Rattle.std.specs.Prelude.{◌≡◌, ℕ, ◌<◌, List, length, Option, Some, None, Result, Ok, Err}
+use Rattle.std.specs.Prelude.{◌≡◌, ◌⊎◌, ℕ, ◌<◌, List, length, Option, Some, None, Result, Ok, Err, IsErrOf}
 use Rattle.std.specs.FinMap.{get}
 use Rattle.synth_outside.specs.declared.faults.FilesFault.{FilesFault}
-use Rattle.synth_outside.specs.Files.{FileMap, Lacks}
-use Rattle.template_tree.specs.PlainTree.{PlainTree}
+use Rattle.synth_outside.specs.Cause.{HasCause}
+use Rattle.synth_outside.specs.Files.{FileMap, NewContent, Lacks}
+use Rattle.template_tree.specs.PlainTree.{Forest, PlainTree}
 use Rattle.file_store.specs.declared.refusal.FileRefusal.{FileRefusal}
-use Rattle.file_store.specs.Loaded.{Loaded, Refused}
+use Rattle.template_tree.specs.Bare.{Bare}
+use Rattle.file_store.specs.Loaded.{IsListingOf, Refused}
+use Rattle.file_store.specs.Want.{MayRiseWith}
 
 -- where the map is told, it has a content under the name, and this holds of it
 abbrev pub Holds : Option FileMap → List ℕ → (List ℕ → Type 0) → Type 0
@@ -29,8 +32,37 @@ IsLoadRefused stored name refusal = Holds stored name (λ x. Refused x refusal)
 
 -- what an answer says of the file of the name
 abbrev pub LoadingSays : Option FileMap → List ℕ → Result PlainTree FileRefusal → Type 0
-LoadingSays stored name (Ok tree) = Holds stored name (λ x. Loaded x tree)
+LoadingSays stored name (Ok tree) = Holds stored name (λ x. IsListingOf x tree)
 LoadingSays stored name (Err refusal) = IsLoadRefused stored name refusal
+
+-- the map is told, and has these bytes under the name
+abbrev pub HasContent : Option FileMap → List ℕ → List ℕ → Type 0
+HasContent None name x = ⊥
+HasContent (Some map) name x = get map name ≡ Some x
+
+-- the map is told, and has no content under the name
+abbrev pub HasNoContent : Option FileMap → List ℕ → Type 0
+HasNoContent None name = ⊥
+HasNoContent (Some map) name = get map name ≡ None
+
+-- the program is answered, unless a call failed or memory ran out
+abbrev pub LoadsOnly : Result PlainTree FileRefusal → Forest → Type 0
+LoadsOnly (Ok tree) items = Bare tree.items ≡ Bare items
+LoadsOnly (Err own) items = (own ≡ FileRefusal.FileFault) ⊎ (own ≡ FileRefusal.OutOfMemory)
+
+-- the refusal is answered, unless a call failed or memory ran out
+abbrev pub RefusesLoad : Result PlainTree FileRefusal → FileRefusal → Type 0
+RefusesLoad (Ok tree) refusal = ⊥
+RefusesLoad (Err own) refusal = (own ≡ refusal) ⊎ ((own ≡ FileRefusal.FileFault) ⊎ (own ≡ FileRefusal.OutOfMemory))
+
+-- a call that only reads files: the map and what is begun are as before, the count of faults rises where it answers that
+-- a call failed, and that of wants at most where it answers want of memory
+pub record OnlyReads {T : Type 0} (result : Result T FileRefusal) (stored_before stored_now : Option FileMap)
+    (begun_before begun_now : Option NewContent) (faults_before faults_now wants_before wants_now : ℕ) : Type 0 where
+  pub stored : stored_now ≡ stored_before
+  pub begun : begun_now ≡ begun_before
+  pub fault : HasCause FileRefusal.FileFault faults_before faults_now result
+  pub want : MayRiseWith (IsErrOf result FileRefusal.OutOfMemory) wants_before wants_now
 
 -- the refusal that a fault of the files is
 abbrev pub refusal_of : FilesFault → FileRefusal

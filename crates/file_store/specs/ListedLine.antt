@@ -12,7 +12,7 @@ pub record ListedLine : Type 0 where
   pub line : Line
   pub opens : Bool
 
--- a line of the table that is there or not: no node begins in it
+-- a line that the table of templates has as it stands, or none where it has none: no node begins in it
 abbrev pub listed_fixed : ℕ → Option (List ℕ) → List ListedLine
 listed_fixed level text = map (λ line. record { line = line; opens = false }) (fixed_line level text)
 

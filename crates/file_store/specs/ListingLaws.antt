@@ -1,9 +1,39 @@
 -- The laws of listings.
-use Rattle.std.specs.Prelude.{◌≡◌, List, ℕ}
-use Rattle.template_tree.specs.Listing.{Spells}
+use Rattle.std.specs.Prelude.{◌≡◌, ℕ, ◌≤◌, List, length, map}
+use Rattle.template_tree.specs.Limit.{deepest_path, most_slots}
+use Rattle.template_tree.specs.Line.{listing_lines}
+use Rattle.template_tree.specs.Listing.{Listing, Spells}
 use Rattle.template_tree.specs.PlainTree.{Forest}
-use Rattle.file_store.specs.Bare.{Bare}
+use Rattle.template_tree.specs.Program.{IsProgram}
+use Rattle.template_tree.specs.Slots.{count, depth}
+use Rattle.file_store.specs.declared.refusal.FileRefusal.{FileRefusal}
+use Rattle.template_tree.specs.Bare.{Bare}
+use Rattle.file_store.specs.Limit.{longest_listing}
+use Rattle.file_store.specs.ListedLine.{listed_program}
+use Rattle.file_store.specs.Loaded.{Refused, opened}
 
 -- a text is the listing of at most one program, whose slots, elision and room play no part
 abbrev pub OneListing : Type 0
 OneListing = (a b : Forest) (x : List ℕ) → Spells a x → Spells b x → Bare a ≡ Bare b
+
+-- a text is refused for one reason at most
+abbrev pub OneRefusal : Type 0
+OneRefusal = (x : List ℕ) (a b : FileRefusal) → Refused x a → Refused x b → a ≡ b
+
+-- the listing of a program within the limits is refused for none
+abbrev pub ListingsAreNotRefused : Type 0
+ListingsAreNotRefused =
+    (items : Forest) (x : List ℕ) (refusal : FileRefusal) → Spells items x → depth items ≤ deepest_path → count items ≤ most_slots
+    → ¬ (Refused x refusal)
+
+-- the listing of a program within the limits is no longer than a listing file may be
+abbrev pub ListingsAreShort : Type 0
+ListingsAreShort = (items : Forest) → IsProgram items → depth items ≤ deepest_path → count items ≤ most_slots → length (Listing items) ≤ longest_listing
+
+-- the lines that are told apart by the nodes that begin in them are those of the listing
+abbrev pub ListedLinesAreLines : Type 0
+ListedLinesAreLines = (items : Forest) → map (λ row. row.line) (listed_program items) ≡ listing_lines items
+
+-- as many nodes begin in them as there are
+abbrev pub NodesBeginInLines : Type 0
+NodesBeginInLines = (items : Forest) → opened (listed_program items) ≡ count items

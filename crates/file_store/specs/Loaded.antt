@@ -9,18 +9,17 @@ use Rattle.template_tree.specs.Program.{IsProgram}
 use Rattle.template_tree.specs.Slots.{count, with_slots_from}
 use Rattle.template_tree.specs.Tree.{IsTree}
 use Rattle.file_store.specs.declared.refusal.FileRefusal.{FileRefusal}
-use Rattle.file_store.specs.Bare.{Bare}
+use Rattle.template_tree.specs.Bare.{Bare}
 use Rattle.file_store.specs.Limit.{longest_listing}
 use Rattle.file_store.specs.ListedLine.{ListedLine, listed_program, text_of_lines}
 
 -- the bytes are the listing of the tree, whose slots are drawn from 0 in listing order, and in which nothing is elided
-pub record Loaded (x : List ℕ) (tree : PlainTree) : Type 0 where
+pub record IsListingOf (x : List ℕ) (tree : PlainTree) : Type 0 where
   pub spells : Spells tree.items x
   pub is_tree : IsTree tree
   pub slots : with_slots_from 0 tree.items ≡ tree.items
   pub drawn : tree.drawn ≡ count tree.items
   pub unelided : whole tree.items ≡ tree.items
-  pub short : length x ≤ longest_listing
 
 -- the listing of some program, of any size and any depth, begins with the lines
 abbrev pub BeginsListing : List ListedLine → Type 0
@@ -85,12 +84,17 @@ abbrev pub RefusalSays : List ℕ → FileRefusal → Type 0
 RefusalSays x FileRefusal.OutOfMemory = Unit {0}
 RefusalSays x refusal = Refused x refusal
 
--- what an answer says of the bytes
-abbrev pub ReadingSays : List ℕ → Result PlainTree FileRefusal → Type 0
-ReadingSays x (Ok tree) = Loaded x tree
-ReadingSays x (Err refusal) = RefusalSays x refusal
+-- what bytes are read as: the tree whose listing they are, or why they are refused
+abbrev pub Loaded : List ℕ → Result PlainTree FileRefusal → Type 0
+Loaded x (Ok tree) = IsListingOf x tree
+Loaded x (Err refusal) = RefusalSays x refusal
 
 -- the answer is the program, unless memory ran out
 abbrev pub ReadsOnly : Result PlainTree FileRefusal → Forest → Type 0
 ReadsOnly (Ok tree) items = Bare tree.items ≡ Bare items
 ReadsOnly (Err refusal) items = refusal ≡ FileRefusal.OutOfMemory
+
+-- the refusal is answered, unless memory ran out
+abbrev pub RefusesOnly : Result PlainTree FileRefusal → FileRefusal → Type 0
+RefusesOnly (Ok tree) refusal = ⊥
+RefusesOnly (Err own) refusal = (own ≡ refusal) ⊎ (own ≡ FileRefusal.OutOfMemory)

@@ -1,5 +1,5 @@
 //! The laws of listings, each a function that does nothing and whose contract states it.
-ghost use Rattle.file_store.specs.ListingLaws.{OneListing};
+ghost use Rattle.file_store.specs.ListingLaws.{ListedLinesAreLines, ListingsAreNotRefused, ListingsAreShort, NodesBeginInLines, OneListing, OneRefusal};
 
 use crate::line_laws::line_laws;
 
@@ -9,3 +9,25 @@ pub fn one_listing()
 {
     line_laws();
 }
+
+/// A text is refused for one reason at most, and the listing of a program within the limits for none.
+pub fn one_outcome()
+    ensures refusal { OneRefusal }
+    ensures listing { ListingsAreNotRefused }
+{
+    line_laws();
+}
+
+/// The listing of a program within the limits is no longer than a listing file may be.
+#[tactic(auto, using(crate::proofs::ListingLengths::short_listing))]
+pub fn listings_are_short()
+    ensures { ListingsAreShort }
+{}
+
+/// The lines by which refusals are stated are those of the listing, and as many nodes begin in them as
+/// there are.
+#[tactic(auto, using(crate::proofs::ListedLines::program_lines, crate::proofs::ReadListings::program_opened))]
+pub fn listed_lines_are_lines()
+    ensures lines { ListedLinesAreLines }
+    ensures opened { NodesBeginInLines }
+{}

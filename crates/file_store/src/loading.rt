@@ -1,14 +1,19 @@
 //! Files that are loaded.
-ghost use Rattle.std.specs.Prelude.{◌≡◌, ◌≢◌, ◌<◌, ◌≤◌, true, IfErr, IfOk, length};
-ghost use Rattle.synth_outside.specs.Cause.{HasCause};
+ghost use Rattle.std.specs.Prelude.{◌≡◌, ◌≢◌, ◌<◌, ◌≤◌, ℕ, List, true, IfErr, IfOk, length};
 ghost use Rattle.synth_outside.specs.declared.faults.FilesFault.{FilesFault};
+ghost use Rattle.template_tree.specs.Limit.{deepest_path, most_slots};
+ghost use Rattle.template_tree.specs.Listing.{Spells};
+ghost use Rattle.template_tree.specs.PlainTree.{Forest};
+ghost use Rattle.template_tree.specs.Slots.{count, depth};
 ghost use Rattle.template_tree.specs.Tree.{IsTree};
 ghost use Rattle.file_store.specs.declared.refusal.FileRefusal.{FileRefusal};
-ghost use Rattle.file_store.specs.FileReading.{Holds, IsFileRefused, LoadingSays, refusal_of};
+ghost use Rattle.file_store.specs.FileReading.{HasContent, HasNoContent, Holds, IsFileRefused, LoadingSays, LoadsOnly, OnlyReads, RefusesLoad, refusal_of};
 ghost use Rattle.file_store.specs.Limit.{longest_input};
+ghost use Rattle.file_store.specs.Loaded.{Refused};
 ghost use Rattle.file_store.specs.Private.FilePart.{IsChunk, IsPartRead};
 
 use crate::limit::{LONGEST_INPUT, LONGEST_LISTING};
+use crate::line_laws::line_laws;
 use crate::reader::read_listing;
 use crate::refusal::FileRefusal;
 use std::alloc::Global;
@@ -20,10 +25,27 @@ use template_tree::Tree;
 /// bytes came than may.
 pub fn load<F: Files>(alloc: Global, name: &[u8], files: &mut F) -> Result<Tree, FileRefusal>
     ensures says { LoadingSays (F.stored files.old) name.now result }
+    // And the other way round, where the map is told: each content has its answer, and so has a name that
+    // isn't there, unless a call failed or memory ran out.
+    ensures only { (x : List ℕ) (items : Forest) → HasContent (F.stored files.old) name.now x → Spells items x
+        → depth items ≤ deepest_path → count items ≤ most_slots → LoadsOnly result items }
+    ensures refused { (x : List ℕ) (refusal : FileRefusal) → HasContent (F.stored files.old) name.now x → Refused x refusal
+        → RefusesLoad result refusal }
+    ensures missing { HasNoContent (F.stored files.old) name.now → RefusesLoad result FileRefusal.NoFile }
     ensures tree { IfOk result IsTree }
-    ensures stored { F.stored files.new ≡ F.stored files.old }
-    ensures begun { F.begun files.new ≡ F.begun files.old }
-    ensures fault { HasCause FileRefusal.FileFault (F.faults files.old) (F.faults files.new) result }
+    ensures files { OnlyReads result (F.stored files.old) (F.stored files.new) (F.begun files.old) (F.begun files.new)
+        (F.faults files.old) (F.faults files.new) (F.wants files.old) (F.wants files.new) }
+{
+    line_laws();
+    load_listing(alloc, name, files)
+}
+
+/// What the file of the name is read as.
+fn load_listing<F: Files>(alloc: Global, name: &[u8], files: &mut F) -> Result<Tree, FileRefusal>
+    ensures says { LoadingSays (F.stored files.old) name.now result }
+    ensures tree { IfOk result IsTree }
+    ensures files { OnlyReads result (F.stored files.old) (F.stored files.new) (F.begun files.old) (F.begun files.new)
+        (F.faults files.old) (F.faults files.new) (F.wants files.old) (F.wants files.new) }
 {
     let bytes = match read_file(alloc, name, files, LONGEST_LISTING) {
         Ok(bytes) => bytes,
@@ -41,9 +63,8 @@ pub fn load_input<F: Files>(
     ensures bytes { IfOk result (λ bytes. Holds (F.stored files.old) name.now (λ x. x ≡ bytes.items)) }
     ensures within { IfOk result (λ bytes. length bytes.items ≤ longest_input) }
     ensures refused { IfErr result (IsFileRefused longest_input (F.stored files.old) name.now) }
-    ensures stored { F.stored files.new ≡ F.stored files.old }
-    ensures begun { F.begun files.new ≡ F.begun files.old }
-    ensures fault { HasCause FileRefusal.FileFault (F.faults files.old) (F.faults files.new) result }
+    ensures files { OnlyReads result (F.stored files.old) (F.stored files.new) (F.begun files.old) (F.begun files.new)
+        (F.faults files.old) (F.faults files.new) (F.wants files.old) (F.wants files.new) }
 {
     read_file(alloc, name, files, LONGEST_INPUT)
 }
@@ -58,9 +79,8 @@ fn read_file<F: Files>(
     ensures bytes { IfOk result (λ bytes. Holds (F.stored files.old) name.now (λ x. x ≡ bytes.items)) }
     ensures within { IfOk result (λ bytes. length bytes.items ≤ most) }
     ensures refused { IfErr result (IsFileRefused most (F.stored files.old) name.now) }
-    ensures stored { F.stored files.new ≡ F.stored files.old }
-    ensures begun { F.begun files.new ≡ F.begun files.old }
-    ensures fault { HasCause FileRefusal.FileFault (F.faults files.old) (F.faults files.new) result }
+    ensures files { OnlyReads result (F.stored files.old) (F.stored files.new) (F.begun files.old) (F.begun files.new)
+        (F.faults files.old) (F.faults files.new) (F.wants files.old) (F.wants files.new) }
 {
     match files.open_read(name) {
         Ok(()) => {}
@@ -86,9 +106,8 @@ fn read_chunk<F: Files>(
     requires within { length bytes.old.items ≤ most }
     ensures chunk { IsChunk most (F.left files.old) (F.left files.new) bytes.old.items bytes.new.items result }
     ensures readable { F.is_open files.new ≡ true }
-    ensures stored { F.stored files.new ≡ F.stored files.old }
-    ensures begun { F.begun files.new ≡ F.begun files.old }
-    ensures fault { HasCause FileRefusal.FileFault (F.faults files.old) (F.faults files.new) result }
+    ensures files { OnlyReads result (F.stored files.old) (F.stored files.new) (F.begun files.old) (F.begun files.new)
+        (F.faults files.old) (F.faults files.new) (F.wants files.old) (F.wants files.new) }
 {
     let mut buf = [0; 1024];
     let count = match files.read(&mut buf) {

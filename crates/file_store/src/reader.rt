@@ -8,7 +8,8 @@ ghost use Rattle.template_tree.specs.Program.{IsProgram};
 ghost use Rattle.template_tree.specs.Slots.{count, depth};
 ghost use Rattle.template_tree.specs.Tree.{IsTree};
 ghost use Rattle.file_store.specs.Limit.{longest_listing};
-ghost use Rattle.file_store.specs.Loaded.{HasNoEnd, ReadingSays, ReadsOnly};
+ghost use Rattle.file_store.specs.Loaded.{HasNoEnd, Loaded, ReadsOnly, Refused, RefusesOnly};
+ghost use Rattle.file_store.specs.declared.refusal.FileRefusal.{FileRefusal};
 ghost use Rattle.file_store.specs.Private.Come.{come_of};
 ghost use Rattle.file_store.specs.Private.Reader.{opens};
 ghost use Rattle.file_store.specs.Private.Reading.{IsLineRefused, IsPast, IsTaken};
@@ -39,10 +40,12 @@ use template_tree::{DEEPEST_PATH, MOST_SLOTS, Nodes, Tree};
 /// It goes over the bytes once, and takes time and memory in proportion to them.
 pub fn read_listing(alloc: Global, bytes: &[u8]) -> Result<Tree, FileRefusal>
     // What each answer says of the bytes.
-    ensures says { ReadingSays bytes.now result }
+    ensures says { Loaded bytes.now result }
     // The listing of a program within the limits is read as that program, unless memory runs out.
     ensures only { (items : Forest) → Spells items bytes.now → depth items ≤ deepest_path → count items ≤ most_slots
-        → length bytes.now ≤ longest_listing → ReadsOnly result items }
+        → ReadsOnly result items }
+    // What is refused for a reason is answered with it, unless memory runs out.
+    ensures refused { (refusal : FileRefusal) → Refused bytes.now refusal → RefusesOnly result refusal }
 {
     line_laws();
     read_lines(alloc, bytes)
@@ -50,7 +53,7 @@ pub fn read_listing(alloc: Global, bytes: &[u8]) -> Result<Tree, FileRefusal>
 
 /// What the bytes are read as, line after line.
 fn read_lines(alloc: Global, bytes: &[u8]) -> Result<Tree, FileRefusal>
-    ensures { ReadingSays bytes.now result }
+    ensures { Loaded bytes.now result }
 {
     line_laws();
     if bytes.len() > LONGEST_LISTING {

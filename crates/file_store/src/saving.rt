@@ -1,13 +1,12 @@
 //! Trees that are saved.
-ghost use Rattle.std.specs.Prelude.{◌≡◌, ◌≢◌, ◌⊎◌, Err, IfErr, IsSome, OnErr, OnOk, codes};
+ghost use Rattle.std.specs.Prelude.{◌≡◌, ◌≢◌, Err, IsSome, OnOk, codes};
 ghost use Rattle.std.specs.Io.KnownBytes.{Appends};
 ghost use Rattle.synth_outside.specs.Cause.{HasCause};
 ghost use Rattle.synth_outside.specs.Files.{begun_bytes, begun_name};
 ghost use Rattle.synth_outside.specs.declared.faults.FilesFault.TheVariants.{NoFile, Failed, OutOfMemory};
 ghost use Rattle.template_tree.specs.Listing.{Listing};
 ghost use Rattle.template_tree.specs.Tree.{IsTree};
-ghost use Rattle.file_store.specs.declared.refusal.FileRefusal.{FileRefusal};
-ghost use Rattle.file_store.specs.Saved.{IsSaved};
+ghost use Rattle.file_store.specs.Saved.{Saves};
 
 use crate::file_out::FileOut;
 use crate::loading::refusal_of;
@@ -19,12 +18,8 @@ use template_tree::Tree;
 /// Saves the tree's listing under the name. It takes no memory of its own.
 pub fn save<F: Files>(tree: &Tree, name: &[u8], files: &mut F) -> Result<(), FileRefusal>
     requires tree { IsTree tree.now }
-    // The map has the listing under the name, and every other name is as before.
-    ensures saved { OnOk result (IsSaved (F.stored files.old) (F.stored files.new) name.now (Listing tree.now.items)) }
-    ensures kept { OnErr result (F.stored files.new ≡ F.stored files.old) }
-    ensures only { IfErr result (λ refusal. (refusal ≡ FileRefusal.FileFault) ⊎ (refusal ≡ FileRefusal.OutOfMemory)) }
-    ensures fault { HasCause FileRefusal.FileFault (F.faults files.old) (F.faults files.new) result }
-    ensures want { HasCause FileRefusal.OutOfMemory (F.wants files.old) (F.wants files.new) result }
+    ensures { Saves name.now (Listing tree.now.items) result (F.stored files.old) (F.stored files.new)
+        (F.faults files.old) (F.faults files.new) (F.wants files.old) (F.wants files.new) }
 {
     match files.begin(name) {
         Ok(()) => {}
@@ -43,11 +38,8 @@ pub fn save<F: Files>(tree: &Tree, name: &[u8], files: &mut F) -> Result<(), Fil
 /// Saves the tree's listing under the name `RESCUE`.
 pub fn rescue<F: Files>(tree: &Tree, files: &mut F) -> Result<(), FileRefusal>
     requires tree { IsTree tree.now }
-    ensures saved { OnOk result (IsSaved (F.stored files.old) (F.stored files.new) (codes "RESCUE") (Listing tree.now.items)) }
-    ensures kept { OnErr result (F.stored files.new ≡ F.stored files.old) }
-    ensures only { IfErr result (λ refusal. (refusal ≡ FileRefusal.FileFault) ⊎ (refusal ≡ FileRefusal.OutOfMemory)) }
-    ensures fault { HasCause FileRefusal.FileFault (F.faults files.old) (F.faults files.new) result }
-    ensures want { HasCause FileRefusal.OutOfMemory (F.wants files.old) (F.wants files.new) result }
+    ensures { Saves (codes "RESCUE") (Listing tree.now.items) result (F.stored files.old) (F.stored files.new)
+        (F.faults files.old) (F.faults files.new) (F.wants files.old) (F.wants files.new) }
 {
     save(tree, b"RESCUE", files)
 }

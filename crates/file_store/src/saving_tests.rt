@@ -1,10 +1,13 @@
 //! Tests of saving and loading.
 
+ghost use Rattle.std.specs.Prelude.{◌<◌};
+ghost use Rattle.template_tree.specs.Tree.{IsTree};
+
 use super::*;
 use std::alloc::Global;
 use std::test::Fail;
 use std::vec::Vec;
-use synth_outside::MemFiles;
+use synth_outside::{Files, MemFiles};
 use template_tree::Tree;
 
 /// The listing of a new program.
@@ -55,5 +58,53 @@ fn calls_that_fail_are_answered(rt: HostRuntime) -> Result<(), Fail> {
             "call {call}"
         );
     }
+    Ok(())
+}
+
+/// Whether the bytes stand under the name `P`, and a save of the tree there fails and leaves them, where
+/// the call of this number fails.
+fn is_left_by_a_failed_save(alloc: Global, tree: &Tree, call: u64) -> Result<bool, Fail>
+    requires { IsTree tree.now }
+{
+    let mut files = files_failing(alloc, call)?;
+    files.begin(b"P")?;
+    files.write(b"old")?;
+    files.commit()?;
+    let saved = save(tree, b"P", &mut files);
+    Ok(saved == Err(FileRefusal::FileFault) && files.content(b"P") == Some(b"old"))
+}
+
+#[test]
+fn a_failed_save_leaves_the_old_content(rt: HostRuntime) -> Result<(), Fail> {
+    let tree = Tree::new(rt.alloc()).map_err(|_| "a tree")?;
+    for call in 4..7 {
+        assert!(rt;
+            is_left_by_a_failed_save(rt.alloc(), &tree, call)?,
+            "call {call}"
+        );
+    }
+    Ok(())
+}
+
+/// Files that have so many blanks under the name `P`.
+fn files_with_blanks(alloc: Global, count: usize) -> Result<MemFiles, Fail>
+    requires { 0 < count }
+{
+    let content = vec![in alloc; b' '; count]?;
+    let mut files = files_failing(alloc, 0)?;
+    files.begin(b"P")?;
+    files.write(&content)?;
+    files.commit()?;
+    Ok(files)
+}
+
+#[test]
+fn an_input_is_loaded_up_to_its_limit(rt: HostRuntime) -> Result<(), Fail> {
+    let mut files = files_with_blanks(rt.alloc(), 1_048_576)?;
+    let input = load_input(rt.alloc(), b"P", &mut files).map_err(|_| "a file")?;
+    assert_eq!(rt; input.len(), 1_048_576);
+    let mut files = files_with_blanks(rt.alloc(), 1_048_577)?;
+    let refused = load_input(rt.alloc(), b"P", &mut files).err();
+    assert_eq!(rt; refused, Some(FileRefusal::TooLong));
     Ok(())
 }

@@ -13,4 +13,5 @@ invariant-loop-bytes g l = record {
   stored : g.F.Files.stored l.files ≡ g.F.Files.stored l.fn.files;
   begun : g.F.Files.begun l.files ≡ g.F.Files.begun l.fn.files;
   faults : g.F.Files.faults l.files ≡ g.F.Files.faults l.fn.files;
+  wants : g.F.Files.wants l.files ≡ g.F.Files.wants l.fn.files;
 }

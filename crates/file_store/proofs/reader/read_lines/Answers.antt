@@ -53,7 +53,7 @@ overflow_add-result-in-Err-Refused c =
 
 pub returns-in-Ok-finish : goal.returns-in-Ok-finish
 returns-in-Ok-finish c =
-    loaded c.args.bytes.now c.loop-line.rest.now (come_of c.loop-line.reader) c.in-Ok-finish.items c.tree_of.result c.if-bytes-gt-LONGEST_LISTING.false
+    loaded c.args.bytes.now c.loop-line.rest.now (come_of c.loop-line.reader) c.in-Ok-finish.items c.tree_of.result
     c.loop-line.invariant (c.is_left.ensures.none c.if-is_left.false) c.in-Ok-finish.ensures c.tree_of.ensures.built c.tree_of.ensures.tree
 
 pub returns-in-Err-Refused : goal.returns-in-Err-Refused

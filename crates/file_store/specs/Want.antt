@@ -1,0 +1,8 @@
+-- How a count rises in a call that can want memory of its own too.
+use Rattle.std.specs.Prelude.{◌≡◌, ℕ, ◌-◌, ◌^◌, ◌≤◌}
+
+-- the count never falls in a call; where this isn't answered it is as before, and at its last value it stays
+pub record MayRiseWith (answered : Type 0) (before now : ℕ) : Type 0 where
+  pub later : before ≤ now
+  pub same : (answered → ⊥) → now ≡ before
+  pub last : before ≡ 2 ^ 64 - 1 → now ≡ before
