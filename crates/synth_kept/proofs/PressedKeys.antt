@@ -1,9 +1,9 @@
 -- The keys that were pressed are among those that a crash leaves.
 use Rattle.std.proofs.Common.{◌≡◌, ℕ, ◌⊎◌, inl, inr, refl, List, [], ◌∷◌, ◌++◌, sym, ap, ◌∙◌, append-nil}
-use Rattle.key_journal.specs.Crash.{LeavesOneOf}
+use Rattle.key_journal.specs.Crash.{LeavesAllOf, LeavesOneOf}
 use Rattle.key_journal.specs.Disk.{DiskState, Newest}
 use Rattle.key_journal.specs.Recovered.{recovered}
-use Rattle.synth_kept.specs.KeptRun.{AreKeys, LeavesAllOf}
+use Rattle.synth_kept.specs.KeptRun.{AreKeys}
 use Rattle.synth_kept.proofs.Moments.{newest_weaker}
 
 -- of two lists that are empty together each is

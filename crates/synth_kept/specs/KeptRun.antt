@@ -2,7 +2,7 @@
 use Rattle.std.specs.Prelude.{◌≡◌, ◌≢◌, ◌⊎◌, ℕ, ◌≤◌, List, [], ◌++◌, length, Option, Some, None, IsSome}
 use Rattle.std.specs.Io.KnownBytes.{Consumes}
 use Rattle.key_journal.specs.AfterReads.{LeavesBetween}
-use Rattle.key_journal.specs.Crash.{EachRecovers, LeavesOneOf, Throughout}
+use Rattle.key_journal.specs.Crash.{LeavesAllOf, LeavesOneOf, Throughout}
 use Rattle.key_journal.specs.Disk.{DiskState, Newest}
 use Rattle.key_journal.specs.Journal.{left_of_both}
 use Rattle.key_journal.specs.Recovered.{kept}
@@ -50,10 +50,6 @@ abbrev pub AreKeys : List ℕ → List ℕ → List ℕ → List ℕ → Type 0
 AreKeys keys taken last bytes =
     (bytes ≡ keys ++ taken)
     ⊎ ((taken ++ last ≡ []) × ((rest : List ℕ) × (keys ≡ bytes ++ rest)))
-
--- these keys are recovered, and perhaps others behind them
-abbrev pub LeavesAllOf : List ℕ → DiskState → Type 0
-LeavesAllOf keys = EachRecovers (λ found. (rest : List ℕ) × (found ≡ keys ++ rest))
 
 -- the editor ran over the kept keys and then the bytes of the source, as over any source of these bytes
 pub record RunOverKeys (options : PlainOptions) (run : Status) (closing : Closing) (before now : KeptTold)

@@ -1,6 +1,6 @@
 //! A session whose keys are kept.
 
-ghost use Rattle.std.specs.Prelude.{◌≡◌, ◌⊎◌, ◌↔◌, ◌<◌, IsTrue, None, map, string_bytes};
+ghost use Rattle.std.specs.Prelude.{◌≡◌, ◌⊎◌, ◌↔◌, ◌<◌, ◌≤◌, IsTrue, None, map, string_bytes};
 ghost use Rattle.key_journal.specs.Journal.{both_counts};
 ghost use Rattle.plcs_base.specs.Count.{Rose};
 ghost use Rattle.synth_kept.specs.KeptRun.{KeptEnded};
@@ -64,10 +64,10 @@ pub fn synth_kept<S: Source, K: Sink, F: Files, D: Disk, W: Work>(
     ensures write { CausedBy (result.0 ≡ KeptStatus.Run Status.WriteFault)
         (K.faults screen.old) (K.faults screen.new) }
 
-    // No key uses files yet, and nothing is counted but the lines laid.
+    // No key uses files yet, and nothing is counted but lines laid and phrases checked.
     ensures files { files.new ≡ files.old }
     ensures emitted { W.emitted work.new ≡ W.emitted work.old }
-    ensures checked { W.checked work.new ≡ W.checked work.old }
+    ensures checks { W.checked work.old ≤ W.checked work.new }
     ensures fetched { W.fetched work.new ≡ W.fetched work.old }
 {
     let mut journal = match JournalKeys::open(keys, disk) {

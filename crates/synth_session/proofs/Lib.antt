@@ -13,4 +13,4 @@ pub mod ClipFragments
 -- `Does` of cut_node: the node that is given out is the one at the cursor
 pub mod TakenNodes
 -- `agrees` of change: the layout where an edit is undone
-pub mod AgreeingLayouts
+pub mod AgreeingDependents

@@ -1,10 +1,9 @@
 -- The screen of a session.
 use Rattle.std.specs.Prelude.{ℕ, List, [], ◌++◌, codes, Option, Some, None}
-use Rattle.std.specs.FinMap.{empty}
 use Rattle.std.specs.Option.{option_map_or}
-use Rattle.plcs_base.specs.Mark.{MarkMap}
 use Rattle.plcs_grammar.specs.declared.node_kind.Sort.{Sort}
 use Rattle.plcs_grammar.specs.Placeholder.{placeholder_word}
+use Rattle.template_tree.specs.Marks.{Marks}
 use Rattle.template_tree.specs.Path.{node_at}
 use Rattle.template_tree.specs.PlainTree.{PlainTree}
 use Rattle.template_tree.specs.Program.{sort_of}
@@ -35,15 +34,11 @@ prompt tree stop = word_at tree stop stop.part ++ codes "> "
 
 -- ---- the screen
 
--- no phrase is marked yet
-abbrev pub no_marks : MarkMap
-no_marks = empty
-
--- what the screen of a session shows; nothing runs yet
+-- what the screen of a session shows, with the marks of its program; nothing runs yet
 abbrev pub view_of : PlainSession → PlainView
 view_of s = record {
   items = s.tree.items;
-  marks = no_marks;
+  marks = Marks s.tree.items;
   stop = s.stop;
   top = s.top;
   run_place = None;

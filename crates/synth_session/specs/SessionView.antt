@@ -2,14 +2,17 @@
 use Rattle.std.specs.Prelude.{◌≡◌, ◌+◌, ◌*◌, ◌<◌, ◌≤◌, Bool, IsTrue, Result, Ok, Err}
 use Rattle.plcs_base.specs.declared.memory.OutOfMemory.{OutOfMemory}
 use Rattle.template_tree.specs.Limit.{most_slots}
-use Rattle.template_tree.specs.PlainTree.{roomless_tree}
+use Rattle.template_tree.specs.Marks.{Verdicts}
+use Rattle.template_tree.specs.PlainTree.{PlainTree, roomless_tree}
 use Rattle.template_tree.specs.Stop.{IsStop, line_at, plain_stop}
 use Rattle.template_tree.specs.Tree.{IsTree}
+use Rattle.decl_table.specs.Agreement.{IsDeclsOf}
 use Rattle.clip_store.specs.PlainClips.{roomless_pairs}
 use Rattle.unparse_layout.specs.Agreement.{IsLayoutOf}
 use Rattle.screen_window.specs.PlainGrid.{PlainGrid}
 use Rattle.screen_window.specs.Screen.{window_rows}
 use Rattle.synth_session.specs.declared.answer.Answer.{Answer}
+use Rattle.synth_session.specs.declared.program.Dependents.{Dependents}
 use Rattle.synth_session.specs.declared.program.Program.{Program}
 use Rattle.synth_session.specs.declared.session.Session.{Session}
 use Rattle.synth_session.specs.KeyOutcome.{KeyOutcome}
@@ -36,10 +39,16 @@ shown_grid s = s.screens.shown
 abbrev pub next_grid : {W : Type 0} → Session W → PlainGrid
 next_grid s = s.screens.next
 
--- what depends on the program is that of the program
+-- what depends on a program is that of this tree
+pub record DependOn {W : Type 0} (dependents : Dependents W) (tree : PlainTree) : Type 0 where
+  pub layout : IsLayoutOf dependents.layout tree
+  pub decls : IsDeclsOf dependents.decls tree.items
+  pub marks : dependents.marks ≡ Verdicts tree.items
+
+-- the program is a tree, and what depends on it is that of this tree
 pub record Agrees {W : Type 0} (program : Program W) : Type 0 where
   pub tree : IsTree program.tree
-  pub layout : IsLayoutOf program.layout program.tree
+  pub dependents : DependOn program.dependents program.tree
 
 -- the cursor stands at a visible stop, and the window begins at a line that a program can have
 pub record IsPlaced (s : PlainSession) : Type 0 where

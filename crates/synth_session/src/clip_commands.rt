@@ -49,9 +49,18 @@ impl<W: Work> Session<W> {
     }
 
     /// Takes what stands at the cursor out into the clip of the name.
-    pub(crate) fn cut(&mut self, alloc: Global, name: Name) -> Result<Answer, OutOfMemory>
-        requires { IsSession self.old }
-        ensures { Does true (cut_to_clip (plain_session self.old) name) self.old self.new result }
+    pub(crate) fn cut(
+        &mut self,
+        alloc: Global,
+        name: Name,
+        work: &mut W,
+    ) -> Result<Answer, OutOfMemory>
+        requires session { IsSession self.old }
+        ensures does { Does true (cut_to_clip (plain_session self.old) name) self.old self.new result }
+        ensures checks { W.checked work.old ≤ W.checked work.new }
+        ensures emitted { W.emitted work.new ≡ W.emitted work.old }
+        ensures fetched { W.fetched work.new ≡ W.fetched work.old }
+        ensures laid { W.laid work.new ≡ W.laid work.old }
     {
         room_is_not_clipped();
         if !takes(&self.program.tree, &self.stop) {
@@ -64,7 +73,7 @@ impl<W: Work> Session<W> {
             return Ok(self.refuse(Refusal::Clip(ClipRefusal::Full)));
         }
         self.clips.reserve(&name)?;
-        match self.program.take(alloc, &self.stop) {
+        match self.program.take(alloc, &self.stop, work) {
             Ok(taken) => {
                 self.stop = taken.stop;
                 keep(&mut self.clips, name, taken.fragment);
@@ -76,16 +85,25 @@ impl<W: Work> Session<W> {
     }
 
     /// Inserts a copy of the clip of the name at the cursor.
-    pub(crate) fn insert(&mut self, alloc: Global, name: &Name) -> Result<Answer, OutOfMemory>
-        requires { IsSession self.old }
-        ensures { Does true (clip_inserted (plain_session self.old) name.now) self.old self.new result }
+    pub(crate) fn insert(
+        &mut self,
+        alloc: Global,
+        name: &Name,
+        work: &mut W,
+    ) -> Result<Answer, OutOfMemory>
+        requires session { IsSession self.old }
+        ensures does { Does true (clip_inserted (plain_session self.old) name.now) self.old self.new result }
+        ensures checks { W.checked work.old ≤ W.checked work.new }
+        ensures emitted { W.emitted work.new ≡ W.emitted work.old }
+        ensures fetched { W.fetched work.new ≡ W.fetched work.old }
+        ensures laid { W.laid work.new ≡ W.laid work.old }
     {
         room_is_not_clipped();
         let Some(clip) = self.clips.get(name) else {
             return Ok(self.refuse(Refusal::Clip(ClipRefusal::NoClip)));
         };
         let copy = clip.copy(alloc)?;
-        self.edit(alloc, Edit::Insert(copy))
+        self.edit(alloc, Edit::Insert(copy), work)
     }
 }
 

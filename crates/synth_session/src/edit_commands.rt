@@ -1,5 +1,5 @@
 //! The commands that edit the program at the cursor.
-ghost use Rattle.std.specs.Prelude.{◌≡◌, true};
+ghost use Rattle.std.specs.Prelude.{◌≡◌, ◌≤◌, true};
 ghost use Rattle.session_edit.specs.PlainEdit.{BringsWhatMayStand, plain_edit};
 ghost use Rattle.synth_session.specs.EditCommands.{edit_refusal, edited_by};
 ghost use Rattle.synth_session.specs.SessionView.{Does, IsSession, plain_session};
@@ -14,12 +14,21 @@ use template_tree::TreeFault;
 impl<W: Work> Session<W> {
     /// Edits the program at the cursor, and takes the typed line.
     #[tactic(auto, unfolding(crate::specs::EditCommands::edited_by))]
-    pub(crate) fn edit(&mut self, alloc: Global, edit: Edit) -> Result<Answer, OutOfMemory>
+    pub(crate) fn edit(
+        &mut self,
+        alloc: Global,
+        edit: Edit,
+        work: &mut W,
+    ) -> Result<Answer, OutOfMemory>
         requires session { IsSession self.old }
         requires edit { BringsWhatMayStand edit }
-        ensures { Does true (edited_by (plain_session self.old) (plain_edit edit)) self.old self.new result }
+        ensures does { Does true (edited_by (plain_session self.old) (plain_edit edit)) self.old self.new result }
+        ensures checks { W.checked work.old ≤ W.checked work.new }
+        ensures emitted { W.emitted work.new ≡ W.emitted work.old }
+        ensures fetched { W.fetched work.new ≡ W.fetched work.old }
+        ensures laid { W.laid work.new ≡ W.laid work.old }
     {
-        match self.program.change(alloc, &self.stop, edit) {
+        match self.program.change(alloc, &self.stop, edit, work) {
             Ok(changed) => {
                 self.stop = changed.stop;
                 Ok(self.accept_line())

@@ -1,5 +1,5 @@
 //! What the typed line asks for: a command, or phrase text.
-ghost use Rattle.std.specs.Prelude.{◌≡◌, ◌<◌, ◌^◌, IfErr, IfOk, IsTrue, is_some, length, map};
+ghost use Rattle.std.specs.Prelude.{◌≡◌, ◌≤◌, ◌<◌, ◌^◌, IfErr, IfOk, IsTrue, is_some, length, map};
 ghost use Rattle.std.specs.List.{list_any};
 ghost use Rattle.std.specs.Str.{bytes_eq};
 ghost use Rattle.plcs_grammar.specs.Canon.{IsWellFormed};
@@ -28,9 +28,13 @@ use template_tree::{LONGEST_PHRASE, Side};
 
 impl<W: Work> Session<W> {
     /// Does what the typed line asks for.
-    pub(crate) fn enter(&mut self, alloc: Global) -> Result<Answer, OutOfMemory>
-        requires { IsSession self.old }
-        ensures { Does (line_takes_memory (plain_session self.old)) (line_entered (plain_session self.old)) self.old self.new result }
+    pub(crate) fn enter(&mut self, alloc: Global, work: &mut W) -> Result<Answer, OutOfMemory>
+        requires session { IsSession self.old }
+        ensures does { Does (line_takes_memory (plain_session self.old)) (line_entered (plain_session self.old)) self.old self.new result }
+        ensures checks { W.checked work.old ≤ W.checked work.new }
+        ensures emitted { W.emitted work.new ≡ W.emitted work.old }
+        ensures fetched { W.fetched work.new ≡ W.fetched work.old }
+        ensures laid { W.laid work.new ≡ W.laid work.old }
     {
         if self.typed.is_empty() {
             return Ok(self.move_right());
@@ -38,43 +42,61 @@ impl<W: Work> Session<W> {
         let mut line: ArrayVec<u8, LINE_LIMIT> = ArrayVec::new();
         let _ = line.try_extend_from_slice(&self.typed);
         if begins_with_point(&line) {
-            self.enter_command(alloc, &line)
+            self.enter_command(alloc, &line, work)
         } else {
-            self.enter_text(alloc)
+            self.enter_text(alloc, work)
         }
     }
 
     /// Does what the command line asks for, which is the typed line.
-    fn enter_command(&mut self, alloc: Global, line: &[u8]) -> Result<Answer, OutOfMemory>
+    fn enter_command(
+        &mut self,
+        alloc: Global,
+        line: &[u8],
+        work: &mut W,
+    ) -> Result<Answer, OutOfMemory>
         requires session { IsSession self.old }
         requires line { line.now ≡ self.old.typed.items }
         requires point { IsTrue (begins_with_point line.now) }
-        ensures { Does (command_line_takes_memory (plain_session self.old)) (command_line_outcome (plain_session self.old)) self.old self.new result }
+        ensures does { Does (command_line_takes_memory (plain_session self.old)) (command_line_outcome (plain_session self.old)) self.old self.new result }
+        ensures checks { W.checked work.old ≤ W.checked work.new }
+        ensures emitted { W.emitted work.new ≡ W.emitted work.old }
+        ensures fetched { W.fetched work.new ≡ W.fetched work.old }
+        ensures laid { W.laid work.new ≡ W.laid work.old }
     {
         if is_unbuilt(line) {
             return Ok(self.refuse(Refusal::NotBuilt));
         }
         match read_command(line) {
-            Ok(command) => self.obey(alloc, command),
+            Ok(command) => self.obey(alloc, command, work),
             Err(CommandFault::UnknownCommand) => Ok(self.refuse(Refusal::UnknownCommand)),
             Err(CommandFault::WrongArgument) => Ok(self.refuse(Refusal::WrongArgument)),
         }
     }
 
     /// Does what a command asks for.
-    fn obey(&mut self, alloc: Global, command: Command<'_>) -> Result<Answer, OutOfMemory>
-        requires { IsSession self.old }
-        ensures { Does (command_takes_memory (plain_command command.entry)) (command_outcome (plain_session self.old) (plain_command command.entry)) self.old self.new result }
+    fn obey(
+        &mut self,
+        alloc: Global,
+        command: Command<'_>,
+        work: &mut W,
+    ) -> Result<Answer, OutOfMemory>
+        requires session { IsSession self.old }
+        ensures does { Does (command_takes_memory (plain_command command.entry)) (command_outcome (plain_session self.old) (plain_command command.entry)) self.old self.new result }
+        ensures checks { W.checked work.old ≤ W.checked work.new }
+        ensures emitted { W.emitted work.new ≡ W.emitted work.old }
+        ensures fetched { W.fetched work.new ≡ W.fetched work.old }
+        ensures laid { W.laid work.new ≡ W.laid work.old }
     {
         match command {
-            Command::Template(template) => self.edit(alloc, Edit::Fill(template)),
+            Command::Template(template) => self.edit(alloc, Edit::Fill(template), work),
             Command::Float => Ok(self.refuse(Refusal::FloatNotThere)),
-            Command::Before => self.edit(alloc, Edit::Beside(Side::Before)),
-            Command::After => self.edit(alloc, Edit::Beside(Side::After)),
-            Command::Del => self.edit(alloc, Edit::Delete),
-            Command::Cut(name) => self.cut(alloc, name),
+            Command::Before => self.edit(alloc, Edit::Beside(Side::Before), work),
+            Command::After => self.edit(alloc, Edit::Beside(Side::After), work),
+            Command::Del => self.edit(alloc, Edit::Delete, work),
+            Command::Cut(name) => self.cut(alloc, name, work),
             Command::Copy(name) => self.copy(alloc, name),
-            Command::Insert(name) => self.insert(alloc, &name),
+            Command::Insert(name) => self.insert(alloc, &name, work),
             Command::Elide => Ok(self.turn_comment()),
             Command::Top => Ok(self.go_to_top()),
             Command::Bottom => Ok(self.go_to_bottom()),
@@ -84,9 +106,13 @@ impl<W: Work> Session<W> {
     }
 
     /// Enters the typed line as phrase text at the cursor.
-    fn enter_text(&mut self, alloc: Global) -> Result<Answer, OutOfMemory>
-        requires { IsSession self.old }
-        ensures { Does (is_some (category_at (plain_session self.old).tree (plain_session self.old).stop)) (text_entered (plain_session self.old) (category_at (plain_session self.old).tree (plain_session self.old).stop)) self.old self.new result }
+    fn enter_text(&mut self, alloc: Global, work: &mut W) -> Result<Answer, OutOfMemory>
+        requires session { IsSession self.old }
+        ensures does { Does (is_some (category_at (plain_session self.old).tree (plain_session self.old).stop)) (text_entered (plain_session self.old) (category_at (plain_session self.old).tree (plain_session self.old).stop)) self.old self.new result }
+        ensures checks { W.checked work.old ≤ W.checked work.new }
+        ensures emitted { W.emitted work.new ≡ W.emitted work.old }
+        ensures fetched { W.fetched work.new ≡ W.fetched work.old }
+        ensures laid { W.laid work.new ≡ W.laid work.old }
     {
         let Some(category) = wanted(&self.program.tree, &self.stop) else {
             return Ok(self.refuse(Refusal::NotHere));
@@ -96,7 +122,7 @@ impl<W: Work> Session<W> {
                 if shown_len(&phrase) > LONGEST_PHRASE {
                     return Ok(self.refuse(Refusal::PhraseFull));
                 }
-                self.edit(alloc, Edit::Enter(phrase))
+                self.edit(alloc, Edit::Enter(phrase), work)
             }
             Err(PhraseFault::OutOfMemory) => Err(OutOfMemory),
             Err(fault) => Ok(self.refuse(Refusal::Phrase(fault))),

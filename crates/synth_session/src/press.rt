@@ -1,4 +1,5 @@
 //! Keys pressed.
+ghost use Rattle.std.specs.Prelude.{◌≡◌, ◌≤◌};
 ghost use Rattle.synth_session.specs.MemoryTaken.{key_takes_memory};
 ghost use Rattle.synth_session.specs.Press.{RefusedKeysChangeTheMessage, press};
 ghost use Rattle.synth_session.specs.SessionView.{Does, IsSession, plain_session};
@@ -11,15 +12,20 @@ use plcs_base::{OutOfMemory, Work};
 use std::alloc::Global;
 
 impl<W: Work> Session<W> {
-    /// Does what a key asks for. Where memory runs out, the session is as it was.
+    /// Does what a key asks for. Where memory runs out, the session is as it was. Only checks of phrases are
+    /// counted.
     #[tactic(auto, unfolding(crate::specs::Press::press))]
-    pub fn press(&mut self, alloc: Global, key: Key) -> Result<Answer, OutOfMemory>
+    pub fn press(&mut self, alloc: Global, key: Key, work: &mut W) -> Result<Answer, OutOfMemory>
         requires { IsSession self.old }
         ensures pressed { Does (key_takes_memory (plain_session self.old) key) (press (plain_session self.old) key) self.old self.new result }
+        ensures checks { W.checked work.old ≤ W.checked work.new }
+        ensures emitted { W.emitted work.new ≡ W.emitted work.old }
+        ensures fetched { W.fetched work.new ≡ W.fetched work.old }
+        ensures laid { W.laid work.new ≡ W.laid work.old }
     {
         match key {
             Key::Char(byte) => Ok(self.type_char(byte)),
-            Key::Enter => self.enter(alloc),
+            Key::Enter => self.enter(alloc, work),
             Key::Erase => Ok(self.erase()),
             Key::Clear => Ok(self.clear()),
             Key::Tab => Ok(self.type_phrase()),

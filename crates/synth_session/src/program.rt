@@ -1,37 +1,42 @@
 //! The program with all that depends on it, and the four steps of its edits.
-ghost use Rattle.std.specs.Prelude.{◌≡◌, true, IfErr, IfOk, IfSome, IsSome, None, option_map};
+ghost use Rattle.std.specs.Prelude.{◌≡◌, ◌≤◌, true, IfErr, IfOk, IfSome, IsSome, None, option_map};
 ghost use Rattle.template_tree.specs.Elision.{with_turn_at};
 ghost use Rattle.template_tree.specs.PlainTree.{roomless_node, roomless_tree};
 ghost use Rattle.template_tree.specs.Program.{IsSubtree};
 ghost use Rattle.template_tree.specs.Stop.{IsStop, plain_stop};
 ghost use Rattle.template_tree.specs.Tree.{IsTree};
-ghost use Rattle.unparse_layout.specs.Agreement.{IsLayoutOf};
 ghost use Rattle.session_edit.specs.Edited.{Edited, edited};
 ghost use Rattle.session_edit.specs.Here.{takes_at};
 ghost use Rattle.session_edit.specs.PlainEdit.{BringsWhatMayStand, plain_edit};
-ghost use Rattle.synth_session.specs.SessionView.{Agrees};
+ghost use Rattle.synth_session.specs.SessionView.{Agrees, DependOn};
 ghost use Rattle.synth_session.specs.Private.EditFault.{IsEditFault};
 ghost use Rattle.synth_session.specs.Private.TakenFragment.{TakesOut};
 
 use crate::clip_commands::copy_phrase_at;
 use clip_store::Fragment;
+use decl_table::Decls;
 use plcs_base::{OutOfMemory, Work};
 use session_edit::{Edit, apply};
 use std::alloc::Global;
-use template_tree::{Change, Node, Path, Stop, Tree, TreeFault, room_is_not_shown};
+use template_tree::{
+    Change, Node, Path, Stop, Tree, TreeFault, checks_ignore_room_and_elision, room_is_not_shown,
+};
+use type_marks::Marks;
 use unparse_layout::{Layout, layouts_ignore_room};
 
 /// The program that is edited, with all that is computed from it.
 #[derive(Drop)]
 pub struct Program<W> {
     pub tree: Tree,
-    pub layout: Layout<W>,
+    pub dependents: Dependents<W>,
 }
 
-/// All that depends on the program, made for an edited tree and not yet in place of what stood before.
+/// All that depends on a program.
 #[derive(Drop)]
-struct Dependents<W> {
-    layout: Layout<W>,
+pub struct Dependents<W> {
+    pub layout: Layout<W>,
+    pub decls: Decls,
+    pub marks: Marks<W>,
 }
 
 /// What an edit leaves: where the cursor stands, the node that was taken out, if one was, and what was done
@@ -52,13 +57,17 @@ pub struct Taken {
 
 impl<W: Work> Program<W> {
     /// A tree with all that depends on it.
-    pub(crate) fn new(alloc: Global, tree: Tree) -> Result<Program<W>, OutOfMemory>
+    pub(crate) fn new(alloc: Global, tree: Tree, work: &mut W) -> Result<Program<W>, OutOfMemory>
         requires tree { IsTree tree }
         ensures agrees { IfOk result (λ program. Agrees program) }
         ensures tree { IfOk result (λ program. program.tree ≡ tree) }
+        ensures checks { W.checked work.old ≤ W.checked work.new }
+        ensures emitted { W.emitted work.new ≡ W.emitted work.old }
+        ensures fetched { W.fetched work.new ≡ W.fetched work.old }
+        ensures laid { W.laid work.new ≡ W.laid work.old }
     {
-        let layout = Layout::new(alloc, &tree)?;
-        Ok(Program { tree, layout })
+        let dependents = Dependents::of(alloc, &tree, work)?;
+        Ok(Program { tree, dependents })
     }
 
     /// Edits the program at the stop: the tree is edited, then all memory is taken that what depends on it
@@ -68,6 +77,7 @@ impl<W: Work> Program<W> {
         alloc: Global,
         at: &Stop,
         edit: Edit,
+        work: &mut W,
     ) -> Result<Changed, TreeFault>
         requires agrees { Agrees self.old }
         requires stop { IsStop (roomless_tree self.old.tree).items (plain_stop at.now) }
@@ -81,12 +91,16 @@ impl<W: Work> Program<W> {
         ensures taken { IfOk result (λ changed. IfSome changed.taken IsSubtree) }
         ensures refused { IfErr result (IsEditFault (edited (roomless_tree self.old.tree) (plain_stop at.now) (plain_edit edit))) }
         ensures same { IfErr result (λ _. roomless_tree self.new.tree ≡ roomless_tree self.old.tree) }
+        ensures checks { W.checked work.old ≤ W.checked work.new }
+        ensures emitted { W.emitted work.new ≡ W.emitted work.old }
+        ensures fetched { W.fetched work.new ≡ W.fetched work.old }
+        ensures laid { W.laid work.new ≡ W.laid work.old }
     {
         let applied = apply(alloc, &mut self.tree, at, edit)?;
         let change = applied.receipt.change();
-        match self.prepare(alloc) {
+        match Dependents::of(alloc, &self.tree, work) {
             Ok(dependents) => {
-                self.commit(dependents);
+                self.dependents = dependents;
                 Ok(Changed {
                     stop: applied.stop,
                     taken: applied.taken,
@@ -95,6 +109,7 @@ impl<W: Work> Program<W> {
             }
             Err(OutOfMemory) => {
                 layouts_ignore_room();
+                checks_ignore_room_and_elision();
                 self.tree.undo(applied.receipt, applied.taken);
                 Err(TreeFault::OutOfMemory)
             }
@@ -102,27 +117,40 @@ impl<W: Work> Program<W> {
     }
 
     /// Takes out what stands at the stop, which can be taken out. A phrase is copied first.
-    pub(crate) fn take(&mut self, alloc: Global, at: &Stop) -> Result<Taken, TreeFault>
+    pub(crate) fn take(
+        &mut self,
+        alloc: Global,
+        at: &Stop,
+        work: &mut W,
+    ) -> Result<Taken, TreeFault>
         requires agrees { Agrees self.old }
         requires stop { IsStop (roomless_tree self.old.tree).items (plain_stop at.now) }
         requires taken { takes_at (roomless_tree self.old.tree) (plain_stop at.now) ≡ true }
-        ensures { TakesOut self.old self.new at.now result }
+        ensures taken { TakesOut self.old self.new at.now result }
+        ensures checks { W.checked work.old ≤ W.checked work.new }
+        ensures emitted { W.emitted work.new ≡ W.emitted work.old }
+        ensures fetched { W.fetched work.new ≡ W.fetched work.old }
+        ensures laid { W.laid work.new ≡ W.laid work.old }
     {
         match at.part {
-            None => self.take_node(alloc, at),
-            Some(_) => self.take_phrase(alloc, at),
+            None => self.take_node(alloc, at, work),
+            Some(_) => self.take_phrase(alloc, at, work),
         }
     }
 
     /// Takes out the node at the stop, which can be taken out.
-    fn take_node(&mut self, alloc: Global, at: &Stop) -> Result<Taken, TreeFault>
+    fn take_node(&mut self, alloc: Global, at: &Stop, work: &mut W) -> Result<Taken, TreeFault>
         requires agrees { Agrees self.old }
         requires stop { IsStop (roomless_tree self.old.tree).items (plain_stop at.now) }
         requires node { at.now.part ≡ None }
         requires taken { takes_at (roomless_tree self.old.tree) (plain_stop at.now) ≡ true }
-        ensures { TakesOut self.old self.new at.now result }
+        ensures taken { TakesOut self.old self.new at.now result }
+        ensures checks { W.checked work.old ≤ W.checked work.new }
+        ensures emitted { W.emitted work.new ≡ W.emitted work.old }
+        ensures fetched { W.fetched work.new ≡ W.fetched work.old }
+        ensures laid { W.laid work.new ≡ W.laid work.old }
     {
-        let Changed { stop, taken, .. } = self.change(alloc, at, Edit::Take)?;
+        let Changed { stop, taken, .. } = self.change(alloc, at, Edit::Take, work)?;
         match taken {
             Some(node) => Ok(Taken {
                 stop,
@@ -133,38 +161,25 @@ impl<W: Work> Program<W> {
     }
 
     /// Takes out the phrase at the stop, of which a copy is made first.
-    fn take_phrase(&mut self, alloc: Global, at: &Stop) -> Result<Taken, TreeFault>
+    fn take_phrase(&mut self, alloc: Global, at: &Stop, work: &mut W) -> Result<Taken, TreeFault>
         requires agrees { Agrees self.old }
         requires stop { IsStop (roomless_tree self.old.tree).items (plain_stop at.now) }
         requires part { IsSome at.now.part }
         requires taken { takes_at (roomless_tree self.old.tree) (plain_stop at.now) ≡ true }
-        ensures { TakesOut self.old self.new at.now result }
+        ensures taken { TakesOut self.old self.new at.now result }
+        ensures checks { W.checked work.old ≤ W.checked work.new }
+        ensures emitted { W.emitted work.new ≡ W.emitted work.old }
+        ensures fetched { W.fetched work.new ≡ W.fetched work.old }
+        ensures laid { W.laid work.new ≡ W.laid work.old }
     {
         let Some(phrase) = copy_phrase_at(alloc, &self.tree, at)? else {
             return Err(TreeFault::OutOfMemory);
         };
-        let changed = self.change(alloc, at, Edit::Take)?;
+        let changed = self.change(alloc, at, Edit::Take, work)?;
         Ok(Taken {
             stop: changed.stop,
             fragment: Fragment::Phrase(phrase),
         })
-    }
-
-    /// Makes all that depends on the edited tree, which takes all the memory that it needs.
-    fn prepare(&self, alloc: Global) -> Result<Dependents<W>, OutOfMemory>
-        requires tree { IsTree self.now.tree }
-        ensures layout { IfOk result (λ dependents. IsLayoutOf dependents.layout self.now.tree) }
-    {
-        let layout = Layout::new(alloc, &self.tree)?;
-        Ok(Dependents { layout })
-    }
-
-    /// Puts what was made for the edited tree in place of what stood before. It takes no memory.
-    fn commit(&mut self, dependents: Dependents<W>)
-        ensures layout { self.new.layout ≡ dependents.layout }
-        ensures tree { self.new.tree ≡ self.old.tree }
-    {
-        self.layout = dependents.layout;
     }
 
     /// Hides the refinement of the comment at the path, or shows it again. It takes no memory.
@@ -174,7 +189,30 @@ impl<W: Work> Program<W> {
         ensures turned { roomless_tree self.new.tree ≡ with_turn_at path.now.items (roomless_tree self.old.tree) }
     {
         room_is_not_shown();
+        checks_ignore_room_and_elision();
         let _ = self.tree.elide(path);
-        self.layout.elided(&self.tree, path);
+        self.dependents.layout.elided(&self.tree, path);
+    }
+}
+
+impl<W: Work> Dependents<W> {
+    /// All that depends on the tree, made from it. The tree may have been edited: nothing of it is in
+    /// place before all memory was taken.
+    fn of(alloc: Global, tree: &Tree, work: &mut W) -> Result<Dependents<W>, OutOfMemory>
+        requires tree { IsTree tree.now }
+        ensures depend { IfOk result (λ dependents. DependOn dependents tree.now) }
+        ensures checks { W.checked work.old ≤ W.checked work.new }
+        ensures emitted { W.emitted work.new ≡ W.emitted work.old }
+        ensures fetched { W.fetched work.new ≡ W.fetched work.old }
+        ensures laid { W.laid work.new ≡ W.laid work.old }
+    {
+        let layout = Layout::new(alloc, tree)?;
+        let decls = Decls::new(alloc, tree)?;
+        let marks = Marks::new(alloc, tree, &decls, work)?;
+        Ok(Dependents {
+            layout,
+            decls,
+            marks,
+        })
     }
 }

@@ -1,5 +1,5 @@
 //! The session: the program that is edited, with the cursor, the window, the typed line and the clips.
-ghost use Rattle.std.specs.Prelude.{◌≡◌, [], ◌∷◌, None, IfOk, IfSome, option_map};
+ghost use Rattle.std.specs.Prelude.{◌≡◌, ◌≤◌, [], ◌∷◌, None, IfOk, IfSome, option_map};
 ghost use Rattle.plcs_base.specs.Put.{PutsAll};
 ghost use Rattle.template_tree.specs.Listing.{Listing};
 ghost use Rattle.template_tree.specs.PlainTree.{roomless_tree};
@@ -18,7 +18,7 @@ use crate::program::Program;
 use crate::screens::Screens;
 use crate::size::ScreenSize;
 use crate::typed_line::LINE_LIMIT;
-use crate::window::top_for;
+use crate::window::top_showing;
 use arrayvec::ArrayVec;
 use clip_store::Clips;
 use cursor_moves::top;
@@ -43,26 +43,32 @@ pub struct Session<W> {
 impl<W: Work> Session<W> {
     /// A session over the program, or over a new one, on a screen of this size. The cursor stands at the
     /// new program's hole for a statement, or at main of a program that is given. Both screens are blank.
+    /// Each phrase of the program is counted as checked once at most.
     #[tactic(auto, unfolding(crate::specs::OpenedSession::opened_session))]
     pub fn open(
         alloc: Global,
         size: ScreenSize,
         tree: Option<Tree>,
+        work: &mut W,
     ) -> Result<Session<W>, OutOfMemory>
         requires tree { IfSome tree IsTree }
         ensures session { IfOk result (λ session. IsSession session) }
         ensures opened { IfOk result (λ session. plain_session session ≡ opened_session size (option_map roomless_tree tree)) }
         ensures shown { IfOk result (λ session. shown_grid session ≡ blank_grid size.rows size.cols) }
         ensures next { IfOk result (λ session. next_grid session ≡ blank_grid size.rows size.cols) }
+        ensures checks { W.checked work.old ≤ W.checked work.new }
+        ensures emitted { W.emitted work.new ≡ W.emitted work.old }
+        ensures fetched { W.fetched work.new ≡ W.fetched work.old }
+        ensures laid { W.laid work.new ≡ W.laid work.old }
     {
         match tree {
             Some(tree) => {
                 let stop = top(&tree);
-                Session::begin(alloc, size, tree, stop)
+                Session::begin(alloc, size, tree, stop, work)
             }
             None => {
                 let tree = new_tree(alloc)?;
-                Session::begin(alloc, size, tree, new_stop())
+                Session::begin(alloc, size, tree, new_stop(), work)
             }
         }
     }
@@ -73,6 +79,7 @@ impl<W: Work> Session<W> {
         size: ScreenSize,
         tree: Tree,
         stop: Stop,
+        work: &mut W,
     ) -> Result<Session<W>, OutOfMemory>
         requires tree { IsTree tree }
         requires stop { IsStop (roomless_tree tree).items (plain_stop stop) }
@@ -80,10 +87,14 @@ impl<W: Work> Session<W> {
         ensures opened { IfOk result (λ session. plain_session session ≡ session_over size (roomless_tree tree) (plain_stop stop)) }
         ensures shown { IfOk result (λ session. shown_grid session ≡ blank_grid size.rows size.cols) }
         ensures next { IfOk result (λ session. next_grid session ≡ blank_grid size.rows size.cols) }
+        ensures checks { W.checked work.old ≤ W.checked work.new }
+        ensures emitted { W.emitted work.new ≡ W.emitted work.old }
+        ensures fetched { W.fetched work.new ≡ W.fetched work.old }
+        ensures laid { W.laid work.new ≡ W.laid work.old }
     {
         let screens = Screens::new(alloc, size)?;
         let clips = Clips::new(alloc)?;
-        let program = Program::new(alloc, tree)?;
+        let program = Program::new(alloc, tree, work)?;
         let mut session = Session {
             program,
             stop,
@@ -153,8 +164,12 @@ impl<W: Work> Session<W> {
         requires placed { IsPlaced (plain_session self.old) }
         ensures { HasOutcome (acceptance_outcome (plain_session self.old)) self.old self.new result }
     {
-        let line = self.program.layout.line_of(&self.program.tree, &self.stop);
-        self.top = top_for(self.screens.window_rows(), self.top, line);
+        let line = self
+            .program
+            .dependents
+            .layout
+            .line_of(&self.program.tree, &self.stop);
+        self.top = top_showing(self.screens.window_rows(), self.top, line);
         self.message = None;
         Answer::Done
     }

@@ -1,5 +1,6 @@
 //! The screen of a session, drawn and painted.
 ghost use Rattle.std.specs.Prelude.{◌≡◌, ◌+◌, ◌*◌, ◌≤◌, [], None, length, OnErr, OnOk};
+ghost use Rattle.template_tree.specs.Marks.{Marks};
 ghost use Rattle.template_tree.specs.PlainTree.{roomless_tree};
 ghost use Rattle.template_tree.specs.Limit.{most_slots};
 ghost use Rattle.template_tree.specs.Stop.{IsStop, plain_stop};
@@ -8,20 +9,20 @@ ghost use Rattle.screen_window.specs.Paint.{Paint};
 ghost use Rattle.screen_window.specs.Screen.{Screen, window_rows};
 ghost use Rattle.screen_window.specs.Writes.{Writes};
 ghost use Rattle.synth_session.specs.RefusalText.{shown_message};
-ghost use Rattle.synth_session.specs.SessionScreen.{grid, no_marks, prompt, sort_word, word_at};
+ghost use Rattle.synth_session.specs.SessionScreen.{grid, prompt, sort_word, word_at};
 ghost use Rattle.synth_session.specs.SessionView.{Agrees, IsSession, next_grid, plain_session, shown_grid};
 
 use crate::program::Program;
 use crate::screens::Screens;
 use crate::session::Session;
 use arrayvec::ArrayVec;
-use plcs_base::{MarkKind, Marked, PhraseAt, Work};
+use plcs_base::Work;
 use plcs_grammar::Sort;
 use screen_window::View;
 use session_edit::wanted;
 use session_words::{Message, MessageText};
 use synth_outside::{Sink, SinkFault};
-use template_tree::{Stop, Tree, room_is_not_shown};
+use template_tree::{Stop, Tree, checks_ignore_room_and_elision, room_is_not_shown};
 
 impl<W: Work> Session<W> {
     /// Draws the screen that is to be painted next. It takes no memory, and lays no more lines than the
@@ -92,7 +93,7 @@ fn draw_on<'a, W: Work>(
     requires top { top ≤ 4 * most_slots }
     ensures next { screens.new.next ≡ Screen screens.old.shown.rows screens.old.shown.cols (record {
       items = (roomless_tree program.entry.now.tree).items;
-      marks = no_marks;
+      marks = Marks (roomless_tree program.entry.now.tree).items;
       stop = plain_stop stop.entry.now;
       top = top;
       run_place = None;
@@ -109,10 +110,11 @@ fn draw_on<'a, W: Work>(
     ensures checked { W.checked work.new ≡ W.checked work.old }
     ensures fetched { W.fetched work.new ≡ W.fetched work.old }
 {
+    checks_ignore_room_and_elision();
     let view = View {
         tree: &program.tree,
-        layout: &program.layout,
-        marks: &NoMarks,
+        layout: &program.dependents.layout,
+        marks: &program.dependents.marks,
         stop,
         top,
         run_place: None,
@@ -172,19 +174,5 @@ fn sort_word(sort: Sort) -> &'static [u8]
         Sort::Procedure => b"procedure",
         Sort::Declaration => b"declaration",
         Sort::Statement => b"statement",
-    }
-}
-
-/// The marks of phrases, of which there are none yet.
-#[derive(Drop)]
-struct NoMarks;
-
-impl Marked for NoMarks {
-    ghost use Rattle.synth_session.specs.SessionScreen.{no_marks};
-
-    ghost marks = { λ _. no_marks };
-
-    fn mark(&self, _at: PhraseAt) -> Option<MarkKind> {
-        None
     }
 }

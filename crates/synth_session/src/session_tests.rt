@@ -50,7 +50,10 @@ fn opened(alloc: Global) -> Result<Session<Counts>, Fail>
     ensures session { IfOk result (λ session. IsSession session) }
     ensures shown { IfOk result (λ session. shown_grid session ≡ blank_grid 12 40) }
 {
-    let session = Session::open(alloc, ScreenSize::new(12, 40), None).map_err(|_| "a session")?;
+    let mut work = Counts::default();
+    let Ok(session) = Session::open(alloc, ScreenSize::new(12, 40), None, &mut work) else {
+        return Err(Fail::from("a session"));
+    };
     Ok(session)
 }
 
@@ -67,7 +70,10 @@ fn press_all(
     let Some((byte, rest)) = keys.split_first() else {
         return Ok(before);
     };
-    let answer = session.press(alloc, key_of(*byte)).map_err(|_| "memory")?;
+    let mut work = Counts::default();
+    let answer = session
+        .press(alloc, key_of(*byte), &mut work)
+        .map_err(|_| "memory")?;
     press_all(alloc, session, rest, answer)
 }
 
@@ -327,7 +333,10 @@ fn other_screen(
     let Some((byte, rest)) = keys.split_first() else {
         return Ok(None);
     };
-    let _ = session.press(alloc, key_of(*byte)).map_err(|_| "memory")?;
+    let mut work = Counts::default();
+    let _ = session
+        .press(alloc, key_of(*byte), &mut work)
+        .map_err(|_| "memory")?;
     if !is_painted(alloc, session, terminal)? {
         return Ok(Some(k));
     }

@@ -13,6 +13,8 @@ mod large_program;
 #[cfg(test)]
 mod long_session;
 #[cfg(test)]
+mod marks;
+#[cfg(test)]
 mod playing;
 #[cfg(test)]
 mod refusals;

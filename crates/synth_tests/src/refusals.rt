@@ -201,7 +201,7 @@ const CLIPS: [Writing; 7] = [
     (
         b".if\rx = 1\r\x1b[A\x1b[C.cut\r\x1b[B.while\r.insert",
         b"\r",
-        b"\x1b[4;1H      DO WHILE ( x = 1 );\x1b[K\x1b[12;1Hcondition>\x1b[K\x1b[4;18H",
+        b"\x1b[4;1H      DO WHILE ( \x1b[7mx = 1\x1b[0m );\x1b[K\x1b[11;1HUNDECLARED\x1b[K\x1b[12;1Hcondition>\x1b[K\x1b[4;18H",
     ),
     (
         b".if\rx = 1\r\x1b[A\x1b[C.cut\r\x1b[B.put\r.insert",

@@ -13,7 +13,8 @@ use std::alloc::Global;
 pub struct Shown {
     /// The keys.
     pub keys: &'static [u8],
-    /// The rows of the window, without the blanks at their ends.
+    /// The rows of the window, without the blanks at their ends; what stands between two `~` is in negative
+    /// image.
     pub window: [&'static str; 6],
     /// The row of the message.
     pub message: &'static str,
@@ -52,17 +53,56 @@ impl Shown {
     }
 }
 
-/// Whether cells are this text in default image, with blanks behind it.
+/// Whether cells are this text with blanks behind it. What stands between two `~` is in negative image, all
+/// else in default image.
 pub fn is_row(cells: &[u16], text: &[u8]) -> bool {
-    let mut same = text.len() <= cells.len();
-    for (at, cell) in cells.iter().enumerate() {
-        let wanted = match text.get(at) {
-            Some(byte) => u16::from(*byte),
-            None => 32,
-        };
-        same = same && *cell == wanted;
+    let mut written = Written {
+        text,
+        at: 0,
+        negative: false,
+    };
+    let mut same = true;
+    for cell in cells {
+        same = same && *cell == written.next_cell();
     }
-    same
+    same && written.is_over()
+}
+
+/// A text that is read cell by cell.
+#[derive(Drop)]
+struct Written<'a> {
+    text: &'a [u8],
+    at: usize,
+    negative: bool,
+}
+
+impl<'a> Written<'a> {
+    /// The next cell: a blank in default image behind the text.
+    fn next_cell(&mut self) -> u16 {
+        if self.turns() {
+            self.negative = !self.negative;
+            self.at = self.at.saturating_add(1);
+        }
+        let Some(byte) = self.text.get(self.at) else {
+            return 32;
+        };
+        self.at = self.at.saturating_add(1);
+        if self.negative {
+            u16::from(*byte) + 256
+        } else {
+            u16::from(*byte)
+        }
+    }
+
+    /// Whether the image turns here.
+    fn turns(&self) -> bool {
+        self.text.get(self.at) == Some(&b'~')
+    }
+
+    /// Whether all of the text was read.
+    fn is_over(&self) -> bool {
+        self.at >= self.text.len()
+    }
 }
 
 /// Whether a terminal that takes what the editor writes for these keys shows this.

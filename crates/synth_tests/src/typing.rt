@@ -84,7 +84,7 @@ const LINES: [Writing; 16] = [
     (
         b"x=007\r\t\x7f",
         b"8\r",
-        b"\x1b[12;1Hstatement> x = 8\x1b[K\x1b[12;17H\x1b[3;1H    x = 8;\x1b[K\x1b[12;1Hstatement>\x1b[K\x1b[3;5H",
+        b"\x1b[12;1Hstatement> x = 8\x1b[K\x1b[12;17H\x1b[3;1H    \x1b[7mx = 8\x1b[0m;\x1b[K\x1b[12;1Hstatement>\x1b[K\x1b[3;5H",
     ),
     (
         b".put\r7\r\t",

@@ -1,5 +1,5 @@
 -- Lines laid for some screens and then for others.
-use Rattle.std.proofs.Common.{◌≡◌, ℕ, ◌+◌, List, [], ◌∷◌, ◌++◌, refl, arith}
+use Rattle.std.proofs.Common.{◌≡◌, ℕ, ◌+◌, List, [], ◌∷◌, ◌++◌, refl, subst, arith}
 use Rattle.screen_window.specs.PlainGrid.{PlainGrid}
 use Rattle.screen_window.specs.Screen.{Screen}
 use Rattle.synth_session.specs.PlainSession.{PlainSession}
@@ -14,6 +14,11 @@ rows_of_grid s = refl
 -- nothing was laid
 pub lays_nothing : (screens : List PlainGrid) (before now : ℕ) → now ≡ before → LaysFor screens before now
 lays_nothing screens before now same = record { later = omega (arith, same); most = omega (arith, same) }
+
+-- nothing was laid before these
+pub lays_from : (screens : List PlainGrid) (before between now : ℕ) → between ≡ before → LaysFor screens between now
+    → LaysFor screens before now
+lays_from screens before between now same lays = subst (λ n. LaysFor screens n now) same lays
 
 -- a screen before others
 pub lays_then : (screen : PlainGrid) (screens : List PlainGrid) (a b c : ℕ) → LaysFor (screen ∷ []) a b → LaysFor screens b c

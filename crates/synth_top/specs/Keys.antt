@@ -7,7 +7,7 @@ use Rattle.synth_top.specs.declared.key.Keys.{Keys}
 use Rattle.synth_top.specs.declared.key.Held.{Held}
 use Rattle.synth_top.specs.declared.key.Held.TheVariants.{Nothing, Escape, Bracket}
 
--- ---- the table
+-- ---- the key of a byte, and of a move
 
 -- the key of a byte by itself: a printable byte is itself, both line ends are Enter, and a byte that
 -- stands for nothing is Other, as ESC is where no move follows

@@ -1,7 +1,7 @@
 //! The editor as a whole: words and key bytes come in, screens go out.
 #![tactic(auto)]
 
-ghost use Rattle.std.specs.Prelude.{◌≡◌, map, IfSome, string_bytes};
+ghost use Rattle.std.specs.Prelude.{◌≡◌, ◌≤◌, map, IfSome, string_bytes};
 ghost use Rattle.synth_top.specs.Private.PlainForms.{plain_options};
 ghost use Rattle.synth_top.specs.Run.{Ended};
 ghost use Rattle.synth_top.specs.Status.{CausedBy, LeftAs};
@@ -74,10 +74,10 @@ pub fn synth<S: Source, K: Sink, F: Files, W: Work>(
     // Of what the source keeps besides its bytes, its own relations hold.
     ensures source { LeftAs result (S.leads_to keys.old keys.new) (S.breaks_at keys.old keys.new) }
 
-    // No key uses files yet, and nothing is counted but the lines laid.
+    // No key uses files yet, and nothing is counted but lines laid and phrases checked.
     ensures files { files.new ≡ files.old }
     ensures emitted { W.emitted work.new ≡ W.emitted work.old }
-    ensures checked { W.checked work.new ≡ W.checked work.old }
+    ensures checks { W.checked work.old ≤ W.checked work.new }
     ensures fetched { W.fetched work.new ≡ W.fetched work.old }
 {
     match options::options_of(words) {
@@ -119,10 +119,10 @@ fn edit<S: Source, K: Sink, F: Files, W: Work>(
     ensures source { LeftAs result (S.leads_to keys.old keys.new) (S.breaks_at keys.old keys.new) }
     ensures files { files.new ≡ files.old }
     ensures emitted { W.emitted work.new ≡ W.emitted work.old }
-    ensures checked { W.checked work.new ≡ W.checked work.old }
+    ensures checks { W.checked work.old ≤ W.checked work.new }
     ensures fetched { W.fetched work.new ≡ W.fetched work.old }
 {
-    match Editor::open(alloc, options.size) {
+    match Editor::open(alloc, options.size, work) {
         Ok(mut editor) => editor.run(alloc, options, keys, screen, files, work),
         Err(OutOfMemory) => Status::NoMemory,
     }

@@ -1,6 +1,6 @@
 //! The run: keys come in byte by byte, are pressed in their order, and their screens go out.
 
-ghost use Rattle.std.specs.Prelude.{◌≡◌, ◌∷◌, [], option_to_list, IfOk, OnOk, OnErr};
+ghost use Rattle.std.specs.Prelude.{◌≡◌, ◌≤◌, ◌∷◌, [], option_to_list, IfOk, OnOk, OnErr};
 ghost use Rattle.plcs_base.specs.Count.{raised};
 ghost use Rattle.screen_window.specs.Paint.{Paint};
 ghost use Rattle.screen_window.specs.PlainGrid.{blank_grid};
@@ -36,7 +36,7 @@ pub enum Going {
 
 impl Going {
     /// The status that ended the session, or this one.
-    fn or(self, status: Status) -> Status
+    fn ended_as(self, status: Status) -> Status
         ensures { result ≡ ended_as self status }
     {
         match self {
@@ -55,11 +55,15 @@ pub struct Editor<W> {
 
 impl<W: Work> Editor<W> {
     /// An editor for a session with a new program, before its first screen.
-    pub fn open(alloc: Global, size: ScreenSize) -> Result<Self, OutOfMemory>
-        ensures { IfOk result (λ e. IsNew size e) }
+    pub fn open(alloc: Global, size: ScreenSize, work: &mut W) -> Result<Self, OutOfMemory>
+        ensures new { IfOk result (λ e. IsNew size e) }
+        ensures checks { W.checked work.old ≤ W.checked work.new }
+        ensures emitted { W.emitted work.new ≡ W.emitted work.old }
+        ensures fetched { W.fetched work.new ≡ W.fetched work.old }
+        ensures laid { W.laid work.new ≡ W.laid work.old }
     {
         Ok(Editor {
-            session: Session::open(alloc, size, None)?,
+            session: Session::open(alloc, size, None, work)?,
             reader: KeyReader::new(),
         })
     }
@@ -101,7 +105,7 @@ impl<W: Work> Editor<W> {
             (S.leads_to keys.old keys.new) (S.breaks_at keys.old keys.new) }
         ensures files { files.new ≡ files.old }
         ensures emitted { W.emitted work.new ≡ W.emitted work.old }
-        ensures checked { W.checked work.new ≡ W.checked work.old }
+        ensures checks { W.checked work.old ≤ W.checked work.new }
         ensures fetched { W.fetched work.new ≡ W.fetched work.old }
     {
         match self.start(screen, work) {
@@ -119,12 +123,15 @@ impl<W: Work> Editor<W> {
                         return status;
                     }
                 }
-                Ok(None) => return self.finish(alloc, screen, files, work).or(Status::Done),
+                Ok(None) => return self
+                    .finish(alloc, screen, files, work)
+                    .ended_as(Status::Done),
                 Err(SourceFault::Failed) => return Status::ReadFault,
                 Err(SourceFault::OutOfMemory) => return Status::NoMemory,
             }
         }
-        self.finish(alloc, screen, files, work).or(Status::KeyLimit)
+        self.finish(alloc, screen, files, work)
+            .ended_as(Status::KeyLimit)
     }
 
     /// Clears the screen and paints the opening screen.
@@ -163,7 +170,7 @@ impl<W: Work> Editor<W> {
             (K.faults screen.old) (K.faults screen.new) self.new }
         ensures files { files.new ≡ files.old }
         ensures emitted { W.emitted work.new ≡ W.emitted work.old }
-        ensures checked { W.checked work.new ≡ W.checked work.old }
+        ensures checks { W.checked work.old ≤ W.checked work.new }
         ensures fetched { W.fetched work.new ≡ W.fetched work.old }
     {
         let key = self.reader.end();
@@ -187,7 +194,7 @@ impl<W: Work> Editor<W> {
         ensures reader { self.new.reader ≡ self.old.reader }
         ensures files { files.new ≡ files.old }
         ensures emitted { W.emitted work.new ≡ W.emitted work.old }
-        ensures checked { W.checked work.new ≡ W.checked work.old }
+        ensures checks { W.checked work.old ≤ W.checked work.new }
         ensures fetched { W.fetched work.new ≡ W.fetched work.old }
     {
         if let Going::Over(status) = self.press_if(alloc, keys.first, screen, files, work) {
@@ -213,7 +220,7 @@ impl<W: Work> Editor<W> {
         ensures reader { self.new.reader ≡ self.old.reader }
         ensures files { files.new ≡ files.old }
         ensures emitted { W.emitted work.new ≡ W.emitted work.old }
-        ensures checked { W.checked work.new ≡ W.checked work.old }
+        ensures checks { W.checked work.old ≤ W.checked work.new }
         ensures fetched { W.fetched work.new ≡ W.fetched work.old }
     {
         match key {
@@ -240,10 +247,10 @@ impl<W: Work> Editor<W> {
         ensures reader { self.new.reader ≡ self.old.reader }
         ensures files { _files.new ≡ _files.old }
         ensures emitted { W.emitted work.new ≡ W.emitted work.old }
-        ensures checked { W.checked work.new ≡ W.checked work.old }
+        ensures checks { W.checked work.old ≤ W.checked work.new }
         ensures fetched { W.fetched work.new ≡ W.fetched work.old }
     {
-        let Ok(answer) = self.session.press(alloc, key) else {
+        let Ok(answer) = self.session.press(alloc, key, work) else {
             return Going::Over(Status::NoMemory);
         };
         if let Answer::Quit = answer {

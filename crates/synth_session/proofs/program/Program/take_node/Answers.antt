@@ -5,8 +5,8 @@ use Rattle.synth_session.proofs.ClipFragments.{fragment_given, node_there}
 use Rattle.synth_session.proofs.TakenNodes.{node_taken}
 use Rattle.synth_session.proofs.program.Program.take_node.Goals as goal
 
-pub returns-in-Some : goal.returns-in-Some
-returns-in-Some g c =
+pub returns-in-Some-clause-taken : goal.returns-in-Some-clause-taken
+returns-in-Some-clause-taken g c =
     record {
       agrees = c.in_ok-stop.ensures.agrees;
       became = search rules;

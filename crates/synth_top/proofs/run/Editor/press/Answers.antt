@@ -1,6 +1,7 @@
 use Rattle.std.proofs.Common.{ap, refl, arith, inl, inr, Err}
 use Rattle.synth_session.specs.PlainScreens.{PlainScreens}
 use Rattle.synth_session.specs.PlainSession.{PlainSession}
+use Rattle.synth_top.proofs.LaidInTurn.{lays_from}
 use Rattle.synth_top.proofs.OneKey.{is_pressed, one_shown, one_quit, one_cut, one_wanted}
 use Rattle.synth_top.proofs.run.Editor.press.Goals as goal
 
@@ -19,7 +20,7 @@ returns-in_default-clause-presses g c =
               shown = ap (λ (z : PlainScreens). z.shown) does.screens;
               taken = refl;
               file_faults = refl;
-              laid = refl;
+              laid = c.press.ensures.laid;
             })),
       );
       cause = record { later = omega arith; rose = λ e. absurd (cc); same = λ other. refl; last = λ e. refl };
@@ -33,7 +34,7 @@ returns-in-Quit-clause-presses g c =
     record {
       ends = tt;
       pressed = λ map told.
-          (map, told, one_quit c.args.key c.in-Ok.answer _ _ _ (is_pressed _ _ _ _ map _ does.met.0 does.met.1) refl c.in-Quit.is refl refl);
+          (map, told, one_quit c.args.key c.in-Ok.answer _ _ _ (is_pressed _ _ _ _ map _ does.met.0 does.met.1) refl c.in-Quit.is refl c.press.ensures.laid);
       cause = record { later = omega arith; rose = λ e. absurd (cc); same = λ other. refl; last = λ e. refl };
       ready = does.session;
     }
@@ -50,7 +51,7 @@ returns-in-Ok-show-clause-presses g c =
         told,
         one_shown c.args.key c.in-Ok.answer _ _ _ (is_pressed _ _ _ _ map _ does.met.0 does.met.1)
             (ap (λ (z : PlainSession). record { session = z; files = map }) c.show.ensures.session) c.in_default-answer.not-Quit _
-            (ap (λ (z : PlainScreens). z.shown) does.screens) wrote.all c.in-Ok-show.ensures.shown c.show.ensures.laid,
+            (ap (λ (z : PlainScreens). z.shown) does.screens) wrote.all c.in-Ok-show.ensures.shown (lays_from _ _ _ _ c.press.ensures.laid c.show.ensures.laid),
       );
       cause = record {
         later = wrote.cause.later;
@@ -73,7 +74,7 @@ returns-in-Err-Failed-clause-presses g c =
         told,
         one_cut c.args.key c.in-Ok.answer _ _ _ (is_pressed _ _ _ _ map _ does.met.0 does.met.1)
             (ap (λ (z : PlainSession). record { session = z; files = map }) c.show.ensures.session) c.in_default-answer.not-Quit _
-            (ap (λ (z : PlainScreens). z.shown) does.screens) wrote.front c.show.ensures.laid,
+            (ap (λ (z : PlainScreens). z.shown) does.screens) wrote.front (lays_from _ _ _ _ c.press.ensures.laid c.show.ensures.laid),
       );
       cause = record {
         later = wrote.cause.later;
@@ -97,7 +98,7 @@ returns-in-Err-OutOfMemory-clause-presses g c =
         inl
             (one_cut c.args.key c.in-Ok.answer _ _ _ (is_pressed _ _ _ _ map _ does.met.0 does.met.1)
             (ap (λ (z : PlainSession). record { session = z; files = map }) c.show.ensures.session) c.in_default-answer.not-Quit _
-            (ap (λ (z : PlainScreens). z.shown) does.screens) wrote.front c.show.ensures.laid),
+            (ap (λ (z : PlainScreens). z.shown) does.screens) wrote.front (lays_from _ _ _ _ c.press.ensures.laid c.show.ensures.laid)),
       );
       cause = record {
         later = wrote.cause.later;

@@ -50,7 +50,7 @@ loop-init g c = record {
   led = g.S.Source.leads_to_itself c.args.keys.now;
   files = refl;
   emitted = c.start.ensures.emitted;
-  checked = c.start.ensures.checked;
+  checks = omega (arith, c.start.ensures.checked);
   fetched = c.start.ensures.fetched;
 }
 
@@ -74,7 +74,7 @@ loop-preserved g c = record {
   led = c.in-Ok-Some.ensures.led _ c.loop.invariant.led;
   files = c.press_keys.ensures.files ∙ c.loop.invariant.files;
   emitted = c.press_keys.ensures.emitted ∙ c.loop.invariant.emitted;
-  checked = c.press_keys.ensures.checked ∙ c.loop.invariant.checked;
+  checks = omega (arith, c.press_keys.ensures.checks, c.loop.invariant.checks);
   fetched = c.press_keys.ensures.fetched ∙ c.loop.invariant.fetched;
 }
 
@@ -95,7 +95,7 @@ returns-in-Err-OutOfMemory-read_byte-clause-ended g c =
 pub returns-in-Ok-None-clause-ended : goal.returns-in-Ok-None-clause-ended
 returns-in-Ok-None-clause-ended g c =
     let read = rw c.in-Ok-None.field-0-is at c.in-Ok-None.ensures.byte in
-    rw c.or.ensures
+    rw c.ended_as.ensures
     (ended_at_end _ _ _ _ _ _ _ c.loop.invariant.so_far _ _ _ read.0 read.1 (omega arith) c.in-Ok-None.ensures.one c.finish.result (c.finish.ensures.presses.pressed _ c.loop.invariant.told).2
     (c.in-Ok-None.ensures.led _ c.loop.invariant.led))
 
@@ -103,6 +103,6 @@ returns-in-Ok-None-clause-ended g c =
 pub returns-clause-ended : goal.returns-clause-ended
 returns-clause-ended g c =
     let all : c.loop.counter ≡ c.args.options.key_limit = omega arith in
-    rw c.or-2.ensures
+    rw c.ended_as-2.ensures
     (ended_at_limit _ _ _ _ _ _ _ c.loop.invariant.so_far _ _ _ (Consumes-nil _) all refl c.finish-2.result
     (c.finish-2.ensures.presses.pressed _ c.loop.invariant.told).2 c.loop.invariant.led)

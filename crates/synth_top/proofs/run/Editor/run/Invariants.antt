@@ -1,4 +1,4 @@
-use Rattle.std.proofs.Common.{◌≡◌}
+use Rattle.std.proofs.Common.{◌≡◌, ◌≤◌}
 use Rattle.synth_top.specs.Private.PlainForms.{plain_options}
 use Rattle.synth_top.specs.Private.Pressing.{IsReady, moment_of, snapshot_of}
 use Rattle.synth_top.specs.Turn.{IsMapOf}
@@ -21,6 +21,6 @@ invariant-loop g l = record {
   led : g.S.Source.leads_to l.fn.keys l.keys;
   files : l.files ≡ l.fn.files;
   emitted : g.W.Work.emitted l.work ≡ g.W.Work.emitted l.fn.work;
-  checked : g.W.Work.checked l.work ≡ g.W.Work.checked l.fn.work;
+  checks : g.W.Work.checked l.fn.work ≤ g.W.Work.checked l.work;
   fetched : g.W.Work.fetched l.work ≡ g.W.Work.fetched l.fn.work;
 }
