@@ -1,5 +1,6 @@
--- Nodes at their paths, and the edit there.
-use Rattle.std.specs.Prelude.{ℕ, List, [], ◌∷◌, Option, Some, None, option_and_then, option_map, slice_get}
+-- Nodes at their paths, and the paths beside them.
+use Rattle.std.specs.Prelude.{ℕ, suc, List, [], ◌∷◌, Option, Some, None, option_and_then, option_map, slice_get}
+use Rattle.template_tree.specs.declared.side.Side.{Side}
 use Rattle.template_tree.specs.PlainTree.{Forest, PlainNode, nodes}
 
 -- the node at the path below a node
@@ -15,3 +16,20 @@ node_at items (k ∷ path) = option_and_then (λ item. below item path) (slice_g
 -- the slot of the node at the path
 abbrev pub slot_at : Forest → List ℕ → Option ℕ
 slot_at items path = option_map (λ node. node.label.slot) (node_at items path)
+
+-- the number in its list of the node at a path
+abbrev pub last_of : List ℕ → ℕ
+last_of [] = 0
+last_of (k ∷ []) = k
+last_of (k ∷ (j ∷ path)) = last_of (j ∷ path)
+
+-- the path with another last number
+abbrev pub with_last : (ℕ → ℕ) → List ℕ → List ℕ
+with_last other [] = []
+with_last other (k ∷ []) = other k ∷ []
+with_last other (k ∷ (j ∷ path)) = k ∷ with_last other (j ∷ path)
+
+-- where a node stands that came on this side of the one at a path
+abbrev pub added_path : Side → List ℕ → List ℕ
+added_path Side.Before path = path
+added_path Side.After path = with_last suc path

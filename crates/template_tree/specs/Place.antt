@@ -4,12 +4,11 @@ use Rattle.std.specs.Option.{option_or}
 use Rattle.plcs_grammar.specs.declared.node_kind.NodeKind.{NodeKind}
 use Rattle.plcs_grammar.specs.declared.node_kind.Sort.{Sort}
 use Rattle.plcs_grammar.specs.declared.node_kind.Sort.TheVariants.{Statement}
-use Rattle.plcs_grammar.specs.declared.row.Amount.{Amount}
-use Rattle.plcs_grammar.specs.declared.row.Amount.TheVariants.{One, Many}
 use Rattle.plcs_grammar.specs.declared.template.Template.{Template}
 use Rattle.plcs_grammar.specs.declared.template.Template.TheVariants.{While, For, Group, Get, Call, Comment, Proc, ProcP}
 use Rattle.plcs_grammar.specs.PlainPhrase.{PlainPhrase}
 use Rattle.plcs_grammar.specs.Template.{PlainSection, row_of}
+use Rattle.template_tree.specs.ListItem.{is_list}
 use Rattle.template_tree.specs.PlainTree.{Label, Forest}
 use Rattle.template_tree.specs.Program.{sort_of}
 
@@ -58,15 +57,10 @@ abbrev pub is_statement : Sort → Bool
 is_statement Statement = true
 is_statement other = false
 
--- whether more than one item may stand there
-abbrev pub is_many : Amount → Bool
-is_many One = false
-is_many Many = true
-
 -- whether what stands inside is done one after the other, and not one of it alone
 abbrev pub in_turn : List PlainSection → Bool
 in_turn [] = true
-in_turn (section ∷ sections) = is_many section.amount && in_turn sections
+in_turn (section ∷ sections) = is_list section.amount && in_turn sections
 
 -- where a run begins among nodes in order: at the first statement, or inside it; behind them where there is none
 abbrev pub begin : Forest → PlainAt → PlainAt

@@ -1,13 +1,14 @@
 //! Paths to the items beside an item.
 ghost use Rattle.std.specs.Prelude.{◌≡◌, ◌<◌, pred, suc};
-ghost use Rattle.template_tree.specs.Private.Beside.{added_path, last_of, side_of, with_last};
+ghost use Rattle.template_tree.specs.Path.{added_path, last_of, with_last};
+ghost use Rattle.template_tree.specs.Private.Beside.{side_of};
 
 use crate::exchange::copied;
 use crate::path::Path;
 use crate::side::Side;
 
 /// Where a node stands that came on this side of the one at the path.
-pub(crate) fn added_path(side: Side, path: &Path) -> Path
+pub fn added_path(side: Side, path: &Path) -> Path
     requires small { last_of path.now.items < 4294967295 }
     ensures { result.items ≡ added_path side path.now.items }
 {
@@ -31,7 +32,7 @@ fn next_path(path: &Path) -> Path
 
 /// The path to the item before the one at the path, or to the one that comes in its place where it is the
 /// first, once it has left its list.
-pub(crate) fn path_before(path: &Path) -> Path
+pub fn path_before(path: &Path) -> Path
     ensures { result.items ≡ with_last pred path.now.items }
 {
     let mut before = copied(path);

@@ -141,7 +141,7 @@ fn program(alloc: Global, statement: Node) -> Result<Nodes, Fail>
     Ok(items)
 }
 
-const LINES: [&[u8]; 9] = [
+static LINES: [&[u8]; 9] = [
     b"main: PROCEDURE OPTIONS ( MAIN );",
     b"  {declaration}",
     b"  IF ( {condition} ) THEN",
@@ -193,7 +193,7 @@ fn around(alloc: Global, statement: Node) -> Result<Node, Fail>
 /// a tree with it is over, if any.
 type Building = (u32, u32, Option<OverLimit>);
 
-const BUILDINGS: [Building; 9] = [
+static BUILDINGS: [Building; 9] = [
     (0, 0, None),
     (61, 0, None),
     (62, 0, Some(OverLimit::TooDeep)),

@@ -10,7 +10,7 @@ use std::alloc::Global;
 use std::test::Fail;
 
 /// A program with a comment in a comment, each with its refinement hidden, and a procedure.
-const ROWS: [Row; 8] = [
+static ROWS: [Row; 8] = [
     (Edit::Add(Side::After), &[0, 1]),
     (Edit::Fill(Template::Comment), &[0, 1]),
     (Edit::Set(0, Category::CommentText, b"x"), &[0, 1]),
@@ -55,7 +55,7 @@ fn is_copied(copy: &Node) -> bool {
         && !inner.is_elided()
 }
 
-const DOUBLED: [&[u8]; 18] = [
+static DOUBLED: [&[u8]; 18] = [
     b"main: PROCEDURE OPTIONS ( MAIN );",
     b"  {declaration}",
     b"  /* x */",
@@ -98,7 +98,7 @@ fn a_copy_comes_into_a_hole(rt: HostRuntime) -> Result<(), Fail> {
 }
 
 /// Paths of nodes that aren't copied.
-const REFUSED: [&[u32]; 7] = [&[], &[0], &[0, 0], &[0, 2], &[1, 0], &[2], &[3]];
+static REFUSED: [&[u32]; 7] = [&[], &[0], &[0, 0], &[0, 2], &[1, 0], &[2], &[3]];
 
 #[test]
 fn main_and_holes_are_not_copied(rt: HostRuntime) -> Result<(), Fail> {
@@ -114,7 +114,7 @@ fn main_and_holes_are_not_copied(rt: HostRuntime) -> Result<(), Fail> {
 /// The path of a node, that of where a copy of it is put, and whether it can stand there.
 type Insert = (&'static [u32], &'static [u32], bool);
 
-const INSERTS: [Insert; 10] = [
+static INSERTS: [Insert; 10] = [
     (&[1], &[0, 2], false),
     (&[1], &[0, 0], false),
     (&[1], &[1], false),

@@ -36,7 +36,7 @@ const PROCEDURE: &[u32] = &[1];
 /// A template, the hole of a new tree that it fills, one that it doesn't, and how many slots it brings.
 type Filling = (Template, &'static [u32], &'static [u32], u32);
 
-const FILLINGS: [Filling; 16] = [
+static FILLINGS: [Filling; 16] = [
     (Template::Fixed, DECLARATION, STATEMENT, 0),
     (Template::Bit, DECLARATION, PROCEDURE, 0),
     (Template::Char, DECLARATION, STATEMENT, 0),

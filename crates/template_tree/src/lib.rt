@@ -64,6 +64,7 @@ mod undo_part;
 #[cfg(test)]
 mod undo_tests;
 
+pub use beside::{added_path, path_before};
 pub use build::OverLimit;
 pub use change::{Change, What};
 pub use check_laws::checks_ignore_room_and_elision;

@@ -104,7 +104,7 @@ fn come_so(alloc: Global, tree: &mut Tree, at: &Path, rows: &[Wanted]) -> bool
 }
 
 /// Edits of a hole at a path of 64 numbers.
-const DEEPEST: [Wanted; 12] = [
+static DEEPEST: [Wanted; 12] = [
     (Edit::Fill(Template::Group), Some(TreeFault::TooDeep)),
     (Edit::Fill(Template::If), Some(TreeFault::TooDeep)),
     (Edit::Fill(Template::IfElse), Some(TreeFault::TooDeep)),
@@ -180,7 +180,7 @@ fn all_come_so(alloc: Global, tree: &mut Tree, rows: &[PlacedWanted]) -> Result<
 }
 
 /// Edits of a tree with 19,999 slots.
-const FULL: [PlacedWanted; 14] = [
+static FULL: [PlacedWanted; 14] = [
     (
         Edit::Fill(Template::IfElse),
         &[0, 2],
@@ -244,7 +244,7 @@ fn drawn(alloc: Global, drawn: u32) -> Result<Tree, Fail>
 /// An edit, and whether it draws a slot.
 type Drawing = (Edit, bool);
 
-const DRAWINGS: [Drawing; 7] = [
+static DRAWINGS: [Drawing; 7] = [
     (Edit::Fill(Template::Group), true),
     (Edit::Fill(Template::While), true),
     (Edit::Add(Side::Before), true),

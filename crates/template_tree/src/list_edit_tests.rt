@@ -13,7 +13,7 @@ use std::test::Fail;
 
 /// A program with bodies and lists: an IF with the hole of slot 6, an IFELSE with 7 and 8, a group with 9,
 /// and a procedure with 10 and 11.
-const ROWS: [Row; 6] = [
+static ROWS: [Row; 6] = [
     (Edit::Add(Side::After), &[0, 1]),
     (Edit::Add(Side::After), &[0, 2]),
     (Edit::Fill(Template::If), &[0, 1]),
@@ -35,7 +35,7 @@ fn program(alloc: Global) -> Result<Tree, Fail>
 /// the slot of its procedure, or `None` where it is refused.
 type Adding = (&'static [u32], Side, Option<(&'static [u32], u32, u32)>);
 
-const ADDINGS: [Adding; 16] = [
+static ADDINGS: [Adding; 16] = [
     (&[0], Side::Before, None),
     (&[0], Side::After, None),
     (&[0, 1, 0], Side::Before, None),
@@ -85,7 +85,7 @@ fn adds(alloc: Global, tree: &mut Tree, adding: &Adding) -> Result<bool, Fail>
     }
 }
 
-const AFTER_ADDINGS: [&[u8]; 24] = [
+static AFTER_ADDINGS: [&[u8]; 24] = [
     b"main: PROCEDURE OPTIONS ( MAIN );",
     b"  {declaration}",
     b"  {declaration}",
@@ -116,7 +116,7 @@ const AFTER_ADDINGS: [&[u8]; 24] = [
 /// is refused.
 type Dropping = (&'static [u32], Option<(u32, u32)>);
 
-const DROPPINGS: [Dropping; 20] = [
+static DROPPINGS: [Dropping; 20] = [
     (&[], None),
     (&[0], None),
     (&[0, 4], None),

@@ -4,7 +4,7 @@ use crate::fixture_tests::{Edit, Row, is_listed, make_all, new_tree};
 use plcs_grammar::{Category, Template};
 use std::test::Fail;
 
-const NEW_PROGRAM: [&[u8]; 5] = [
+static NEW_PROGRAM: [&[u8]; 5] = [
     b"main: PROCEDURE OPTIONS ( MAIN );",
     b"  {declaration}",
     b"  {statement}",
@@ -20,7 +20,7 @@ fn the_new_program_is_listed(rt: HostRuntime) -> Result<(), Fail> {
 }
 
 /// Holes for every template: four declarations, 13 statements and three procedures.
-const HOLES: [Row; 17] = [
+static HOLES: [Row; 17] = [
     (Edit::Add(Side::After), &[0, 0]),
     (Edit::Add(Side::After), &[0, 0]),
     (Edit::Add(Side::After), &[0, 0]),
@@ -41,7 +41,7 @@ const HOLES: [Row; 17] = [
 ];
 
 /// Every template, an assignment, and a hole of each sort.
-const TEMPLATES: [Row; 17] = [
+static TEMPLATES: [Row; 17] = [
     (Edit::Fill(Template::Fixed), &[0, 0]),
     (Edit::Fill(Template::Bit), &[0, 1]),
     (Edit::Fill(Template::Char), &[0, 2]),
@@ -61,7 +61,7 @@ const TEMPLATES: [Row; 17] = [
     (Edit::Fill(Template::ProcP), &[2]),
 ];
 
-const PLACEHOLDERS: [&[u8]; 39] = [
+static PLACEHOLDERS: [&[u8]; 39] = [
     b"main: PROCEDURE OPTIONS ( MAIN );",
     b"  DECLARE ( {names} ) FIXED;",
     b"  DECLARE ( {names} ) BIT;",
@@ -104,7 +104,7 @@ const PLACEHOLDERS: [&[u8]; 39] = [
 ];
 
 /// A phrase in each part.
-const PARTS: [Row; 20] = [
+static PARTS: [Row; 20] = [
     (Edit::Set(0, Category::DeclaredList, b"a"), &[0, 0]),
     (Edit::Set(0, Category::DeclaredList, b"b"), &[0, 1]),
     (Edit::Set(0, Category::DeclaredList, b"c"), &[0, 2]),
@@ -127,7 +127,7 @@ const PARTS: [Row; 20] = [
     (Edit::Set(1, Category::NameList, b"r"), &[2]),
 ];
 
-const PHRASES: [&[u8]; 39] = [
+static PHRASES: [&[u8]; 39] = [
     b"main: PROCEDURE OPTIONS ( MAIN );",
     b"  DECLARE ( a ) FIXED;",
     b"  DECLARE ( b ) BIT;",
@@ -181,7 +181,7 @@ fn every_template_is_listed(rt: HostRuntime) -> Result<(), Fail> {
 }
 
 /// An IF in each body of an IFELSE, and behind it an IFELSE in an IF.
-const CHOICES: [Row; 10] = [
+static CHOICES: [Row; 10] = [
     (Edit::Add(Side::After), &[0, 1]),
     (Edit::Fill(Template::IfElse), &[0, 1]),
     (Edit::Set(0, Category::Condition, b"a"), &[0, 1]),
@@ -194,7 +194,7 @@ const CHOICES: [Row; 10] = [
     (Edit::Assign(b"y"), &[0, 2, 0, 1]),
 ];
 
-const CHOICE_LINES: [&[u8]; 15] = [
+static CHOICE_LINES: [&[u8]; 15] = [
     b"main: PROCEDURE OPTIONS ( MAIN );",
     b"  {declaration}",
     b"  IF ( a ) THEN",

@@ -10,7 +10,7 @@ use std::alloc::Global;
 use std::test::Fail;
 
 /// Edits of each kind.
-const ROWS: [Row; 14] = [
+static ROWS: [Row; 14] = [
     (Edit::Add(Side::After), &[0, 0]),
     (Edit::Add(Side::Before), &[0, 2]),
     (Edit::Add(Side::After), &[1]),

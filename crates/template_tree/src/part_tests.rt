@@ -12,7 +12,7 @@ use std::alloc::Global;
 use std::test::Fail;
 
 /// A program with a loop that counts, an assignment and holes.
-const ROWS: [Row; 5] = [
+static ROWS: [Row; 5] = [
     (Edit::Add(Side::After), &[0, 1]),
     (Edit::Add(Side::After), &[0, 2]),
     (Edit::Fill(Template::For), &[0, 1]),
@@ -76,7 +76,7 @@ fn put_at(
 /// category of the phrase that comes back, if one does.
 type Putting = (&'static [u32], u8, Held, bool, Option<Category>);
 
-const PUTTINGS: [Putting; 18] = [
+static PUTTINGS: [Putting; 18] = [
     (&[0, 1], 0, Some((Category::Variable, b"a")), true, None),
     (
         &[0, 1],
@@ -179,7 +179,7 @@ fn puts_all(alloc: Global, tree: &mut Tree, puttings: &[Putting]) -> Result<bool
     Ok(true)
 }
 
-const AFTER_PUTTINGS: [&[u8]; 12] = [
+static AFTER_PUTTINGS: [&[u8]; 12] = [
     b"main: PROCEDURE OPTIONS ( MAIN );",
     b"  {declaration}",
     b"  DO b = {expression} TO {expression} BY {expression};",
@@ -206,7 +206,7 @@ fn what_does_not_fit_into_a_part_comes_back(rt: HostRuntime) -> Result<(), Fail>
 /// it is refused.
 type Setting = (&'static [u32], Option<u8>, Held, Option<u32>);
 
-const SETTINGS: [Setting; 13] = [
+static SETTINGS: [Setting; 13] = [
     (
         &[0, 1],
         Some(1),
@@ -280,7 +280,7 @@ fn sets_all(alloc: Global, tree: &mut Tree, settings: &[Setting]) -> Result<bool
     Ok(true)
 }
 
-const AFTER_SETTINGS: [&[u8]; 12] = [
+static AFTER_SETTINGS: [&[u8]; 12] = [
     b"main: PROCEDURE OPTIONS ( MAIN );",
     b"  {declaration}",
     b"  DO {variable} = a TO {expression} BY {expression};",
@@ -307,7 +307,7 @@ fn phrases_are_set_at_their_stops(rt: HostRuntime) -> Result<(), Fail> {
 /// or `None` where it is refused.
 type Assigning = (&'static [u32], Category, &'static [u8], Option<u32>);
 
-const ASSIGNINGS: [Assigning; 11] = [
+static ASSIGNINGS: [Assigning; 11] = [
     (&[0, 3], Category::Assignment, b"a", Some(5)),
     (&[0, 3], Category::Assignment, b"b", Some(5)),
     (&[0, 2], Category::Assignment, b"c", Some(4)),
@@ -357,7 +357,7 @@ fn assigns_all(alloc: Global, tree: &mut Tree, assignings: &[Assigning]) -> Resu
     Ok(true)
 }
 
-const AFTER_ASSIGNINGS: [&[u8]; 12] = [
+static AFTER_ASSIGNINGS: [&[u8]; 12] = [
     b"main: PROCEDURE OPTIONS ( MAIN );",
     b"  {declaration}",
     b"  DO {variable} = {expression} TO {expression} BY {expression};",

@@ -10,7 +10,7 @@ use std::alloc::Global;
 use std::test::Fail;
 
 /// Paths that lead nowhere in a new tree.
-const NOWHERE: [&[u32]; 9] = [
+static NOWHERE: [&[u32]; 9] = [
     &[],
     &[2],
     &[4_294_967_295],
@@ -23,7 +23,7 @@ const NOWHERE: [&[u32]; 9] = [
 ];
 
 /// An edit of each kind.
-const EDITS: [Edit; 8] = [
+static EDITS: [Edit; 8] = [
     Edit::Fill(Template::Group),
     Edit::Assign(b"y"),
     Edit::Set(0, Category::Expression, b"y"),
@@ -84,7 +84,7 @@ fn nothing_is_found_where_a_path_leads_nowhere(rt: HostRuntime) -> Result<(), Fa
 }
 
 /// A program with a loop over a choice, comments in comments, and a procedure.
-const ROWS: [Row; 9] = [
+static ROWS: [Row; 9] = [
     (Edit::Add(Side::After), &[0, 1]),
     (Edit::Fill(Template::While), &[0, 1]),
     (Edit::Fill(Template::IfElse), &[0, 1, 0]),
@@ -109,7 +109,7 @@ fn program(alloc: Global) -> Result<Tree, Fail>
 /// stand in it.
 type Reading = (&'static [u32], u32, NodeKind, u32, u32);
 
-const READINGS: [Reading; 14] = [
+static READINGS: [Reading; 14] = [
     (&[0], 0, NodeKind::Main, 9, 3),
     (&[0, 0], 1, NodeKind::DeclarationHole, 1, 0),
     (&[0, 1], 2, NodeKind::Filled(Template::While), 4, 1),
@@ -221,7 +221,7 @@ fn slots_that_are_not_live_have_no_path(rt: HostRuntime) -> Result<(), Fail> {
 /// The path of a node that is turned, and what is told.
 type Turn = (&'static [u32], Option<bool>);
 
-const TURNS: [Turn; 11] = [
+static TURNS: [Turn; 11] = [
     (&[0, 2], Some(true)),
     (&[0, 2], Some(false)),
     (&[0, 2, 0], Some(true)),

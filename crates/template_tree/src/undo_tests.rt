@@ -74,7 +74,7 @@ fn made_and_undone(alloc: Global, steps: &[Step]) -> Result<Option<u32>, Fail> {
 }
 
 /// Edits of each kind, none of which is refused.
-const STEPS: [Step; 20] = [
+static STEPS: [Step; 20] = [
     (Edit::Fill(Template::IfElse), 2),
     (Edit::Fill(Template::For), 5),
     (Edit::Set(2, Category::Expression, b"a"), 5),
@@ -103,7 +103,7 @@ fn edits_of_each_kind_are_undone(rt: HostRuntime) -> Result<(), Fail> {
     Ok(())
 }
 
-const TEMPLATES: [Template; 16] = [
+static TEMPLATES: [Template; 16] = [
     Template::Fixed,
     Template::Bit,
     Template::Char,
@@ -123,7 +123,7 @@ const TEMPLATES: [Template; 16] = [
 ];
 
 /// Categories of first parts.
-const CATEGORIES: [Category; 4] = [
+static CATEGORIES: [Category; 4] = [
     Category::Condition,
     Category::DeclaredList,
     Category::Variable,

@@ -12,7 +12,8 @@ use Rattle.template_tree.specs.PlainTree.{Forest, PlainNode, forest, nodes_fores
 use Rattle.template_tree.specs.Program.{sorts, sort_of}
 use Rattle.template_tree.specs.Section.{same_sort}
 use Rattle.template_tree.specs.ListItem.{sections_at, siblings_at, how_many}
-use Rattle.template_tree.specs.Private.Beside.{last_of, side_of, with_last}
+use Rattle.template_tree.specs.Path.{last_of, with_last}
+use Rattle.template_tree.specs.Private.Beside.{side_of}
 use Rattle.template_tree.specs.declared.side.Side.{Side}
 
 last_front : (front : List ℕ) (k : ℕ) → last_of (front ++ (k ∷ [])) ≡ k

@@ -12,7 +12,7 @@ use Rattle.template_tree.specs.declared.change.Change.{Change}
 use Rattle.template_tree.specs.declared.change.What.{What}
 use Rattle.template_tree.specs.PlainTree.{Forest, PlainNode, PlainTree, nodes, roomless, roomless_node, roomless_tree}
 use Rattle.template_tree.specs.Program.{sorts, sort_of}
-use Rattle.template_tree.specs.Path.{node_at}
+use Rattle.template_tree.specs.Path.{added_path, last_of, node_at, with_last}
 use Rattle.template_tree.specs.Slots.{count, depth, times}
 use Rattle.template_tree.specs.Limit.{most_slots, most_drawn_slots}
 use Rattle.template_tree.specs.Tree.{IsTree}
@@ -22,7 +22,7 @@ use Rattle.template_tree.specs.Receipt.{PlainUndoing, PlainReceipt, list_room, u
 use Rattle.template_tree.specs.EditAnswer.{IsEdit, IsListItem, IsOver, IsSpareHole, IsWithin}
 use Rattle.template_tree.specs.ListItem.{siblings_at}
 use Rattle.template_tree.specs.Private.Exchange.{MeetsLimit, first_item}
-use Rattle.template_tree.specs.Private.Beside.{added_path, last_of, side_of, with_last}
+use Rattle.template_tree.specs.Private.Beside.{side_of}
 use Rattle.template_tree.proofs.Edits.SameEdits.{taken}
 use Rattle.template_tree.proofs.Edits.SlotEdits.{present, slot_edit_is_path_edit}
 use Rattle.template_tree.proofs.Trees.Counts.{sorts_length}

@@ -11,7 +11,7 @@ use Rattle.template_tree.specs.declared.side.Side.{Side}
 use Rattle.template_tree.specs.PlainTree.{Forest, PlainNode, PlainTree, nodes, forest}
 use Rattle.template_tree.specs.Program.{sorts, sort_of, Fill, AreNodes, IsProgram, IsSubtree}
 use Rattle.template_tree.specs.Slots.{count, depth, times, AllBelow}
-use Rattle.template_tree.specs.Path.{below, node_at}
+use Rattle.template_tree.specs.Path.{below, last_of, node_at}
 use Rattle.template_tree.specs.Limit.{most_slots, most_drawn_slots}
 use Rattle.template_tree.specs.Tree.{IsTree}
 use Rattle.template_tree.specs.Edit.{Add, Drop, is_hole, edit_at, give_way, hole_list, hole_of, lone, with_hole}
@@ -19,7 +19,6 @@ use Rattle.template_tree.specs.ListItem.{is_listed, sections_at, siblings_at, ho
 use Rattle.template_tree.specs.EditAnswer.{IsListItem, IsSpareHole}
 use Rattle.template_tree.specs.Receipt.{with_beside}
 use Rattle.template_tree.specs.Private.Apart.{AreApart}
-use Rattle.template_tree.specs.Private.Beside.{last_of}
 use Rattle.template_tree.proofs.Edits.SameEdits.{taken, edits_alike}
 use Rattle.template_tree.proofs.Edits.SlotEdits.{slot_edit_is_path_edit}
 use Rattle.template_tree.proofs.Puts.PutTrees.{below_more, none_above}

@@ -14,7 +14,7 @@ use Rattle.template_tree.specs.Edit.{edit_at, hole_of, lone}
 use Rattle.template_tree.specs.EditAnswer.{IsEdit, IsListItem}
 use Rattle.template_tree.specs.ListItem.{is_listed}
 use Rattle.template_tree.specs.Private.Exchange.{first_item}
-use Rattle.template_tree.specs.Private.Beside.{added_path}
+use Rattle.template_tree.specs.Path.{added_path}
 use Rattle.template_tree.specs.Receipt.{PlainReceipt, PlainUndoing, with_beside}
 use Rattle.template_tree.specs.TreeEdit.{TreeEdit}
 use Rattle.template_tree.proofs.Puts.Holes.{bare_is}
