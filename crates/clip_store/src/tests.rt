@@ -91,7 +91,7 @@ fn comes_as_wanted(alloc: Global, clips: &mut Clips, row: &Row) -> Result<bool, 
 }
 
 /// Fragments up to 20,000 slots and past them; a name that gets a larger one and a smaller one.
-const ROWS: [Row; 13] = [
+static ROWS: [Row; 13] = [
     (b"a", 15_000, Ok(None)),
     (b"a", 20_000, Ok(Some(15_000))),
     (b"b", 1, Err(ClipFault::Full)),

@@ -353,7 +353,7 @@ fn ends_are(tree: &Tree, rows: &[Row]) -> bool
 }
 
 /// The stops of the program with every template, in which the comments at the end of main are elided.
-const EVERY_STOP: [Row; 59] = [
+static EVERY_STOP: [Row; 59] = [
     (0, &[0], None),
     (1, &[0, 0], None),
     (1, &[0, 0], Some(0)),

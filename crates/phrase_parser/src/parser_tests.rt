@@ -15,7 +15,7 @@ use std::test::Fail;
 type Row = (Category, &'static [u8], Result<&'static [u8], PhraseFault>);
 
 /// Rows that show each rule of the language once.
-const RULES: [Row; 32] = [
+static RULES: [Row; 32] = [
     (Expression, b"1 + 2147483648", Err(NumberTooLarge(4))),
     (Expression, b"1 + 2147483647", Ok(b"1 + 2147483647")),
     (Expression, b"2147483648 +", Err(Syntax(12))),
@@ -52,7 +52,7 @@ const RULES: [Row; 32] = [
 
 /// For each category of tokens its empty text, a keyword in it, one token too few and one too many; and
 /// texts of comments.
-const CATEGORIES: [Row; 48] = [
+static CATEGORIES: [Row; 48] = [
     (Assignment, b"", Err(Syntax(0))),
     (Assignment, b"x = DO", Err(Syntax(4))),
     (Assignment, b"x =", Err(Syntax(3))),
@@ -104,7 +104,7 @@ const CATEGORIES: [Row; 48] = [
 ];
 
 /// Each category whose phrases are tokens, read, with its canonical text.
-const READ: [Row; 11] = [
+static READ: [Row; 11] = [
     (Assignment, b"a ( 1 )=-x", Ok(b"a(1) = -x")),
     (Condition, b"^(a|b)&c", Ok(b"^( a | b ) & c")),
     (
@@ -130,7 +130,7 @@ const READ: [Row; 11] = [
 type Text = (Category, &'static [u8], &'static [u8]);
 
 /// Assignments and conditions.
-const ASSIGNMENTS: [Text; 21] = [
+static ASSIGNMENTS: [Text; 21] = [
     (Assignment, b"x=1", b"x = 1"),
     (Assignment, b" x = 'a' ", b"x = 'a'"),
     (Assignment, b"a(i)=a(i-1)+1", b"a(i) = a(i - 1) + 1"),
@@ -155,7 +155,7 @@ const ASSIGNMENTS: [Text; 21] = [
 ];
 
 /// Operators and parentheses.
-const OPERATORS: [Text; 19] = [
+static OPERATORS: [Text; 19] = [
     (Expression, b"1+2+3", b"1 + 2 + 3"),
     (Expression, b"1+(2+3)", b"1 + ( 2 + 3 )"),
     (Expression, b"1*2+3", b"1 * 2 + 3"),
@@ -178,7 +178,7 @@ const OPERATORS: [Text; 19] = [
 ];
 
 /// Operands.
-const OPERANDS: [Text; 22] = [
+static OPERANDS: [Text; 22] = [
     (Expression, b"000", b"0"),
     (Expression, b"2147483647", b"2147483647"),
     (Expression, b"00000000000002147483647", b"2147483647"),
@@ -208,7 +208,7 @@ const OPERANDS: [Text; 22] = [
 ];
 
 /// Lists of expressions and of variables.
-const LISTS: [Text; 14] = [
+static LISTS: [Text; 14] = [
     (ExpressionList, b"1", b"1"),
     (ExpressionList, b"1,2", b"1, 2"),
     (ExpressionList, b"a , b , c", b"a, b, c"),
@@ -226,7 +226,7 @@ const LISTS: [Text; 14] = [
 ];
 
 /// Variables, calls, declared names, lengths and comments.
-const NAMES: [Text; 28] = [
+static NAMES: [Text; 28] = [
     (Variable, b"i", b"i"),
     (Variable, b"ABS", b"ABS"),
     (Variable, b" k9 ", b"k9"),
@@ -325,7 +325,7 @@ fn canonical_texts_are_read_again(rt: HostRuntime) {
 /// A category, and two texts that read as different phrases of it.
 type Pair = (Category, &'static [u8], &'static [u8]);
 
-const PAIRS: [Pair; 14] = [
+static PAIRS: [Pair; 14] = [
     (Assignment, b"x = 1", b"y = 1"),
     (Condition, b"a & b | c", b"a & ( b | c )"),
     (Expression, b"1 - 2 - 3", b"1 - ( 2 - 3 )"),
@@ -355,7 +355,7 @@ fn other_texts_are_other_phrases(rt: HostRuntime) -> Result<(), Fail> {
 }
 
 /// All keywords.
-const KEYWORDS: [&[u8]; 27] = [
+static KEYWORDS: [&[u8]; 27] = [
     b"BIT",
     b"BY",
     b"CALL",
@@ -386,7 +386,7 @@ const KEYWORDS: [&[u8]; 27] = [
 ];
 
 /// The categories whose phrases are tokens.
-const OF_TOKENS: [Category; 11] = [
+static OF_TOKENS: [Category; 11] = [
     Assignment,
     Condition,
     Expression,
@@ -486,7 +486,7 @@ type NestedRow = (
     Option<PhraseFault>,
 );
 
-const NESTED: [NestedRow; 14] = [
+static NESTED: [NestedRow; 14] = [
     (32, b"(", b"1", b")", None),
     (33, b"(", b"1", b")", Some(TooDeep(32))),
     (32, b"a(", b"1", b")", None),

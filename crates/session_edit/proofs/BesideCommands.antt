@@ -1,5 +1,5 @@
 -- Holes that come beside list items.
-use Rattle.std.specs.Prelude.{◌≡◌, refl, ℕ, zero, suc, ◌+◌, ◌<◌, ◌≤◌, Bool, true, false, if◌then◌else◌, List, [], ◌∷◌, ◌++◌, length, take, slice_index_or, All, Option, Some, None, IsSomeAnd, Result, option_map, option_and_then, slice_get}
+use Rattle.std.specs.Prelude.{◌≡◌, refl, ℕ, zero, suc, ◌+◌, ◌<◌, ◌≤◌, Bool, true, false, if◌then◌else◌, List, [], ◌∷◌, ◌++◌, length, take, Option, Some, None, IsSomeAnd, Result, option_map, option_and_then, slice_get}
 use Rattle.std.specs.Option.{option_map_or}
 use Rattle.std.proofs.Common.{ap, sym, ◌∙◌, subst, arith}
 use Rattle.std.proofs.lemmas.List.{take-append-le}
@@ -14,20 +14,18 @@ use Rattle.template_tree.specs.declared.stop.Stop.{Stop}
 use Rattle.template_tree.specs.declared.tree_fault.TreeFault.{TreeFault}
 use Rattle.template_tree.specs.Edit.{hole_list, hole_of, lone, with_hole}
 use Rattle.template_tree.specs.EditAnswer.{Edits, IsEdit, IsListItem, Refuses}
-use Rattle.template_tree.specs.Limit.{most_slots}
 use Rattle.template_tree.specs.ListItem.{is_listed, sections_at}
-use Rattle.template_tree.specs.Path.{below, node_at}
+use Rattle.template_tree.specs.Path.{added_path, last_of, node_at, with_last}
 use Rattle.template_tree.specs.PlainTree.{Forest, PlainNode, PlainTree, nodes, roomless, roomless_node, roomless_tree}
 use Rattle.template_tree.specs.Program.{sort_of}
 use Rattle.template_tree.specs.Receipt.{PlainReceipt}
-use Rattle.template_tree.specs.Slots.{count}
 use Rattle.template_tree.specs.Stop.{IsStop, PlainStop, plain_stop, visible_at, visible_below, node_stop}
 use Rattle.template_tree.specs.Tree.{IsTree}
 use Rattle.template_tree.specs.TreeEdit.{TreeEdit}
 use Rattle.template_tree.specs.TreeLaws.{SlotEditIsPathEdit}
 use Rattle.session_edit.specs.declared.applied.Applied.{Applied}
 use Rattle.session_edit.specs.AppliedEdit.{IsAnswer, IsApplied, IsRefused}
-use Rattle.session_edit.specs.Cursor.{beside_path, with_last}
+use Rattle.template_tree.proofs.Lists.ListEdits.{last_small}
 use Rattle.session_edit.specs.Edited.{Edited, at_node, comes, edited, outcome_of_hole_beside, not_here}
 use Rattle.session_edit.specs.Here.{enclosing_item, is_item, nearest_item}
 use Rattle.session_edit.specs.PlainEdit.{PlainEdit}
@@ -38,44 +36,6 @@ use Rattle.session_edit.proofs.PutCommands.{edit_there}
 use Rattle.session_edit.specs.Private.RoomLaws.{RoomLaws}
 use Rattle.session_edit.proofs.StopTests.{is_false}
 use Rattle.session_edit.proofs.VisibleEdits.{first_comes, last_number, second_comes, seen_beside, seen_here, shelf_of, visible_node}
-
--- how many nodes stand in a node, if it is there
-abbrev count_in : Option PlainNode → ℕ
-count_in None = 0
-count_in (Some node) = count node.inner
-
--- the numbers of a path are below the count of nodes
-item_few : (items : Forest) (k : ℕ) (item : PlainNode) → slice_get (nodes items) k ≡ Some item
-    → (k < count items) × (count item.inner ≤ count items)
-item_few Forest.nil k item e = absurd (none-some item e)
-item_few (Forest.cons label inner rest) zero item e =
-    let same : count inner ≡ count item.inner = ap (λ (found : Option PlainNode). count_in found) e in
-    (omega arith, omega (arith, same))
-item_few (Forest.cons label inner rest) (suc k) item e =
-    let h = item_few rest k item e in (omega (arith, h.0), omega (arith, h.1))
-
-few_item : (most : ℕ) (k : ℕ) (path : List ℕ) (items : Forest) → count items ≤ most
-    → ((item node : PlainNode) → below item path ≡ Some node → count item.inner ≤ most → (i d : ℕ) → i < length path → slice_index_or path i d < most)
-    → (found : Option PlainNode) → slice_get (nodes items) k ≡ found → (node : PlainNode)
-    → option_and_then (λ item. below item path) found ≡ Some node
-    → (i d : ℕ) → i < length (k ∷ path) → slice_index_or (k ∷ path) i d < most
-few_item most k path items few deeper None there node e i d within = absurd (none-some node e)
-few_item most k path items few deeper (Some item) there node e zero d within =
-    let h = item_few items k item there in omega (arith, h.0)
-few_item most k path items few deeper (Some item) there node e (suc i) d within =
-    let h = item_few items k item there in deeper item node e (omega (arith, h.1)) i d (omega arith)
-
-few_below : (most : ℕ) (path : List ℕ) (item node : PlainNode) → below item path ≡ Some node → count item.inner ≤ most
-    → (i d : ℕ) → i < length path → slice_index_or path i d < most
-few_below most [] item node e few i d within = absurd (omega arith)
-few_below most (k ∷ path) item node e few i d within =
-    few_item most k path item.inner few (few_below most path) (slice_get (nodes item.inner) k) refl node e i d within
-
-pub numbers_few : (tree : PlainTree) (path : List ℕ) (node : PlainNode) → IsTree tree → node_at tree.items path ≡ Some node
-    → All (λ k. k < most_slots) path
-numbers_few tree [] node t e = absurd (none-some node e)
-numbers_few tree (k ∷ path) node t e =
-    few_item most_slots k path tree.items t.few (few_below most_slots path) (slice_get (nodes tree.items) k) refl node e
 
 -- the nearest item of a list round a node, by the numbers of its path
 take_all : (path : List ℕ) → take (length path) path ≡ path
@@ -123,14 +83,14 @@ beside_outcome tree side path = outcome_of_hole_beside (roomless_tree tree) side
 comes_beside : RoomLaws → (tree : PlainTree) (side : Side) (path : List ℕ) (node : PlainNode) → node_at tree.items path ≡ Some node
     → IsListItem tree.items path node
     → beside_outcome tree side path
-    ≡ comes (TreeEdit.add side) (roomless_tree tree) node.label.slot (node_stop (beside_path side path)) None
+    ≡ comes (TreeEdit.add side) (roomless_tree tree) node.label.slot (node_stop (added_path side path)) None
 comes_beside room tree side path node e h =
     ap (outcome_of_hole_beside (roomless_tree tree) side)
     (enclosing_roomless room tree.items path ∙ enclosing_here tree.items path (item_true tree.items path node e h))
     ∙ ap
     (at_node
     (λ (n : PlainNode).
-    comes (TreeEdit.add side) (roomless_tree tree) n.label.slot (node_stop (beside_path side path)) None))
+    comes (TreeEdit.add side) (roomless_tree tree) n.label.slot (node_stop (added_path side path)) None))
     (room.nodes tree.items path ∙ ap (option_map roomless_node) e)
 
 held_node : (found : Option PlainNode) (P : PlainNode → Type 0) → IsSomeAnd found P → (node : PlainNode) × (found ≡ Some node) × P node
@@ -195,7 +155,7 @@ shown_node items (k ∷ path) node shown e =
 hole_stands : RoomLaws → SlotEditIsPathEdit → (before after : PlainTree) (side : Side) (path : List ℕ) (node : PlainNode) (receipt : PlainReceipt)
     → IsTree before → IsShown before.items path → node_at before.items path ≡ Some node → IsListItem before.items path node
     → IsEdit (TreeEdit.add side) node.label.slot before after receipt None
-    → IsStop (roomless after.items) (node_stop (beside_path side path))
+    → IsStop (roomless after.items) (node_stop (added_path side path))
 hole_stands room law before after Side.Before path node receipt tree shown there listed edit =
     let change : PlainNode → List PlainNode = with_hole before.drawn Side.Before in
     let shelf = shelf_of before.items path node (shown_node before.items path node shown there) in
@@ -226,22 +186,22 @@ held_edit tree after side path receipt adds =
     let held = held_node (node_at tree.items path) (IsListItem tree.items path) adds.here in
     (held.0, held.1, edit_there (TreeEdit.add side) (node_at tree.items path) (IsListItem tree.items path) tree after receipt held.0 held.1 adds)
 
-pub added_few : (tree after : PlainTree) (side : Side) (path : List ℕ) (receipt : PlainReceipt) → IsTree tree → AddsHole side path tree after receipt
-    → All (λ k. k < most_slots) path
-added_few tree after side path receipt t adds =
+pub added_small : (tree after : PlainTree) (side : Side) (path : List ℕ) (receipt : PlainReceipt) → IsTree tree → AddsHole side path tree after receipt
+    → last_of path < 4294967295
+added_small tree after side path receipt t adds =
     let made = held_edit tree after side path receipt adds
     in
-    numbers_few tree path made.0 t made.1
+    omega (arith, t.few, last_small tree.items path made.0 made.1)
 
 pub beside_applied : RoomLaws → SlotEditIsPathEdit → (tree after : PlainTree) (side : Side) (path : List ℕ) (receipt : PlainReceipt) (stop_after : Stop)
-    → IsTree tree → IsShown tree.items path → AddsHole side path tree after receipt → plain_stop stop_after ≡ node_stop (beside_path side path)
+    → IsTree tree → IsShown tree.items path → AddsHole side path tree after receipt → plain_stop stop_after ≡ node_stop (added_path side path)
     → IsApplied (outcome_of_hole_beside (roomless_tree tree) side (enclosing_item (roomless_tree tree).items path)) tree after
     record { receipt = receipt; taken = None; stop = stop_after }
 beside_applied room law tree after side path receipt stop_after t shown adds there =
     let made = held_edit tree after side path receipt adds
     in
     applied_is room (beside_outcome tree side path) (TreeEdit.add side) (TreeEdit.add side) made.0.label.slot tree after receipt None stop_after
-    (node_stop (beside_path side path)) made.2.1 (room.edits (TreeEdit.add side) (TreeEdit.add side) tree made.0.label.slot refl) (comes_beside room tree side path made.0 made.1 made.2.0) there
+    (node_stop (added_path side path)) made.2.1 (room.edits (TreeEdit.add side) (TreeEdit.add side) tree made.0.label.slot refl) (comes_beside room tree side path made.0 made.1 made.2.0) there
     (subst (λ s. IsStop (roomless after.items) s) (sym there) (hole_stands room law tree after side path made.0 receipt t shown made.1 made.2.0 made.2.1)) tt
 
 not_item : (items : Forest) (path : List ℕ) → (IsSomeAnd (node_at items path) (IsListItem items path) → ⊥) → is_item items path ≡ false
@@ -334,7 +294,7 @@ beside_refused room tree side path fault refuses other =
         nothing TreeFault.OutOfMemory other h = h
     on_node (Some node) same h =
         refused_is room (TreeEdit.add side) (TreeEdit.add side) tree node (IsListItem tree.items path) (beside_outcome tree side path)
-        (node_stop (beside_path side path)) None (room.edits (TreeEdit.add side) (TreeEdit.add side) tree node.label.slot refl)
+        (node_stop (added_path side path)) None (room.edits (TreeEdit.add side) (TreeEdit.add side) tree node.label.slot refl)
         (λ listed. comes_beside room tree side path node same listed)
         (λ missing. absurd (missing (here_of (TreeEdit.add side) node (IsListItem tree.items path) tree fault other h))) fault h
 

@@ -1,5 +1,5 @@
 -- Holes dropped from their lists.
-use Rattle.std.specs.Prelude.{◌≡◌, refl, ℕ, suc, ◌+◌, ◌-◌, ◌≤◌, Bool, true, false, ◌&&◌, nat_lt, if◌then◌else◌, List, [], ◌∷◌, length, Option, Some, None, IsSomeAnd, is_some, is_none, option_map, option_and_then, slice_get}
+use Rattle.std.specs.Prelude.{◌≡◌, refl, ℕ, suc, pred, ◌+◌, ◌≤◌, Bool, true, false, ◌&&◌, nat_lt, if◌then◌else◌, List, [], ◌∷◌, length, Option, Some, None, IsSomeAnd, is_some, is_none, option_map, option_and_then, slice_get}
 use Rattle.std.specs.Option.{option_map_or}
 use Rattle.std.proofs.Common.{ap, sym, ◌∙◌, subst, arith}
 use Rattle.std.proofs.lemmas.Bool.{false≢true}
@@ -11,7 +11,7 @@ use Rattle.template_tree.specs.declared.stop.Stop.{Stop}
 use Rattle.template_tree.specs.Edit.{is_hole}
 use Rattle.template_tree.specs.EditAnswer.{Edits, IsEdit, IsListItem, IsSpareHole}
 use Rattle.template_tree.specs.ListItem.{how_many, is_listed, sections_at, siblings_at}
-use Rattle.template_tree.specs.Path.{below, node_at}
+use Rattle.template_tree.specs.Path.{below, node_at, with_last}
 use Rattle.template_tree.specs.PlainTree.{Forest, PlainNode, PlainTree, nodes, roomless, roomless_node, roomless_tree}
 use Rattle.template_tree.specs.Program.{sort_of, sorts}
 use Rattle.template_tree.specs.Receipt.{PlainReceipt}
@@ -22,7 +22,7 @@ use Rattle.template_tree.specs.TreeEdit.{TreeEdit, tree_after}
 use Rattle.template_tree.specs.TreeLaws.{SlotEditIsPathEdit}
 use Rattle.template_tree.specs.Edit.{edit_at, give_way}
 use Rattle.session_edit.specs.AppliedEdit.{IsApplied}
-use Rattle.session_edit.specs.Cursor.{has_sort, path_after_drop, with_last}
+use Rattle.session_edit.specs.Cursor.{has_sort, path_after_drop}
 use Rattle.session_edit.specs.Edited.{outcome_of_drop, edited, outcome_of_taking}
 use Rattle.session_edit.specs.Here.{is_item, is_spare_hole}
 use Rattle.session_edit.specs.PlainEdit.{PlainEdit}
@@ -264,7 +264,7 @@ stop_left room law before after at n receipt tree spare edit = by_sort (has_sort
     at_number e l on (Some new) some = stays at.path new (seen_here (λ _. []) before.items at.path l on ∙ some)
 
     by_sort : (b : Bool) → has_sort (sort_of n.node.label.kind) after.items at.path ≡ b
-        → IsStop (roomless after.items) (node_stop (if b then at.path else with_last (λ k. k - 1) at.path))
+        → IsStop (roomless after.items) (node_stop (if b then at.path else with_last pred at.path))
     by_sort true e =
         let l = shelf_of before.items at.path n.node n.seen in
         at_number e l.0 l.1 (item_of (last_number at.path) (left_list l.0 (last_number at.path))) refl
@@ -275,8 +275,8 @@ stop_left room law before after at n receipt tree spare edit = by_sort (has_sort
         omega (arith, many, subst (λ (l : Forest). 2 ≤ how_many (sort_of n.node.label.kind) (sorts l)) (on_siblings before.items at.path l.0 l.1) spare.others)
         in
         let other = other_stays (last_number at.path) l.0 n.node l.2 long in
-        stays (with_last (λ k. k - 1) at.path) other.0
-        (seen_beside (λ _. []) (λ k. k - 1) before.items at.path l.0 l.1 ∙ other.1)
+        stays (with_last pred at.path) other.0
+        (seen_beside (λ _. []) pred before.items at.path l.0 l.1 ∙ other.1)
 
 -- what is left where a hole was dropped is a tree
 pub drop_is_tree : RoomLaws → (tree after : PlainTree) (at : PlainStop) (receipt : PlainReceipt) → IsStop (roomless_tree tree).items at
@@ -307,7 +307,7 @@ drop_applied room law tree after at receipt stop_after sort is_tree stop part ed
     there ∙ ap (λ s. node_stop (path_after_drop s after.items at.path)) same_kind
     in
     let in_left : path_after_drop kind after.items at.path ≡ path_after_drop kind left.items at.path =
-    ap (λ (b : Bool). if b then at.path else with_last (λ k. k - 1) at.path)
+    ap (λ (b : Bool). if b then at.path else with_last pred at.path)
     (sym (sort_roomless room kind after.items at.path) ∙ ap (λ (t : PlainTree). has_sort kind t.items at.path) left_is)
     in
     applied_is room (edited (roomless_tree tree) at PlainEdit.delete) TreeEdit.drop TreeEdit.drop n.node.label.slot tree after receipt None stop_after

@@ -11,6 +11,5 @@ pub mod Outcomes
 pub mod StopTests
 pub mod PutCommands
 pub mod PartCommands
-pub mod LastNumbers
 pub mod DropCommands
 pub mod BesideCommands

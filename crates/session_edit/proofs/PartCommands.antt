@@ -7,7 +7,7 @@ use Rattle.plcs_grammar.specs.PlainPhrase.{PlainPhrase}
 use Rattle.template_tree.specs.declared.stop.Stop.{Stop}
 use Rattle.template_tree.specs.declared.tree_fault.TreeFault.{TreeFault}
 use Rattle.template_tree.specs.EditAnswer.{Edits, IsEdit, TakesAtStop}
-use Rattle.template_tree.specs.Part.{part_category, with_part}
+use Rattle.template_tree.specs.Part.{part_at, part_category, with_part}
 use Rattle.template_tree.specs.Path.{node_at}
 use Rattle.template_tree.specs.PlainTree.{PlainNode, PlainTree, roomless_node, roomless_tree}
 use Rattle.template_tree.specs.Receipt.{PlainReceipt}
@@ -19,7 +19,7 @@ use Rattle.clip_store.specs.PlainFragment.{PlainFragment}
 use Rattle.session_edit.specs.AppliedEdit.{IsApplied, IsRefused}
 use Rattle.session_edit.specs.Cursor.{onward}
 use Rattle.session_edit.specs.Edited.{comes, comes_onward, edited, entry, not_here, outcome_of_phrase_insertion, outcome_of_taking}
-use Rattle.session_edit.specs.Here.{can_take, category_in, is_wanted, phrase_in, takes_at, takes_phrase}
+use Rattle.session_edit.specs.Here.{can_take, category_in, is_wanted, takes_at, takes_phrase}
 use Rattle.session_edit.specs.PlainEdit.{PlainEdit}
 use Rattle.session_edit.proofs.Outcomes.{Node, applied_is, edited_is, node_there, not_here_is, onward_applied, stands_after}
 use Rattle.session_edit.proofs.PutCommands.{edit_there, of_found}
@@ -168,7 +168,7 @@ full_part : RoomLaws → (tree : PlainTree) (at : PlainStop) (n : Node tree at) 
 full_part room tree at n phrase None e full = insert_is room tree at n phrase None e
 full_part room tree at n phrase (Some k) e full =
     insert_some room tree at n phrase k false e
-    (ap (λ (b : Bool). b && is_wanted phrase (part_category n.node.label.kind k)) (none_as PlainPhrase (phrase_in k n.node) true full))
+    (ap (λ (b : Bool). b && is_wanted phrase (part_category n.node.label.kind k)) (none_as PlainPhrase (part_at n.node.label.parts k) true full))
 
 pub insert_full : RoomLaws → (tree : PlainTree) (at : PlainStop) (phrase : PlainPhrase) → IsStop (roomless_tree tree).items at
     → true ≡ takes_at (roomless_tree tree) at → edited (roomless_tree tree) at (PlainEdit.insert (PlainFragment.phrase phrase)) ≡ not_here
@@ -184,8 +184,8 @@ insert_applied room law tree after at phrase receipt stop_after is_tree stop emp
     let n = node_there room tree at stop in
     let s = setting at (Some phrase) tree after n receipt sets in
     let te : TreeEdit = TreeEdit.set_part s.part (Some phrase) in
-    let no_phrase : is_none (phrase_in s.part n.node) ≡ true =
-    none_as PlainPhrase (phrase_in s.part n.node) false
+    let no_phrase : is_none (part_at n.node.label.parts s.part) ≡ true =
+    none_as PlainPhrase (part_at n.node.label.parts s.part) false
     (ap (λ (p : Option ℕ). can_take p n.node) (sym s.is) ∙ takes_there room tree at n false empty)
     in
     let fits : takes_phrase phrase s.part n.node ≡ true =
@@ -206,7 +206,7 @@ unfit : RoomLaws → (tree : PlainTree) (at : PlainStop) (n : Node tree at) (phr
 unfit room tree at n phrase None e missing = insert_is room tree at n phrase None e
 unfit room tree at n phrase (Some k) e missing =
     insert_some room tree at n phrase k false e
-    (false_and (is_none (phrase_in k n.node)) (is_wanted phrase (part_category n.node.label.kind k)) (unwanted tree at n phrase k e missing))
+    (false_and (is_none (part_at n.node.label.parts k)) (is_wanted phrase (part_category n.node.label.kind k)) (unwanted tree at n phrase k e missing))
 
 pub insert_refused : RoomLaws → (tree : PlainTree) (at : PlainStop) (phrase : PlainPhrase) (fault : TreeFault)
     → IsStop (roomless_tree tree).items at → fault ≡ TreeFault.NotHere → (TakesThere at (Some phrase) tree → ⊥)

@@ -17,7 +17,8 @@ use Rattle.template_tree.specs.PlainTree.{PlainNode}
 use Rattle.template_tree.specs.Program.{may_be_empty, parts_of, sort_of}
 use Rattle.template_tree.specs.Section.{same_sort}
 use Rattle.template_tree.specs.Stop.{part_stops}
-use Rattle.session_edit.specs.Here.{category_in, category_number, is_typed, is_wanted, same_category, takes_nodes}
+use Rattle.session_edit.specs.Category.{category_number, same_category}
+use Rattle.session_edit.specs.Here.{category_in, is_typed, is_wanted, takes_nodes}
 
 pub is_false : (b : Bool) → (b ≡ true → ⊥) → b ≡ false
 is_false true wrong = absurd (wrong refl)

@@ -1,12 +1,11 @@
 -- What is visible after an edit at a path.
-use Rattle.std.specs.Prelude.{◌≡◌, refl, ℕ, zero, suc, ◌-◌, ◌≤◌, Bool, true, false, if◌then◌else◌, List, [], ◌∷◌, length, Option, Some, None, option_map, option_and_then, slice_get}
+use Rattle.std.specs.Prelude.{◌≡◌, refl, ℕ, zero, suc, pred, ◌≤◌, Bool, true, false, if◌then◌else◌, List, [], ◌∷◌, length, Option, Some, None, option_map, option_and_then, slice_get}
 use Rattle.std.proofs.Common.{ap, sym, ◌∙◌, arith}
 use Rattle.std.proofs.lemmas.Option.{none-some}
 use Rattle.template_tree.specs.PlainTree.{Forest, PlainNode, nodes, forest, join}
 use Rattle.template_tree.specs.Edit.{edit_at, give_way}
-use Rattle.template_tree.specs.Path.{below, node_at}
+use Rattle.template_tree.specs.Path.{below, node_at, with_last}
 use Rattle.template_tree.specs.Stop.{visible_below, visible_at}
-use Rattle.session_edit.specs.Cursor.{with_last}
 
 -- the last number of a path
 abbrev pub last_number : List ℕ → ℕ
@@ -172,13 +171,12 @@ IsHeld found = (node : PlainNode) × (found ≡ Some node)
 
 -- where an item goes from a list of two or more, another stands before its place, or at it if it was the first
 pub other_stays : (k : ℕ) (items : Forest) (node : PlainNode) → item_of k items ≡ Some node → 2 ≤ length (nodes items)
-    → IsHeld (item_of (k - 1) (give_way (λ _. []) k items))
+    → IsHeld (item_of (pred k) (give_way (λ _. []) k items))
 other_stays k Forest.nil node e long = absurd (none-some node e)
 other_stays zero (Forest.cons label inner Forest.nil) node e long = absurd (omega arith)
 other_stays zero (Forest.cons label inner (Forest.cons label' inner' rest)) node e long = (record { label = label'; inner = inner' }, refl)
 other_stays (suc zero) (Forest.cons label inner rest) node e long = (record { label = label; inner = inner }, refl)
-other_stays (suc (suc k)) (Forest.cons label inner rest) node e long =
-    let same : suc (suc k) - 1 ≡ suc k = omega arith in rw same (stays k rest node e)
+other_stays (suc (suc k)) (Forest.cons label inner rest) node e long = stays k rest node e
   where
     stays : (k : ℕ) (items : Forest) (node : PlainNode) → item_of (suc k) items ≡ Some node
         → IsHeld (item_of k (give_way (λ _. []) (suc k) items))

@@ -1,10 +1,9 @@
 -- Where the cursor stands after an edit.
-use Rattle.std.specs.Prelude.{ℕ, suc, ◌-◌, Bool, false, nat_eq, if◌then◌else◌, List, [], ◌∷◌}
+use Rattle.std.specs.Prelude.{ℕ, pred, Bool, false, nat_eq, if◌then◌else◌, List}
 use Rattle.std.specs.List.{starts_with}
 use Rattle.std.specs.Option.{option_map_or}
 use Rattle.plcs_grammar.specs.declared.node_kind.Sort.{Sort}
-use Rattle.template_tree.specs.declared.side.Side.{Side}
-use Rattle.template_tree.specs.Path.{node_at}
+use Rattle.template_tree.specs.Path.{node_at, with_last}
 use Rattle.template_tree.specs.PlainTree.{Forest}
 use Rattle.template_tree.specs.Program.{sort_of}
 use Rattle.template_tree.specs.Section.{same_sort}
@@ -20,17 +19,6 @@ stop_or_next stop next = if starts_with nat_eq next.path stop.path then next els
 abbrev pub onward : Forest → PlainStop → PlainStop
 onward items stop = option_map_or (stop_or_next stop) (stop_right items stop) stop
 
--- the path with another last number
-abbrev pub with_last : (ℕ → ℕ) → List ℕ → List ℕ
-with_last change [] = []
-with_last change (k ∷ []) = change k ∷ []
-with_last change (k ∷ (j ∷ path)) = k ∷ with_last change (j ∷ path)
-
--- the path of the hole that comes beside the item at a path
-abbrev pub beside_path : Side → List ℕ → List ℕ
-beside_path Side.Before path = path
-beside_path Side.After path = with_last suc path
-
 -- whether a node of the sort stands at the path
 abbrev pub has_sort : Sort → Forest → List ℕ → Bool
 has_sort sort items path = option_map_or (λ node. same_sort (sort_of node.label.kind) sort) (node_at items path) false
@@ -38,4 +26,4 @@ has_sort sort items path = option_map_or (λ node. same_sort (sort_of node.label
 -- where the cursor goes from an item of the sort that was dropped, over the nodes that are left: to the item of its list
 -- that is now at its number, or else to the last one, which stood before it; the lists in a node are of different sorts
 abbrev pub path_after_drop : Sort → Forest → List ℕ → List ℕ
-path_after_drop sort items path = if has_sort sort items path then path else with_last (λ k. k - 1) path
+path_after_drop sort items path = if has_sort sort items path then path else with_last pred path

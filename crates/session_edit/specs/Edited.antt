@@ -10,7 +10,7 @@ use Rattle.template_tree.specs.declared.tree_fault.TreeFault.{TreeFault}
 use Rattle.template_tree.specs.Edit.{hole_left, lone}
 use Rattle.template_tree.specs.FreshNode.{assignment_node, fresh_node}
 use Rattle.template_tree.specs.Limit.{deepest_path, most_slots, most_drawn_slots}
-use Rattle.template_tree.specs.Path.{node_at}
+use Rattle.template_tree.specs.Path.{added_path, node_at}
 use Rattle.template_tree.specs.PlainTree.{PlainNode, PlainTree, roomless_tree}
 use Rattle.template_tree.specs.Program.{sort_of}
 use Rattle.template_tree.specs.Slots.{depth}
@@ -19,7 +19,7 @@ use Rattle.template_tree.specs.TreeEdit.{TreeEdit, changed_slot, tree_after, wha
 use Rattle.clip_store.specs.PlainFragment.{PlainFragment}
 use Rattle.session_edit.specs.PlainEdit.{PlainEdit}
 use Rattle.session_edit.specs.Here.{category_in, is_wanted, can_take, takes_nodes, takes_phrase, is_spare_hole, enclosing_item}
-use Rattle.session_edit.specs.Cursor.{onward, beside_path, path_after_drop}
+use Rattle.session_edit.specs.Cursor.{onward, path_after_drop}
 
 -- what comes of an edit: the tree after it, the stop of the cursor in that, the node that was moved out, if one was, and
 -- what was done in which slot; or why the edit is refused
@@ -42,19 +42,15 @@ abbrev pub unless : Option TreeFault → Edited → Edited
 unless None edited = edited
 unless (Some fault) edited = Edited.refused fault
 
--- the tree after an edit at the node in the slot, without the room of lists
-abbrev pub after : TreeEdit → PlainTree → ℕ → PlainTree
-after edit tree slot = roomless_tree (tree_after edit tree slot)
-
 -- an edit at the node in the slot is made, with the cursor at a stop of the tree after it, unless that is over a limit
 abbrev pub comes : TreeEdit → PlainTree → ℕ → PlainStop → Option PlainNode → Edited
 comes edit tree slot stop taken =
-    unless (limit_reached (after edit tree slot))
-    (Edited.became (after edit tree slot) stop taken (what_of edit) (changed_slot edit tree slot))
+    unless (limit_reached (roomless_tree (tree_after edit tree slot)))
+    (Edited.became (roomless_tree (tree_after edit tree slot)) stop taken (what_of edit) (changed_slot edit tree slot))
 
 -- an edit is made, with the cursor onward from the stop
 abbrev pub comes_onward : TreeEdit → PlainTree → ℕ → PlainStop → Edited
-comes_onward edit tree slot stop = comes edit tree slot (onward (after edit tree slot).items stop) None
+comes_onward edit tree slot stop = comes edit tree slot (onward (roomless_tree (tree_after edit tree slot)).items stop) None
 
 -- what an edit needs isn't there
 abbrev pub not_here : Edited
@@ -103,7 +99,7 @@ outcome_of_taking tree stop (Some part) node =
 -- a hole dropped from its list
 abbrev pub outcome_of_drop : PlainTree → PlainStop → PlainNode → Edited
 outcome_of_drop tree stop node =
-    let left : PlainTree = after TreeEdit.drop tree node.label.slot in
+    let left : PlainTree = roomless_tree (tree_after TreeEdit.drop tree node.label.slot) in
     comes TreeEdit.drop tree node.label.slot (node_stop (path_after_drop (sort_of node.label.kind) left.items stop.path)) None
 
 -- what stands at the cursor deleted: a hole in a list of two or more is dropped, all else is taken out
@@ -119,7 +115,7 @@ at_node edit (Some node) = edit node
 abbrev pub outcome_of_hole_beside : PlainTree → Side → Option (List ℕ) → Edited
 outcome_of_hole_beside tree side None = not_here
 outcome_of_hole_beside tree side (Some path) =
-    at_node (λ node. comes (TreeEdit.add side) tree node.label.slot (node_stop (beside_path side path)) None) (node_at tree.items path)
+    at_node (λ node. comes (TreeEdit.add side) tree node.label.slot (node_stop (added_path side path)) None) (node_at tree.items path)
 
 -- what comes of an edit at the cursor's node: the one at the stop, or whose part the stop is
 abbrev pub outcome_at_node : PlainTree → PlainStop → PlainEdit → PlainNode → Edited

@@ -1,19 +1,19 @@
 -- What may be done at a stop: which phrase text is wanted there, what can be taken out, and what can be put in.
-use Rattle.std.specs.Prelude.{ℕ, zero, suc, Bool, true, false, ◌&&◌, nat_lt, ◌==◌, if◌then◌else◌, List, length, take, Option, Some, None, is_some, is_none, option_and_then, slice_get}
+use Rattle.std.specs.Prelude.{ℕ, zero, suc, Bool, true, false, ◌&&◌, nat_lt, if◌then◌else◌, List, length, take, Option, Some, None, is_some, is_none, option_and_then}
 use Rattle.std.specs.Option.{option_map_or}
 use Rattle.plcs_grammar.specs.Template.{program_sections}
 use Rattle.plcs_grammar.specs.declared.category.Category.{Category}
-use Rattle.plcs_grammar.specs.declared.category.Category.TheVariants.{Assignment, Condition, Expression, ExpressionList, VariableList, Variable, CallRef, DeclaredList, ProcedureName, NameList, Length, CommentText}
 use Rattle.plcs_grammar.specs.declared.node_kind.NodeKind.{NodeKind}
 use Rattle.plcs_grammar.specs.PlainPhrase.{PlainPhrase, category_of}
 use Rattle.template_tree.specs.Edit.{hole_left, is_hole}
 use Rattle.template_tree.specs.ListItem.{how_many, is_listed, sections_at, siblings_at}
-use Rattle.template_tree.specs.Part.{part_category}
+use Rattle.template_tree.specs.Part.{part_at, part_category}
 use Rattle.template_tree.specs.Path.{node_at}
 use Rattle.template_tree.specs.PlainTree.{Forest, PlainNode, PlainTree}
 use Rattle.template_tree.specs.Program.{sort_of, sorts}
 use Rattle.template_tree.specs.Section.{same_sort}
 use Rattle.template_tree.specs.Stop.{PlainStop}
+use Rattle.session_edit.specs.Category.{same_category}
 
 -- whether an assignment is typed at nodes of the kind
 abbrev pub is_typed : NodeKind → Bool
@@ -30,39 +30,16 @@ category_in (Some part) kind = part_category kind part
 unfoldable pub category_at : PlainTree → PlainStop → Option Category
 category_at tree stop = option_and_then (λ node. category_in stop.part node.label.kind) (node_at tree.items stop.path)
 
--- the number of a category, by which categories are told apart
-abbrev pub category_number : Category → ℕ
-category_number Assignment = 0
-category_number Condition = 1
-category_number Expression = 2
-category_number ExpressionList = 3
-category_number VariableList = 4
-category_number Variable = 5
-category_number CallRef = 6
-category_number DeclaredList = 7
-category_number ProcedureName = 8
-category_number NameList = 9
-category_number Length = 10
-category_number CommentText = 11
-
--- whether two categories are one
-abbrev pub same_category : Category → Category → Bool
-same_category one other = category_number one == category_number other
-
 -- whether the phrase is of the category that phrase text has there, if it has one
 abbrev pub is_wanted : PlainPhrase → Option Category → Bool
 is_wanted phrase None = false
 is_wanted phrase (Some category) = same_category (category_of phrase) category
 
--- what stands in a part of a node, if the node has this part and a phrase stands in it
-abbrev pub phrase_in : ℕ → PlainNode → Option PlainPhrase
-phrase_in part node = option_and_then (λ place. place) (slice_get node.label.parts part)
-
 -- whether something can be taken out at a part of a node, or at the node itself: a phrase, or the node where it is neither
 -- main nor a hole
 abbrev pub can_take : Option ℕ → PlainNode → Bool
 can_take None node = is_some (hole_left node.label.kind)
-can_take (Some part) node = is_some (phrase_in part node)
+can_take (Some part) node = is_some (part_at node.label.parts part)
 
 -- whether something can be taken out at the stop
 unfoldable pub takes_at : PlainTree → PlainStop → Bool
@@ -74,7 +51,7 @@ takes_nodes kind part node = is_none part && (is_hole node.label.kind && same_so
 
 -- whether the part of a node is empty and of the category of the phrase
 abbrev pub takes_phrase : PlainPhrase → ℕ → PlainNode → Bool
-takes_phrase phrase part node = is_none (phrase_in part node) && is_wanted phrase (part_category node.label.kind part)
+takes_phrase phrase part node = is_none (part_at node.label.parts part) && is_wanted phrase (part_category node.label.kind part)
 
 -- whether the node at the path is an item of a list
 abbrev pub is_item : Forest → List ℕ → Bool

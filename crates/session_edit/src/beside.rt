@@ -1,12 +1,10 @@
 //! Holes that come beside list items.
-ghost use Rattle.std.specs.Prelude.{◌≡◌, ◌<◌, ◌↔◌, All, IsTrue, true};
+ghost use Rattle.std.specs.Prelude.{◌≡◌, ◌↔◌, IsTrue, true};
 ghost use Rattle.template_tree.specs.declared.tree_fault.TreeFault.{TreeFault};
-ghost use Rattle.template_tree.specs.Limit.{most_slots};
 ghost use Rattle.template_tree.specs.PlainTree.{roomless_tree};
 ghost use Rattle.template_tree.specs.Stop.{IsStop, plain_stop};
 ghost use Rattle.template_tree.specs.Tree.{IsTree};
 ghost use Rattle.session_edit.specs.AppliedEdit.{IsAnswer};
-ghost use Rattle.session_edit.specs.Cursor.{beside_path};
 ghost use Rattle.session_edit.specs.Edited.{edited, outcome_of_hole_beside};
 ghost use Rattle.session_edit.specs.Here.{enclosing_item};
 ghost use Rattle.session_edit.specs.PlainEdit.{PlainEdit};
@@ -14,10 +12,9 @@ ghost use Rattle.session_edit.specs.Private.ShownPath.{IsShown};
 
 use crate::applied::Applied;
 use crate::path_copy::copy_of;
-use crate::path_last::path_behind;
 use crate::room_laws::room_laws;
 use std::alloc::Global;
-use template_tree::{Path, Side, Stop, Tree, TreeFault, slot_edit_is_path_edit};
+use template_tree::{Path, Side, Stop, Tree, TreeFault, added_path, slot_edit_is_path_edit};
 
 /// A hole comes on this side of the nearest list item that stands round the cursor, which goes to it.
 pub(crate) fn add_hole(
@@ -48,7 +45,7 @@ fn add_beside(alloc: Global, tree: &mut Tree, path: Path, side: Side) -> Result<
             receipt,
             taken: None,
             stop: Stop {
-                path: beside(&path, side),
+                path: added_path(side, &path),
                 part: None,
             },
         }),
@@ -70,15 +67,4 @@ fn is_not_here(fault: TreeFault) -> bool
     ensures { IsTrue result ↔ (fault ≡ TreeFault.NotHere) }
 {
     fault == TreeFault::NotHere
-}
-
-/// The path of the hole beside the item at the path.
-fn beside(path: &Path, side: Side) -> Path
-    requires few { All (λ k. k < most_slots) path.now.items }
-    ensures { result.items ≡ beside_path side path.now.items }
-{
-    match side {
-        Side::Before => copy_of(path),
-        Side::After => path_behind(path),
-    }
 }

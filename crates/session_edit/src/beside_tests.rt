@@ -7,7 +7,7 @@ use std::test::Fail;
 use template_tree::{Side, What};
 
 /// Holes before and behind the nearest list item that stands round the cursor.
-const HOLES: [Row; 15] = [
+static HOLES: [Row; 15] = [
     ((&[0], None), Deed::Beside(Side::Before), NOT_HERE),
     ((&[0], None), Deed::Beside(Side::After), NOT_HERE),
     (
@@ -78,7 +78,7 @@ const HOLES: [Row; 15] = [
 ];
 
 /// The listing after them.
-const WITH_HOLES: [&[u8]; 21] = [
+static WITH_HOLES: [&[u8]; 21] = [
     b"main: PROCEDURE OPTIONS ( MAIN );",
     b"  {declaration}",
     b"  {statement}",

@@ -9,7 +9,7 @@ use std::test::Fail;
 use template_tree::{Side, Tree, TreeFault, What};
 
 /// Templates at holes of their sort and of others, at nodes and at parts.
-pub(crate) const FILLS: [Row; 14] = [
+pub(crate) static FILLS: [Row; 14] = [
     ((&[0], None), Deed::Fill(Template::Put), NOT_HERE),
     ((&[0, 0], None), Deed::Fill(Template::Put), NOT_HERE),
     ((&[0, 1], None), Deed::Fill(Template::Fixed), NOT_HERE),
@@ -47,7 +47,7 @@ pub(crate) const FILLS: [Row; 14] = [
 ];
 
 /// The listing after them.
-const FILLED: [&[u8]; 13] = [
+static FILLED: [&[u8]; 13] = [
     b"main: PROCEDURE OPTIONS ( MAIN );",
     b"  DECLARE ( {names} ) CHARACTER ( {length} ) VARYING;",
     b"  DO;",
@@ -72,7 +72,7 @@ fn templates_fill_holes_of_their_sort(rt: HostRuntime) -> Result<(), Fail> {
 }
 
 /// Phrase text at nodes, at holes, at an assignment, and at the parts of a loop and a write.
-pub(crate) const ENTRIES: [Row; 19] = [
+pub(crate) static ENTRIES: [Row; 19] = [
     (
         (&[0], None),
         Deed::Enter(Category::Assignment, b"x = 1"),
@@ -171,7 +171,7 @@ pub(crate) const ENTRIES: [Row; 19] = [
 ];
 
 /// The listing after them.
-const ENTERED: [&[u8]; 8] = [
+static ENTERED: [&[u8]; 8] = [
     b"main: PROCEDURE OPTIONS ( MAIN );",
     b"  {declaration}",
     b"  y = x + 2;",
@@ -191,7 +191,7 @@ fn phrase_text_comes_where_its_category_is_wanted(rt: HostRuntime) -> Result<(),
 }
 
 /// Phrase text of the other categories.
-pub(crate) const OTHER_ENTRIES: [Row; 18] = [
+pub(crate) static OTHER_ENTRIES: [Row; 18] = [
     (
         (&[0, 0], None),
         Deed::Fill(Template::Char),
@@ -285,7 +285,7 @@ pub(crate) const OTHER_ENTRIES: [Row; 18] = [
 ];
 
 /// The listing after them.
-const OTHERS_ENTERED: [&[u8]; 13] = [
+static OTHERS_ENTERED: [&[u8]; 13] = [
     b"main: PROCEDURE OPTIONS ( MAIN );",
     b"  DECLARE ( s(3) ) CHARACTER ( 20 ) VARYING;",
     b"  DO WHILE ( x < 1 );",

@@ -6,7 +6,7 @@ use std::test::Fail;
 use template_tree::{Side, What};
 
 /// A write, and a hole behind it: so main, a statement, a part, and a hole of each kind stand there.
-const STOPS: [Row; 2] = [
+static STOPS: [Row; 2] = [
     (
         (&[0, 1], None),
         Deed::Fill(Template::Put),

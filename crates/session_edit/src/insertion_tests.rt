@@ -13,7 +13,7 @@ use std::test::Fail;
 use template_tree::{Side, Tree, What};
 
 /// Fragments at holes and parts that take them, and at those that do not.
-const INSERTIONS: [Row; 21] = [
+static INSERTIONS: [Row; 21] = [
     (
         (&[0, 1], None),
         Deed::Fill(Template::Put),
@@ -102,7 +102,7 @@ const INSERTIONS: [Row; 21] = [
 ];
 
 /// The listing after them.
-const INSERTED: [&[u8]; 11] = [
+static INSERTED: [&[u8]; 11] = [
     b"main: PROCEDURE OPTIONS ( MAIN );",
     b"  {declaration}",
     b"  PUT LIST ( 1 );",
@@ -125,7 +125,7 @@ fn fragments_come_where_they_fit(rt: HostRuntime) -> Result<(), Fail> {
 }
 
 /// Declarations, procedures and phrases at holes and parts of right and wrong kinds and categories.
-const KINDS: [Row; 19] = [
+static KINDS: [Row; 19] = [
     (
         (&[0, 0], None),
         Deed::Fill(Template::Fixed),
@@ -204,7 +204,7 @@ const KINDS: [Row; 19] = [
 ];
 
 /// The listing after them.
-const OF_KINDS: [&[u8]; 17] = [
+static OF_KINDS: [&[u8]; 17] = [
     b"main: PROCEDURE OPTIONS ( MAIN );",
     b"  DECLARE ( {names} ) FIXED;",
     b"  DECLARE ( {names} ) FIXED;",
@@ -233,7 +233,7 @@ fn fragments_come_where_their_kind_and_category_fit(rt: HostRuntime) -> Result<(
 }
 
 /// A write is copied behind itself; the hole before the copy that is dropped leaves a slot that is drawn no more.
-const COPIES: [Row; 8] = [
+static COPIES: [Row; 8] = [
     (
         (&[0, 1], None),
         Deed::Fill(Template::Put),
@@ -277,7 +277,7 @@ const COPIES: [Row; 8] = [
 ];
 
 /// The listing after them.
-const COPIED: [&[u8]; 6] = [
+static COPIED: [&[u8]; 6] = [
     b"main: PROCEDURE OPTIONS ( MAIN );",
     b"  {declaration}",
     b"  PUT LIST ( 1 );",
@@ -322,7 +322,7 @@ fn comes_again(alloc: Global, tree: &mut Tree, place: Place) -> Result<bool, Fai
 }
 
 /// The listing of a new tree.
-const NEW: [&[u8]; 5] = [
+static NEW: [&[u8]; 5] = [
     b"main: PROCEDURE OPTIONS ( MAIN );",
     b"  {declaration}",
     b"  {statement}",
@@ -331,7 +331,7 @@ const NEW: [&[u8]; 5] = [
 ];
 
 /// A write of 1.
-const WRITE: [Row; 2] = [
+static WRITE: [Row; 2] = [
     (
         (&[0, 1], None),
         Deed::Fill(Template::Put),
@@ -345,7 +345,7 @@ const WRITE: [Row; 2] = [
 ];
 
 /// The listing with the write.
-const WRITTEN: [&[u8]; 5] = [
+static WRITTEN: [&[u8]; 5] = [
     b"main: PROCEDURE OPTIONS ( MAIN );",
     b"  {declaration}",
     b"  PUT LIST ( 1 );",

@@ -17,7 +17,6 @@ mod insertion;
 mod insertion_tests;
 mod next_stop;
 mod path_copy;
-mod path_last;
 #[cfg(test)]
 mod program_tests;
 mod removal;

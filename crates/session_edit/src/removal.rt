@@ -13,11 +13,12 @@ ghost use Rattle.session_edit.specs.PlainEdit.{PlainEdit};
 use crate::applied::Applied;
 use crate::here::takes;
 use crate::path_copy::{copy_of, stop_copy};
-use crate::path_last::path_before;
 use crate::room_laws::room_laws;
 use plcs_grammar::Sort;
 use std::alloc::Global;
-use template_tree::{Path, PhrasePlace, Stop, Tree, TreeFault, slot_edit_is_path_edit};
+use template_tree::{
+    Path, PhrasePlace, Stop, Tree, TreeFault, path_before, slot_edit_is_path_edit,
+};
 
 /// A hole in a list of two or more is dropped; all else is taken out. It takes no memory.
 pub(crate) fn delete(alloc: Global, tree: &mut Tree, at: &Stop) -> Result<Applied, TreeFault>

@@ -7,7 +7,7 @@ use std::test::Fail;
 use template_tree::{Side, What};
 
 /// What is deleted and taken out: nodes, phrases, and holes at each place of their lists.
-const DELETIONS: [Row; 23] = [
+static DELETIONS: [Row; 23] = [
     ((&[0], None), Deed::Delete, NOT_HERE),
     ((&[0], None), Deed::Take, NOT_HERE),
     ((&[0, 0], None), Deed::Delete, NOT_HERE),
@@ -90,7 +90,7 @@ const DELETIONS: [Row; 23] = [
 ];
 
 /// The listing after them.
-const DELETED: [&[u8]; 5] = [
+static DELETED: [&[u8]; 5] = [
     b"main: PROCEDURE OPTIONS ( MAIN );",
     b"  {declaration}",
     b"  {statement}",
@@ -107,7 +107,7 @@ fn what_stands_there_is_deleted(rt: HostRuntime) -> Result<(), Fail> {
 }
 
 /// Phrases that are deleted and taken out, and the nodes round them.
-const PHRASE_DELETIONS: [Row; 18] = [
+static PHRASE_DELETIONS: [Row; 18] = [
     (
         (&[1], None),
         Deed::Fill(Template::Proc),
@@ -177,7 +177,7 @@ const PHRASE_DELETIONS: [Row; 18] = [
 ];
 
 /// The listing after them.
-const EMPTIED: [&[u8]; 5] = [
+static EMPTIED: [&[u8]; 5] = [
     b"main: PROCEDURE OPTIONS ( MAIN );",
     b"  {declaration}",
     b"  {statement}",

@@ -35,7 +35,7 @@ fn unlike(tree: &Tree, stands: &[Stand]) -> Result<Option<usize>, Fail>
 }
 
 /// Nodes, holes and empty parts.
-const UNFILLED: [Stand; 14] = [
+static UNFILLED: [Stand; 14] = [
     ((&[0], None), None, false),
     ((&[0, 0], None), None, true),
     ((&[0, 0], Some(0)), Some(Category::DeclaredList), false),
@@ -53,7 +53,7 @@ const UNFILLED: [Stand; 14] = [
 ];
 
 /// An assignment, and the phrases of a loop and a write.
-const LOOP: [Stand; 9] = [
+static LOOP: [Stand; 9] = [
     ((&[0, 0], None), None, false),
     ((&[0, 1], None), Some(Category::Assignment), true),
     ((&[0, 2], None), None, true),
@@ -66,7 +66,7 @@ const LOOP: [Stand; 9] = [
 ];
 
 /// Phrases of the other categories.
-const OTHERS: [Stand; 9] = [
+static OTHERS: [Stand; 9] = [
     ((&[0, 0], Some(0)), Some(Category::DeclaredList), true),
     ((&[0, 0], Some(1)), Some(Category::Length), true),
     ((&[0, 1], Some(0)), Some(Category::Condition), true),
@@ -106,7 +106,7 @@ fn parts_want_phrases_of_their_category(rt: HostRuntime) -> Result<(), Fail> {
 }
 
 /// A comment in a comment round a write.
-const NESTED: [Row; 3] = [
+static NESTED: [Row; 3] = [
     (
         (&[0, 1], None),
         Deed::Fill(Template::Comment),
@@ -125,7 +125,7 @@ const NESTED: [Row; 3] = [
 ];
 
 /// The comment in which both others stand is taken out.
-const TAKEN: [Row; 1] = [(
+static TAKEN: [Row; 1] = [(
     (&[0, 1], None),
     Deed::Take,
     Ok(((&[0, 1], None), 2, What::Node, 4)),
@@ -161,7 +161,7 @@ fn elsewhere(tree: &Tree, shown: &Shown) -> Option<usize>
 }
 
 /// Nothing is elided; the inner comment is; both are; the outer one is; the outer one was taken out.
-const WHERE: [Shown; 5] = [
+static WHERE: [Shown; 5] = [
     [
         Some(&[0]),
         Some(&[0, 0]),

@@ -12,8 +12,8 @@ ghost use Rattle.type_marks.specs.Private.CallArguments.{arguments_judged, is_ta
 
 use crate::kind_table::same_kind;
 use crate::kinds::{exprs_offence, kind_of};
+use crate::names::scalar_named;
 use crate::procedures::{heading_parameters, is_named_before, procedure_in};
-use crate::statements::scalar_named;
 use decl_table::Decls;
 use plcs_base::{Kind, MarkKind, Name, Slot};
 use plcs_grammar::{Builtin, Expr};

@@ -89,7 +89,7 @@ fn is_met(alloc: Global, case: Case) -> Result<bool, Fail> {
 const MAIN_FIXED: Step = Step::Fill(&[0, 0], Template::Fixed);
 
 /// Declarations of main.
-const DECLARATIONS: [Case; 8] = [
+static DECLARATIONS: [Case; 8] = [
     // The second declaration of a name waits for the first.
     (
         &[
@@ -231,7 +231,7 @@ const SECOND_NAME: Step = Step::Set(&[2], 0, Category::ProcedureName, b"p");
 const PARAMETERS: Step = Step::Set(&[2], 1, Category::NameList, b"a, b");
 
 /// Headings of procedures.
-const HEADINGS: [Case; 6] = [
+static HEADINGS: [Case; 6] = [
     // The first heading of a name is effective.
     (
         &[

@@ -46,7 +46,7 @@ const ONCE: [Step; 7] = [
 ];
 
 /// Declarations.
-const DECLARATIONS: [Case; 7] = [
+static DECLARATIONS: [Case; 7] = [
     // The second declaration of a name is marked, and the first one counts.
     (
         &TWICE,
@@ -148,7 +148,7 @@ fn declarations_are_marked_as_wanted(rt: HostRuntime) -> Result<(), Fail> {
 }
 
 /// Procedures, and what is hidden.
-const PROCEDURES: [Case; 5] = [
+static PROCEDURES: [Case; 5] = [
     // Only an earlier effective heading makes a name a duplicate: the first p lacks its parameters.
     (
         &[

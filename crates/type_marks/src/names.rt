@@ -1,7 +1,7 @@
 //! Names where variables are used.
-ghost use Rattle.std.specs.Prelude.{◌≡◌};
+ghost use Rattle.std.specs.Prelude.{◌≡◌, option_and_then};
 ghost use Rattle.decl_table.specs.PlainDecls.{items_in};
-ghost use Rattle.template_tree.specs.Environment.{kind_of_type};
+ghost use Rattle.template_tree.specs.Environment.{item_named, kind_of_type, scalar_kind};
 ghost use Rattle.template_tree.specs.Verdict.{array_kind, cell_found, item_found, name_kind, scalar_found};
 
 use decl_table::Decls;
@@ -61,6 +61,27 @@ fn cell_found(item: &Declared) -> Result<Kind, MarkKind>
         Err(MarkKind::NotArray)
     } else {
         Ok(kind_of_type(item.ty))
+    }
+}
+
+/// The kind of the scalar of the name, or `None` where no effective item of the name is one.
+pub(crate) fn scalar_named(name: &Name, decls: &Decls, procedure: Slot) -> Option<Kind>
+    ensures { result ≡ option_and_then scalar_kind (item_named name.now (items_in decls.now.items procedure.0)) }
+{
+    match decls.type_of(procedure, name) {
+        Some(item) => scalar_kind(&item),
+        None => None,
+    }
+}
+
+/// The kind of a scalar, or `None` where the item is an array.
+fn scalar_kind(item: &Declared) -> Option<Kind>
+    ensures { result ≡ scalar_kind item.now }
+{
+    if item.size == 0 {
+        Some(kind_of_type(item.ty))
+    } else {
+        None
     }
 }
 

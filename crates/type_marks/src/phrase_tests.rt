@@ -31,7 +31,7 @@ const RESERVED: Option<MarkKind> = Some(MarkKind::Reserved);
 
 /// Main declares i, j and a(10) of whole numbers, f and g(3) of truth values, s and w(2) of texts; behind
 /// them stand an empty declaration and a statement of each kind.
-const MAIN: [Step; 24] = [
+static MAIN: [Step; 24] = [
     Step::Fill(&[0, 0], Template::Fixed),
     Step::Set(&[0, 0], 0, Category::DeclaredList, b"i, j, a(10)"),
     Step::Add(&[0, 0]),
@@ -61,7 +61,7 @@ const MAIN: [Step; 24] = [
 /// p takes a number and a text, q nothing, and r four of which the second has no kind; the first u lacks
 /// its parameters; o takes an array, and h stands before two procedures without names, of which the
 /// second takes parameters.
-const PROCEDURES: [Step; 40] = [
+static PROCEDURES: [Step; 40] = [
     Step::Fill(&[1], Template::ProcP),
     Step::Set(&[1], 0, Category::ProcedureName, b"p"),
     Step::Set(&[1], 1, Category::NameList, b"x, y"),
@@ -186,7 +186,7 @@ fn difference(alloc: Global, rows: &[Row]) -> Result<Option<usize>, Fail> {
 }
 
 /// Names with and without subscripts: a subscript and its kind come before the name.
-const VARIABLES: [Row; 19] = [
+static VARIABLES: [Row; 19] = [
     (Place::Assignment, b"i = 1", FINE),
     (Place::Assignment, b"u9 = 1", UNDECLARED),
     (Place::Assignment, b"i = u9", UNDECLARED),
@@ -216,7 +216,7 @@ fn names_and_subscripts_are_marked(rt: HostRuntime) -> Result<(), Fail> {
 
 /// A target comes before its value, and both before the whole; a name is reserved before it is
 /// undeclared.
-const ASSIGNMENTS: [Row; 18] = [
+static ASSIGNMENTS: [Row; 18] = [
     (Place::Assignment, b"i = 's'", TYPE_MISMATCH),
     (Place::Assignment, b"s = 1", TYPE_MISMATCH),
     (Place::Assignment, b"f = i", TYPE_MISMATCH),
@@ -244,7 +244,7 @@ fn assignments_and_reserved_names_are_marked(rt: HostRuntime) -> Result<(), Fail
 }
 
 /// What operators take and give.
-const OPERATORS: [Row; 20] = [
+static OPERATORS: [Row; 20] = [
     (Place::Assignment, b"i = -f", TYPE_MISMATCH),
     (Place::Assignment, b"i = +s", TYPE_MISMATCH),
     (Place::Assignment, b"f = ^i", TYPE_MISMATCH),
@@ -274,7 +274,7 @@ fn operators_are_marked(rt: HostRuntime) -> Result<(), Fail> {
 }
 
 /// A comparison takes two of one kind and gives a truth value.
-const COMPARISONS: [Row; 18] = [
+static COMPARISONS: [Row; 18] = [
     (Place::Assignment, b"f = i < j", FINE),
     (Place::Assignment, b"f = s < 't'", FINE),
     (Place::Assignment, b"f = f = '1'B", FINE),
@@ -302,7 +302,7 @@ fn comparisons_are_marked(rt: HostRuntime) -> Result<(), Fail> {
 }
 
 /// Built-in functions: the arguments come before their number, and that before their kinds.
-const BUILTINS: [Row; 18] = [
+static BUILTINS: [Row; 18] = [
     (Place::Assignment, b"i = ABS(1)", FINE),
     (Place::Assignment, b"i = ABS('s')", TYPE_MISMATCH),
     (Place::Assignment, b"i = ABS(1, 2)", WRONG_COUNT),
@@ -330,7 +330,7 @@ fn built_in_functions_are_marked(rt: HostRuntime) -> Result<(), Fail> {
 }
 
 /// Built-in functions of texts, one of which takes two arguments or three.
-const TEXT_BUILTINS: [Row; 14] = [
+static TEXT_BUILTINS: [Row; 14] = [
     (Place::Assignment, b"s = SUBSTR(s, 1)", FINE),
     (Place::Assignment, b"s = SUBSTR(s, 1, 2)", FINE),
     (Place::Assignment, b"s = SUBSTR(s, 'x', 2)", TYPE_MISMATCH),
@@ -354,7 +354,7 @@ fn built_in_functions_of_texts_are_marked(rt: HostRuntime) -> Result<(), Fail> {
 }
 
 /// Calls: the arguments come before the name, that before their number, and that before their kinds.
-const CALLS: [Row; 18] = [
+static CALLS: [Row; 18] = [
     (Place::Call, b"p(1, 's')", FINE),
     (Place::Call, b"p(i, s)", FINE),
     (Place::Call, b"p((i), 't')", FINE),
@@ -382,7 +382,7 @@ fn calls_are_marked(rt: HostRuntime) -> Result<(), Fail> {
 }
 
 /// Calls of names that no effective heading has, and arguments with offences of their own.
-const CALLED_NAMES: [Row; 19] = [
+static CALLED_NAMES: [Row; 19] = [
     (Place::Call, b"nn(1)", UNKNOWN_PROCEDURE),
     (Place::Call, b"nn", UNKNOWN_PROCEDURE),
     (Place::Call, b"main", UNKNOWN_PROCEDURE),
@@ -411,7 +411,7 @@ fn called_names_and_arguments_are_marked(rt: HostRuntime) -> Result<(), Fail> {
 }
 
 /// What a loop counts with, its bounds, and conditions.
-const LOOPS: [Row; 21] = [
+static LOOPS: [Row; 21] = [
     (Place::Counter, b"i", FINE),
     (Place::Counter, b"a", NEEDS_SUBSCRIPT),
     (Place::Counter, b"g", NEEDS_SUBSCRIPT),
@@ -442,7 +442,7 @@ fn loops_and_conditions_are_marked(rt: HostRuntime) -> Result<(), Fail> {
 }
 
 /// Variables that are read and values that are written, of any kind.
-const READS: [Row; 18] = [
+static READS: [Row; 18] = [
     (Place::Get, b"i, a(1), s, f", FINE),
     (Place::Get, b"a", NEEDS_SUBSCRIPT),
     (Place::Get, b"ABS(1)", RESERVED),
@@ -471,7 +471,7 @@ fn reads_and_writes_are_marked(rt: HostRuntime) -> Result<(), Fail> {
 
 /// Declared names: reserved, then effective already, then too many cells. 19 of the 2,000 cells are
 /// taken.
-const DECLARED: [Row; 22] = [
+static DECLARED: [Row; 22] = [
     (Place::Declared, b"n", FINE),
     (Place::Declared, b"i", DUPLICATE),
     (Place::Declared, b"n, n", DUPLICATE),
@@ -504,7 +504,7 @@ fn declared_names_are_marked(rt: HostRuntime) -> Result<(), Fail> {
 
 /// Parameters: reserved, then named twice, at the first place already, then without a scalar of the
 /// name.
-const PARAMETERS: [Row; 17] = [
+static PARAMETERS: [Row; 17] = [
     (Place::Parameters, b"x", FINE),
     (Place::Parameters, b"y", PARAMETER_UNDECLARED),
     (Place::Parameters, b"x, x", DUPLICATE),
@@ -532,7 +532,7 @@ fn parameters_are_marked(rt: HostRuntime) -> Result<(), Fail> {
 
 /// Names of procedures: reserved, then that of main or of an earlier effective heading, also where the
 /// own heading lacks its parameters.
-const NAMES: [Row; 15] = [
+static NAMES: [Row; 15] = [
     (Place::Name, b"n", FINE),
     (Place::Name, b"ABS", RESERVED),
     (Place::Name, b"main", DUPLICATE),

@@ -1,15 +1,14 @@
 //! Phrases in statements, and lists of parameters.
-ghost use Rattle.std.specs.Prelude.{◌≡◌, count_by, map, option_and_then, bytes_eq};
+ghost use Rattle.std.specs.Prelude.{◌≡◌, count_by, map, bytes_eq};
 ghost use Rattle.plcs_base.specs.declared.value.Kind.{Kind};
 ghost use Rattle.plcs_grammar.specs.PlainPhrase.{plain_expr, plain_var_ref};
 ghost use Rattle.decl_table.specs.PlainDecls.{items_in};
-ghost use Rattle.template_tree.specs.Environment.{item_named, scalar_kind};
 ghost use Rattle.template_tree.specs.Verdict.{both_found, kind_of, name_kind, offence_in, parameter_offence, parameters_offence, reference_kind, references_offence, then_found, of_kind};
 
 use crate::kinds::{found_wanted, kind_of, reference_kind};
-use crate::names::{kind_of_type, name_kind};
+use crate::names::{name_kind, scalar_named};
 use decl_table::Decls;
-use plcs_base::{Declared, Kind, MarkKind, Name, Slot};
+use plcs_base::{Kind, MarkKind, Name, Slot};
 use plcs_grammar::{Builtin, Expr, VarRef};
 
 /// The first offence of an assignment.
@@ -101,27 +100,6 @@ fn times_named(name: &Name, names: &[Name]) -> usize
     ensures { result ≡ count_by (bytes_eq name.now) names.now }
 {
     names.iter().filter(|other| name == *other).count()
-}
-
-/// The kind of the scalar of the name, or `None` where no effective item of the name is one.
-pub(crate) fn scalar_named(name: &Name, decls: &Decls, procedure: Slot) -> Option<Kind>
-    ensures { result ≡ option_and_then scalar_kind (item_named name.now (items_in decls.now.items procedure.0)) }
-{
-    match decls.type_of(procedure, name) {
-        Some(item) => scalar_kind(&item),
-        None => None,
-    }
-}
-
-/// The kind of a scalar, or `None` where the item is an array.
-fn scalar_kind(item: &Declared) -> Option<Kind>
-    ensures { result ≡ scalar_kind item.now }
-{
-    if item.size == 0 {
-        Some(kind_of_type(item.ty))
-    } else {
-        None
-    }
 }
 
 /// The offence that was found, if one was.

@@ -20,7 +20,7 @@ type Filling = (&'static [u32], Template);
 type Shown = (&'static [u8], u32);
 
 /// Main with a comment over choices, a loop and writes; a procedure with a counting loop over a group.
-const COUNTING: [Filling; 12] = [
+static COUNTING: [Filling; 12] = [
     (&[0, 0], Template::Fixed),
     (&[0, 1], Template::Comment),
     (&[0, 1, 0], Template::IfElse),
@@ -36,7 +36,7 @@ const COUNTING: [Filling; 12] = [
 ];
 
 /// Its lines.
-const COUNTING_LINES: [Shown; 19] = [
+static COUNTING_LINES: [Shown; 19] = [
     (b"main: PROCEDURE OPTIONS ( MAIN );", 0),
     (b"  DECLARE ( {names} ) FIXED;", 1),
     (b"  /* {comment} */", 2),
@@ -62,7 +62,7 @@ const COUNTING_LINES: [Shown; 19] = [
 ];
 
 /// Its lines where the refinement of the comment is hidden.
-const HIDDEN_LINES: [Shown; 13] = [
+static HIDDEN_LINES: [Shown; 13] = [
     (b"main: PROCEDURE OPTIONS ( MAIN );", 0),
     (b"  DECLARE ( {names} ) FIXED;", 1),
     (b"  /* {comment} */", 2),
@@ -82,7 +82,7 @@ const HIDDEN_LINES: [Shown; 13] = [
 ];
 
 /// Main with a counting loop; a procedure with parameters, a read and a return.
-const READING: [Filling; 6] = [
+static READING: [Filling; 6] = [
     (&[0, 1], Template::For),
     (&[1], Template::ProcP),
     (&[1, 0], Template::Char),
@@ -92,7 +92,7 @@ const READING: [Filling; 6] = [
 ];
 
 /// Its lines.
-const READING_LINES: [Shown; 13] = [
+static READING_LINES: [Shown; 13] = [
     (b"main: PROCEDURE OPTIONS ( MAIN );", 0),
     (b"  {declaration}", 1),
     (
@@ -112,7 +112,7 @@ const READING_LINES: [Shown; 13] = [
 ];
 
 /// The lines of the new program.
-const NEW_LINES: [Shown; 5] = [
+static NEW_LINES: [Shown; 5] = [
     (b"main: PROCEDURE OPTIONS ( MAIN );", 0),
     (b"  {declaration}", 1),
     (b"  {statement}", 2),

@@ -8,17 +8,17 @@ use Rattle.template_tree.specs.Tree.{IsTree}
 use Rattle.template_tree.specs.TreeEdit.{TreeEdit}
 use Rattle.template_tree.specs.Stop.{node_stop}
 use Rattle.session_edit.specs.Private.ShownPath.{IsShown}
-use Rattle.session_edit.proofs.BesideCommands.{added_few, answer_outer, beside_applied, beside_refused, one_longer, outer_shown}
+use Rattle.session_edit.proofs.BesideCommands.{added_small, answer_outer, beside_applied, beside_refused, one_longer, outer_shown}
 use Rattle.session_edit.proofs.beside.+add_beside.Goals as goal
 
-pub beside-requires : goal.beside-requires
-beside-requires t c =
-    record { few = added_few c.args.tree.now c.add_hole.new.self c.args.side c.args.path.items c.in-Ok.receipt c.requires.tree c.in-Ok.ensures.edited }
+pub added_path-requires : goal.added_path-requires
+added_path-requires t c =
+    record { small = added_small c.args.tree.now c.add_hole.new.self c.args.side c.args.path.items c.in-Ok.receipt c.requires.tree c.in-Ok.ensures.edited }
 
 pub returns-in-Ok : goal.returns-in-Ok
 returns-in-Ok t c =
     beside_applied c.room_laws.ensures c.slot_edit_is_path_edit.ensures c.args.tree.now c.add_hole.new.self c.args.side c.args.path.items c.in-Ok.receipt
-    record { path = c.beside.result; part = None } c.requires.tree c.requires.seen c.in-Ok.ensures.edited (ap node_stop c.beside.ensures)
+    record { path = c.added_path.result; part = None } c.requires.tree c.requires.seen c.in-Ok.ensures.edited (ap node_stop c.added_path.ensures)
 
 pub returns-then-not-is_not_here : goal.returns-then-not-is_not_here
 returns-then-not-is_not_here t c = (
