@@ -14,3 +14,5 @@ pub mod ClipFragments
 pub mod TakenNodes
 -- `agrees` of change: the layout where an edit is undone
 pub mod AgreeingDependents
+-- `DoesByReply` of save and load: what the files did
+pub mod FileReplies

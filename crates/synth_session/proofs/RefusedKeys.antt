@@ -34,6 +34,8 @@ use Rattle.synth_session.specs.RefusalText.{refusal_text}
 use Rattle.synth_session.specs.KeyOutcome.{KeyOutcome, acceptance_outcome, line_acceptance_outcome, refusal_outcome}
 use Rattle.synth_session.specs.TypedLine.{cursor_phrase, text_typed}
 use Rattle.synth_session.specs.CursorKeys.{cursor_goes, cursor_moved}
+use Rattle.synth_session.specs.FileCommands.{load_outcome, save_outcome}
+use Rattle.synth_session.specs.FileReply.{Reply}
 use Rattle.synth_session.specs.ClipCommands.{copy_outcome, cut_outcome, fragment_inserted, fragment_there, slots_there}
 use Rattle.synth_session.specs.EditCommands.{edit_outcome, edit_refusal, edited_by}
 use Rattle.synth_session.specs.ElideCommand.{comment_turned, is_at_comment}
@@ -124,44 +126,58 @@ turned_alone s =
     either_alone s (is_at_comment s.tree s.stop) (line_acceptance_outcome (record s { tree = with_turn_at s.stop.path s.tree })) (refusal_outcome s why.NotHere)
     (taken_alone s _ refl) (refused_alone s why.NotHere)
 
+-- a program saved, or refused
+save_alone : (s : PlainSession) (reply : Reply) → Alone s (save_outcome s reply)
+save_alone s Reply.NotAsked = taken_alone s _ refl
+save_alone s Reply.Saved = taken_alone s _ refl
+save_alone s (Reply.Loaded tree) = taken_alone s _ refl
+save_alone s (Reply.Refused refusal) = refused_alone s (why.File refusal)
+
+-- a program loaded, or refused
+load_alone : (s : PlainSession) (reply : Reply) → Alone s (load_outcome s reply)
+load_alone s Reply.NotAsked = taken_alone s _ refl
+load_alone s Reply.Saved = taken_alone s _ refl
+load_alone s (Reply.Loaded tree) = taken_alone s _ refl
+load_alone s (Reply.Refused refusal) = refused_alone s (why.File refusal)
+
 -- a command
-command_alone : (s : PlainSession) (command : PlainCommand) → Alone s (command_outcome s command)
-command_alone s (PlainCommand.template template) = edited_alone s (PlainEdit.fill template)
-command_alone s PlainCommand.float = refused_alone s why.FloatNotThere
-command_alone s PlainCommand.before = edited_alone s (PlainEdit.beside Side.Before)
-command_alone s PlainCommand.after = edited_alone s (PlainEdit.beside Side.After)
-command_alone s PlainCommand.del = edited_alone s PlainEdit.delete
-command_alone s (PlainCommand.cut name) =
+command_alone : (s : PlainSession) (command : PlainCommand) (reply : Reply) → Alone s (command_outcome s command reply)
+command_alone s (PlainCommand.template template) reply = edited_alone s (PlainEdit.fill template)
+command_alone s PlainCommand.float reply = refused_alone s why.FloatNotThere
+command_alone s PlainCommand.before reply = edited_alone s (PlainEdit.beside Side.Before)
+command_alone s PlainCommand.after reply = edited_alone s (PlainEdit.beside Side.After)
+command_alone s PlainCommand.del reply = edited_alone s PlainEdit.delete
+command_alone s (PlainCommand.cut name) reply =
     clips_alone s name (cut_outcome s name (edited s.tree s.stop PlainEdit.take) (fragment_there s.tree s.stop s.stop.part))
     (cut_alone s name (edited s.tree s.stop PlainEdit.take) (fragment_there s.tree s.stop s.stop.part))
-command_alone s (PlainCommand.copy name) =
+command_alone s (PlainCommand.copy name) reply =
     clips_alone s name (copy_outcome s name (fragment_there s.tree s.stop s.stop.part))
     (copied_alone s name (fragment_there s.tree s.stop s.stop.part))
-command_alone s (PlainCommand.insert name) = inserted_alone s (clip_named name s.clips)
-command_alone s PlainCommand.elide = turned_alone s
-command_alone s PlainCommand.top = taken_alone s _ refl
-command_alone s PlainCommand.bottom = taken_alone s _ refl
-command_alone s PlainCommand.run = refused_alone s why.NotBuilt
-command_alone s (PlainCommand.step n) = refused_alone s why.NotBuilt
-command_alone s PlainCommand.resume = refused_alone s why.NotBuilt
-command_alone s (PlainCommand.back n) = refused_alone s why.NotBuilt
-command_alone s PlainCommand.trace = refused_alone s why.NotBuilt
-command_alone s (PlainCommand.input text) = refused_alone s why.NotBuilt
-command_alone s (PlainCommand.save file) = refused_alone s why.NotBuilt
-command_alone s (PlainCommand.load file) = refused_alone s why.NotBuilt
-command_alone s (PlainCommand.code n) = refused_alone s why.NotBuilt
-command_alone s PlainCommand.quit = ended_alone s _ refl
+command_alone s (PlainCommand.insert name) reply = inserted_alone s (clip_named name s.clips)
+command_alone s PlainCommand.elide reply = turned_alone s
+command_alone s PlainCommand.top reply = taken_alone s _ refl
+command_alone s PlainCommand.bottom reply = taken_alone s _ refl
+command_alone s PlainCommand.run reply = refused_alone s why.NotBuilt
+command_alone s (PlainCommand.step n) reply = refused_alone s why.NotBuilt
+command_alone s PlainCommand.resume reply = refused_alone s why.NotBuilt
+command_alone s (PlainCommand.back n) reply = refused_alone s why.NotBuilt
+command_alone s PlainCommand.trace reply = refused_alone s why.NotBuilt
+command_alone s (PlainCommand.input text) reply = refused_alone s why.NotBuilt
+command_alone s (PlainCommand.save file) reply = save_alone s reply
+command_alone s (PlainCommand.load file) reply = load_alone s reply
+command_alone s (PlainCommand.code n) reply = refused_alone s why.NotBuilt
+command_alone s PlainCommand.quit reply = ended_alone s _ refl
 
 -- a command line
-reading_alone : (s : PlainSession) (reading : PlainReading) → Alone s (reading_outcome s reading)
-reading_alone s (Ok command) = command_alone s command
-reading_alone s (Err line.UnknownCommand) = refused_alone s why.UnknownCommand
-reading_alone s (Err line.WrongArgument) = refused_alone s why.WrongArgument
+reading_alone : (s : PlainSession) (reading : PlainReading) (reply : Reply) → Alone s (reading_outcome s reading reply)
+reading_alone s (Ok command) reply = command_alone s command reply
+reading_alone s (Err line.UnknownCommand) reply = refused_alone s why.UnknownCommand
+reading_alone s (Err line.WrongArgument) reply = refused_alone s why.WrongArgument
 
-command_line_alone : (s : PlainSession) → Alone s (command_line_outcome s)
-command_line_alone s =
-    either_alone s (is_unbuilt s.typed) (refusal_outcome s why.NotBuilt) (reading_outcome s (command_of s.typed))
-    (refused_alone s why.NotBuilt) (reading_alone s (command_of s.typed))
+command_line_alone : (s : PlainSession) (reply : Reply) → Alone s (command_line_outcome s reply)
+command_line_alone s reply =
+    either_alone s (is_unbuilt s.typed) (refusal_outcome s why.NotBuilt) (reading_outcome s (command_of s.typed) reply)
+    (refused_alone s why.NotBuilt) (reading_alone s (command_of s.typed) reply)
 
 -- phrase text that is this
 standing_alone : (s : PlainSession) (standing : Standing) → Alone s (standing_entered s standing)
@@ -178,34 +194,34 @@ text_alone s None = refused_alone s why.NotHere
 text_alone s (Some category) = standing_alone s (standing_of category s.typed)
 
 -- the typed line
-line_alone : (s : PlainSession) → Alone s (line_entered s)
-line_alone s =
+line_alone : (s : PlainSession) (reply : Reply) → Alone s (line_entered s reply)
+line_alone s reply =
     either_alone s (length s.typed == 0) (cursor_moved s stop_right)
-    (if begins_with_point s.typed then command_line_outcome s else text_entered s (category_at s.tree s.stop))
+    (if begins_with_point s.typed then command_line_outcome s reply else text_entered s (category_at s.tree s.stop))
     (moves_alone s stop_right)
-    (either_alone s (begins_with_point s.typed) (command_line_outcome s) (text_entered s (category_at s.tree s.stop))
-    (command_line_alone s) (text_alone s (category_at s.tree s.stop)))
+    (either_alone s (begins_with_point s.typed) (command_line_outcome s reply) (text_entered s (category_at s.tree s.stop))
+    (command_line_alone s reply) (text_alone s (category_at s.tree s.stop)))
 
 -- each key
-key_alone : (s : PlainSession) (key : Key) → Alone s (press s key)
+key_alone : (s : PlainSession) (key : Key) (reply : Reply) → Alone s (press s key reply)
 unfolding press
-key_alone s (Char byte) =
+key_alone s (Char byte) reply =
     either_alone s (nat_lt (length s.typed) LINE_LIMIT) (acceptance_outcome (record s { typed = s.typed ++ byte ∷ [] })) (refusal_outcome s why.PhraseFull)
     (taken_alone s _ refl) (refused_alone s why.PhraseFull)
-key_alone s Enter = line_alone s
-key_alone s Erase =
+key_alone s Enter reply = line_alone s reply
+key_alone s Erase reply =
     either_alone s (length s.typed == 0) (refusal_outcome s why.NotHere) (acceptance_outcome (record s { typed = take (length s.typed - 1) s.typed }))
     (refused_alone s why.NotHere) (taken_alone s _ refl)
-key_alone s Clear = taken_alone s _ refl
-key_alone s Tab =
+key_alone s Clear reply = taken_alone s _ refl
+key_alone s Tab reply =
     either_alone s (length s.typed == 0) (text_typed s (cursor_phrase s.tree s.stop)) (refusal_outcome s why.NotHere)
     (typed_alone s (cursor_phrase s.tree s.stop)) (refused_alone s why.NotHere)
-key_alone s Up = moves_alone s stop_up
-key_alone s Down = moves_alone s stop_down
-key_alone s Left = moves_alone s stop_left
-key_alone s Right = moves_alone s stop_right
-key_alone s Other = refused_alone s why.UnknownCommand
+key_alone s Up reply = moves_alone s stop_up
+key_alone s Down reply = moves_alone s stop_down
+key_alone s Left reply = moves_alone s stop_left
+key_alone s Right reply = moves_alone s stop_right
+key_alone s Other reply = refused_alone s why.UnknownCommand
 
 -- the law
 pub refused_keys_change_the_message : RefusedKeysChangeTheMessage
-refused_keys_change_the_message s key = (key_alone s key).alone
+refused_keys_change_the_message s key reply = (key_alone s key reply).alone

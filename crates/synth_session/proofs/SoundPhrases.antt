@@ -5,13 +5,13 @@ use Rattle.plcs_grammar.specs.Canon.{Canon}
 use Rattle.plcs_grammar.specs.declared.category.Category.{Category}
 use Rattle.plcs_grammar.specs.PlainPhrase.{PlainPhrase, category_of}
 use Rattle.plcs_grammar.specs.Template.{row_of}
+use Rattle.template_tree.specs.Part.{part_at}
 use Rattle.template_tree.specs.Path.{below, node_at}
 use Rattle.template_tree.specs.PlainTree.{Forest, PlainNode, PlainTree, nodes}
 use Rattle.template_tree.specs.Program.{AreNodes, AreParts, IsPhrase, IsSubtree, parts_of}
 use Rattle.template_tree.specs.Stop.{PlainStop}
 use Rattle.template_tree.specs.Tree.{IsTree}
 use Rattle.screen_window.specs.LowerRows.{cursor_part}
-use Rattle.session_edit.specs.Here.{phrase_in}
 use Rattle.phrase_parser.proofs.Readings.Standings.{reading_category}
 use Rattle.synth_session.specs.TypedLine.{cursor_phrase}
 
@@ -21,7 +21,7 @@ own_phrase c p is = subst (λ (d : Category). IsPhrase d p) (sym (reading_catego
 
 -- a phrase among parts is one
 part_sound : (categories : List Category) (parts : List (Option PlainPhrase)) (k : ℕ) → AreParts categories parts
-    → IfSome (option_and_then (λ place. place) (slice_get parts k)) (λ p. IsPhrase (category_of p) p)
+    → IfSome (part_at parts k) (λ p. IsPhrase (category_of p) p)
 part_sound [] [] k are = tt
 part_sound [] (part ∷ parts) k are = absurd are
 part_sound (c ∷ cs) [] k are = absurd are
@@ -53,12 +53,12 @@ subtree_at items (k ∷ path) sound = subtree_in path (subtree_below path) (slic
 
 -- the phrase in a part of a node
 phrase_of_node : (node : PlainNode) (part : Option ℕ) → IsSubtree node
-    → IfSome (option_and_then (λ part. phrase_in part node) part) (λ p. IsPhrase (category_of p) p)
+    → IfSome (option_and_then (λ part. part_at node.label.parts part) part) (λ p. IsPhrase (category_of p) p)
 phrase_of_node node None is = tt
 phrase_of_node node (Some part) is = part_sound (parts_of (row_of node.label.kind).line) node.label.parts part is.0.parts
 
 phrase_of_found : (found : Option PlainNode) (part : Option ℕ) → IfSome found IsSubtree
-    → IfSome (option_and_then (λ node. option_and_then (λ part. phrase_in part node) (cursor_part node.label.kind part)) found)
+    → IfSome (option_and_then (λ node. option_and_then (λ part. part_at node.label.parts part) (cursor_part node.label.kind part)) found)
     (λ p. IsPhrase (category_of p) p)
 phrase_of_found None part is = tt
 phrase_of_found (Some node) part is = phrase_of_node node (cursor_part node.label.kind part) is

@@ -22,17 +22,18 @@ use Rattle.synth_session.specs.CursorKeys.{cursor_moved}
 use Rattle.synth_session.specs.ClipCommands.{clip_inserted, copied_to_clip, cut_to_clip}
 use Rattle.synth_session.specs.EditCommands.{edited_by}
 use Rattle.synth_session.specs.ElideCommand.{comment_turned}
+use Rattle.synth_session.specs.FileCommands.{load_outcome, save_outcome}
+use Rattle.synth_session.specs.FileReply.{Reply}
 use Rattle.synth_session.specs.KeyOutcome.{KeyOutcome, line_acceptance_outcome, refusal_outcome}
 use Rattle.synth_session.specs.PlainSession.{PlainSession}
 use Rattle.synth_session.specs.TextStanding.{standing_of}
 
 -- ---- commands
 
--- the words of commands that aren't built yet: those of runs, of input and of files
+-- the words of commands that aren't built yet: those of runs and of input
 abbrev pub unbuilt_words : List (List ℕ)
 unbuilt_words =
-    codes "run" ∷ codes "step" ∷ codes "resume" ∷ codes "back" ∷ codes "trace" ∷ codes "input" ∷ codes "save" ∷ codes "load"
-    ∷ codes "code" ∷ []
+    codes "run" ∷ codes "step" ∷ codes "resume" ∷ codes "back" ∷ codes "trace" ∷ codes "input" ∷ codes "code" ∷ []
 
 -- whether a word is one of these
 abbrev pub is_unbuilt_word : List ℕ → Bool
@@ -46,39 +47,40 @@ is_unbuilt line = option_map_or is_unbuilt_word (command_word line) false
 abbrev pub quit_outcome : PlainSession → KeyOutcome
 quit_outcome s = record { after = s; answer = Answer.Quit }
 
--- what each command does
-abbrev pub command_outcome : PlainSession → PlainCommand → KeyOutcome
-command_outcome s (PlainCommand.template template) = edited_by s (PlainEdit.fill template)
-command_outcome s PlainCommand.float = refusal_outcome s why.FloatNotThere
-command_outcome s PlainCommand.before = edited_by s (PlainEdit.beside Side.Before)
-command_outcome s PlainCommand.after = edited_by s (PlainEdit.beside Side.After)
-command_outcome s PlainCommand.del = edited_by s PlainEdit.delete
-command_outcome s (PlainCommand.cut name) = cut_to_clip s name
-command_outcome s (PlainCommand.copy name) = copied_to_clip s name
-command_outcome s (PlainCommand.insert name) = clip_inserted s name
-command_outcome s PlainCommand.elide = comment_turned s
-command_outcome s PlainCommand.top = line_acceptance_outcome (record s { stop = first_stop s.tree.items })
-command_outcome s PlainCommand.bottom = line_acceptance_outcome (record s { stop = last_stop s.tree.items })
-command_outcome s PlainCommand.run = refusal_outcome s why.NotBuilt
-command_outcome s (PlainCommand.step n) = refusal_outcome s why.NotBuilt
-command_outcome s PlainCommand.resume = refusal_outcome s why.NotBuilt
-command_outcome s (PlainCommand.back n) = refusal_outcome s why.NotBuilt
-command_outcome s PlainCommand.trace = refusal_outcome s why.NotBuilt
-command_outcome s (PlainCommand.input text) = refusal_outcome s why.NotBuilt
-command_outcome s (PlainCommand.save file) = refusal_outcome s why.NotBuilt
-command_outcome s (PlainCommand.load file) = refusal_outcome s why.NotBuilt
-command_outcome s (PlainCommand.code n) = refusal_outcome s why.NotBuilt
-command_outcome s PlainCommand.quit = quit_outcome s
+-- what each command does; what one of files does depends on what they reply
+abbrev pub command_outcome : PlainSession → PlainCommand → Reply → KeyOutcome
+command_outcome s (PlainCommand.template template) reply = edited_by s (PlainEdit.fill template)
+command_outcome s PlainCommand.float reply = refusal_outcome s why.FloatNotThere
+command_outcome s PlainCommand.before reply = edited_by s (PlainEdit.beside Side.Before)
+command_outcome s PlainCommand.after reply = edited_by s (PlainEdit.beside Side.After)
+command_outcome s PlainCommand.del reply = edited_by s PlainEdit.delete
+command_outcome s (PlainCommand.cut name) reply = cut_to_clip s name
+command_outcome s (PlainCommand.copy name) reply = copied_to_clip s name
+command_outcome s (PlainCommand.insert name) reply = clip_inserted s name
+command_outcome s PlainCommand.elide reply = comment_turned s
+command_outcome s PlainCommand.top reply = line_acceptance_outcome (record s { stop = first_stop s.tree.items })
+command_outcome s PlainCommand.bottom reply = line_acceptance_outcome (record s { stop = last_stop s.tree.items })
+command_outcome s PlainCommand.run reply = refusal_outcome s why.NotBuilt
+command_outcome s (PlainCommand.step n) reply = refusal_outcome s why.NotBuilt
+command_outcome s PlainCommand.resume reply = refusal_outcome s why.NotBuilt
+command_outcome s (PlainCommand.back n) reply = refusal_outcome s why.NotBuilt
+command_outcome s PlainCommand.trace reply = refusal_outcome s why.NotBuilt
+command_outcome s (PlainCommand.input text) reply = refusal_outcome s why.NotBuilt
+command_outcome s (PlainCommand.save file) reply = save_outcome s reply
+command_outcome s (PlainCommand.load file) reply = load_outcome s reply
+command_outcome s (PlainCommand.code n) reply = refusal_outcome s why.NotBuilt
+command_outcome s PlainCommand.quit reply = quit_outcome s
 
 -- what a line does that is this command, or none for this reason
-abbrev pub reading_outcome : PlainSession → PlainReading → KeyOutcome
-reading_outcome s (Ok command) = command_outcome s command
-reading_outcome s (Err line.UnknownCommand) = refusal_outcome s why.UnknownCommand
-reading_outcome s (Err line.WrongArgument) = refusal_outcome s why.WrongArgument
+abbrev pub reading_outcome : PlainSession → PlainReading → Reply → KeyOutcome
+reading_outcome s (Ok command) reply = command_outcome s command reply
+reading_outcome s (Err line.UnknownCommand) reply = refusal_outcome s why.UnknownCommand
+reading_outcome s (Err line.WrongArgument) reply = refusal_outcome s why.WrongArgument
 
 -- what a command line does; that a command isn't built comes before every other refusal
-abbrev pub command_line_outcome : PlainSession → KeyOutcome
-command_line_outcome s = if is_unbuilt s.typed then refusal_outcome s why.NotBuilt else reading_outcome s (command_of s.typed)
+abbrev pub command_line_outcome : PlainSession → Reply → KeyOutcome
+command_line_outcome s reply =
+    if is_unbuilt s.typed then refusal_outcome s why.NotBuilt else reading_outcome s (command_of s.typed) reply
 
 -- ---- phrase text
 
@@ -99,8 +101,8 @@ text_entered s (Some category) = standing_entered s (standing_of category s.type
 
 -- what Enter does: on an empty line it moves the cursor right, a line with a point first is a command, and any other is
 -- phrase text
-abbrev pub line_entered : PlainSession → KeyOutcome
-line_entered s =
+abbrev pub line_entered : PlainSession → Reply → KeyOutcome
+line_entered s reply =
     if length s.typed == 0
     then cursor_moved s stop_right
-    else (if begins_with_point s.typed then command_line_outcome s else text_entered s (category_at s.tree s.stop))
+    else (if begins_with_point s.typed then command_line_outcome s reply else text_entered s (category_at s.tree s.stop))

@@ -1,5 +1,8 @@
 -- What a key comes to.
 use Rattle.std.specs.Prelude.{[]}
+use Rattle.session_words.specs.declared.message.Message.{Message}
+use Rattle.session_words.specs.declared.message.Notice.{Notice}
+use Rattle.session_words.specs.Message.{message_text}
 use Rattle.synth_session.specs.declared.answer.Answer.{Answer}
 use Rattle.synth_session.specs.declared.answer.Refusal.{Refusal}
 use Rattle.synth_session.specs.PlainSession.{PlainSession}
@@ -23,3 +26,11 @@ acceptance_outcome s = record { after = record (with_cursor_seen s) { message = 
 -- what comes of a line that is accepted: it is typed no more
 abbrev pub line_acceptance_outcome : PlainSession → KeyOutcome
 line_acceptance_outcome s = acceptance_outcome (record s { typed = [] })
+
+-- what comes of a line that is accepted, where this is told
+abbrev pub line_notice_outcome : PlainSession → Notice → KeyOutcome
+line_notice_outcome s notice =
+    record {
+      after = record (with_cursor_seen (record s { typed = [] })) { message = message_text (Message.Notice notice) };
+      answer = Answer.Done;
+    }

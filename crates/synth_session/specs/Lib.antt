@@ -7,16 +7,20 @@ pub mod RefusalText
 pub mod Window
 pub mod OpenedSession
 pub mod KeyOutcome
+-- ---- the files
+pub mod FileReply
 -- ---- what each key does
 pub mod TypedLine
 pub mod CursorKeys
 pub mod EditCommands
 pub mod ClipCommands
 pub mod ElideCommand
+pub mod FileCommands
 pub mod TextStanding
 pub mod EnteredLine
 pub mod Press
 pub mod MemoryTaken
+pub mod KeyRequest
 -- ---- the screen of a session
 pub mod SessionScreen
 -- ---- the session in the code

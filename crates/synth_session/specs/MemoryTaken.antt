@@ -1,4 +1,4 @@
--- Which keys take memory.
+-- Which keys take memory, their own or that of the files.
 use Rattle.std.specs.Prelude.{Bool, true, false, ◌==◌, if◌then◌else◌, length, is_some, Ok, Err}
 use Rattle.session_edit.specs.Here.{category_at}
 use Rattle.session_words.specs.CommandLine.{begins_with_point, command_of}
@@ -8,7 +8,8 @@ use Rattle.synth_session.specs.declared.key.Key.TheVariants.{Enter}
 use Rattle.synth_session.specs.EnteredLine.{is_unbuilt}
 use Rattle.synth_session.specs.PlainSession.{PlainSession}
 
--- whether a command takes memory: those that edit the program, and those of clips
+-- whether a command takes memory: those that edit the program, those of clips, and those of files do; saving takes none of
+-- its own, but the files may want some
 abbrev pub command_takes_memory : PlainCommand → Bool
 command_takes_memory (PlainCommand.template template) = true
 command_takes_memory PlainCommand.before = true
@@ -17,6 +18,8 @@ command_takes_memory PlainCommand.del = true
 command_takes_memory (PlainCommand.cut name) = true
 command_takes_memory (PlainCommand.copy name) = true
 command_takes_memory (PlainCommand.insert name) = true
+command_takes_memory (PlainCommand.save file) = true
+command_takes_memory (PlainCommand.load file) = true
 command_takes_memory _ = false
 
 -- whether a line takes memory that is this command, or none

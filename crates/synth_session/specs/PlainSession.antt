@@ -6,7 +6,8 @@ use Rattle.clip_store.specs.PlainClips.{Pair}
 use Rattle.synth_session.specs.Extent.{Extent}
 
 -- all that the screen and the next key depend on: the screen's size, the program, the stop of the cursor, the number of
--- the window's first line, the typed line, the clips, and the text of the message; lists have no room in it
+-- the window's first line, the typed line, the clips, the bytes of the program's input, and the text of the message; lists
+-- have no room in it
 pub record PlainSession : Type 0 where
   pub size : Extent
   pub tree : PlainTree
@@ -14,4 +15,5 @@ pub record PlainSession : Type 0 where
   pub top : ℕ
   pub typed : List ℕ
   pub clips : List Pair
+  pub input : List ℕ
   pub message : List ℕ

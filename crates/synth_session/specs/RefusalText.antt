@@ -7,6 +7,7 @@ use Rattle.session_words.specs.declared.message.Message.{Message}
 use Rattle.session_words.specs.declared.message.RefusalMessage.TheVariants as words
 use Rattle.session_words.specs.Message.{message_text}
 use Rattle.template_tree.specs.declared.tree_fault.TreeFault.{TreeFault}
+use Rattle.file_store.specs.declared.refusal.FileRefusal.{FileRefusal}
 use Rattle.synth_session.specs.declared.answer.ClipRefusal.{ClipRefusal}
 use Rattle.synth_session.specs.declared.answer.Refusal.{Refusal}
 use Rattle.synth_session.specs.declared.answer.Refusal.TheVariants as why
@@ -17,6 +18,16 @@ phrase_message (fault.Syntax place) = Some (Message.Refusal (words.SyntaxAt plac
 phrase_message (fault.NumberTooLarge place) = Some (Message.Refusal (words.NumberTooLargeAt place))
 phrase_message (fault.TooDeep place) = Some (Message.Refusal (words.PhraseTooDeepAt place))
 phrase_message fault.OutOfMemory = None
+
+-- the message for a file that is refused; want of memory has none
+abbrev pub file_message : FileRefusal → Option Message
+file_message FileRefusal.NoFile = Some (Message.Refusal words.NoFile)
+file_message FileRefusal.FileFault = Some (Message.Refusal words.FileFault)
+file_message (FileRefusal.NotAListing line) = Some (Message.Refusal (words.NotAListing line))
+file_message FileRefusal.TooDeep = Some (Message.Refusal words.FileTooDeep)
+file_message FileRefusal.TooLarge = Some (Message.Refusal words.FileTooLarge)
+file_message FileRefusal.TooLong = Some (Message.Refusal words.FileTooLong)
+file_message FileRefusal.OutOfMemory = None
 
 -- the message for a program past a limit; want of memory has none
 abbrev pub tree_message : TreeFault → Option Message
@@ -33,6 +44,7 @@ refusal_message why.NotHere = Some (Message.Refusal words.NotHere)
 refusal_message (why.Phrase fault) = phrase_message fault
 refusal_message (why.Clip ClipRefusal.NoClip) = Some (Message.Refusal words.NoClip)
 refusal_message (why.Clip ClipRefusal.Full) = Some (Message.Refusal words.ClipsFull)
+refusal_message (why.File refusal) = file_message refusal
 refusal_message (why.Tree fault) = tree_message fault
 refusal_message why.WrongArgument = Some (Message.Refusal words.WrongArgument)
 refusal_message why.PhraseFull = Some (Message.Refusal words.PhraseFull)

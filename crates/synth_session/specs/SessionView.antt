@@ -15,6 +15,7 @@ use Rattle.synth_session.specs.declared.answer.Answer.{Answer}
 use Rattle.synth_session.specs.declared.program.Dependents.{Dependents}
 use Rattle.synth_session.specs.declared.program.Program.{Program}
 use Rattle.synth_session.specs.declared.session.Session.{Session}
+use Rattle.synth_session.specs.FileReply.{FilesDo, PlainFiles, Reply, Request}
 use Rattle.synth_session.specs.KeyOutcome.{KeyOutcome}
 use Rattle.synth_session.specs.PlainSession.{PlainSession}
 use Rattle.synth_session.specs.RefusalText.{shown_message}
@@ -28,6 +29,7 @@ plain_session s = record {
   top = s.top;
   typed = s.typed.items;
   clips = roomless_pairs s.clips.pairs;
+  input = s.input;
   message = shown_message s.message;
 }
 
@@ -77,3 +79,10 @@ pub record Does {W : Type 0} (may_take_memory : Bool) (outcome : KeyOutcome) (be
   pub session : IsSession now
   pub screens : now.screens ≡ before.screens
   pub met : Meets may_take_memory outcome (plain_session before) (plain_session now) result
+
+-- a key that asked this of the files did this, by what they replied, as far as memory allows
+pub record DoesByReply {W : Type 0} (may_take_memory : Bool) (request : Request) (outcome : Reply → KeyOutcome)
+    (before now : Session W) (files_before files_now : PlainFiles) (result : Result Answer OutOfMemory) : Type 0 where
+  pub reply : Reply
+  pub files : FilesDo request reply files_before files_now result
+  pub does : Does may_take_memory (outcome reply) before now result

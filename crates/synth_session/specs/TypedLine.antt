@@ -2,11 +2,11 @@
 use Rattle.std.specs.Prelude.{ℕ, ◌-◌, ◌==◌, nat_lt, if◌then◌else◌, [], ◌∷◌, ◌++◌, length, take, Option, Some, None, option_and_then}
 use Rattle.plcs_grammar.specs.Canon.{Canon}
 use Rattle.plcs_grammar.specs.PlainPhrase.{PlainPhrase}
+use Rattle.template_tree.specs.Part.{part_at}
 use Rattle.template_tree.specs.Path.{node_at}
 use Rattle.template_tree.specs.PlainTree.{PlainTree}
 use Rattle.template_tree.specs.Stop.{PlainStop}
 use Rattle.screen_window.specs.LowerRows.{cursor_part}
-use Rattle.session_edit.specs.Here.{phrase_in}
 use Rattle.synth_session.specs.declared.answer.Refusal.TheVariants as why
 use Rattle.synth_session.specs.declared.typed_line.TheConstants.{LINE_LIMIT}
 use Rattle.synth_session.specs.KeyOutcome.{KeyOutcome, acceptance_outcome, refusal_outcome}
@@ -29,7 +29,7 @@ line_cleared s = acceptance_outcome (record s { typed = [] })
 -- the phrase at the cursor: the one in the part at which it stands, or of the assignment on which it stands
 unfoldable pub cursor_phrase : PlainTree → PlainStop → Option PlainPhrase
 cursor_phrase tree stop =
-    option_and_then (λ node. option_and_then (λ part. phrase_in part node) (cursor_part node.label.kind stop.part))
+    option_and_then (λ node. option_and_then (λ part. part_at node.label.parts part) (cursor_part node.label.kind stop.part))
     (node_at tree.items stop.path)
 
 -- the canonical text of a phrase comes into the line, where there is a phrase and the line has room for it

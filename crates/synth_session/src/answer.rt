@@ -1,7 +1,8 @@
 //! What becomes of keys.
 ghost use Rattle.std.specs.Prelude.{◌≡◌};
-ghost use Rattle.synth_session.specs.RefusalText.{phrase_message, refusal_message, tree_message};
+ghost use Rattle.synth_session.specs.RefusalText.{file_message, phrase_message, refusal_message, tree_message};
 
+use file_store::FileRefusal;
 use phrase_parser::PhraseFault;
 use session_words::{Message, RefusalMessage};
 use template_tree::TreeFault;
@@ -37,6 +38,8 @@ pub enum Refusal {
     Phrase(PhraseFault),
     /// No clip has the name, or the clips are full.
     Clip(ClipRefusal),
+    /// The file can't be saved or loaded. `OutOfMemory` is no refusal: `press` answers it itself.
+    File(FileRefusal),
     /// The program would be past a limit. `NotHere` isn't among these, and `OutOfMemory` is no refusal.
     Tree(TreeFault),
     /// The command has an argument that it doesn't take, or lacks one.
@@ -71,6 +74,7 @@ impl Refusal {
             Refusal::Phrase(fault) => return phrase_message(fault),
             Refusal::Clip(ClipRefusal::NoClip) => RefusalMessage::NoClip,
             Refusal::Clip(ClipRefusal::Full) => RefusalMessage::ClipsFull,
+            Refusal::File(refusal) => return file_message(refusal),
             Refusal::Tree(fault) => return tree_message(fault),
             Refusal::WrongArgument => RefusalMessage::WrongArgument,
             Refusal::PhraseFull => RefusalMessage::PhraseFull,
@@ -90,6 +94,21 @@ fn phrase_message(fault: PhraseFault) -> Option<Message>
         PhraseFault::NumberTooLarge(place) => RefusalMessage::NumberTooLargeAt(place),
         PhraseFault::TooDeep(place) => RefusalMessage::PhraseTooDeepAt(place),
         PhraseFault::OutOfMemory => return None,
+    }))
+}
+
+/// The message that is shown for a file that is refused; want of memory has none.
+fn file_message(refusal: FileRefusal) -> Option<Message>
+    ensures { result ≡ file_message refusal }
+{
+    Some(Message::Refusal(match refusal {
+        FileRefusal::NoFile => RefusalMessage::NoFile,
+        FileRefusal::FileFault => RefusalMessage::FileFault,
+        FileRefusal::NotAListing(line) => RefusalMessage::NotAListing(line),
+        FileRefusal::TooDeep => RefusalMessage::FileTooDeep,
+        FileRefusal::TooLarge => RefusalMessage::FileTooLarge,
+        FileRefusal::TooLong => RefusalMessage::FileTooLong,
+        FileRefusal::OutOfMemory => return None,
     }))
 }
 

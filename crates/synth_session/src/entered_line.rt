@@ -5,14 +5,16 @@ ghost use Rattle.std.specs.Str.{bytes_eq};
 ghost use Rattle.plcs_grammar.specs.Canon.{IsWellFormed};
 ghost use Rattle.plcs_grammar.specs.PlainPhrase.{category_of, plain_phrase};
 ghost use Rattle.phrase_parser.specs.Standing.{Standing};
-ghost use Rattle.session_words.specs.CommandLine.{begins_with_point, command_of};
+ghost use Rattle.session_words.specs.CommandLine.{begins_with_point};
 ghost use Rattle.session_words.specs.PlainCommand.{plain_command};
 ghost use Rattle.session_edit.specs.Here.{category_at};
 ghost use Rattle.synth_session.specs.EnteredLine.{command_line_outcome, command_outcome, is_unbuilt, line_entered, text_entered, unbuilt_words};
+ghost use Rattle.synth_session.specs.FileReply.{Reply, Request};
+ghost use Rattle.synth_session.specs.KeyRequest.{command_line_request, command_request, line_request};
 ghost use Rattle.synth_session.specs.MemoryTaken.{command_line_takes_memory, command_takes_memory, line_takes_memory};
 ghost use Rattle.synth_session.specs.Private.TextFault.{IsFaultOf};
 ghost use Rattle.synth_session.specs.TextStanding.{standing_of};
-ghost use Rattle.synth_session.specs.SessionView.{Does, IsSession, plain_session};
+ghost use Rattle.synth_session.specs.SessionView.{Does, DoesByReply, IsSession, plain_session};
 
 use crate::answer::{Answer, Refusal};
 use crate::session::Session;
@@ -24,13 +26,22 @@ use plcs_grammar::{Category, Phrase, shown_len};
 use session_edit::{Edit, wanted};
 use session_words::{Command, CommandFault, begins_with_point, command_word, read_command};
 use std::alloc::Global;
+use synth_outside::Files;
 use template_tree::{LONGEST_PHRASE, Side};
 
 impl<W: Work> Session<W> {
     /// Does what the typed line asks for.
-    pub(crate) fn enter(&mut self, alloc: Global, work: &mut W) -> Result<Answer, OutOfMemory>
+    pub(crate) fn enter<F: Files>(
+        &mut self,
+        alloc: Global,
+        files: &mut F,
+        work: &mut W,
+    ) -> Result<Answer, OutOfMemory>
         requires session { IsSession self.old }
-        ensures does { Does (line_takes_memory (plain_session self.old)) (line_entered (plain_session self.old)) self.old self.new result }
+        ensures does { DoesByReply (line_takes_memory (plain_session self.old)) (line_request (plain_session self.old)) (line_entered (plain_session self.old))
+            self.old self.new
+            (record { stored = F.stored files.old; faults = F.faults files.old; wants = F.wants files.old })
+            (record { stored = F.stored files.new; faults = F.faults files.new; wants = F.wants files.new }) result }
         ensures checks { W.checked work.old ≤ W.checked work.new }
         ensures emitted { W.emitted work.new ≡ W.emitted work.old }
         ensures fetched { W.fetched work.new ≡ W.fetched work.old }
@@ -42,23 +53,27 @@ impl<W: Work> Session<W> {
         let mut line: ArrayVec<u8, LINE_LIMIT> = ArrayVec::new();
         let _ = line.try_extend_from_slice(&self.typed);
         if begins_with_point(&line) {
-            self.enter_command(alloc, &line, work)
+            self.enter_command(alloc, &line, files, work)
         } else {
             self.enter_text(alloc, work)
         }
     }
 
     /// Does what the command line asks for, which is the typed line.
-    fn enter_command(
+    fn enter_command<F: Files>(
         &mut self,
         alloc: Global,
         line: &[u8],
+        files: &mut F,
         work: &mut W,
     ) -> Result<Answer, OutOfMemory>
         requires session { IsSession self.old }
         requires line { line.now ≡ self.old.typed.items }
         requires point { IsTrue (begins_with_point line.now) }
-        ensures does { Does (command_line_takes_memory (plain_session self.old)) (command_line_outcome (plain_session self.old)) self.old self.new result }
+        ensures does { DoesByReply (command_line_takes_memory (plain_session self.old)) (command_line_request (plain_session self.old)) (command_line_outcome (plain_session self.old))
+            self.old self.new
+            (record { stored = F.stored files.old; faults = F.faults files.old; wants = F.wants files.old })
+            (record { stored = F.stored files.new; faults = F.faults files.new; wants = F.wants files.new }) result }
         ensures checks { W.checked work.old ≤ W.checked work.new }
         ensures emitted { W.emitted work.new ≡ W.emitted work.old }
         ensures fetched { W.fetched work.new ≡ W.fetched work.old }
@@ -68,13 +83,15 @@ impl<W: Work> Session<W> {
             return Ok(self.refuse(Refusal::NotBuilt));
         }
         match read_command(line) {
+            Ok(Command::Save(name)) => self.save(name, files),
+            Ok(Command::Load(name)) => self.load(alloc, name, files, work),
             Ok(command) => self.obey(alloc, command, work),
             Err(CommandFault::UnknownCommand) => Ok(self.refuse(Refusal::UnknownCommand)),
             Err(CommandFault::WrongArgument) => Ok(self.refuse(Refusal::WrongArgument)),
         }
     }
 
-    /// Does what a command asks for.
+    /// Does what a command asks for that asks nothing of the files.
     fn obey(
         &mut self,
         alloc: Global,
@@ -82,7 +99,8 @@ impl<W: Work> Session<W> {
         work: &mut W,
     ) -> Result<Answer, OutOfMemory>
         requires session { IsSession self.old }
-        ensures does { Does (command_takes_memory (plain_command command.entry)) (command_outcome (plain_session self.old) (plain_command command.entry)) self.old self.new result }
+        requires unasked { command_request (plain_session self.old) (plain_command command) ≡ Request.Nothing }
+        ensures does { Does (command_takes_memory (plain_command command.entry)) (command_outcome (plain_session self.old) (plain_command command.entry) Reply.NotAsked) self.old self.new result }
         ensures checks { W.checked work.old ≤ W.checked work.new }
         ensures emitted { W.emitted work.new ≡ W.emitted work.old }
         ensures fetched { W.fetched work.new ≡ W.fetched work.old }
@@ -101,6 +119,7 @@ impl<W: Work> Session<W> {
             Command::Top => Ok(self.go_to_top()),
             Command::Bottom => Ok(self.go_to_bottom()),
             Command::Quit => Ok(Answer::Quit),
+            Command::Save(_) | Command::Load(_) => unreachable!(),
             _ => Ok(self.refuse(Refusal::NotBuilt)),
         }
     }
@@ -141,8 +160,8 @@ fn read_phrase(alloc: Global, category: Category, text: &[u8]) -> Result<Phrase,
 }
 
 /// The words of the commands that aren't built yet.
-const UNBUILT_WORDS: [&[u8]; 9] = [
-    b"run", b"step", b"resume", b"back", b"trace", b"input", b"save", b"load", b"code",
+const UNBUILT_WORDS: [&[u8]; 7] = [
+    b"run", b"step", b"resume", b"back", b"trace", b"input", b"code",
 ];
 
 /// Whether a line that begins with a point is that of a command which isn't built yet.

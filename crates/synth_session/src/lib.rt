@@ -8,9 +8,13 @@ mod cursor_keys;
 mod edit_commands;
 mod elide_command;
 mod entered_line;
+mod file_commands;
+#[cfg(test)]
+mod file_tests;
 mod key;
 mod press;
 mod program;
+mod program_input;
 mod screens;
 mod session;
 mod session_screen;

@@ -1,8 +1,9 @@
 //! Keys pressed.
 ghost use Rattle.std.specs.Prelude.{◌≡◌, ◌≤◌};
+ghost use Rattle.synth_session.specs.KeyRequest.{request};
 ghost use Rattle.synth_session.specs.MemoryTaken.{key_takes_memory};
 ghost use Rattle.synth_session.specs.Press.{RefusedKeysChangeTheMessage, press};
-ghost use Rattle.synth_session.specs.SessionView.{Does, IsSession, plain_session};
+ghost use Rattle.synth_session.specs.SessionView.{DoesByReply, IsSession, plain_session};
 ghost use Rattle.synth_session.specs.TextStanding.{TextsStandSo};
 
 use crate::answer::{Answer, Refusal};
@@ -10,14 +11,24 @@ use crate::key::Key;
 use crate::session::Session;
 use plcs_base::{OutOfMemory, Work};
 use std::alloc::Global;
+use synth_outside::Files;
 
 impl<W: Work> Session<W> {
-    /// Does what a key asks for. Where memory runs out, the session is as it was. Only checks of phrases are
-    /// counted.
+    /// Does what a key asks for, with the files where it asks something of them. Where memory runs out, the
+    /// session and the map of the files are as they were. Only checks of phrases are counted.
     #[tactic(auto, unfolding(crate::specs::Press::press))]
-    pub fn press(&mut self, alloc: Global, key: Key, work: &mut W) -> Result<Answer, OutOfMemory>
+    pub fn press<F: Files>(
+        &mut self,
+        alloc: Global,
+        key: Key,
+        files: &mut F,
+        work: &mut W,
+    ) -> Result<Answer, OutOfMemory>
         requires { IsSession self.old }
-        ensures pressed { Does (key_takes_memory (plain_session self.old) key) (press (plain_session self.old) key) self.old self.new result }
+        ensures pressed { DoesByReply (key_takes_memory (plain_session self.old) key) (request (plain_session self.old) key) (press (plain_session self.old) key)
+            self.old self.new
+            (record { stored = F.stored files.old; faults = F.faults files.old; wants = F.wants files.old })
+            (record { stored = F.stored files.new; faults = F.faults files.new; wants = F.wants files.new }) result }
         ensures checks { W.checked work.old ≤ W.checked work.new }
         ensures emitted { W.emitted work.new ≡ W.emitted work.old }
         ensures fetched { W.fetched work.new ≡ W.fetched work.old }
@@ -25,7 +36,7 @@ impl<W: Work> Session<W> {
     {
         match key {
             Key::Char(byte) => Ok(self.type_char(byte)),
-            Key::Enter => self.enter(alloc, work),
+            Key::Enter => self.enter(alloc, files, work),
             Key::Erase => Ok(self.erase()),
             Key::Clear => Ok(self.clear()),
             Key::Tab => Ok(self.type_phrase()),
@@ -38,7 +49,7 @@ impl<W: Work> Session<W> {
     }
 }
 
-/// The law of refused keys: such a key changes the message alone.
+/// The law of refused keys: such a key changes the message alone, whatever the files reply.
 pub fn refused_keys_change_the_message()
     ensures { RefusedKeysChangeTheMessage }
 {}

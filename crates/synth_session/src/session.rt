@@ -1,13 +1,15 @@
-//! The session: the program that is edited, with the cursor, the window, the typed line and the clips.
-ghost use Rattle.std.specs.Prelude.{◌≡◌, ◌≤◌, [], ◌∷◌, None, IfOk, IfSome, option_map};
+//! The session: the program that is edited, with the cursor, the window, the typed line, the clips and the
+//! program's input.
+ghost use Rattle.std.specs.Prelude.{◌≡◌, ◌≤◌, [], ◌∷◌, None, IfOk, IfSome, length, option_map};
 ghost use Rattle.plcs_base.specs.Put.{PutsAll};
 ghost use Rattle.template_tree.specs.Listing.{Listing};
 ghost use Rattle.template_tree.specs.PlainTree.{roomless_tree};
 ghost use Rattle.template_tree.specs.Slots.{count};
 ghost use Rattle.template_tree.specs.Stop.{IsStop, plain_stop};
 ghost use Rattle.template_tree.specs.Tree.{IsTree};
+ghost use Rattle.file_store.specs.Limit.{longest_input};
 ghost use Rattle.screen_window.specs.PlainGrid.{blank_grid};
-ghost use Rattle.synth_session.specs.KeyOutcome.{acceptance_outcome, line_acceptance_outcome, refusal_outcome};
+ghost use Rattle.synth_session.specs.KeyOutcome.{acceptance_outcome, line_acceptance_outcome, line_notice_outcome, refusal_outcome};
 ghost use Rattle.synth_session.specs.OpenedSession.{new_tree, opened_session, session_over, stop_at_first};
 ghost use Rattle.synth_session.specs.RefusalText.{refusal_text};
 ghost use Rattle.synth_session.specs.Private.MemorylessKey.{HasOutcome};
@@ -15,6 +17,7 @@ ghost use Rattle.synth_session.specs.SessionView.{Agrees, IsPlaced, IsSession, n
 
 use crate::answer::{Answer, Refusal, Tick};
 use crate::program::Program;
+use crate::program_input::ProgramInput;
 use crate::screens::Screens;
 use crate::size::ScreenSize;
 use crate::typed_line::LINE_LIMIT;
@@ -23,7 +26,7 @@ use arrayvec::ArrayVec;
 use clip_store::Clips;
 use cursor_moves::top;
 use plcs_base::{ByteOut, OutOfMemory, Work};
-use session_words::Message;
+use session_words::{Message, Notice};
 use std::alloc::Global;
 use template_tree::{Path, Stop, Tree, room_is_not_shown};
 
@@ -36,24 +39,28 @@ pub struct Session<W> {
     pub(crate) top: u32,
     pub(crate) typed: ArrayVec<u8, LINE_LIMIT>,
     pub(crate) clips: Clips,
+    pub(crate) input: ProgramInput,
     pub(crate) message: Option<Message>,
     pub(crate) screens: Screens,
 }
 
 impl<W: Work> Session<W> {
-    /// A session over the program, or over a new one, on a screen of this size. The cursor stands at the
-    /// new program's hole for a statement, or at main of a program that is given. Both screens are blank.
+    /// A session over the program, or over a new one, on a screen of this size, with this input of the
+    /// program. The cursor stands at the new program's hole for a statement, or at main of a program that is
+    /// given. Both screens are blank.
     /// Each phrase of the program is counted as checked once at most.
     #[tactic(auto, unfolding(crate::specs::OpenedSession::opened_session))]
     pub fn open(
         alloc: Global,
         size: ScreenSize,
         tree: Option<Tree>,
+        input: Vec<u8>,
         work: &mut W,
     ) -> Result<Session<W>, OutOfMemory>
         requires tree { IfSome tree IsTree }
+        requires input { length input.items ≤ longest_input }
         ensures session { IfOk result (λ session. IsSession session) }
-        ensures opened { IfOk result (λ session. plain_session session ≡ opened_session size (option_map roomless_tree tree)) }
+        ensures opened { IfOk result (λ session. plain_session session ≡ opened_session size (option_map roomless_tree tree) input.items) }
         ensures shown { IfOk result (λ session. shown_grid session ≡ blank_grid size.rows size.cols) }
         ensures next { IfOk result (λ session. next_grid session ≡ blank_grid size.rows size.cols) }
         ensures checks { W.checked work.old ≤ W.checked work.new }
@@ -64,27 +71,29 @@ impl<W: Work> Session<W> {
         match tree {
             Some(tree) => {
                 let stop = top(&tree);
-                Session::begin(alloc, size, tree, stop, work)
+                Session::begin(alloc, size, tree, stop, input, work)
             }
             None => {
                 let tree = new_tree(alloc)?;
-                Session::begin(alloc, size, tree, new_stop(), work)
+                Session::begin(alloc, size, tree, new_stop(), input, work)
             }
         }
     }
 
-    /// A session over the tree, with the cursor at the stop.
+    /// A session over the tree, with the cursor at the stop, and with this input.
     fn begin(
         alloc: Global,
         size: ScreenSize,
         tree: Tree,
         stop: Stop,
+        input: Vec<u8>,
         work: &mut W,
     ) -> Result<Session<W>, OutOfMemory>
         requires tree { IsTree tree }
         requires stop { IsStop (roomless_tree tree).items (plain_stop stop) }
+        requires input { length input.items ≤ longest_input }
         ensures session { IfOk result (λ session. IsSession session) }
-        ensures opened { IfOk result (λ session. plain_session session ≡ session_over size (roomless_tree tree) (plain_stop stop)) }
+        ensures opened { IfOk result (λ session. plain_session session ≡ session_over size (roomless_tree tree) (plain_stop stop) input.items) }
         ensures shown { IfOk result (λ session. shown_grid session ≡ blank_grid size.rows size.cols) }
         ensures next { IfOk result (λ session. next_grid session ≡ blank_grid size.rows size.cols) }
         ensures checks { W.checked work.old ≤ W.checked work.new }
@@ -101,6 +110,7 @@ impl<W: Work> Session<W> {
             top: 0,
             typed: ArrayVec::new(),
             clips,
+            input: ProgramInput::new(input),
             message: None,
             screens,
         };
@@ -182,6 +192,17 @@ impl<W: Work> Session<W> {
     {
         self.typed.clear();
         self.accept()
+    }
+
+    /// Ends a key that took the whole typed line, and tells this.
+    pub(crate) fn accept_line_with(&mut self, notice: Notice) -> Answer
+        requires agrees { Agrees self.old.program }
+        requires placed { IsPlaced (plain_session self.old) }
+        ensures { HasOutcome (line_notice_outcome (plain_session self.old) notice) self.old self.new result }
+    {
+        let answer = self.accept_line();
+        self.message = Some(Message::Notice(notice));
+        answer
     }
 }
 

@@ -9,7 +9,7 @@ use plcs_base::{ByteOut, Counts, Slot};
 use screen_window::{Grid, Terminal};
 use std::alloc::Global;
 use std::test::Fail;
-use synth_outside::MemSink;
+use synth_outside::{MemFiles, MemSink};
 use template_tree::TreeFault;
 
 /// The bytes that stand for keys which are no printable byte.
@@ -46,21 +46,33 @@ fn key_of(byte: u8) -> Key {
 }
 
 /// A session over a new program.
-fn opened(alloc: Global) -> Result<Session<Counts>, Fail>
+pub(crate) fn opened(alloc: Global) -> Result<Session<Counts>, Fail>
     ensures session { IfOk result (λ session. IsSession session) }
     ensures shown { IfOk result (λ session. shown_grid session ≡ blank_grid 12 40) }
 {
     let mut work = Counts::default();
-    let Ok(session) = Session::open(alloc, ScreenSize::new(12, 40), None, &mut work) else {
+    let Ok(session) = Session::open(
+        alloc,
+        ScreenSize::new(12, 40),
+        None,
+        Vec::new(alloc),
+        &mut work,
+    ) else {
         return Err(Fail::from("a session"));
     };
     Ok(session)
 }
 
+/// Files in memory of which there is none yet.
+pub(crate) fn no_files(alloc: Global) -> MemFiles {
+    MemFiles::new(alloc, Vec::new(alloc))
+}
+
 /// Presses keys, and tells what the last of them answers, or this where there is none.
-fn press_all(
+pub(crate) fn press_all(
     alloc: Global,
     session: &mut Session<Counts>,
+    files: &mut MemFiles,
     keys: &[u8],
     before: Answer,
 ) -> Result<Answer, Fail>
@@ -72,9 +84,9 @@ fn press_all(
     };
     let mut work = Counts::default();
     let answer = session
-        .press(alloc, key_of(*byte), &mut work)
+        .press(alloc, key_of(*byte), files, &mut work)
         .map_err(|_| "memory")?;
-    press_all(alloc, session, rest, answer)
+    press_all(alloc, session, files, rest, answer)
 }
 
 /// Some keys, what the last of them answers in the session that the rows before left, and how many slots
@@ -82,7 +94,7 @@ fn press_all(
 type Row = (&'static [u8], Answer, u32);
 
 /// Each row's keys are pressed behind those of the rows before it.
-const ROWS: [Row; 24] = [
+static ROWS: [Row; 24] = [
     (b".put 1\r", Answer::Refused(Refusal::WrongArgument), 4),
     (b"\x08\x08\r", Answer::Done, 4),
     (b"(1+2)*3\r", Answer::Done, 4),
@@ -134,7 +146,8 @@ fn comes_so(alloc: Global, session: &mut Session<Counts>, row: &Row) -> Result<b
     requires { IsSession session.old }
     ensures { IsSession session.new }
 {
-    let answer = press_all(alloc, session, row.0, Answer::Done)?;
+    let mut files = no_files(alloc);
+    let answer = press_all(alloc, session, &mut files, row.0, Answer::Done)?;
     Ok(answer == row.1 && session.slots() == row.2)
 }
 
@@ -197,7 +210,9 @@ fn is_listed(session: &Session<Counts>, wanted: &'static [u8]) -> bool
 #[test]
 fn parentheses_are_kept_in_the_listing(rt: HostRuntime) -> Result<(), Fail> {
     let mut session = opened(rt.alloc())?;
-    let _ = press_all(rt.alloc(), &mut session, b".put\r(1+2)*3\r", Answer::Done)?;
+    let mut files = no_files(rt.alloc());
+    let keys = b".put\r(1+2)*3\r";
+    let _ = press_all(rt.alloc(), &mut session, &mut files, keys, Answer::Done)?;
     assert!(rt;
         is_listed(
             &session,
@@ -228,7 +243,7 @@ fn a_refusal_is_shown_and_painted(rt: HostRuntime) -> Result<(), Fail> {
 type SlotRow = (&'static [u8], u32, &'static [u32]);
 
 /// A copy is inserted after a node and a hole before it, and the hole is deleted; its slot isn't drawn again.
-const COPIED: [SlotRow; 10] = [
+static COPIED: [SlotRow; 10] = [
     (b".put\r1\r\x03.copy\r.after\r.insert\r", 2, &[0, 1]),
     (b"", 4, &[0, 2]),
     (b"", 5, &[]),
@@ -264,7 +279,8 @@ fn first_misplaced(
     let Some((row, rest)) = rows.split_first() else {
         return Ok(None);
     };
-    let _ = press_all(alloc, session, row.0, Answer::Done)?;
+    let mut files = no_files(alloc);
+    let _ = press_all(alloc, session, &mut files, row.0, Answer::Done)?;
     if !stands_at(session, row.1, row.2) {
         return Ok(Some(k));
     }
@@ -334,8 +350,9 @@ fn other_screen(
         return Ok(None);
     };
     let mut work = Counts::default();
+    let mut files = no_files(alloc);
     let _ = session
-        .press(alloc, key_of(*byte), &mut work)
+        .press(alloc, key_of(*byte), &mut files, &mut work)
         .map_err(|_| "memory")?;
     if !is_painted(alloc, session, terminal)? {
         return Ok(Some(k));

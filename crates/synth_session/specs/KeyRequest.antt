@@ -1,0 +1,37 @@
+-- What each key asks of the files.
+use Rattle.std.specs.Prelude.{◌==◌, if◌then◌else◌, length, Ok, Err}
+use Rattle.session_words.specs.CommandLine.{begins_with_point, command_of}
+use Rattle.session_words.specs.PlainCommand.{PlainCommand, PlainReading}
+use Rattle.template_tree.specs.Listing.{Listing}
+use Rattle.synth_session.specs.declared.key.Key.{Key}
+use Rattle.synth_session.specs.declared.key.Key.TheVariants.{Enter}
+use Rattle.synth_session.specs.EnteredLine.{is_unbuilt}
+use Rattle.synth_session.specs.FileReply.{Request}
+use Rattle.synth_session.specs.PlainSession.{PlainSession}
+
+-- what a command asks of the files: `.save` asks them to save the listing of the program, and `.load` to load one
+abbrev pub command_request : PlainSession → PlainCommand → Request
+command_request s (PlainCommand.save name) = Request.Save name (Listing s.tree.items)
+command_request s (PlainCommand.load name) = Request.Load name
+command_request s _ = Request.Nothing
+
+-- what a line asks that is this command, or none
+abbrev pub reading_request : PlainSession → PlainReading → Request
+reading_request s (Ok command) = command_request s command
+reading_request s (Err fault) = Request.Nothing
+
+-- what a command line asks
+abbrev pub command_line_request : PlainSession → Request
+command_line_request s = if is_unbuilt s.typed then Request.Nothing else reading_request s (command_of s.typed)
+
+-- what the typed line asks where it is entered: phrase text asks nothing
+abbrev pub line_request : PlainSession → Request
+line_request s =
+    if length s.typed == 0
+    then Request.Nothing
+    else (if begins_with_point s.typed then command_line_request s else Request.Nothing)
+
+-- what a key asks of the files: Enter may ask something
+abbrev pub request : PlainSession → Key → Request
+request s Enter = line_request s
+request s _ = Request.Nothing

@@ -1,0 +1,105 @@
+//! The commands of files, and the copy that is saved where memory ran out.
+ghost use Rattle.std.specs.Prelude.{◌≡◌, ◌≤◌, codes, true};
+ghost use Rattle.template_tree.specs.Listing.{Listing};
+ghost use Rattle.template_tree.specs.PlainTree.{roomless_tree};
+ghost use Rattle.template_tree.specs.Tree.{IsTree};
+ghost use Rattle.file_store.specs.Saved.{Saves};
+ghost use Rattle.synth_session.specs.FileCommands.{load_outcome, save_outcome};
+ghost use Rattle.synth_session.specs.FileReply.{Reply, Request};
+ghost use Rattle.synth_session.specs.SessionView.{Does, DoesByReply, IsSession, plain_session};
+
+use crate::answer::{Answer, Refusal};
+use crate::program::Program;
+use crate::session::Session;
+use cursor_moves::top;
+use file_store::{FileRefusal, load, rescue, save};
+use plcs_base::{OutOfMemory, Work};
+use session_words::Notice;
+use std::alloc::Global;
+use synth_outside::Files;
+use template_tree::{Tree, room_is_not_shown};
+
+impl<W: Work> Session<W> {
+    /// Saves the listing of the program under the name. It takes no memory of its own.
+    pub(crate) fn save<F: Files>(
+        &mut self,
+        name: &[u8],
+        files: &mut F,
+    ) -> Result<Answer, OutOfMemory>
+        requires { IsSession self.old }
+        ensures { DoesByReply true (Request.Save name.now (Listing (plain_session self.old).tree.items)) (save_outcome (plain_session self.old))
+            self.old self.new
+            (record { stored = F.stored files.old; faults = F.faults files.old; wants = F.wants files.old })
+            (record { stored = F.stored files.new; faults = F.faults files.new; wants = F.wants files.new }) result }
+    {
+        room_is_not_shown();
+        match save(&self.program.tree, name, files) {
+            Ok(()) => Ok(self.accept_line_with(Notice::Saved)),
+            Err(refusal) => match refusal {
+                FileRefusal::OutOfMemory => Err(OutOfMemory),
+                _ => Ok(self.refuse(Refusal::File(refusal))),
+            },
+        }
+    }
+
+    /// Loads the program of the name in place of the one that is edited.
+    pub(crate) fn load<F: Files>(
+        &mut self,
+        alloc: Global,
+        name: &[u8],
+        files: &mut F,
+        work: &mut W,
+    ) -> Result<Answer, OutOfMemory>
+        requires session { IsSession self.old }
+        ensures does { DoesByReply true (Request.Load name.now) (load_outcome (plain_session self.old))
+            self.old self.new
+            (record { stored = F.stored files.old; faults = F.faults files.old; wants = F.wants files.old })
+            (record { stored = F.stored files.new; faults = F.faults files.new; wants = F.wants files.new }) result }
+        ensures checks { W.checked work.old ≤ W.checked work.new }
+        ensures emitted { W.emitted work.new ≡ W.emitted work.old }
+        ensures fetched { W.fetched work.new ≡ W.fetched work.old }
+        ensures laid { W.laid work.new ≡ W.laid work.old }
+    {
+        room_is_not_shown();
+        match load(alloc, name, files) {
+            Ok(tree) => self.take_program(alloc, tree, work),
+            Err(refusal) => match refusal {
+                FileRefusal::OutOfMemory => Err(OutOfMemory),
+                _ => Ok(self.refuse(Refusal::File(refusal))),
+            },
+        }
+    }
+
+    /// Takes a program in place of the one that is edited, with the cursor at main. All memory is taken
+    /// before anything is changed.
+    fn take_program(
+        &mut self,
+        alloc: Global,
+        tree: Tree,
+        work: &mut W,
+    ) -> Result<Answer, OutOfMemory>
+        requires session { IsSession self.old }
+        requires tree { IsTree tree }
+        ensures does { Does true (load_outcome (plain_session self.old) (Reply.Loaded (roomless_tree tree))) self.old self.new result }
+        ensures checks { W.checked work.old ≤ W.checked work.new }
+        ensures emitted { W.emitted work.new ≡ W.emitted work.old }
+        ensures fetched { W.fetched work.new ≡ W.fetched work.old }
+        ensures laid { W.laid work.new ≡ W.laid work.old }
+    {
+        let program = Program::new(alloc, tree, work)?;
+        self.stop = top(&program.tree);
+        self.program = program;
+        self.top = 0;
+        Ok(self.accept_line())
+    }
+
+    /// Saves the listing of the program under the name `RESCUE`. It takes no memory of its own.
+    pub fn rescue<F: Files>(&self, files: &mut F) -> Result<(), FileRefusal>
+        requires { IsSession self.now }
+        ensures { Saves (codes "RESCUE") (Listing (plain_session self.now).tree.items) result (F.stored files.old) (F.stored files.new)
+            (F.faults files.old) (F.faults files.new) (F.wants files.old) (F.wants files.new) }
+    {
+        room_is_not_shown();
+        rescue(&self.program.tree, files)
+    }
+}
