@@ -13,7 +13,7 @@ use Rattle.synth_kept.specs.Private.Agreement.{Agrees, IsToClear}
 use Rattle.synth_kept.specs.Private.Clearing.{ClearsKeys}
 use Rattle.synth_kept.specs.declared.status.KeptStatus.{KeptStatus}
 use Rattle.synth_kept.specs.declared.status.KeptStatus.TheVariants.{Run}
-use Rattle.synth_outside.specs.Files.{FileMap}
+use Rattle.synth_session.specs.FileReply.{PlainFiles}
 use Rattle.synth_top.specs.declared.status.Status.{Status}
 use Rattle.synth_top.specs.declared.status.Status.TheVariants.{Done}
 use Rattle.synth_top.specs.Options.{PlainOptions}
@@ -65,32 +65,32 @@ pub same_inner : {S D : Type 0} (one other : PlainJournal S D) → one ≡ other
 same_inner {S} {D} one other same = ap (λ (journal : PlainJournal S D). journal.inner) same
 
 -- what is told of this source and these states of the disk, beside what was written, the files and the lines laid
-abbrev pub told_of : {S : Type 0} → (S → Option (List ℕ)) → Option (List ℕ) → Option FileMap → ℕ → ℕ → S → List DiskState →
+abbrev pub told_of : {S : Type 0} → (S → Option (List ℕ)) → Option (List ℕ) → PlainFiles → ℕ → S → List DiskState →
     KeptTold
-told_of left written files file_faults laid source past =
-    record { left = left source; past = past; taken = written; files = files; file_faults = file_faults; laid = laid }
+told_of left written files laid source past =
+    record { left = left source; past = past; taken = written; files = files; laid = laid }
 
 module _ {S : Type 0} (left : S → Option (List ℕ)) (leads_to breaks_at : S → S → Type 0) (keys first last source : S)
     (same_first : first ≡ keys) (same_last : source ≡ last) (words : Option PlainOptions) (run : Status)
-    (origin behind : List DiskState) (written written_after : Option (List ℕ)) (files files_after : Option FileMap)
-    (file_faults file_faults_after laid laid_after : ℕ) (same_outside : Type 0) where
+    (origin behind : List DiskState) (written written_after : Option (List ℕ)) (files files_after : PlainFiles)
+    (laid laid_after : ℕ) (same_outside : Type 0) where
   abbrev pub Editing : Closing → Type 0
   Editing closing =
-      JournalRun words run closing (told_of left written files file_faults laid first origin)
-      (told_of left written_after files_after file_faults_after laid_after last behind) same_outside (leads_to first last) (breaks_at first last)
+      JournalRun words run closing (told_of left written files laid first origin)
+      (told_of left written_after files_after laid_after last behind) same_outside (leads_to first last) (breaks_at first last)
 
   abbrev pub Keeps : KeptStatus → List DiskState → Type 0
   Keeps status past =
-      JournalSession words status (told_of left written files file_faults laid keys origin)
-      (told_of left written_after files_after file_faults_after laid_after source past) same_outside (leads_to keys source) (breaks_at keys source)
+      JournalSession words status (told_of left written files laid keys origin)
+      (told_of left written_after files_after laid_after source past) same_outside (leads_to keys source) (breaks_at keys source)
 
   keeps : (closing : Closing) (editing : Editing closing) (status : KeptStatus) (past : List DiskState) →
       Closes closing run status (kept origin ++ editing.taken) behind past → Keeps status past
   keeps closing editing status past closed =
-      subst (λ (s : S). JournalSession words status (told_of left written files file_faults laid s origin)
-      (told_of left written_after files_after file_faults_after laid_after source past) same_outside (leads_to s source) (breaks_at s source)) same_first
-      (subst (λ (s : S). JournalSession words status (told_of left written files file_faults laid first origin)
-      (told_of left written_after files_after file_faults_after laid_after s past) same_outside (leads_to first s) (breaks_at first s)) (sym same_last)
+      subst (λ (s : S). JournalSession words status (told_of left written files laid s origin)
+      (told_of left written_after files_after laid_after source past) same_outside (leads_to s source) (breaks_at s source)) same_first
+      (subst (λ (s : S). JournalSession words status (told_of left written files laid first origin)
+      (told_of left written_after files_after laid_after s past) same_outside (leads_to first s) (breaks_at first s)) (sym same_last)
       (record { run = run; behind = behind; closing = closing; editing = editing; closed = closed }))
 
   -- the journal stands
@@ -100,8 +100,8 @@ module _ {S : Type 0} (left : S → Option (List ℕ)) (leads_to breaks_at : S �
   -- a run that is done left all keys
   safe_when_done : (closing : Closing) (editing : Editing closing) → run ≡ Done → Newest (LeavesOnly (kept origin ++ editing.taken)) behind
   safe_when_done closing editing done =
-      done_safe words run closing (told_of left written files file_faults laid first origin)
-      (told_of left written_after files_after file_faults_after laid_after last behind) same_outside (leads_to first last) (breaks_at first last) editing done
+      done_safe words run closing (told_of left written files laid first origin)
+      (told_of left written_after files_after laid_after last behind) same_outside (leads_to first last) (breaks_at first last) editing done
 
   -- it was cleared, or couldn't be
   pub keeps_clearing : (given : ℕ) (ended : Bool) → ((closing : Closing) → Agrees closing run given ended → Editing closing) →

@@ -11,11 +11,12 @@ use Rattle.key_journal.specs.Recovered.{kept, recovered}
 use Rattle.synth_kept.specs.Closing.{Closing}
 use Rattle.synth_kept.specs.KeptRun.{AreKeys, JournalRun, KeptTold, TellsBoth, told_editor}
 use Rattle.synth_kept.specs.Private.Agreement.{Agrees}
-use Rattle.synth_outside.specs.Files.{FileMap}
+use Rattle.synth_session.specs.FileReply.{PlainFiles}
 use Rattle.synth_top.specs.declared.status.Status.{Status}
 use Rattle.synth_top.specs.declared.status.Status.TheVariants.{Done, ReadFault, WriteFault, NoMemory, BadWords, KeyLimit}
-use Rattle.synth_top.specs.Run.{Ended, NoneLost, QuitPressed, ReadCut, Told}
+use Rattle.synth_top.specs.Run.{Ended, LeavesSource, NoneLost, NotOpened, QuitPressed, Ran, ReadCut, Told}
 use Rattle.synth_top.specs.Status.{LeftAs}
+use Rattle.synth_top.specs.Loads.{first_state}
 use Rattle.synth_top.specs.Options.{PlainOptions}
 use Rattle.synth_kept.proofs.GivenKeys.{given_all, given_before}
 use Rattle.synth_kept.proofs.Limits.{IsLimited}
@@ -93,15 +94,14 @@ module _ {S D : Type 0} (left : S → Option (List ℕ)) (source_faults : S → 
     (origin : List DiskState)
     (opens : Throughout (LeavesOnly (kept origin)) origin (past first.disk))
     (is_safe : Newest (LeavesOnly (kept origin)) (past first.disk))
-    (written written_after : Option (List ℕ)) (files files_after : Option FileMap)
-    (file_faults file_faults_after laid laid_after : ℕ) where
+    (written written_after : Option (List ℕ)) (files files_after : PlainFiles)
+    (laid laid_after : ℕ) where
   abbrev pub before : KeptTold
   before = record {
     left = left first.inner;
     past = origin;
     taken = written;
     files = files;
-    file_faults = file_faults;
     laid = laid;
   }
 
@@ -111,7 +111,6 @@ module _ {S D : Type 0} (left : S → Option (List ℕ)) (source_faults : S → 
     past = past now.disk;
     taken = written_after;
     files = files_after;
-    file_faults = file_faults_after;
     laid = laid_after;
   }
 
@@ -124,8 +123,8 @@ module _ {S D : Type 0} (left : S → Option (List ℕ)) (source_faults : S → 
   -- the run that `synth` says of
   abbrev pub SynthEnded : Status → PlainOptions → Type 0
   SynthEnded run options = Ended run options
-      (record { left = left_of_both (left first.inner) (past first.disk) first.given; reads = first.reads; taken = written; files = files; file_faults = file_faults; laid = laid })
-      (told_editor after now.given now.reads) Leads Breaks
+      (record { left = left_of_both (left first.inner) (past first.disk) first.given; reads = first.reads; taken = written; laid = laid })
+      (told_editor after now.given now.reads) files files_after Leads Breaks
 
   same : kept (past first.disk) ≡ kept origin
   same = kept_still origin (past first.disk) opens is_safe
@@ -138,22 +137,42 @@ module _ {S D : Type 0} (left : S → Option (List ℕ)) (source_faults : S → 
 
   -- what is told before it, with this left and so many reads
   abbrev told_first : Option (List ℕ) → ℕ → Told
-  told_first bytes reads = record { left = bytes; reads = reads; taken = written; files = files; file_faults = file_faults; laid = laid }
+  told_first bytes reads = record { left = bytes; reads = reads; taken = written; laid = laid }
 
   from_first : (run : Status) (options : PlainOptions) → SynthEnded run options →
-      Ended run options (told_editor before 0 0) (told_editor after now.given now.reads) Leads Breaks
+      Ended run options (told_editor before 0 0) (told_editor after now.given now.reads) files files_after Leads Breaks
   from_first run options ended =
-      subst (λ (bytes : Option (List ℕ)). Ended run options (told_first bytes 0) (told_editor after now.given now.reads) Leads Breaks)
+      subst (λ (bytes : Option (List ℕ)). Ended run options (told_first bytes 0) (told_editor after now.given now.reads) files files_after Leads Breaks)
       (ap (λ (given : ℕ). left_of_both (left first.inner) (past first.disk) given) none_given ∙ left_same)
-      (subst (λ (reads : ℕ). Ended run options (told_first (left_of_both (left first.inner) (past first.disk) first.given) reads) (told_editor after now.given now.reads) Leads Breaks)
+      (subst (λ (reads : ℕ). Ended run options (told_first (left_of_both (left first.inner) (past first.disk) first.given) reads) (told_editor after now.given now.reads) files files_after Leads Breaks)
       none_read ended)
+
+  -- a run that left its source so instead
+  abbrev with_source : (run : Status) (options : PlainOptions) {led broke led_so broke_so : Type 0}
+      (ended : Ran run options (told_editor before 0 0) (told_editor after now.given now.reads) files files_after led broke)
+      → LeavesSource ended.course led_so broke_so
+      → Ran run options (told_editor before 0 0) (told_editor after now.given now.reads) files files_after led_so broke_so
+  with_source run options ended source = record {
+    loads = ended.loads;
+    can_load = ended.can_load;
+    course = ended.course;
+    wants = ended.wants;
+    wants_later = ended.wants_later;
+    stopped = ended.stopped;
+    source = source;
+    rescue = ended.rescue;
+    rescued = ended.rescued;
+    wants_now = ended.wants_now;
+    files = ended.files;
+    faults = ended.faults;
+  }
 
   few_given : first.given ≤ length (kept (past first.disk))
   few_given = omega (arith, none_given)
 
   module _ (run : Status) (options : PlainOptions) (limited : IsLimited options) (closing : Closing)
       (agrees : Agrees closing run now.given now.ended) (same_outside : Type 0)
-      (ended : Ended run options (told_editor before 0 0) (told_editor after now.given now.reads) Leads Breaks) where
+      (ended : Ran run options (told_editor before 0 0) (told_editor after now.given now.reads) files files_after Leads Breaks) where
     -- the bytes that were read, from the disk that was opened
     read_first : Consumes (left_of_both (left first.inner) (past first.disk) 0) (left_of_both (left now.inner) (past now.disk) now.given) (ended.course.bytes ++ ended.course.lost)
     read_first =
@@ -194,11 +213,11 @@ module _ {S D : Type 0} (left : S → Option (List ℕ)) (source_faults : S → 
           edits = record {
             given = now.given;
             reads = now.reads;
-            ended = record { course = ended.course; stopped = ended.stopped; source = inl (leads.source, none_lost); rescued = ended.rescued };
+            ended = inr (with_source run options ended (inl (leads.source, none_lost)));
             keys = are;
             none_lost = λ told. leaves_given (kept origin) leads.taken [] ended.course.bytes (past now.disk) (are told) safe_now;
             quit = λ told.
-                clears_at_quit options limited (told_editor before 0 0) (told_editor after now.given now.reads) ended.course refl
+                clears_at_quit options limited (first_state options files.stored ended.loads) (told_editor before 0 0) (told_editor after now.given now.reads) files.wants ended.wants ended.course refl
                 now.given leads.counts.ends now.ended (given_keys told).1
                 (λ few. let counted = leads.counts.counted few in omega (arith, counted, none_given, none_read))
                 (leads.counts.noted not_ended)
@@ -238,35 +257,91 @@ module _ {S D : Type 0} (left : S → Option (List ℕ)) (source_faults : S → 
           edits = record {
             given = now.given;
             reads = now.reads;
-            ended = record { course = ended.course; stopped = ended.stopped; source = inr (breaks.source, cut); rescued = ended.rescued };
+            ended = inr (with_source run options ended (inr (breaks.source, cut)));
             keys = are;
             none_lost = λ told. leaves_given (kept origin) breaks.taken breaks.last ended.course.bytes (past now.disk) (are told) safe_now;
             quit = λ told. stands_undone (QuitPressed ended.course) run now.given now.ended closing undone agrees;
           };
         }
 
+  -- no session was opened
+  edits_unopened : (run : Status) (options : PlainOptions) (closing : Closing) → Agrees closing run now.given now.ended → (same_outside : Type 0)
+      → NotOpened run (told_editor before 0 0) (told_editor after now.given now.reads) files files_after Leads
+      → JournalRun (Some options) run closing before after same_outside (leads_to first.inner now.inner) (breaks_at first.inner now.inner)
+  edits_unopened run options closing agrees same_outside unopened =
+      let leads = unopened.source in
+      let keeps = leads.keeps few_given safe in
+      let undone : run ≡ Done → ⊥ = λ done. cc (unopened.wanted, done) in
+      let unread : left_of_both (left now.inner) (past now.disk) now.given ≡ left_of_both (left first.inner) (past first.disk) 0 =
+      ap (λ (told : Told). told.left) unopened.same ∙ sym left_same in
+      let read_none : Consumes (left_of_both (left first.inner) (past first.disk) 0) (left_of_both (left now.inner) (past now.disk) now.given) [] =
+      subst (λ (bytes : Option (List ℕ)). Consumes (left_of_both (left first.inner) (past first.disk) 0) bytes []) (sym unread) (Consumes-nil _) in
+      let are : TellsBoth before → AreKeys (kept origin) leads.taken [] [] =
+      λ told. subst (λ (keys : List ℕ). AreKeys keys leads.taken [] []) same
+      (told_all (left first.inner) (left now.inner) (past first.disk) (past now.disk) now.given leads.taken []
+      told.source (still_told _ origin (past first.disk) opens told.disk) leads.consumes keeps read_none).0 in
+      let safe_now : Newest (LeavesOneOf (kept origin ++ leads.taken) []) (past now.disk) =
+      newest_weaker _ _ (past now.disk) (one_of_all (kept origin ++ leads.taken))
+      (subst (λ (keys : List ℕ). Newest (LeavesOnly (keys ++ leads.taken)) (past now.disk)) same keeps.safe) in
+      record {
+        taken = leads.taken;
+        last = [];
+        took = subst (Consumes (left first.inner) (left now.inner)) (sym (append-nil leads.taken)) leads.consumes;
+        few = omega arith;
+        failed = inl refl;
+        each = subst (λ (all : List ℕ). Throughout (LeavesBetween (kept origin) all) origin (past now.disk))
+            (sym (append-nil (kept origin ++ leads.taken)))
+            (from_origin origin (past first.disk) (past now.disk) leads.taken opens same keeps.each);
+        safe = safe_now;
+        edits = record {
+          given = now.given;
+          reads = now.reads;
+          ended = inl (record {
+            wanted = unopened.wanted;
+            same = unopened.same;
+            source = leads.source;
+            stored = unopened.stored;
+            faults = unopened.faults;
+            wants = unopened.wants;
+          });
+          keys = are;
+          none_lost = λ told. leaves_given (kept origin) leads.taken [] [] (past now.disk) (are told) safe_now;
+          quit = λ told. stands_undone ⊥ run now.given now.ended closing undone agrees;
+        };
+      }
+
   -- by how the editor ended
-  edits_by : (run : Status) (options : PlainOptions) → IsLimited options → (closing : Closing) → Agrees closing run now.given now.ended →
-      (same_outside : Type 0) → LeftAs run Leads Breaks → SynthEnded run options →
+  edits_ran : (run : Status) (options : PlainOptions) → IsLimited options → (closing : Closing) → Agrees closing run now.given now.ended →
+      (same_outside : Type 0) → LeftAs run Leads Breaks →
+      Ran run options (told_editor before 0 0) (told_editor after now.given now.reads) files files_after Leads Breaks →
       JournalRun (Some options) run closing before after same_outside (leads_to first.inner now.inner) (breaks_at first.inner now.inner)
-  edits_by Done options limited closing agrees same_outside left_as ended =
-      let e = from_first Done options ended in edits_all Done options limited closing agrees same_outside e left_as e.stopped.1
-  edits_by KeyLimit options limited closing agrees same_outside left_as ended =
-      let e = from_first KeyLimit options ended in edits_all KeyLimit options limited closing agrees same_outside e left_as e.stopped.1
-  edits_by WriteFault options limited closing agrees same_outside left_as ended =
-      let e = from_first WriteFault options ended in edits_all WriteFault options limited closing agrees same_outside e left_as e.stopped.0
-  edits_by ReadFault options limited closing agrees same_outside left_as ended =
-      let e = from_first ReadFault options ended in edits_before ReadFault options limited closing agrees same_outside e left_as e.stopped.1 (inl refl)
-  edits_by NoMemory options limited closing agrees same_outside left_as ended =
-      let e = from_first NoMemory options ended in
+  edits_ran Done options limited closing agrees same_outside left_as e =
+      edits_all Done options limited closing agrees same_outside e left_as e.stopped.1
+  edits_ran KeyLimit options limited closing agrees same_outside left_as e =
+      edits_all KeyLimit options limited closing agrees same_outside e left_as e.stopped.1
+  edits_ran WriteFault options limited closing agrees same_outside left_as e =
+      edits_all WriteFault options limited closing agrees same_outside e left_as e.stopped.0
+  edits_ran ReadFault options limited closing agrees same_outside left_as e =
+      edits_before ReadFault options limited closing agrees same_outside e left_as e.stopped.1 (inl refl)
+  edits_ran NoMemory options limited closing agrees same_outside left_as e =
       elim e.source as (λ _. JournalRun (Some options) NoMemory closing before after same_outside (leads_to first.inner now.inner) (breaks_at first.inner now.inner)) [
         | inl all ↦ edits_all NoMemory options limited closing agrees same_outside e all.0 all.1
         | inr cut ↦ edits_before NoMemory options limited closing agrees same_outside e cut.0 cut.1 (inr refl)
       ]
-  edits_by BadWords options limited closing agrees same_outside left_as ended = absurd ended.stopped
+  edits_ran BadWords options limited closing agrees same_outside left_as e = absurd e.stopped
+
+  edits_by : (run : Status) (options : PlainOptions) → IsLimited options → (closing : Closing) → Agrees closing run now.given now.ended →
+      (same_outside : Type 0) → LeftAs run Leads Breaks → SynthEnded run options →
+      JournalRun (Some options) run closing before after same_outside (leads_to first.inner now.inner) (breaks_at first.inner now.inner)
+  edits_by run options limited closing agrees same_outside left_as ended =
+      elim (from_first run options ended)
+      as (λ _. JournalRun (Some options) run closing before after same_outside (leads_to first.inner now.inner) (breaks_at first.inner now.inner)) [
+        | inl unopened ↦ edits_unopened run options closing agrees same_outside unopened
+        | inr e ↦ edits_ran run options limited closing agrees same_outside left_as e
+      ]
 
   -- words that aren't of the command
-  edits_none : (run : Status) (closing : Closing) (same_outside : Type 0) → run ≡ BadWords → now ≡ first → same_outside →
+  edits_none : (run : Status) (closing : Closing) (same_outside : Type 0) → (run ≡ BadWords) ⊎ (run ≡ NoMemory) → now ≡ first → same_outside →
       JournalRun None run closing before after same_outside (leads_to first.inner now.inner) (breaks_at first.inner now.inner)
   edits_none run closing same_outside refused unread outside = record {
     taken = [];
@@ -288,7 +363,7 @@ module _ {S D : Type 0} (left : S → Option (List ℕ)) (source_faults : S → 
   -- by the words
   pub edits_with : (words : Option PlainOptions) → IfSome words IsLimited → (run : Status) (closing : Closing) →
       Agrees closing run now.given now.ended → (same_outside : Type 0) →
-      (words ≡ None → (run ≡ BadWords) × (now ≡ first) × same_outside) → LeftAs run Leads Breaks →
+      (words ≡ None → ((run ≡ BadWords) ⊎ (run ≡ NoMemory)) × (now ≡ first) × same_outside) → LeftAs run Leads Breaks →
       IfSome words (λ options. SynthEnded run options) →
       JournalRun words run closing before after same_outside (leads_to first.inner now.inner) (breaks_at first.inner now.inner)
   edits_with None limited run closing agrees same_outside bad left_as ended =

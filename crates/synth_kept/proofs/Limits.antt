@@ -1,36 +1,61 @@
 -- How many bytes of keys are taken at most, whatever the words.
-use Rattle.std.proofs.Common.{◌≡◌, ℕ, Bool, true, false, List, [], ◌∷◌, Option, Some, None, refl}
-use Rattle.std.specs.Prelude.{IfSome, ◌&&◌, codes, bytes_eq, if◌then◌else◌}
-use Rattle.std.specs.Option.{option_and_then}
-use Rattle.synth_top.specs.Options.{PlainOptions, options_for, options_of, options_with}
+use Rattle.std.proofs.Common.{◌≡◌, ◌≤◌, ℕ, Bool, true, false, List, Option, Some, None, refl, arith}
+use Rattle.std.proofs.lemmas.Bool.{leb-true}
+use Rattle.std.specs.Prelude.{IfSome, ◌&&◌, nat_le, if◌then◌else◌, option_and_then}
+use Rattle.screen_window.specs.declared.limit.TheConstants.{FEWEST_ROWS, MOST_ROWS, FEWEST_COLS, MOST_COLS}
+use Rattle.synth_top.specs.Given.{PlainGiven, given_in}
+use Rattle.synth_top.specs.Number.{is_number, number_in_digits, value_of}
+use Rattle.synth_top.specs.Options.{PlainOptions, count_given, is_name_given, options_of, options_with}
 
--- these options have the limit
+-- these options have no greater limit
 abbrev pub IsLimited : PlainOptions → Type 0
-IsLimited options = options.key_limit ≡ 1000000000
+IsLimited options = options.key_limit ≤ 1000000000
 
-tested : (test : Bool) (options : Option PlainOptions) → IfSome options IsLimited →
-    IfSome (if test then options else None) IsLimited
-tested true options limited = limited
-tested false options limited = tt
+-- what may be made of a value that may be there
+and_then_all : {X Y : Type 0} (o : Option X) (f : X → Option Y) (P : Y → Type 0) → ((x : X) → IfSome (f x) P) → IfSome (option_and_then f o) P
+and_then_all None f P all = tt
+and_then_all (Some x) f P all = all x
 
-of_cols : (rows : ℕ) (cols : Option ℕ) →
-    IfSome (option_and_then (λ c. Some (options_for (record { rows = rows; cols = c }))) cols) IsLimited
-of_cols rows None = tt
-of_cols rows (Some cols) = refl
+and_then_some : {X Y : Type 0} (o : Option X) (f : X → Option Y) (Q : X → Type 0) (P : Y → Type 0) → IfSome o Q → ((x : X) → Q x → IfSome (f x) P)
+    → IfSome (option_and_then f o) P
+and_then_some None f Q P some all = tt
+and_then_some (Some x) f Q P some all = all x some
 
-of_rows : (rows cols : Option ℕ) →
-    IfSome (option_and_then (λ r. option_and_then (λ c. Some (options_for (record { rows = r; cols = c }))) cols) rows) IsLimited
-of_rows None cols = tt
-of_rows (Some rows) cols = of_cols rows cols
+tested : {X : Type 0} (test : Bool) (x : X) (P : X → Type 0) → (test ≡ true → P x) → IfSome (if test then Some x else None) P
+tested true x P all = all refl
+tested false x P all = tt
+
+-- the last of tests that are all passed
+last_passed : (tests last : Bool) → (tests && last) ≡ true → last ≡ true
+last_passed true last passed = passed
+last_passed false last passed = absurd (cc)
+
+-- a text of digits is a number within the bound
+number_limited : (most : ℕ) (word : List ℕ) → IfSome (number_in_digits most word) (λ n. n ≤ most)
+unfolding number_in_digits
+number_limited most word =
+    tested (is_number most word) (value_of word) (λ n. n ≤ most) (λ is. leb-true (value_of word) most (last_passed _ (nat_le (value_of word) most) is))
+
+-- a number that words give is in its range
+count_limited : (least most usual : ℕ) (word : Option (List ℕ)) → usual ≤ most → IfSome (count_given least most usual word) (λ n. n ≤ most)
+count_limited least most usual None within = within
+count_limited least most usual (Some word) within =
+    and_then_some (number_in_digits most word) (λ n. if nat_le least n then Some n else None) (λ n. n ≤ most) (λ n. n ≤ most) (number_limited most word)
+    (λ n few. tested (nat_le least n) n (λ m. m ≤ most) (λ is. few))
+
+-- whatever the words give
+limited_with : (given : PlainGiven) → IfSome (options_with given) IsLimited
+limited_with given =
+    and_then_all (count_given FEWEST_ROWS MOST_ROWS 24 given.rows) _ IsLimited (λ rows.
+    and_then_all (count_given FEWEST_COLS MOST_COLS 80 given.cols) _ IsLimited (λ cols.
+    and_then_some (count_given 1 1000000000 1000000000 given.keys) _ (λ n. n ≤ 1000000000) IsLimited
+    (count_limited 1 1000000000 1000000000 given.keys (omega arith))
+    (λ keys few. tested (is_name_given given.program && is_name_given given.input) _ IsLimited (λ is. few))))
 
 -- whatever the words ask for
 pub limited : (words : List (List ℕ)) → IfSome (options_of words) IsLimited
 unfolding options_of
-limited [] = refl
-limited (first ∷ []) = tt
-limited (first ∷ rows ∷ []) = tt
-limited (first ∷ rows ∷ second ∷ []) = tt
-limited (first ∷ rows ∷ second ∷ cols ∷ []) =
-    tested (bytes_eq first (codes "--rows") && bytes_eq second (codes "--cols")) (options_with rows cols)
-    (of_rows _ _)
-limited (first ∷ rows ∷ second ∷ cols ∷ more ∷ words) = tt
+limited words = given_limited (given_in words) where
+  given_limited : (given : Option PlainGiven) → IfSome (option_and_then options_with given) IsLimited
+  given_limited None = tt
+  given_limited (Some given) = limited_with given

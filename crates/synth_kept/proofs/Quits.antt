@@ -8,7 +8,7 @@ use Rattle.synth_top.specs.declared.status.Status.{Status}
 use Rattle.synth_top.specs.declared.status.Status.TheVariants.{Done}
 use Rattle.synth_top.specs.Keys.{keys}
 use Rattle.synth_top.specs.Run.{Told, Course, IsFront, QuitPressed, SourceEnded, Stopped, keys_pressed}
-use Rattle.synth_top.specs.Turn.{PressedKey}
+use Rattle.synth_top.specs.Turn.{PressedKey, State}
 use Rattle.synth_top.specs.Options.{PlainOptions}
 use Rattle.synth_kept.proofs.Limits.{IsLimited}
 
@@ -28,8 +28,8 @@ some_byte [] pressed earlier last is front none =
       nothing [] front = absurd (cc (front.1))
       nothing (first ∷ earlier) front = absurd (cc (front.1))
 
-module _ (options : PlainOptions) (limited : IsLimited options) (before now : Told)
-    (course : Course options before now) (unread : before.reads ≡ 0) (given ends : ℕ) (ended : Bool)
+module _ (options : PlainOptions) (limited : IsLimited options) (first : State) (before now : Told) (wants_before wants_now : ℕ)
+    (course : Course options first before now) (unread : before.reads ≡ 0) (given ends : ℕ) (ended : Bool)
     (many : length course.bytes ≡ given)
     (counted : now.reads < 2 ^ 64 - 1 → now.reads ≡ given + ends)
     (noted : ends ≡ 0 → ended ≡ false) (stays : (ends ≡ 0) ⊎ (ended ≡ true)) where
@@ -57,14 +57,14 @@ module _ (options : PlainOptions) (limited : IsLimited options) (before now : To
         is_noted one (inl none) = absurd (omega (arith, one, none))
         is_noted one (inr end) = absurd (cc (end, clear.going))
 
-  clear_quits : (run : Status) → Stopped course run → IsToClear run given ended → QuitPressed course
-  clear_quits run stopped clear = at_done (subst (Stopped course) clear.done stopped) where
-    at_done : Stopped course Done → QuitPressed course
+  clear_quits : (run : Status) → Stopped course wants_before wants_now run → IsToClear run given ended → QuitPressed course
+  clear_quits run stopped clear = at_done (subst (Stopped course wants_before wants_now) clear.done stopped) where
+    at_done : Stopped course wants_before wants_now Done → QuitPressed course
     at_done stopped = elim stopped.2 as (λ _. QuitPressed course)
         [ inl source ↦ absurd (end_stands run source clear) | inr quit ↦ quit ]
 
   -- the journal is cleared exactly where a key ended the session
-  pub clears_at_quit : (run : Status) (closing : Closing) → Stopped course run → Agrees closing run given ended →
+  pub clears_at_quit : (run : Status) (closing : Closing) → Stopped course wants_before wants_now run → Agrees closing run given ended →
       ClearsWhere ((run ≡ Done) × QuitPressed course) closing
   clears_at_quit run LeftStanding stopped agrees = λ quit. agrees (quit_clears run quit.0 quit.1)
   clears_at_quit run Cleared stopped agrees = (agrees.done, clear_quits run stopped agrees)

@@ -1,4 +1,5 @@
 -- A session whose keys are kept: which keys the editor was given, what it wrote, and what a crash leaves.
+use Rattle.std.proofs.Common.{inl, inr}
 use Rattle.std.specs.Prelude.{◌≡◌, ◌≢◌, ◌⊎◌, ℕ, ◌≤◌, List, [], ◌++◌, length, Option, Some, None, IsSome}
 use Rattle.std.specs.Io.KnownBytes.{Consumes}
 use Rattle.key_journal.specs.AfterReads.{LeavesBetween}
@@ -10,21 +11,19 @@ use Rattle.key_journal.specs.declared.disk.DiskFault.{DiskFault}
 use Rattle.synth_kept.specs.Closing.{Closing, Closes, ClearsWhere}
 use Rattle.synth_kept.specs.KeptStatus.{fault_status}
 use Rattle.synth_kept.specs.declared.status.KeptStatus.{KeptStatus}
-use Rattle.synth_outside.specs.Files.{FileMap}
+use Rattle.synth_session.specs.FileReply.{PlainFiles}
 use Rattle.synth_top.specs.declared.status.Status.{Status}
 use Rattle.synth_top.specs.declared.status.Status.TheVariants.{Done, ReadFault, NoMemory, BadWords}
 use Rattle.synth_top.specs.Run.{Ended, QuitPressed, Told}
 use Rattle.synth_top.specs.Options.{PlainOptions}
 
 -- what is told of the outside of a kept session: the bytes that the source of new keys has left, the
--- states of the disk, the bytes that the sink took, the map of the files and how many faults these
--- counted, and how many lines were counted as laid
+-- states of the disk, the bytes that the sink took, the files, and how many lines were counted as laid
 pub record KeptTold : Type 0 where
   pub left : Option (List ℕ)
   pub past : List DiskState
   pub taken : Option (List ℕ)
-  pub files : Option FileMap
-  pub file_faults : ℕ
+  pub files : PlainFiles
   pub laid : ℕ
 
 -- both the source of new keys and the disk tell
@@ -39,8 +38,6 @@ told_editor told given reads = record {
   left = left_of_both told.left told.past given;
   reads = reads;
   taken = told.taken;
-  files = told.files;
-  file_faults = told.file_faults;
   laid = told.laid;
 }
 
@@ -51,24 +48,36 @@ AreKeys keys taken last bytes =
     (bytes ≡ keys ++ taken)
     ⊎ ((taken ++ last ≡ []) × ((rest : List ℕ) × (keys ≡ bytes ++ rest)))
 
+-- the bytes that the editor was given: none where no session was opened
+abbrev pub bytes_given : {run : Status} {options : PlainOptions} {before now : Told} {files_before files_now : PlainFiles}
+    {after_reads after_fault : Type 0} → Ended run options before now files_before files_now after_reads after_fault → List ℕ
+bytes_given (inl unopened) = []
+bytes_given (inr ran) = ran.course.bytes
+
+-- a key ended the session
+abbrev pub IsQuit : {run : Status} {options : PlainOptions} {before now : Told} {files_before files_now : PlainFiles}
+    {after_reads after_fault : Type 0} → Ended run options before now files_before files_now after_reads after_fault → Type 0
+IsQuit (inl unopened) = ⊥
+IsQuit (inr ran) = QuitPressed ran.course
+
 -- the editor ran over the kept keys and then the bytes of the source, as over any source of these bytes
 pub record RunOverKeys (options : PlainOptions) (run : Status) (closing : Closing) (before now : KeptTold)
     (taken last : List ℕ) (after_reads after_fault : Type 0) : Type 0 where
   pub given : ℕ
   pub reads : ℕ
-  pub ended : Ended run options (told_editor before 0 0) (told_editor now given reads)
+  pub ended : Ended run options (told_editor before 0 0) (told_editor now given reads) before.files now.files
       after_reads (after_reads ⊎ after_fault)
   -- which bytes it was given; a crash leaves all of them, whether they were kept before or taken now, and
   -- perhaps others behind them
-  pub keys : TellsBoth before → AreKeys (kept before.past) taken last ended.course.bytes
-  pub none_lost : TellsBoth before → Newest (LeavesAllOf ended.course.bytes) now.past
+  pub keys : TellsBoth before → AreKeys (kept before.past) taken last (bytes_given ended)
+  pub none_lost : TellsBoth before → Newest (LeavesAllOf (bytes_given ended)) now.past
   -- the journal is cleared exactly where a key ended the session
   pub quit : TellsBoth before →
-      ClearsWhere ((run ≡ Done) × QuitPressed ended.course) closing
+      ClearsWhere ((run ≡ Done) × IsQuit ended) closing
 
--- words that aren't of the command are refused, and nothing is read
+-- words that aren't of the command are refused, or memory ran out over them, and nothing is read
 pub record RefusesWords (run : Status) (taken last : List ℕ) (same_outside : Type 0) : Type 0 where
-  pub refused : run ≡ BadWords
+  pub refused : (run ≡ BadWords) ⊎ (run ≡ NoMemory)
   pub none : taken ++ last ≡ []
   pub outside : same_outside
 

@@ -34,24 +34,22 @@ pub fn synth_kept<S: Source, K: Sink, F: Files, D: Disk, W: Work>(
           left = S.left keys;
           past = D.past disk;
           taken = K.taken screen.old;
-          files = F.stored files.old;
-          file_faults = F.faults files.old;
+          files = record { stored = F.stored files.old; faults = F.faults files.old; wants = F.wants files.old };
           laid = W.laid work.old;
         })
         (record {
           left = S.left result.1;
           past = D.past result.2;
           taken = K.taken screen.new;
-          files = F.stored files.new;
-          file_faults = F.faults files.new;
+          files = record { stored = F.stored files.new; faults = F.faults files.new; wants = F.wants files.new };
           laid = W.laid work.new;
         })
-        ((result.1 ≡ keys) × (screen.new ≡ screen.old) × (work.new ≡ work.old))
+        ((result.1 ≡ keys) × (screen.new ≡ screen.old) × (files.new ≡ files.old) × (work.new ≡ work.old))
         (S.leads_to keys result.1) (S.breaks_at keys result.1) }
 
     // Words that aren't of the command are refused before anything is read or written.
     ensures bad_words { options_of (map string_bytes words.now) ≡ None →
-        (result.1 ≡ keys) × (screen.new ≡ screen.old) × (work.new ≡ work.old) }
+        (result.1 ≡ keys) × (screen.new ≡ screen.old) × (files.new ≡ files.old) × (work.new ≡ work.old) }
 
     // A fault is answered exactly where the count of its own cause rose; that of reads is the sum of
     // the counts of source and disk.
@@ -64,8 +62,7 @@ pub fn synth_kept<S: Source, K: Sink, F: Files, D: Disk, W: Work>(
     ensures write { CausedBy (result.0 ≡ KeptStatus.Run Status.WriteFault)
         (K.faults screen.old) (K.faults screen.new) }
 
-    // No key uses files yet, and nothing is counted but lines laid and phrases checked.
-    ensures files { files.new ≡ files.old }
+    // Nothing is counted but lines laid and phrases checked.
     ensures emitted { W.emitted work.new ≡ W.emitted work.old }
     ensures checks { W.checked work.old ≤ W.checked work.new }
     ensures fetched { W.fetched work.new ≡ W.fetched work.old }

@@ -12,7 +12,7 @@ use status::KeptStatus;
 use std::io;
 use std::io::ErrorKind;
 use std::process::ExitCode;
-use synth_outside::{MemFiles, StdSink, StdSource};
+use synth_outside::{StdFiles, StdSink, StdSource};
 use synth_top::{Status, words_of};
 
 /// How a session ends whose journal's file can't be opened.
@@ -35,7 +35,7 @@ fn run(rt: &HostRuntime) -> KeptStatus {
         Err(error) => return status_of(&error),
     };
     let mut screen = StdSink::new(rt.stdout());
-    let mut files = MemFiles::new(alloc, Vec::new(alloc));
+    let mut files = StdFiles::new(rt, alloc);
     let mut work = Counts::default();
     let (status, _, _) = synth_kept(
         alloc,
@@ -52,7 +52,9 @@ fn run(rt: &HostRuntime) -> KeptStatus {
 fn main(rt: HostRuntime) -> ExitCode {
     let status = run(&rt);
     if status == KeptStatus::Run(Status::BadWords) {
-        let _ = eprintln!(&rt; "usage: synth [--rows N --cols M]");
+        let _ = eprintln!(&rt;
+            "usage: synth [--rows N] [--cols N] [--keys N] [--input FILE] [PROGRAM]"
+        );
     }
     ExitCode::from(status.code())
 }

@@ -16,7 +16,7 @@ const PUT_KEYS: &[u8] = b".put\r7\r";
 const PUT_PIECES: usize = 25;
 
 /// What these keys and then those of a quit write on a small screen, piece by piece.
-const STORED_RUN: [&[u8]; 35] = [
+static STORED_RUN: [&[u8]; 35] = [
     b"\x1b[0m\x1b[2J",
     b"\x1b[1;1H  main: PROCEDURE OPTIONS ( MAIN );\x1b[K",
     b"\x1b[2;1H    {declaration}\x1b[K",
@@ -168,7 +168,7 @@ struct Ending {
     kept: &'static [u8],
 }
 
-const ENDINGS: [Ending; 4] = [
+static ENDINGS: [Ending; 4] = [
     // A read fails.
     Ending {
         keys: b"abc",

@@ -1,9 +1,9 @@
-//! The program: key bytes on standard input, screens on standard output.
+//! The program: key bytes on standard input, screens on standard output, files in the current folder.
 #![tactic(auto)]
 
 use plcs_base::Counts;
 use std::process::ExitCode;
-use synth_outside::{MemFiles, StdSink, StdSource};
+use synth_outside::{StdFiles, StdSink, StdSource};
 use synth_top::{Status, synth, words_of};
 
 /// Edits over the system's streams.
@@ -15,7 +15,7 @@ fn run(rt: &HostRuntime) -> Status {
     };
     let mut keys = StdSource::new(rt.stdin());
     let mut screen = StdSink::new(rt.stdout());
-    let mut files = MemFiles::new(alloc, Vec::new(alloc));
+    let mut files = StdFiles::new(rt, alloc);
     let mut work = Counts::default();
     synth(
         alloc,
@@ -30,7 +30,9 @@ fn run(rt: &HostRuntime) -> Status {
 fn main(rt: HostRuntime) -> ExitCode {
     let status = run(&rt);
     if status == Status::BadWords {
-        let _ = eprintln!(&rt; "usage: synth [--rows N --cols M]");
+        let _ = eprintln!(&rt;
+            "usage: synth [--rows N] [--cols N] [--keys N] [--input FILE] [PROGRAM]"
+        );
     }
     ExitCode::from(status.code())
 }

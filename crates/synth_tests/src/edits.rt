@@ -6,7 +6,7 @@ use screen_window::Terminal;
 use std::test::Fail;
 
 /// Parentheses that are typed stay.
-const PARENTHESES: [Shown; 1] = [Shown {
+static PARENTHESES: [Shown; 1] = [Shown {
     keys: b".put\r(1+2)*3\r",
     window: [
         "  main: PROCEDURE OPTIONS ( MAIN );",
@@ -22,7 +22,7 @@ const PARENTHESES: [Shown; 1] = [Shown {
 }];
 
 /// Phrase text that is wrong stays typed, and the program stays as it was.
-const WRONG_TEXT: [Shown; 2] = [
+static WRONG_TEXT: [Shown; 2] = [
     Shown {
         keys: b".put\r1 +\r",
         window: [
@@ -54,7 +54,7 @@ const WRONG_TEXT: [Shown; 2] = [
 ];
 
 /// A copy comes in behind the statement that was copied; a hole comes before it and goes again.
-const COPIES: [Shown; 4] = [
+static COPIES: [Shown; 4] = [
     Shown {
         keys: b".put\r1\r\x1b[D.copy\r.after\r",
         window: [
@@ -114,7 +114,7 @@ const COPIES: [Shown; 4] = [
 ];
 
 /// The refinement of a comment is hidden, the moves pass over it, and it is shown again.
-const ELISION: [Shown; 4] = [
+static ELISION: [Shown; 4] = [
     Shown {
         keys: b".comment\rsum\r.put\r1\r.top\r\x1b[B\x1b[B.elide\r",
         window: [
@@ -175,7 +175,7 @@ const ELISION: [Shown; 4] = [
 ];
 
 /// Nodes and phrases that are deleted leave a hole or an empty part; a hole beside another is dropped.
-const DELETIONS: [Shown; 4] = [
+static DELETIONS: [Shown; 4] = [
     Shown {
         keys: b".while\rx > 0\rx = x - 1\r.after\r.return\r.del\r",
         window: [

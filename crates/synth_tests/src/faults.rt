@@ -6,7 +6,7 @@ use std::test::Fail;
 use synth_top::Status;
 
 /// How many pieces of the stored run are written before its first key, and then before each other.
-const PIECES_BEFORE: [usize; 13] = [9, 11, 13, 15, 17, 20, 22, 25, 27, 29, 31, 33, 35];
+static PIECES_BEFORE: [usize; 13] = [9, 11, 13, 15, 17, 20, 22, 25, 27, 29, 31, 33, 35];
 
 #[test]
 fn a_read_that_fails_ends_the_session(rt: HostRuntime) -> Result<(), Fail> {

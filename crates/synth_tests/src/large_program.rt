@@ -48,7 +48,7 @@ fn largest_keys(alloc: Global) -> Result<Vec<u8>, OutOfMemory> {
 
 /// What is shown at the end of a program of 20,000 slots, once a hole was dropped from it and one
 /// filled: one slot more comes into it, and then none.
-const AT_END: [Shown; 1] = [Shown {
+static AT_END: [Shown; 1] = [Shown {
     keys: b".bottom\r\x1b[A.del\r.put\r'end'\r.after\r.after\r",
     window: [
         "      END;",

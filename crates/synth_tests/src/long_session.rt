@@ -4,7 +4,7 @@ use crate::shown::{Shown, first_wrong};
 use std::test::Fail;
 
 /// What is shown at ten points of it.
-const POINTS: [Shown; 10] = [
+static POINTS: [Shown; 10] = [
     // Declarations of the three types.
     Shown {
         keys: b"\x1b[A.fixed\ri, n, a(10)\r.after\r.bit\rdone\r.after\r.char\rtext\r12\r",

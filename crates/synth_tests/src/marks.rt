@@ -18,7 +18,7 @@ fn an_undeclared_name_is_marked(rt: HostRuntime) -> Result<(), Fail> {
 }
 
 /// A name that is declared, declared twice, and declared otherwise where the first declaration is deleted.
-const DECLARED: [Shown; 6] = [
+static DECLARED: [Shown; 6] = [
     Shown {
         keys: b"x = 1\r\x1b[A.fixed\rx\r",
         window: [
@@ -120,7 +120,7 @@ fn declarations_mark_and_repair_phrases(rt: HostRuntime) -> Result<(), Fail> {
 }
 
 /// Marks inside a refinement that is hidden and shown again, and a call whose procedure comes later.
-const HIDDEN_AND_CALLED: [Shown; 4] = [
+static HIDDEN_AND_CALLED: [Shown; 4] = [
     Shown {
         keys: b".comment\rsum\rx = 1\r\x1b[A.elide\r",
         window: [

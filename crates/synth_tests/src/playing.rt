@@ -25,6 +25,17 @@ impl Played {
         self.screen.bytes()
     }
 
+    /// Whether these bytes were written somewhere.
+    pub fn has_written(&self, bytes: &[u8]) -> bool {
+        let written = self.written();
+        for at in 0..written.len() {
+            if written[at..].starts_with(bytes) {
+                return true;
+            }
+        }
+        false
+    }
+
     /// Whether these bytes, at most 15, are all that the source has left.
     pub fn leaves(&mut self, bytes: &[u8]) -> bool {
         let mut buf = [0u8; 16];
@@ -36,7 +47,7 @@ impl Played {
 }
 
 /// Runs the editor on these words and keys, with one call of the source and one of the sink that
-/// fail.
+/// fail, and with no files.
 pub fn play_failing(
     alloc: Global,
     words: &[&str],
@@ -44,20 +55,42 @@ pub fn play_failing(
     failing_read: u64,
     failing_write: u64,
 ) -> Result<Played, AllocError> {
+    let mut files = MemFiles::new(alloc, Vec::new(alloc));
+    play_over(alloc, words, keys, failing_read, failing_write, &mut files)
+}
+
+/// Runs the editor on these words and keys, over these files.
+pub fn play_with_files(
+    alloc: Global,
+    words: &[&str],
+    keys: &[u8],
+    files: &mut MemFiles,
+) -> Result<Played, AllocError> {
+    play_over(alloc, words, keys, NEVER, NEVER, files)
+}
+
+/// The same over these files.
+fn play_over(
+    alloc: Global,
+    words: &[&str],
+    keys: &[u8],
+    failing_read: u64,
+    failing_write: u64,
+    files: &mut MemFiles,
+) -> Result<Played, AllocError> {
     let mut given = Vec::new(alloc);
     for word in words {
         given.push(String::from_str(alloc, word)?)?;
     }
     let mut keys = MemSource::new(keys.to_vec(alloc)?, [failing_read].to_vec(alloc)?);
     let mut screen = MemSink::new(alloc, [failing_write].to_vec(alloc)?);
-    let mut files = MemFiles::new(alloc, Vec::new(alloc));
     let mut work = Counts::default();
     let status = synth(
         alloc,
         given.as_slice(),
         &mut keys,
         &mut screen,
-        &mut files,
+        files,
         &mut work,
     );
     Ok(Played {

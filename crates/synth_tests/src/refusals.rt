@@ -14,8 +14,8 @@ fn is_refused(alloc: Global, refused: Refused) -> Result<bool, AllocError> {
     last_keys_write(alloc, before, last, bytes.as_slice())
 }
 
-/// Lines that are no command, or whose argument is wrong.
-const COMMANDS: [Refused; 34] = [
+/// Lines that are no command, or whose argument is wrong, and commands that no place of the cursor helps.
+static COMMANDS: [Refused; 34] = [
     (b".", b"\r", b"UNKNOWN COMMAND", b"\x1b[12;13H"),
     (b".pu", b"\r", b"UNKNOWN COMMAND", b"\x1b[12;15H"),
     (b".PUT", b"\r", b"UNKNOWN COMMAND", b"\x1b[12;16H"),
@@ -39,9 +39,8 @@ const COMMANDS: [Refused; 34] = [
     (b".back 0", b"\r", b"NOT BUILT", b"\x1b[12;19H"),
     (b".trace", b"\r", b"NOT BUILT", b"\x1b[12;18H"),
     (b".input", b"\r", b"NOT BUILT", b"\x1b[12;18H"),
-    (b".save", b"\r", b"NOT BUILT", b"\x1b[12;17H"),
-    (b".load P", b"\r", b"NOT BUILT", b"\x1b[12;19H"),
     (b".code -1", b"\r", b"NOT BUILT", b"\x1b[12;20H"),
+    (b".save", b"\r", b"WRONG ARGUMENT", b"\x1b[12;17H"),
     (b".put x", b"\r", b"WRONG ARGUMENT", b"\x1b[12;18H"),
     (b".quit now", b"\r", b"WRONG ARGUMENT", b"\x1b[12;21H"),
     (b".top 1", b"\r", b"WRONG ARGUMENT", b"\x1b[12;18H"),
@@ -51,6 +50,7 @@ const COMMANDS: [Refused; 34] = [
     (b".cut a b", b"\r", b"WRONG ARGUMENT", b"\x1b[12;20H"),
     (b".insert DO", b"\r", b"WRONG ARGUMENT", b"\x1b[12;22H"),
     (b".float", b"\r", b"FLOAT NOT THERE", b"\x1b[12;18H"),
+    (b".load P", b"\r", b"NO FILE", b"\x1b[12;19H"),
 ];
 
 #[test]
@@ -62,7 +62,7 @@ fn a_line_that_is_no_command_is_refused(rt: HostRuntime) -> Result<(), Fail> {
 }
 
 /// Commands and keys that can't be carried out where the cursor stands.
-const PLACES: [Refused; 38] = [
+static PLACES: [Refused; 38] = [
     (b".insert", b"\r", b"NO CLIP", b"\x1b[12;19H"),
     (b".insert d", b"\r", b"NO CLIP", b"\x1b[12;21H"),
     (b"\x1b[A\x1b[A.insert", b"\r", b"NO CLIP", b"\x1b[12;14H"),
@@ -117,7 +117,7 @@ fn what_the_cursor_lacks_is_refused(rt: HostRuntime) -> Result<(), Fail> {
 }
 
 /// Phrase text that is wrong, or past a limit.
-const PHRASES: [Refused; 14] = [
+static PHRASES: [Refused; 14] = [
     (b".put\r1 +", b"\r", b"SYNTAX AT 3", b"\x1b[12;17H"),
     (b".put\r-", b"\r", b"SYNTAX AT 1", b"\x1b[12;15H"),
     (b".put\r1 2", b"\r", b"SYNTAX AT 2", b"\x1b[12;17H"),
@@ -171,7 +171,7 @@ fn wrong_phrase_text_is_refused(rt: HostRuntime) -> Result<(), Fail> {
 type Writing = (&'static [u8], &'static [u8], &'static [u8]);
 
 /// The clip of a cut goes in again, and can't come in where another category or kind is wanted.
-const CLIPS: [Writing; 7] = [
+static CLIPS: [Writing; 7] = [
     (
         b".put\r1\r\x1b[D.cut c",
         b"\r",
@@ -222,7 +222,7 @@ fn a_clip_comes_in_where_it_fits(rt: HostRuntime) -> Result<(), Fail> {
 }
 
 /// Keys behind a refused one.
-const MESSAGES: [Writing; 10] = [
+static MESSAGES: [Writing; 10] = [
     // A refused key after another, with the message of the one before or another one.
     (b"\x7f", b"\x7f", b"\x1b[3;5H"),
     (b".run\r", b"\r", b"\x1b[12;16H"),

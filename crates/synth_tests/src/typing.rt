@@ -62,7 +62,7 @@ fn a_line_holds_200_bytes(rt: HostRuntime) -> Result<(), Fail> {
 type Writing = (&'static [u8], &'static [u8], &'static [u8]);
 
 /// Keys that change the line, and the line with what is typed on.
-const LINES: [Writing; 16] = [
+static LINES: [Writing; 16] = [
     // What is taken back is seen no more; an empty line leaves the cursor in the window.
     (b"ab", b"\x7f", b"\x1b[12;1Hstatement> a\x1b[K\x1b[12;13H"),
     (b"ab", b"\x08", b"\x1b[12;1Hstatement> a\x1b[K\x1b[12;13H"),
@@ -133,7 +133,7 @@ fn a_byte_that_stands_for_nothing_is_refused(rt: HostRuntime) -> Result<(), Fail
 }
 
 /// Sequences, which are one key each, or what follows an Escape.
-const SEQUENCES: [Writing; 13] = [
+static SEQUENCES: [Writing; 13] = [
     (b"", b"\x1b[A", b"\x1b[12;1Hdeclaration>\x1b[K\x1b[2;5H"),
     (b"", b"\x1b[B", b"\x1b[12;1Hprocedure>\x1b[K\x1b[5;3H"),
     (b"", b"\x1b[C", b"\x1b[12;1Hprocedure>\x1b[K\x1b[5;3H"),

@@ -1,65 +1,43 @@
 -- What a run has done, from what its keys did.
-use Rattle.std.proofs.Common.{◌≡◌, IsTrue, ◌≤◌, ◌⊎◌, ℕ, ◌+◌, false, List, [], ◌∷◌, ◌++◌, Option, Some, None, length, take, refl, sym, ap, ◌∙◌, subst, append-nil, arith, length-append, inl, inr}
+use Rattle.std.proofs.Common.{◌≡◌, IsTrue, ◌≤◌, ◌⊎◌, ℕ, ◌+◌, false, List, [], ◌∷◌, ◌++◌, Option, length, take, refl, sym, ap, ◌∙◌, subst, append-nil, arith, length-append, inl, inr}
 use Rattle.std.proofs.lemmas.List.{take_all}
 use Rattle.std.proofs.Math.Seq.{take-append-add}
 use Rattle.std.proofs.KnownBytes.{Appends-trans, Consumes-nil}
-use Rattle.std.specs.FinMap.{empty}
 use Rattle.std.specs.Io.KnownBytes.{Appends, Consumes}
 use Rattle.synth_outside.specs.Sink.{AppendsFront}
-use Rattle.synth_outside.specs.Files.{FileMap}
 use Rattle.synth_session.specs.declared.key.Key.{Key}
+use Rattle.synth_session.specs.FileReply.{CountsWant, PlainFiles}
+use Rattle.synth_session.specs.KeyRequest.{request}
 use Rattle.synth_session.specs.MemoryTaken.{key_takes_memory}
-use Rattle.synth_session.specs.OpenedSession.{opened_session}
 use Rattle.synth_session.specs.PlainSession.{PlainSession}
 use Rattle.synth_session.specs.SessionScreen.{grid}
+use Rattle.synth_top.specs.declared.status.Status.{Status}
 use Rattle.synth_top.specs.declared.status.Status.TheVariants.{WriteFault, NoMemory}
 use Rattle.synth_top.specs.Keys.{completed, keys}
 use Rattle.synth_top.specs.Laid.{LaysFor}
-use Rattle.synth_top.specs.Private.Pressing.{Moment, AllShown, UpToLast}
-use Rattle.synth_top.specs.Reply.{NotAsked}
-use Rattle.synth_top.specs.Run.{Told, Loads, NoRescue, IsFront, IsOver, Course, AtLastKey, Ended, ReadsInTurn, keys_pressed, raised_by, first_state, opening, painted_over, written}
-use Rattle.synth_top.specs.Turn.{State, IsMapOf, PressedKey, Replied, after, ends, grids}
 use Rattle.synth_top.specs.Options.{PlainOptions}
+use Rattle.synth_top.specs.Private.Pressing.{AllShown, Moment, UpToLast, state_at}
+use Rattle.synth_top.specs.Private.Running.{Runs}
+use Rattle.synth_top.specs.Run.{AtLastKey, Course, IsFront, IsOver, LeavesSource, OpeningCut, ReadsInTurn, RoseBy, Stopped, Told, keys_pressed, opening, painted_over, raised_by, written}
+use Rattle.synth_top.specs.Turn.{HaveReplies, IsToldAs, PressedKey, State, after, ends, failures, grids}
 use Rattle.synth_top.proofs.LaidInTurn.{lays_then}
-
--- the session of the opening screen
-abbrev pub first_session : PlainOptions → PlainSession
-first_session options = opened_session options.size None
-
--- no file was loaded
-abbrev pub no_loads : Loads
-no_loads = record { program = NotAsked; input = NotAsked }
-
--- the state of the opening screen
-abbrev pub unloaded_state : PlainOptions → FileMap → State
-unloaded_state options files = first_state options files no_loads
 
 -- what is told at a moment
 abbrev pub told_at : Option (List ℕ) → ℕ → Moment → Told
-told_at left reads m = record { left = left; reads = reads; taken = m.taken; files = m.files; file_faults = m.file_faults; laid = m.laid }
+told_at left reads m = record { left = left; reads = reads; taken = m.taken; laid = m.laid }
 
--- the opening screen was written
-pub record Opened (options : PlainOptions) (before : Told) (m : Moment) : Type 0 where
-  pub wrote : Appends before.taken m.taken (opening (first_session options))
-  pub map : FileMap
-  pub told : IsMapOf before.files map
-  pub state : m.state ≡ unloaded_state options map
-  pub shown : m.shown ≡ grid (first_session options)
-  pub faults : m.file_faults ≡ before.file_faults
-  pub laid : LaysFor (grid (first_session options) ∷ []) before.laid m.laid
+-- the opening screen of a state was written, and the files are as before
+pub record Opened (first : State) (before : Told) (files : PlainFiles) (m : Moment) : Type 0 where
+  pub wrote : Appends before.taken m.taken (opening first.session)
+  pub state : state_at m ≡ first
+  pub shown : m.shown ≡ grid first.session
+  pub faults : m.files.faults ≡ files.faults
+  pub wants : m.files.wants ≡ files.wants
+  pub laid : LaysFor (grid first.session ∷ []) before.laid m.laid
 
 -- no byte of keys was read before the keys that those before it complete
 abbrev pub InTurn : List ℕ → List PressedKey → Type 0
 InTurn bytes pressed = (seen : List ℕ) (newest : ℕ) → bytes ≡ seen ++ newest ∷ [] → IsFront (completed seen) (keys_pressed pressed)
-
--- a map that files have: the one that they tell, or else an empty one
-abbrev pub some_map : Option FileMap → FileMap
-some_map None = empty
-some_map (Some told) = told
-
-pub some_map_told : (files : Option FileMap) → IsMapOf files (some_map files)
-some_map_told None = tt
-some_map_told (Some told) = refl
 
 -- ---- the opening screen was cut short
 
@@ -68,18 +46,15 @@ pub one_byte : (seen : List ℕ) (newest : ℕ) → [] ≡ seen ++ newest ∷ []
 one_byte [] newest e = absurd (cc)
 one_byte (first ∷ rest) newest e = absurd (cc)
 
-module _ (options : PlainOptions) (before now : Told) (read : now.left ≡ before.left) (unread : now.reads ≡ before.reads) (front : AppendsFront before.taken now.taken (opening (first_session options)))
-    (files : now.files ≡ before.files) (faults : before.file_faults ≤ now.file_faults) (laid : LaysFor (grid (first_session options) ∷ []) before.laid now.laid) where
-  opening_wrote : Appends before.taken now.taken (take front.0 (written (unloaded_state options (some_map before.files)) []))
+module _ (options : PlainOptions) (first : State) (before now : Told) (files : PlainFiles) (session : PlainSession)
+    (read : now.left ≡ before.left) (unread : now.reads ≡ before.reads) (front : AppendsFront before.taken now.taken (opening first.session))
+    (same : session ≡ first.session) (told : IsToldAs first.files files.stored) (laid : LaysFor (grid first.session ∷ []) before.laid now.laid) where
+  opening_wrote : Appends before.taken now.taken (take front.0 (written first []))
   unfolding written
-  opening_wrote = subst (λ l. Appends before.taken now.taken (take front.0 l)) (sym (append-nil (opening (first_session options)))) front.1
+  opening_wrote = subst (λ l. Appends before.taken now.taken (take front.0 l)) (sym (append-nil (opening first.session))) front.1
 
-  abbrev opening_course : Course options before now
+  abbrev opening_course : Course options first before now
   opening_course = record {
-    map = some_map before.files;
-    told = some_map_told before.files;
-    loads = no_loads;
-    can_load = record { program = refl; input = refl };
     bytes = [];
     lost = [];
     read = subst (λ left. Consumes before.left left []) (sym read) (Consumes-nil before.left);
@@ -93,54 +68,72 @@ module _ (options : PlainOptions) (before now : Told) (read : now.left ≡ befor
     complete = inl (completed [], refl);
     count = front.0;
     wrote = opening_wrote;
-    rescue = NoRescue;
-    files = subst (λ f. IsMapOf f (some_map before.files)) (sym files) (some_map_told before.files);
-    faults = omega (arith, faults);
     laid = laid;
   }
 
-  pub opening_failed : {after_reads after_fault : Type 0} → after_reads → Ended WriteFault options before now after_reads after_fault
-  opening_failed led = record { course = opening_course; stopped = (refl, inl (record { no_read = refl; no_byte = refl; no_key = refl })); source = inl (led, refl); rescued = refl }
+  opening_cut : OpeningCut opening_course
+  opening_cut = record { no_read = refl; no_byte = refl; no_key = refl }
 
-  pub opening_wanted : {after_reads after_fault : Type 0} → after_reads → Ended NoMemory options before now after_reads after_fault
-  opening_wanted led = record { course = opening_course; stopped = inr (inl (refl, inl (record { no_read = refl; no_byte = refl; no_key = refl }))); source = inl (led, refl); rescued = refl }
+  opening_runs : (status : Status) → Stopped opening_course files.wants files.wants status → {after_reads after_fault : Type 0} → after_reads
+      → Runs status options first before now files files after_reads after_fault session
+  opening_runs status stopped led = record {
+    course = opening_course;
+    stopped = stopped;
+    source = inl (led, refl);
+    session_is = same;
+    files = told;
+    faults = omega arith;
+    wants = omega arith;
+  }
 
-module _ (options : PlainOptions) (before : Told) (opened m : Moment) (left : Option (List ℕ)) (now_reads : ℕ) (is_opened : Opened options before opened) where
+  pub opening_failed : {after_reads after_fault : Type 0} → after_reads → Runs WriteFault options first before now files files after_reads after_fault session
+  opening_failed led = opening_runs WriteFault (refl, inl opening_cut) led
+
+  pub opening_wanted : {after_reads after_fault : Type 0} → after_reads → Runs NoMemory options first before now files files after_reads after_fault session
+  opening_wanted led = opening_runs NoMemory (inr (inl (refl, inl opening_cut))) led
+
+module _ (options : PlainOptions) (first : State) (before : Told) (files : PlainFiles) (opened m : Moment) (left : Option (List ℕ)) (now_reads : ℕ)
+    (is_opened : Opened first before files opened) where
   -- all that is written, from the opening screen on
-  written_is : (ps : List PressedKey)
-      → written (unloaded_state options is_opened.map) ps ≡ opening (first_session options) ++ painted_over opened.shown (grids opened.state ps)
+  written_is : (ps : List PressedKey) → written first ps ≡ opening first.session ++ painted_over opened.shown (grids (state_at opened) ps)
   unfolding written
   written_is ps =
-      ap (λ s. opening (first_session options) ++ painted_over (grid (first_session options)) (grids s ps)) (sym is_opened.state)
-      ∙ ap (λ g. opening (first_session options) ++ painted_over g (grids opened.state ps)) (sym is_opened.shown)
+      ap (λ s. opening first.session ++ painted_over (grid first.session) (grids s ps)) (sym is_opened.state)
+      ∙ ap (λ g. opening first.session ++ painted_over g (grids (state_at opened) ps)) (sym is_opened.shown)
 
   length_is : (ps : List PressedKey)
-      → length (written (unloaded_state options is_opened.map) ps) ≡ length (opening (first_session options)) + length (painted_over opened.shown (grids opened.state ps))
-  length_is ps = ap length (written_is ps) ∙ length-append (opening (first_session options)) (painted_over opened.shown (grids opened.state ps))
+      → length (written first ps) ≡ length (opening first.session) + length (painted_over opened.shown (grids (state_at opened) ps))
+  length_is ps = ap length (written_is ps) ∙ length-append (opening first.session) (painted_over opened.shown (grids (state_at opened) ps))
 
   -- the lines laid, from the opening screen on
-  pub lays_all : (ps : List PressedKey) (now : ℕ) → LaysFor (grids opened.state ps) opened.laid now
-      → LaysFor (grid (first_session options) ∷ grids (unloaded_state options is_opened.map) ps) before.laid now
+  pub lays_all : (ps : List PressedKey) (now : ℕ) → LaysFor (grids (state_at opened) ps) opened.laid now
+      → LaysFor (grid first.session ∷ grids first ps) before.laid now
   lays_all ps now laid =
-      lays_then (grid (first_session options)) _ before.laid opened.laid now is_opened.laid
+      lays_then (grid first.session) _ before.laid opened.laid now is_opened.laid
       (subst (λ s. LaysFor (grids s ps) opened.laid now) is_opened.state laid)
+
+  -- what is seen behind some keys: the session, the map that is claimed, and the faults of the files
+  behind_session : (ps : List PressedKey) → m.session ≡ (after (state_at opened) ps).session → m.session ≡ (after first ps).session
+  behind_session ps is = is ∙ ap (λ s. (after s ps).session) is_opened.state
+
+  behind_files : (ps : List PressedKey) → IsToldAs (after (state_at opened) ps).files m.files.stored → IsToldAs (after first ps).files m.files.stored
+  behind_files ps told = subst (λ s. IsToldAs (after s ps).files m.files.stored) is_opened.state told
+
+  behind_faults : (ps : List PressedKey) → RoseBy (failures ps) opened.files.faults m.files.faults → RoseBy (failures ps) files.faults m.files.faults
+  behind_faults ps faults = omega (arith, is_opened.faults, faults)
 
   -- ---- all keys were shown
   module _ (bytes lost : List ℕ) (read : Consumes before.left left (bytes ++ lost)) (one : length lost ≤ 1) (within : length bytes ≤ options.key_limit)
       (reads : ℕ) (made : now_reads ≡ raised_by reads before.reads) (ps : List PressedKey) (all : AllShown opened m ps) (order : IsFront (keys_pressed ps) (keys bytes))
       (complete : IsFront (keys_pressed ps) (completed bytes) ⊎ IsOver options (told_at left now_reads m) bytes reads) where
-    pub all_wrote : Appends before.taken m.taken (take (length (written (unloaded_state options is_opened.map) ps)) (written (unloaded_state options is_opened.map) ps))
+    pub all_wrote : Appends before.taken m.taken (take (length (written first ps)) (written first ps))
     all_wrote =
         subst (Appends before.taken m.taken)
-        (sym (take_all (length (written (unloaded_state options is_opened.map) ps)) (written (unloaded_state options is_opened.map) ps) (omega arith) ∙ written_is ps))
+        (sym (take_all (length (written first ps)) (written first ps) (omega arith) ∙ written_is ps))
         (Appends-trans before.taken opened.taken m.taken _ _ is_opened.wrote all.wrote)
 
-    abbrev pub all_course : Course options before (told_at left now_reads m)
+    abbrev pub all_course : Course options first before (told_at left now_reads m)
     all_course = record {
-      map = is_opened.map;
-      told = is_opened.told;
-      loads = no_loads;
-      can_load = record { program = refl; input = refl };
       bytes = bytes;
       lost = lost;
       read = read;
@@ -149,46 +142,56 @@ module _ (options : PlainOptions) (before : Told) (opened m : Moment) (left : Op
       reads = reads;
       made = made;
       pressed = ps;
-      can_reply = subst (λ s. Replied s ps) is_opened.state all.can_reply;
+      can_reply = subst (λ s. HaveReplies s ps) is_opened.state all.can_reply;
       in_order = order;
       complete = complete;
-      count = length (written (unloaded_state options is_opened.map) ps);
+      count = length (written first ps);
       wrote = all_wrote;
-      rescue = NoRescue;
-      files = subst (IsMapOf m.files) (ap (λ (s : State). s.files) (all.state ∙ ap (λ s. after s ps) is_opened.state)) m.told;
-      faults = omega (arith, is_opened.faults, all.faults);
       laid = lays_all ps m.laid all.laid;
     }
 
-    -- what a key takes behind them
-    pub all_takes : (key : Key) → IsTrue (key_takes_memory (after opened.state ps).session key)
-        → IsTrue (key_takes_memory (after (unloaded_state options is_opened.map) ps).session key)
+    -- none ended the session
+    pub all_going : ends first ps ≡ false
+    all_going = subst (λ s. ends s ps ≡ false) is_opened.state all.going
+
+    -- what a key takes behind them, and how it counts wants
+    pub all_takes : (key : Key) → IsTrue (key_takes_memory (after (state_at opened) ps).session key) → IsTrue (key_takes_memory (after first ps).session key)
     all_takes key takes = subst (λ (s : State). IsTrue (key_takes_memory (after s ps).session key)) is_opened.state takes
 
-    -- none ended the session
-    pub all_going : ends (unloaded_state options is_opened.map) ps ≡ false
-    all_going = subst (λ s. ends s ps ≡ false) is_opened.state all.going
+    pub all_counts : (key : Key) (now : ℕ) → CountsWant (request (after (state_at opened) ps).session key) opened.files.wants now
+        → CountsWant (request (after first ps).session key) files.wants now
+    all_counts key now counts =
+        subst (λ (s : State). CountsWant (request (after s ps).session key) files.wants now) is_opened.state
+        (subst (λ wants. CountsWant (request (after (state_at opened) ps).session key) wants now) is_opened.wants counts)
+
+    -- the run that stopped so behind them
+    pub all_runs : (status : Status) → files.wants ≤ m.files.wants → Stopped all_course files.wants m.files.wants status → {after_reads after_fault : Type 0}
+        → LeavesSource all_course after_reads after_fault
+        → Runs status options first before (told_at left now_reads m) files m.files after_reads after_fault m.session
+    all_runs status wants stopped source = record {
+      course = all_course;
+      stopped = stopped;
+      source = source;
+      session_is = behind_session ps all.session;
+      files = behind_files ps all.files;
+      faults = behind_faults ps all.faults;
+      wants = wants;
+    }
 
   -- ---- keys were shown up to a last one
   module _ (bytes : List ℕ) (read : Consumes before.left left (bytes ++ [])) (within : length bytes ≤ options.key_limit)
       (reads : ℕ) (made : now_reads ≡ raised_by reads before.reads) (earlier : List PressedKey) (last : PressedKey) (count : ℕ) (up_to : UpToLast opened m earlier last count)
       (order : IsFront (keys_pressed (earlier ++ last ∷ [])) (keys bytes))
       (complete : IsFront (keys_pressed (earlier ++ last ∷ [])) (completed bytes) ⊎ IsOver options (told_at left now_reads m) bytes reads) where
-    pub last_wrote : Appends before.taken m.taken
-        (take (length (opening (first_session options)) + count) (written (unloaded_state options is_opened.map) (earlier ++ last ∷ [])))
+    pub last_wrote : Appends before.taken m.taken (take (length (opening first.session) + count) (written first (earlier ++ last ∷ [])))
     last_wrote =
-        let screens = painted_over opened.shown (grids opened.state (earlier ++ last ∷ [])) in
-        let first = opening (first_session options) in
+        let screens = painted_over opened.shown (grids (state_at opened) (earlier ++ last ∷ [])) in
         subst (Appends before.taken m.taken)
-        (sym (ap (take (length first + count)) (written_is (earlier ++ last ∷ [])) ∙ take-append-add first screens count))
-        (Appends-trans before.taken opened.taken m.taken first (take count screens) is_opened.wrote up_to.wrote)
+        (sym (ap (take (length (opening first.session) + count)) (written_is (earlier ++ last ∷ [])) ∙ take-append-add (opening first.session) screens count))
+        (Appends-trans before.taken opened.taken m.taken (opening first.session) (take count screens) is_opened.wrote up_to.wrote)
 
-    abbrev pub last_course : Course options before (told_at left now_reads m)
+    abbrev pub last_course : Course options first before (told_at left now_reads m)
     last_course = record {
-      map = is_opened.map;
-      told = is_opened.told;
-      loads = no_loads;
-      can_load = record { program = refl; input = refl };
       bytes = bytes;
       lost = [];
       read = read;
@@ -197,14 +200,11 @@ module _ (options : PlainOptions) (before : Told) (opened m : Moment) (left : Op
       reads = reads;
       made = made;
       pressed = earlier ++ last ∷ [];
-      can_reply = subst (λ s. Replied s (earlier ++ last ∷ [])) is_opened.state up_to.can_reply;
+      can_reply = subst (λ s. HaveReplies s (earlier ++ last ∷ [])) is_opened.state up_to.can_reply;
       in_order = order;
       complete = complete;
-      count = length (opening (first_session options)) + count;
+      count = length (opening first.session) + count;
       wrote = last_wrote;
-      rescue = NoRescue;
-      files = subst (IsMapOf m.files) (up_to.files ∙ ap (λ (s : State). (after s (earlier ++ last ∷ [])).files) is_opened.state) m.told;
-      faults = omega (arith, is_opened.faults, up_to.faults);
       laid = lays_all (earlier ++ last ∷ []) m.laid up_to.laid;
     }
 
@@ -219,10 +219,23 @@ module _ (options : PlainOptions) (before : Told) (opened m : Moment) (left : Op
     }
 
     -- whether the last one ended the session
-    pub last_ends : ends (unloaded_state options is_opened.map) (earlier ++ last ∷ []) ≡ ends opened.state (earlier ++ last ∷ [])
+    pub last_ends : ends first (earlier ++ last ∷ []) ≡ ends (state_at opened) (earlier ++ last ∷ [])
     last_ends = ap (λ s. ends s (earlier ++ last ∷ [])) (sym is_opened.state)
 
     -- all was written
-    pub last_all : length (painted_over opened.shown (grids opened.state (earlier ++ last ∷ []))) ≤ count
-        → length (written (unloaded_state options is_opened.map) (earlier ++ last ∷ [])) ≤ length (opening (first_session options)) + count
+    pub last_all : length (painted_over opened.shown (grids (state_at opened) (earlier ++ last ∷ []))) ≤ count
+        → length (written first (earlier ++ last ∷ [])) ≤ length (opening first.session) + count
     last_all all = omega (arith, length_is (earlier ++ last ∷ []), all)
+
+    -- the run that stopped so at the last one
+    pub last_runs : (status : Status) → Stopped last_course files.wants m.files.wants status → {after_reads after_fault : Type 0} → after_reads
+        → Runs status options first before (told_at left now_reads m) files m.files after_reads after_fault m.session
+    last_runs status stopped led = record {
+      course = last_course;
+      stopped = stopped;
+      source = inl (led, refl);
+      session_is = behind_session (earlier ++ last ∷ []) up_to.session;
+      files = behind_files (earlier ++ last ∷ []) up_to.files;
+      faults = behind_faults (earlier ++ last ∷ []) up_to.faults;
+      wants = omega (arith, up_to.wants, is_opened.wants);
+    }

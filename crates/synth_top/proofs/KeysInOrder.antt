@@ -1,99 +1,133 @@
 -- Keys that are pressed, and then others.
-use Rattle.std.proofs.Common.{◌≡◌, ◌≤◌, IsTrue, ◌⊎◌, inl, inr, ℕ, ◌+◌, true, false, List, [], ◌∷◌, ◌++◌, length, take, sym, ap, ◌∙◌, subst, append_assoc, arith, length-append}
+use Rattle.std.proofs.Common.{◌≡◌, ◌≤◌, IsTrue, ◌⊎◌, inl, inr, ℕ, ◌+◌, true, false, List, [], ◌∷◌, ◌++◌, Option, length, take, sym, ap, ◌∙◌, subst, append_assoc, arith, length-append}
 use Rattle.std.proofs.lemmas.List.{map-append}
 use Rattle.std.proofs.Math.Seq.{take-append-add}
 use Rattle.std.proofs.KnownBytes.{Appends-trans}
 use Rattle.std.specs.Io.KnownBytes.{Appends}
+use Rattle.synth_outside.specs.Files.{FileMap}
+use Rattle.screen_window.specs.PlainGrid.{PlainGrid}
 use Rattle.synth_session.specs.declared.key.Key.{Key}
+use Rattle.synth_session.specs.FileReply.{CountsWant}
+use Rattle.synth_session.specs.KeyRequest.{request}
 use Rattle.synth_session.specs.MemoryTaken.{key_takes_memory}
+use Rattle.synth_session.specs.PlainSession.{PlainSession}
 use Rattle.synth_top.specs.declared.run.Going.{Going}
 use Rattle.synth_top.specs.declared.run.Going.TheVariants.{On, Over}
 use Rattle.synth_top.specs.declared.status.Status.{Status}
 use Rattle.synth_top.specs.declared.status.Status.TheVariants.{Done, ReadFault, WriteFault, NoMemory, BadWords, KeyLimit}
-use Rattle.synth_top.specs.Private.Pressing.{Moment, AllShown, UpToLast, KeysShown, KeysQuit, KeysCut, KeysWanted, Pressed, last_shown}
+use Rattle.synth_top.specs.Private.Pressing.{Moment, AllShown, UpToLast, KeysShown, KeysQuit, KeysCut, KeysWanted, Pressed, last_shown, state_at}
 use Rattle.synth_top.specs.Laid.{LaysFor}
 use Rattle.synth_top.specs.Run.{IsFront, keys_pressed, painted_over}
-use Rattle.synth_top.specs.Turn.{State, PressedKey, Replied, after, ends, failures, grids}
+use Rattle.synth_top.specs.Turn.{HaveReplies, IsToldAs, PressedKey, after, ends, failures, grids}
+use Rattle.synth_top.proofs.ClaimedFiles.{ClaimsNoMore, after_less, replies_less, same_ends, same_grids, told_through}
 use Rattle.synth_top.proofs.LaidInTurn.{lays_both}
-use Rattle.synth_top.proofs.TurnsInOrder.{after-append, ends-going, grids-append, Replied-append, failures-append, painted_over-append, last_shown-append}
+use Rattle.synth_top.proofs.TurnsInOrder.{after-append, ends-going, grids-append, HaveReplies-append, failures-append, painted_over-append, last_shown-append}
 
 -- the keys of some and of others
 pub keys_pressed-append : (ps qs : List PressedKey) → keys_pressed (ps ++ qs) ≡ keys_pressed ps ++ keys_pressed qs
 keys_pressed-append ps qs = map-append (λ (p : PressedKey). p.key) ps qs
 
 module _ (a b : Moment) (ps : List PressedKey) (shown : AllShown a b ps) where
+  -- the state behind claims no more than the next moment tells
+  behind_less : ClaimsNoMore (after (state_at a) ps) (state_at b)
+  behind_less = record { session = sym shown.session; files = shown.files }
+
+  -- the screens of others
+  grids_more : (qs : List PressedKey) → grids (state_at a) (ps ++ qs) ≡ grids (state_at a) ps ++ grids (state_at b) qs
+  grids_more qs =
+      grids-append (state_at a) ps qs
+      ∙ ap (λ (gs : List PlainGrid). grids (state_at a) ps ++ gs) (same_grids (after (state_at a) ps) (state_at b) qs behind_less)
+
   -- the bytes of all screens
   pub painted_more : (qs : List PressedKey)
-      → painted_over a.shown (grids a.state (ps ++ qs)) ≡ painted_over a.shown (grids a.state ps) ++ painted_over b.shown (grids b.state qs)
+      → painted_over a.shown (grids (state_at a) (ps ++ qs)) ≡ painted_over a.shown (grids (state_at a) ps) ++ painted_over b.shown (grids (state_at b) qs)
   painted_more qs =
-      ap (painted_over a.shown) (grids-append a.state ps qs)
-      ∙ painted_over-append a.shown (grids a.state ps) (grids (after a.state ps) qs)
-      ∙ ap (λ g. painted_over a.shown (grids a.state ps) ++ painted_over g (grids (after a.state ps) qs)) (sym shown.shown)
-      ∙ ap (λ s. painted_over a.shown (grids a.state ps) ++ painted_over b.shown (grids s qs)) (sym shown.state)
+      ap (painted_over a.shown) (grids_more qs)
+      ∙ painted_over-append a.shown (grids (state_at a) ps) (grids (state_at b) qs)
+      ∙ ap (λ g. painted_over a.shown (grids (state_at a) ps) ++ painted_over g (grids (state_at b) qs)) (sym shown.shown)
 
   -- whether the others end the session
-  pub ends_more : (qs : List PressedKey) → ends a.state (ps ++ qs) ≡ ends b.state qs
-  ends_more qs = ends-going a.state ps qs shown.going ∙ ap (λ s. ends s qs) (sym shown.state)
+  pub ends_more : (qs : List PressedKey) → ends (state_at a) (ps ++ qs) ≡ ends (state_at b) qs
+  ends_more qs = ends-going (state_at a) ps qs shown.going ∙ same_ends (after (state_at a) ps) (state_at b) qs behind_less
 
-  -- the state behind
-  pub after_more : (qs : List PressedKey) → after a.state (ps ++ qs) ≡ after b.state qs
-  after_more qs = after-append a.state ps qs ∙ ap (λ s. after s qs) (sym shown.state)
+  -- the state behind claims no more than that behind the others alone
+  pub after_more : (qs : List PressedKey) → ClaimsNoMore (after (state_at a) (ps ++ qs)) (after (state_at b) qs)
+  after_more qs =
+      subst (λ s. ClaimsNoMore s (after (state_at b) qs)) (sym (after-append (state_at a) ps qs))
+      (after_less (after (state_at a) ps) (state_at b) qs behind_less)
 
   -- the last screen
-  last_more : (qs : List PressedKey) → last_shown a.shown (grids a.state (ps ++ qs)) ≡ last_shown b.shown (grids b.state qs)
+  last_more : (qs : List PressedKey) → last_shown a.shown (grids (state_at a) (ps ++ qs)) ≡ last_shown b.shown (grids (state_at b) qs)
   last_more qs =
-      ap (last_shown a.shown) (grids-append a.state ps qs)
-      ∙ last_shown-append a.shown (grids a.state ps) (grids (after a.state ps) qs)
-      ∙ ap (λ g. last_shown g (grids (after a.state ps) qs)) (sym shown.shown)
-      ∙ ap (λ s. last_shown b.shown (grids s qs)) (sym shown.state)
+      ap (last_shown a.shown) (grids_more qs)
+      ∙ last_shown-append a.shown (grids (state_at a) ps) (grids (state_at b) qs)
+      ∙ ap (λ g. last_shown g (grids (state_at b) qs)) (sym shown.shown)
 
   -- the lines laid
-  laid_more : (c : Moment) (qs : List PressedKey) → LaysFor (grids b.state qs) b.laid c.laid → LaysFor (grids a.state (ps ++ qs)) a.laid c.laid
+  laid_more : (c : Moment) (qs : List PressedKey) → LaysFor (grids (state_at b) qs) b.laid c.laid → LaysFor (grids (state_at a) (ps ++ qs)) a.laid c.laid
   laid_more c qs laid =
-      subst (λ gs. LaysFor gs a.laid c.laid)
-      (sym (grids-append a.state ps qs ∙ ap (λ s. grids a.state ps ++ grids s qs) (sym shown.state)))
-      (lays_both (grids a.state ps) (grids b.state qs) a.laid b.laid c.laid shown.laid laid)
+      subst (λ gs. LaysFor gs a.laid c.laid) (sym (grids_more qs))
+      (lays_both (grids (state_at a) ps) (grids (state_at b) qs) a.laid b.laid c.laid shown.laid laid)
 
-  -- what the files did
-  replied_more : (qs : List PressedKey) → Replied b.state qs → Replied a.state (ps ++ qs)
-  replied_more qs replied = Replied-append a.state ps qs shown.can_reply (subst (λ s. Replied s qs) shown.state replied)
+  -- what the files replied
+  replies_more : (qs : List PressedKey) → HaveReplies (state_at b) qs → HaveReplies (state_at a) (ps ++ qs)
+  replies_more qs can =
+      HaveReplies-append (state_at a) ps qs shown.can_reply (replies_less (after (state_at a) ps) (state_at b) qs behind_less can)
+
+  -- the map that is claimed
+  files_more : (qs : List PressedKey) (files : Option FileMap) → IsToldAs (after (state_at b) qs).files files → IsToldAs (after (state_at a) (ps ++ qs)).files files
+  files_more qs files told = told_through (after (state_at a) (ps ++ qs)).files (after (state_at b) qs).files files (after_more qs).files told
 
   -- all of some keys and all of others
   pub both_shown : (c : Moment) (qs : List PressedKey) → AllShown b c qs → AllShown a c (ps ++ qs)
   both_shown c qs next = record {
-    can_reply = replied_more qs next.can_reply;
+    can_reply = replies_more qs next.can_reply;
     going = ends_more qs ∙ next.going;
-    state = next.state ∙ sym (after_more qs);
+    session = next.session ∙ sym (after_more qs).session;
+    files = files_more qs c.files.stored next.files;
     shown = next.shown ∙ sym (last_more qs);
     wrote = subst (Appends a.taken c.taken) (sym (painted_more qs))
-        (Appends-trans a.taken b.taken c.taken (painted_over a.shown (grids a.state ps)) (painted_over b.shown (grids b.state qs)) shown.wrote next.wrote);
+        (Appends-trans a.taken b.taken c.taken (painted_over a.shown (grids (state_at a) ps)) (painted_over b.shown (grids (state_at b) qs)) shown.wrote next.wrote);
     faults = omega (arith, shown.faults, next.faults, failures-append ps qs);
     laid = laid_more c qs next.laid;
   }
 
   -- all of some keys, and others up to a last one
-  pub then_up_to : (c : Moment) (earlier : List PressedKey) (last : PressedKey) (count : ℕ) → UpToLast b c earlier last count
-      → UpToLast a c (ps ++ earlier) last (length (painted_over a.shown (grids a.state ps)) + count)
-  then_up_to c earlier last count next =
-      let front = painted_over a.shown (grids a.state ps) in
+  pub then_up_to : (c : Moment) (earlier : List PressedKey) (last : PressedKey) (count : ℕ) → b.files.wants ≡ a.files.wants → UpToLast b c earlier last count
+      → UpToLast a c (ps ++ earlier) last (length (painted_over a.shown (grids (state_at a) ps)) + count)
+  then_up_to c earlier last count same_wants next =
+      let front = painted_over a.shown (grids (state_at a) ps) in
       let all = earlier ++ last ∷ [] in
       let joined : ps ++ all ≡ (ps ++ earlier) ++ last ∷ [] = sym (append_assoc ps earlier (last ∷ [])) in
-      let bytes : front ++ painted_over b.shown (grids b.state all) ≡ painted_over a.shown (grids a.state ((ps ++ earlier) ++ last ∷ [])) =
-      sym (painted_more all) ∙ ap (λ l. painted_over a.shown (grids a.state l)) joined in
-      let whole : length (painted_over a.shown (grids a.state (ps ++ earlier))) ≡ length front + length (painted_over b.shown (grids b.state earlier)) =
-      ap length (painted_more earlier) ∙ length-append front (painted_over b.shown (grids b.state earlier)) in
+      let bytes : front ++ painted_over b.shown (grids (state_at b) all) ≡ painted_over a.shown (grids (state_at a) ((ps ++ earlier) ++ last ∷ [])) =
+      sym (painted_more all) ∙ ap (λ l. painted_over a.shown (grids (state_at a) l)) joined in
+      let whole : length (painted_over a.shown (grids (state_at a) (ps ++ earlier))) ≡ length front + length (painted_over b.shown (grids (state_at b) earlier)) =
+      ap length (painted_more earlier) ∙ length-append front (painted_over b.shown (grids (state_at b) earlier)) in
       let faults = ap failures (sym joined) ∙ failures-append ps all in
       record {
-        can_reply = subst (Replied a.state) joined (replied_more all next.can_reply);
+        can_reply = subst (HaveReplies (state_at a)) joined (replies_more all next.can_reply);
         going = ends_more earlier ∙ next.going;
-        files = next.files ∙ ap (λ (s : State). s.files) (sym (after_more all) ∙ ap (after a.state) joined);
+        session = next.session ∙ sym (after_more all).session ∙ ap (λ l. (after (state_at a) l).session) joined;
+        files = subst (λ l. IsToldAs (after (state_at a) l).files c.files.stored) joined (files_more all c.files.stored next.files);
         wrote = subst (Appends a.taken c.taken)
-            (sym (take-append-add front (painted_over b.shown (grids b.state all)) count) ∙ ap (take (length front + count)) bytes)
-            (Appends-trans a.taken b.taken c.taken front (take count (painted_over b.shown (grids b.state all))) shown.wrote next.wrote);
+            (sym (take-append-add front (painted_over b.shown (grids (state_at b) all)) count) ∙ ap (take (length front + count)) bytes)
+            (Appends-trans a.taken b.taken c.taken front (take count (painted_over b.shown (grids (state_at b) all))) shown.wrote next.wrote);
         whole = omega (arith, whole, next.whole);
         faults = omega (arith, shown.faults, next.faults, faults);
-        laid = subst (λ l. LaysFor (grids a.state l) a.laid c.laid) joined (laid_more c all next.laid);
+        wants = next.wants ∙ same_wants;
+        laid = subst (λ l. LaysFor (grids (state_at a) l) a.laid c.laid) joined (laid_more c all next.laid);
       }
+
+  -- a key that wanted memory behind all of them
+  module _ (qs : List PressedKey) (wanted : Key) where
+    pub takes_more : IsTrue (key_takes_memory (after (state_at b) qs).session wanted) → IsTrue (key_takes_memory (after (state_at a) (ps ++ qs)).session wanted)
+    takes_more takes = subst (λ (s : PlainSession). IsTrue (key_takes_memory s wanted)) (sym (after_more qs).session) takes
+
+    pub counts_more : (now : ℕ) → b.files.wants ≡ a.files.wants → CountsWant (request (after (state_at b) qs).session wanted) b.files.wants now
+        → CountsWant (request (after (state_at a) (ps ++ qs)).session wanted) a.files.wants now
+    counts_more now same counts =
+        subst (λ (s : PlainSession). CountsWant (request s wanted) a.files.wants now) (sym (after_more qs).session)
+        (subst (λ before. CountsWant (request (after (state_at b) qs).session wanted) before now) same counts)
 
 -- keys in front of others
 pub front_behind : (ps : List PressedKey) (keys more : List Key) (qs : List PressedKey) → keys_pressed ps ≡ keys → IsFront (keys_pressed qs) more
@@ -121,6 +155,7 @@ module _ (keys more : List Key) (a b c : Moment) (first : KeysShown keys a b) wh
     pressed = first.pressed ++ next.pressed;
     all = keys_pressed-append first.pressed next.pressed ∙ ap (λ l. l ++ keys_pressed next.pressed) first.all ∙ ap (λ l. keys ++ l) next.all;
     shown = both_shown a b first.pressed first.shown c next.pressed next.shown;
+    wants = next.wants ∙ first.wants;
   }
 
   then_quit : KeysQuit more b c → KeysQuit (keys ++ more) a c
@@ -128,15 +163,15 @@ module _ (keys more : List Key) (a b c : Moment) (first : KeysShown keys a b) wh
       let ps = first.pressed in
       let all = next.earlier ++ next.last ∷ [] in
       let joined : ps ++ all ≡ (ps ++ next.earlier) ++ next.last ∷ [] = sym (append_assoc ps next.earlier (next.last ∷ [])) in
-      let bytes = ap length (painted_more a b ps first.shown all) ∙ length-append (painted_over a.shown (grids a.state ps)) (painted_over b.shown (grids b.state all)) in
+      let bytes = ap length (painted_more a b ps first.shown all) ∙ length-append (painted_over a.shown (grids (state_at a) ps)) (painted_over b.shown (grids (state_at b) all)) in
       record {
         earlier = ps ++ next.earlier;
         last = next.last;
         front = subst (λ l. IsFront (keys_pressed l) (keys ++ more)) joined (front_behind ps keys more all first.all next.front);
-        count = length (painted_over a.shown (grids a.state ps)) + next.count;
-        up_to = then_up_to a b ps first.shown c next.earlier next.last next.count next.up_to;
-        quit = subst (λ l. ends a.state l ≡ true) joined (ends_more a b ps first.shown all ∙ next.quit);
-        all = subst (λ l. length (painted_over a.shown (grids a.state l)) ≤ length (painted_over a.shown (grids a.state ps)) + next.count) joined
+        count = length (painted_over a.shown (grids (state_at a) ps)) + next.count;
+        up_to = then_up_to a b ps first.shown c next.earlier next.last next.count first.wants next.up_to;
+        quit = subst (λ l. ends (state_at a) l ≡ true) joined (ends_more a b ps first.shown all ∙ next.quit);
+        all = subst (λ l. length (painted_over a.shown (grids (state_at a) l)) ≤ length (painted_over a.shown (grids (state_at a) ps)) + next.count) joined
             (omega (arith, bytes, next.all));
       }
 
@@ -149,9 +184,9 @@ module _ (keys more : List Key) (a b c : Moment) (first : KeysShown keys a b) wh
         earlier = ps ++ next.earlier;
         last = next.last;
         front = subst (λ l. IsFront (keys_pressed l) (keys ++ more)) joined (front_behind ps keys more all first.all next.front);
-        count = length (painted_over a.shown (grids a.state ps)) + next.count;
-        up_to = then_up_to a b ps first.shown c next.earlier next.last next.count next.up_to;
-        going = subst (λ l. ends a.state l ≡ false) joined (ends_more a b ps first.shown all ∙ next.going);
+        count = length (painted_over a.shown (grids (state_at a) ps)) + next.count;
+        up_to = then_up_to a b ps first.shown c next.earlier next.last next.count first.wants next.up_to;
+        going = subst (λ l. ends (state_at a) l ≡ false) joined (ends_more a b ps first.shown all ∙ next.going);
       }
 
   then_wanted : KeysWanted more b c → KeysWanted (keys ++ more) a c
@@ -159,7 +194,8 @@ module _ (keys more : List Key) (a b c : Moment) (first : KeysShown keys a b) wh
       let ps = first.pressed in record {
         pressed = ps ++ next.pressed;
         wanted = next.wanted;
-        takes = subst (λ (s : State). IsTrue (key_takes_memory s.session next.wanted)) (sym (after_more a b ps first.shown next.pressed)) next.takes;
+        takes = takes_more a b ps first.shown next.pressed next.wanted next.takes;
+        counts = counts_more a b ps first.shown next.pressed next.wanted c.files.wants first.wants next.counts;
         front = wanted_behind ps keys more next.pressed next.wanted first.all next.front;
         shown = both_shown a b ps first.shown c next.pressed next.shown;
       }
@@ -207,7 +243,7 @@ pressed_before WriteFault keys more a b pressed = cut_before keys more a b press
 pressed_before NoMemory keys more a b pressed =
     elim pressed as (λ _. KeysCut (keys ++ more) a b ⊎ KeysWanted (keys ++ more) a b) [
       | inl cut ↦ inl (cut_before keys more a b cut)
-      | inr wanted ↦ inr (record { pressed = wanted.pressed; wanted = wanted.wanted; takes = wanted.takes; front = front_more _ keys more wanted.front; shown = wanted.shown })
+      | inr wanted ↦ inr (record { pressed = wanted.pressed; wanted = wanted.wanted; takes = wanted.takes; counts = wanted.counts; front = front_more _ keys more wanted.front; shown = wanted.shown })
     ]
 pressed_before ReadFault keys more a b pressed = absurd pressed
 pressed_before BadWords keys more a b pressed = absurd pressed

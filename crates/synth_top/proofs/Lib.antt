@@ -1,5 +1,12 @@
 -- the limits: their values
 pub mod Limits
+-- `given` and `bad` of read_words: uses of arguments, the looks of words, words as clap walks along them, and the command's own
+pub mod ClapUses
+pub mod ClapLooks
+pub mod ClapWalk
+pub mod ClapWords
+-- words of the command and what they give, written out
+pub mod WordRows
 -- `keys` of KeyReader::feed: a byte before others
 pub mod KeyLists
 -- `wrote` of Editor::start: fronts of bytes, and bytes one after the other
@@ -7,10 +14,16 @@ pub mod Fronts
 pub mod WritesInTurn
 -- `laid` of Editor::show, and of what is said of several keys: lines laid for some screens and then for others
 pub mod LaidInTurn
--- `presses` of Editor::press and press_keys: turns along a list of keys, one key, and keys behind others
+-- `presses` of Editor::press and press_keys: turns of a state of which less is claimed, turns along a list of keys, one key, and
+-- keys behind others
+pub mod ClaimedFiles
 pub mod TurnsInOrder
 pub mod OneKey
 pub mod KeysInOrder
--- `ended` of Editor::run: what a run has done, and the run byte by byte
+-- `runs` of Editor::run: what a run has done, and the run byte by byte
 pub mod Courses
 pub mod Runs
+-- `loads` of load_program: a program that was loaded, without its room
+pub mod FirstLoads
+-- `wanted` of load_first and `ended` of edit: the loads, the run and what is saved behind it
+pub mod Whole

@@ -1,10 +1,14 @@
 -- The values of the limits that definitions take from the code: another value is refused here.
 use Rattle.std.proofs.Common.{◌≡◌, refl}
-use Rattle.synth_top.specs.declared.options.TheConstants.{KEY_LIMIT, USUAL_ROWS, USUAL_COLS}
+use Rattle.synth_top.specs.declared.options.TheConstants.{FEWEST_KEYS, MOST_KEYS, USUAL_ROWS, USUAL_COLS}
 
--- how many bytes of keys are taken at most
-pub key_limit_is : KEY_LIMIT ≡ 1000000000
-key_limit_is = refl
+-- the least number of bytes of keys that words can ask for
+pub fewest_keys_is : FEWEST_KEYS ≡ 1
+fewest_keys_is = refl
+
+-- the greatest number of bytes of keys that words can ask for
+pub most_keys_is : MOST_KEYS ≡ 1000000000
+most_keys_is = refl
 
 -- how many rows a screen has where no words say it
 pub usual_rows_is : USUAL_ROWS ≡ 24

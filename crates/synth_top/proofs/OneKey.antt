@@ -1,5 +1,5 @@
 -- One key, as the first of a list.
-use Rattle.std.proofs.Common.{◌≡◌, IsTrue, ℕ, Bool, true, false, ◌||◌, cond, List, [], ◌∷◌, ◌++◌, length, take, refl, sym, ap, ◌∙◌, subst, append-nil, arith}
+use Rattle.std.proofs.Common.{◌≡◌, IsTrue, ℕ, Bool, true, false, ◌||◌, cond, List, [], ◌∷◌, ◌++◌, length, take, Option, refl, sym, ap, ◌∙◌, subst, append-nil, arith}
 use Rattle.std.proofs.KnownBytes.{Appends-nil}
 use Rattle.std.specs.Io.KnownBytes.{Appends}
 use Rattle.synth_outside.specs.Files.{FileMap}
@@ -9,15 +9,17 @@ use Rattle.screen_window.specs.PlainGrid.{PlainGrid}
 use Rattle.synth_session.specs.declared.answer.Answer.{Answer}
 use Rattle.synth_session.specs.declared.answer.Answer.TheVariants.{Done, Refused, Quit}
 use Rattle.synth_session.specs.declared.key.Key.{Key}
+use Rattle.synth_session.specs.FileReply.{HaveNoMemory}
+use Rattle.synth_session.specs.KeyRequest.{request}
 use Rattle.synth_session.specs.MemoryTaken.{key_takes_memory}
 use Rattle.synth_session.specs.PlainSession.{PlainSession}
 use Rattle.synth_session.specs.Press.{press}
 use Rattle.synth_session.specs.SessionScreen.{grid}
 use Rattle.synth_top.specs.Laid.{LaysFor}
-use Rattle.synth_top.specs.Private.Pressing.{IsPressed, Moment, AllShown, KeysShown, KeysQuit, KeysCut, KeysWanted, last_shown}
-use Rattle.synth_top.specs.Reply.{NotAsked}
-use Rattle.synth_top.specs.Run.{painted_over}
-use Rattle.synth_top.specs.Turn.{State, PressedKey, Turn, after, ends, grids, is_quit, turn, turn_with}
+use Rattle.synth_top.specs.Private.Pressing.{AllShown, IsPressed, KeysCut, KeysQuit, KeysShown, KeysWanted, Moment, last_shown, state_at}
+use Rattle.synth_top.specs.Run.{RoseBy, painted_over}
+use Rattle.synth_top.specs.Turn.{IsToldAs, PressedKey, Turn, after, ends, failures, files_behind, grids, is_quit, turn, turn_with}
+use Rattle.synth_top.proofs.ClaimedFiles.{fault_counted, told_behind, told_same}
 use Rattle.synth_top.proofs.LaidInTurn.{lays_nothing}
 
 -- an answer that isn't the end
@@ -30,84 +32,89 @@ or_nothing : (a : Bool) → (a || false) ≡ a
 or_nothing true = refl
 or_nothing false = refl
 
--- a key that asked nothing of the files was pressed
-pub is_pressed : (key : Key) (answer : Answer) (before now : PlainSession) (map : FileMap) (faults : ℕ) → now ≡ (press before key).after
-    → answer ≡ (press before key).answer
-    → IsPressed key answer (record { session = before; files = map }) (record { session = now; files = map }) faults faults
-is_pressed key answer before now map faults after_key answered = record {
-  reply = NotAsked;
-  can_reply = refl;
-  session = after_key;
-  answered = answered;
-  files = refl;
-  faults = omega arith;
-}
-
-module _ (key : Key) (answer : Answer) (a b : Moment) (s : State) (pressed : IsPressed key answer a.state s a.file_faults b.file_faults) (same : b.state ≡ s) where
-  -- the key with what the files did
+module _ (key : Key) (answer : Answer) (a b : Moment) (s : PlainSession) (pressed : IsPressed key answer a.session s a.files b.files)
+    (same : b.session ≡ s) where
+  -- the key with what the files replied
   abbrev one : PressedKey
   one = record { key = key; reply = pressed.reply }
 
+  -- the map that is claimed behind it
+  abbrev files_claimed : Option FileMap
+  files_claimed = files_behind (request a.session key) pressed.reply a.files.stored
+
   -- its turn, by its answer
-  turn_is : turn a.state one ≡ turn_with a.state (record { after = s.session; answer = answer })
+  turn_is : turn (state_at a) one ≡ turn_with (record { after = s; answer = answer }) files_claimed
   unfolding turn
   turn_is =
-      sym (ap (λ (z : PlainSession). turn_with a.state (record { after = z; answer = answer })) pressed.session
-      ∙ ap (λ (z : Answer). turn_with a.state (record { after = (press a.state.session key).after; answer = z })) pressed.answered)
+      sym (ap (λ (z : PlainSession). turn_with (record { after = z; answer = answer }) files_claimed) pressed.session
+      ∙ ap (λ (z : Answer). turn_with (record { after = (press a.session key pressed.reply).after; answer = z }) files_claimed) pressed.answered)
 
-  ends_is : ends a.state (one ∷ []) ≡ is_quit answer
+  ends_is : ends (state_at a) (one ∷ []) ≡ is_quit answer
   ends_is = ap (λ (t : Turn). t.ends || false) turn_is ∙ or_nothing (is_quit answer)
 
-  -- the state behind it
-  state_is : b.state ≡ after a.state (one ∷ [])
-  state_is = same ∙ ap (λ f. record { session = s.session; files = f }) pressed.files ∙ sym (ap (λ (t : Turn). t.after) turn_is)
+  -- the session and the map behind it
+  session_is : b.session ≡ (after (state_at a) (one ∷ [])).session
+  session_is = same ∙ sym (ap (λ (t : Turn). t.after.session) turn_is)
+
+  files_told : IsToldAs (after (state_at a) (one ∷ [])).files b.files.stored
+  files_told =
+      subst (λ (t : Turn). IsToldAs t.after.files b.files.stored) (sym turn_is)
+      (told_behind (request a.session key) pressed.reply a.files.stored b.files.stored pressed.files.stored)
+
+  -- the failures of the files in it
+  faults_are : RoseBy (failures (one ∷ [])) a.files.faults b.files.faults
+  faults_are = let one_fault = fault_counted pressed.reply a.files.faults b.files.faults pressed.files.faults in omega (arith, one_fault)
 
   -- the screen, where it isn't the end
-  grids_are : is_quit answer ≡ false → grids a.state (one ∷ []) ≡ grid s.session ∷ []
-  grids_are going = ap (λ (t : Turn). t.grids ++ []) turn_is ∙ ap (λ q. cond q [] (grid s.session ∷ []) ++ []) going
+  grids_are : is_quit answer ≡ false → grids (state_at a) (one ∷ []) ≡ grid s ∷ []
+  grids_are going = ap (λ (t : Turn). t.grids ++ []) turn_is ∙ ap (λ q. cond q [] (grid s ∷ []) ++ []) going
 
-  bytes_are : is_quit answer ≡ false → painted_over a.shown (grids a.state (one ∷ [])) ≡ Paint a.shown (grid s.session)
-  bytes_are going = ap (painted_over a.shown) (grids_are going) ∙ append-nil (Paint a.shown (grid s.session))
+  bytes_are : is_quit answer ≡ false → painted_over a.shown (grids (state_at a) (one ∷ [])) ≡ Paint a.shown (grid s)
+  bytes_are going = ap (painted_over a.shown) (grids_are going) ∙ append-nil (Paint a.shown (grid s))
 
   -- lines were laid for the screen
-  lays_one : is_quit answer ≡ false → LaysFor (grid s.session ∷ []) a.laid b.laid → LaysFor (grids a.state (one ∷ [])) a.laid b.laid
+  lays_one : is_quit answer ≡ false → LaysFor (grid s ∷ []) a.laid b.laid → LaysFor (grids (state_at a) (one ∷ [])) a.laid b.laid
   lays_one going laid = subst (λ (screens : List PlainGrid). LaysFor screens a.laid b.laid) (sym (grids_are going)) laid
 
   -- the key was pressed, and its screen was written
-  pub one_shown : (answer ≡ Quit → ⊥) → (over : PlainGrid) → over ≡ a.shown → Appends a.taken b.taken (Paint over (grid s.session))
-      → b.shown ≡ grid s.session → LaysFor (grid s.session ∷ []) a.laid b.laid → KeysShown (key ∷ []) a b
+  pub one_shown : (answer ≡ Quit → ⊥) → (over : PlainGrid) → over ≡ a.shown → Appends a.taken b.taken (Paint over (grid s))
+      → b.shown ≡ grid s → LaysFor (grid s ∷ []) a.laid b.laid → KeysShown (key ∷ []) a b
   one_shown other over same_over wrote shown laid = record {
     pressed = one ∷ [];
     all = refl;
     shown = record {
-      can_reply = (pressed.can_reply, tt);
+      can_reply = (pressed.files.can, tt);
       going = ends_is ∙ not_quit answer other;
-      state = state_is;
+      session = session_is;
+      files = files_told;
       shown = shown ∙ sym (ap (last_shown a.shown) (grids_are (not_quit answer other)));
-      wrote = subst (Appends a.taken b.taken) (ap (λ g. Paint g (grid s.session)) same_over ∙ sym (bytes_are (not_quit answer other))) wrote;
-      faults = omega (arith, pressed.faults);
+      wrote = subst (Appends a.taken b.taken) (ap (λ g. Paint g (grid s)) same_over ∙ sym (bytes_are (not_quit answer other))) wrote;
+      faults = faults_are;
       laid = lays_one (not_quit answer other) laid;
     };
+    wants = pressed.files.wants;
   }
 
   -- the key ended the session, and nothing was written
   pub one_quit : answer ≡ Quit → b.taken ≡ a.taken → b.laid ≡ a.laid → KeysQuit (key ∷ []) a b
   one_quit quit same_taken same_laid =
       let ending : is_quit answer ≡ true = ap is_quit quit in
-      let none : painted_over a.shown (grids a.state (one ∷ [])) ≡ [] =
-      ap (painted_over a.shown) (ap (λ (t : Turn). t.grids ++ []) turn_is ∙ ap (λ q. cond q [] (grid s.session ∷ []) ++ []) ending) in
+      let none : painted_over a.shown (grids (state_at a) (one ∷ [])) ≡ [] =
+      ap (painted_over a.shown) (ap (λ (t : Turn). t.grids ++ []) turn_is ∙ ap (λ q. cond q [] (grid s ∷ []) ++ []) ending) in
       record {
         earlier = [];
         last = one;
         front = ([], refl);
         count = 0;
         up_to = record {
-          can_reply = (pressed.can_reply, tt);
+          can_reply = (pressed.files.can, tt);
           going = refl;
-          files = ap (λ (z : State). z.files) state_is;
+          session = session_is;
+          files = files_told;
           wrote = subst (λ t. Appends a.taken t []) (sym same_taken) (Appends-nil a.taken);
           whole = omega arith;
-          faults = omega (arith, pressed.faults);
+          faults = faults_are;
+          wants = pressed.files.wants;
           laid = lays_nothing _ a.laid b.laid same_laid;
         };
         quit = ends_is ∙ ending;
@@ -115,21 +122,23 @@ module _ (key : Key) (answer : Answer) (a b : Moment) (s : State) (pressed : IsP
       }
 
   -- the key was pressed, and its screen was cut short
-  pub one_cut : (answer ≡ Quit → ⊥) → (over : PlainGrid) → over ≡ a.shown → AppendsFront a.taken b.taken (Paint over (grid s.session))
-      → LaysFor (grid s.session ∷ []) a.laid b.laid → KeysCut (key ∷ []) a b
+  pub one_cut : (answer ≡ Quit → ⊥) → (over : PlainGrid) → over ≡ a.shown → AppendsFront a.taken b.taken (Paint over (grid s))
+      → LaysFor (grid s ∷ []) a.laid b.laid → KeysCut (key ∷ []) a b
   one_cut other over same_over front laid = record {
     earlier = [];
     last = one;
     front = ([], refl);
     count = front.0;
     up_to = record {
-      can_reply = (pressed.can_reply, tt);
+      can_reply = (pressed.files.can, tt);
       going = refl;
-      files = ap (λ (z : State). z.files) state_is;
+      session = session_is;
+      files = files_told;
       wrote = subst (λ l. Appends a.taken b.taken (take front.0 l))
-          (ap (λ g. Paint g (grid s.session)) same_over ∙ sym (bytes_are (not_quit answer other))) front.1;
+          (ap (λ g. Paint g (grid s)) same_over ∙ sym (bytes_are (not_quit answer other))) front.1;
       whole = omega arith;
-      faults = omega (arith, pressed.faults);
+      faults = faults_are;
+      wants = pressed.files.wants;
       laid = lays_one (not_quit answer other) laid;
     };
     going = ends_is ∙ not_quit answer other;
@@ -137,27 +146,40 @@ module _ (key : Key) (answer : Answer) (a b : Moment) (s : State) (pressed : IsP
 
 -- ---- no key
 
--- nothing is seen to have changed
+-- nothing but the count of wants of the files is seen to have changed
 pub record IsUnchanged (a b : Moment) : Type 0 where
-  pub state : b.state ≡ a.state
+  pub session : b.session ≡ a.session
   pub shown : b.shown ≡ a.shown
   pub taken : b.taken ≡ a.taken
-  pub file_faults : b.file_faults ≡ a.file_faults
+  pub stored : b.files.stored ≡ a.files.stored
+  pub faults : b.files.faults ≡ a.files.faults
   pub laid : b.laid ≡ a.laid
+
+-- nothing at all
+pub unchanged_itself : (a : Moment) → IsUnchanged a a
+unchanged_itself a = record { session = refl; shown = refl; taken = refl; stored = refl; faults = refl; laid = refl }
 
 -- no key was pressed
 pub none_shown : (a b : Moment) → IsUnchanged a b → AllShown a b []
 none_shown a b same = record {
   can_reply = tt;
   going = refl;
-  state = same.state;
+  session = same.session;
+  files = told_same a.files.stored b.files.stored same.stored;
   shown = same.shown;
   wrote = subst (λ taken. Appends a.taken taken []) (sym same.taken) (Appends-nil a.taken);
-  faults = omega (arith, same.file_faults);
+  faults = omega (arith, same.faults);
   laid = lays_nothing [] a.laid b.laid same.laid;
 }
 
 -- the key wanted memory, and did nothing
-pub one_wanted : (key : Key) (a b : Moment) → IsTrue (key_takes_memory a.state.session key) → IsUnchanged a b → KeysWanted (key ∷ []) a b
-one_wanted key a b takes same =
-    record { pressed = []; wanted = key; takes = takes; front = ([], refl); shown = none_shown a b same }
+pub one_wanted : (key : Key) (a b : Moment) → IsTrue (key_takes_memory a.session key) → HaveNoMemory (request a.session key) a.files b.files
+    → b.session ≡ a.session → b.shown ≡ a.shown → b.taken ≡ a.taken → b.laid ≡ a.laid → KeysWanted (key ∷ []) a b
+one_wanted key a b takes files session shown taken laid = record {
+  pressed = [];
+  wanted = key;
+  takes = takes;
+  counts = files.wants;
+  front = ([], refl);
+  shown = none_shown a b (record { session = session; shown = shown; taken = taken; stored = files.stored; faults = files.faults; laid = laid });
+}

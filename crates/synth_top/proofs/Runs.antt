@@ -1,5 +1,5 @@
 -- A run, byte by byte.
-use Rattle.std.proofs.Common.{◌≡◌, IsTrue, ◌<◌, ◌≤◌, ◌⊎◌, ℕ, ◌+◌, true, false, List, [], ◌∷◌, ◌++◌, Option, length, refl, sym, ap, ◌∙◌, subst, append_assoc, append-nil, arith, length-append, inl, inr}
+use Rattle.std.proofs.Common.{◌≡◌, ◌<◌, ◌≤◌, ◌⊎◌, ℕ, ◌+◌, true, false, List, [], ◌∷◌, ◌++◌, Option, length, refl, sym, ap, ◌∙◌, subst, append_assoc, append-nil, arith, length-append, inl, inr}
 use Rattle.std.proofs.lemmas.Bool.{true≢false}
 use Rattle.std.proofs.lemmas.List.{same_from_push}
 use Rattle.std.proofs.KnownBytes.{Consumes-nil, Consumes-trans}
@@ -7,7 +7,8 @@ use Rattle.std.specs.Io.KnownBytes.{Consumes, IsAtEnd}
 use Rattle.plcs_base.specs.Count.{raised}
 use Rattle.synth_session.specs.declared.key.Key.{Key}
 use Rattle.synth_session.specs.declared.key.Key.TheVariants.{Other}
-use Rattle.synth_session.specs.MemoryTaken.{key_takes_memory}
+use Rattle.synth_session.specs.FileReply.{CountsWant, PlainFiles, Reply, Request}
+use Rattle.synth_session.specs.KeyRequest.{request}
 use Rattle.synth_session.specs.Press.{press}
 use Rattle.synth_top.specs.declared.key.Keys.{Keys}
 use Rattle.synth_top.specs.declared.run.Going.{Going}
@@ -15,26 +16,27 @@ use Rattle.synth_top.specs.declared.run.Going.TheVariants.{On, Over}
 use Rattle.synth_top.specs.declared.status.Status.{Status}
 use Rattle.synth_top.specs.declared.status.Status.TheVariants.{Done, ReadFault, WriteFault, NoMemory, BadWords, KeyLimit}
 use Rattle.synth_top.specs.Keys.{Feeds, IsHeld, completed, keys, listed}
-use Rattle.synth_top.specs.Private.Pressing.{Moment, AllShown, UpToLast, KeysShown, KeysQuit, KeysCut, KeysWanted, Pressed, ended_as}
-use Rattle.synth_top.specs.Run.{Told, NoRescue, EndRead, LimitTaken, IsFront, IsOver, Course, AtLastKey, KeyWanted, PressedAll, ReadCut, ScreenCut, ReadsInTurn, Ended, keys_pressed, raised_by, first_state, painted_over, written}
-use Rattle.synth_top.specs.Reply.{Reply}
-use Rattle.synth_top.specs.Turn.{State, PressedKey, ends, grids, turn}
+use Rattle.synth_top.specs.Private.Pressing.{AllShown, KeysCut, KeysQuit, KeysShown, KeysWanted, Moment, Pressed, UpToLast, ended_as, state_at}
+use Rattle.synth_top.specs.Private.Running.{Runs}
+use Rattle.synth_top.specs.Run.{AtLastKey, Course, EndRead, IsFront, IsOver, KeyWanted, LimitTaken, PressedAll, ReadCut, ReadsInTurn, ScreenCut, Stopped, Told, keys_pressed, painted_over, raised_by, written}
+use Rattle.synth_top.specs.Turn.{PressedKey, State, after, ends, grids, turn}
 use Rattle.synth_top.specs.Options.{PlainOptions}
-use Rattle.synth_top.proofs.Courses.{Opened, InTurn, told_at, all_course, all_going, all_takes, last_course, at_last, one_byte, last_ends, last_all}
-use Rattle.synth_top.proofs.KeysInOrder.{keys_pressed-append, after_more, both_shown, then_up_to, front_behind, wanted_behind, ends_more, painted_more}
-use Rattle.synth_top.proofs.OneKey.{none_shown}
+use Rattle.synth_top.proofs.Courses.{InTurn, Opened, all_counts, all_course, all_going, all_runs, all_takes, at_last, last_all, last_course, last_ends, last_runs, one_byte, told_at}
+use Rattle.synth_top.proofs.KeysInOrder.{keys_pressed-append, counts_more, takes_more, both_shown, then_up_to, front_behind, wanted_behind, ends_more, painted_more}
+use Rattle.synth_top.proofs.OneKey.{none_shown, unchanged_itself}
 
 -- so many bytes were read, one a read, all keys that they complete were pressed, and all screens were written
-pub record SoFar (number : ℕ) (options : PlainOptions) (before : Told) (left : Option (List ℕ)) (reads : ℕ) (held : List ℕ) (m : Moment) : Type 0 where
+pub record SoFar (number : ℕ) (first : State) (before : Told) (files : PlainFiles) (left : Option (List ℕ)) (reads : ℕ) (held : List ℕ) (m : Moment) : Type 0 where
   pub bytes : List ℕ
   pub many : length bytes ≡ number
   pub read : Consumes before.left left bytes
   pub made : reads ≡ raised_by number before.reads
   pub held_is : IsHeld held
   pub opened : Moment
-  pub is_opened : Opened options before opened
+  pub is_opened : Opened first before files opened
   pub pressed : List PressedKey
   pub all : AllShown opened m pressed
+  pub wants : m.files.wants ≡ opened.files.wants
   pub keys_are : (rest : List ℕ) → keys (bytes ++ rest) ≡ keys_pressed pressed ++ keys (held ++ rest)
   pub completed_are : (rest : List ℕ) → completed (bytes ++ rest) ≡ keys_pressed pressed ++ completed (held ++ rest)
   pub in_turn : InTurn bytes pressed
@@ -84,10 +86,10 @@ other_goes_on s reply = refl
 rest_of_one : (m now : Moment) (rest : List Key) → rest ≡ Other ∷ [] → KeysQuit rest m now → ⊥
 rest_of_one m now rest one quit = quits_at quit.earlier quit.last quit.front quit.quit where
   quits_at : (earlier : List PressedKey) (last : PressedKey) → IsFront (keys_pressed (earlier ++ last ∷ [])) rest
-      → ends m.state (earlier ++ last ∷ []) ≡ true → ⊥
+      → ends (state_at m) (earlier ++ last ∷ []) ≡ true → ⊥
   quits_at [] last front ended =
       let is_other : last.key ≡ Other = cc (front.1, one) in
-      absurd (true≢false (sym ended ∙ ap (λ key. ends m.state (record { key = key; reply = last.reply } ∷ [])) is_other ∙ other_goes_on m.state last.reply))
+      absurd (true≢false (sym ended ∙ ap (λ key. ends (state_at m) (record { key = key; reply = last.reply } ∷ [])) is_other ∙ other_goes_on (state_at m) last.reply))
   quits_at (first ∷ []) last front ended = absurd (cc (front.1, one))
   quits_at (first ∷ next ∷ earlier) last front ended = absurd (cc (front.1, one))
 
@@ -103,10 +105,16 @@ rest_goes_on held m now (inl none) quit = rest_of_none m now (keys held) (ap key
 rest_goes_on held m now (inr (inl escape)) quit = rest_of_one m now (keys held) (ap keys escape) quit
 rest_goes_on held m now (inr (inr bracket)) quit = rest_of_one m now (keys held) (ap keys bracket) quit
 
+-- a count of wants never falls over a key that wanted memory
+wants_rose : (asks : Request) (before now : ℕ) → CountsWant asks before now → before ≤ now
+wants_rose Request.Nothing before now counts = omega (arith, counts)
+wants_rose (Request.Save name bytes) before now counts = omega (arith, counts)
+wants_rose (Request.Load name) before now counts = counts
+
 -- ---- the opening screen was written, and nothing was read
-pub so_far_none : (options : PlainOptions) (before : Told) (left : Option (List ℕ)) (reads : ℕ) (held : List ℕ) (m : Moment) → left ≡ before.left → reads ≡ before.reads → held ≡ [] → Opened options before m
-    → SoFar 0 options before left reads held m
-so_far_none options before left reads held m same unread none is_opened = record {
+pub so_far_none : (first : State) (before : Told) (files : PlainFiles) (left : Option (List ℕ)) (reads : ℕ) (held : List ℕ) (m : Moment) → left ≡ before.left
+    → reads ≡ before.reads → held ≡ [] → Opened first before files m → SoFar 0 first before files left reads held m
+so_far_none first before files left reads held m same unread none is_opened = record {
   bytes = [];
   many = refl;
   read = subst (λ l. Consumes before.left l []) (sym same) (Consumes-nil before.left);
@@ -115,13 +123,15 @@ so_far_none options before left reads held m same unread none is_opened = record
   opened = m;
   is_opened = is_opened;
   pressed = [];
-  all = none_shown m m (record { state = refl; shown = refl; taken = refl; file_faults = refl; laid = refl });
+  all = none_shown m m (unchanged_itself m);
+  wants = refl;
   keys_are = λ rest. ap (λ l. keys (l ++ rest)) (sym none);
   completed_are = λ rest. ap (λ l. completed (l ++ rest)) (sym none);
   in_turn = λ seen newest e. absurd (one_byte seen newest e);
 }
 
-module _ (number : ℕ) (options : PlainOptions) (before : Told) (left : Option (List ℕ)) (so_reads : ℕ) (held : List ℕ) (m : Moment) (so : SoFar number options before left so_reads held m)
+module _ (number : ℕ) (options : PlainOptions) (first : State) (before : Told) (files : PlainFiles) (left : Option (List ℕ)) (so_reads : ℕ) (held : List ℕ) (m : Moment)
+    (so : SoFar number first before files left so_reads held m)
     (now_left : Option (List ℕ)) (now_reads : ℕ) (now : Moment) where
   -- the keys so far
   abbrev pressed_keys : List Key
@@ -154,37 +164,44 @@ module _ (number : ℕ) (options : PlainOptions) (before : Told) (left : Option 
       complete_front = elim complete as (λ _. IsFront (keys_pressed ((so.pressed ++ earlier) ++ last ∷ [])) (completed bytes) ⊎ IsOver options (told_at now_left now_reads now) bytes reads)
           [ inl h ↦ inl (front_trans _ _ _ in_front h) | inr h ↦ inr h ]
 
-      all_up_to : UpToLast so.opened now (so.pressed ++ earlier) last (length (painted_over so.opened.shown (grids so.opened.state so.pressed)) + count)
-      all_up_to = then_up_to so.opened m so.pressed so.all now earlier last count up_to
+      all_up_to : UpToLast so.opened now (so.pressed ++ earlier) last (length (painted_over so.opened.shown (grids (state_at so.opened) so.pressed)) + count)
+      all_up_to = then_up_to so.opened m so.pressed so.all now earlier last count so.wants up_to
 
-      abbrev course : Course options before (told_at now_left now_reads now)
-      course = last_course options before so.opened now now_left now_reads so.is_opened bytes nothing_behind within reads made (so.pressed ++ earlier) last _ all_up_to
+      abbrev course : Course options first before (told_at now_left now_reads now)
+      course = last_course options first before files so.opened now now_left now_reads so.is_opened bytes nothing_behind within reads made (so.pressed ++ earlier) last _ all_up_to
           (front_trans _ _ _ in_front order) complete_front
 
       at_key : AtLastKey course
-      at_key = at_last options before so.opened now now_left now_reads so.is_opened bytes nothing_behind within reads made (so.pressed ++ earlier) last _ all_up_to
+      at_key = at_last options first before files so.opened now now_left now_reads so.is_opened bytes nothing_behind within reads made (so.pressed ++ earlier) last _ all_up_to
           (front_trans _ _ _ in_front order) complete_front (in_turn earlier) (reads_in_turn earlier)
 
-      ends_as : (b : _) → ends m.state (earlier ++ last ∷ []) ≡ b → ends (first_state options course.map course.loads) ((so.pressed ++ earlier) ++ last ∷ []) ≡ b
+      ends_as : (b : _) → ends (state_at m) (earlier ++ last ∷ []) ≡ b → ends first ((so.pressed ++ earlier) ++ last ∷ []) ≡ b
       ends_as b e =
-          last_ends options before so.opened now now_left now_reads so.is_opened bytes nothing_behind within reads made (so.pressed ++ earlier) last _ all_up_to
+          last_ends options first before files so.opened now now_left now_reads so.is_opened bytes nothing_behind within reads made (so.pressed ++ earlier) last _ all_up_to
           (front_trans _ _ _ in_front order) complete_front
-          ∙ ap (ends so.opened.state) (sym joined) ∙ ends_more so.opened m so.pressed so.all (earlier ++ last ∷ []) ∙ e
+          ∙ ap (ends (state_at so.opened)) (sym joined) ∙ ends_more so.opened m so.pressed so.all (earlier ++ last ∷ []) ∙ e
 
-      all_written : length (painted_over m.shown (grids m.state (earlier ++ last ∷ []))) ≤ count
-          → length (written (first_state options course.map course.loads) ((so.pressed ++ earlier) ++ last ∷ [])) ≤ course.count
+      all_written : length (painted_over m.shown (grids (state_at m) (earlier ++ last ∷ []))) ≤ count
+          → length (written first ((so.pressed ++ earlier) ++ last ∷ [])) ≤ course.count
       all_written all =
-          let first = painted_over so.opened.shown (grids so.opened.state so.pressed) in
-          let bytes_are : length (painted_over so.opened.shown (grids so.opened.state ((so.pressed ++ earlier) ++ last ∷ [])))
-          ≡ length first + length (painted_over m.shown (grids m.state (earlier ++ last ∷ []))) =
-          ap (λ l. length (painted_over so.opened.shown (grids so.opened.state l))) (sym joined)
+          let shown_bytes = painted_over so.opened.shown (grids (state_at so.opened) so.pressed) in
+          let bytes_are : length (painted_over so.opened.shown (grids (state_at so.opened) ((so.pressed ++ earlier) ++ last ∷ [])))
+          ≡ length shown_bytes + length (painted_over m.shown (grids (state_at m) (earlier ++ last ∷ []))) =
+          ap (λ l. length (painted_over so.opened.shown (grids (state_at so.opened) l))) (sym joined)
           ∙ ap length (painted_more so.opened m so.pressed so.all (earlier ++ last ∷ []))
-          ∙ length-append first (painted_over m.shown (grids m.state (earlier ++ last ∷ []))) in
-          last_all options before so.opened now now_left now_reads so.is_opened bytes nothing_behind within reads made (so.pressed ++ earlier) last _ all_up_to
+          ∙ length-append shown_bytes (painted_over m.shown (grids (state_at m) (earlier ++ last ∷ []))) in
+          last_all options first before files so.opened now now_left now_reads so.is_opened bytes nothing_behind within reads made (so.pressed ++ earlier) last _ all_up_to
           (front_trans _ _ _ in_front order) complete_front (omega (arith, bytes_are, all))
 
-      screen_cut : ends m.state (earlier ++ last ∷ []) ≡ false → ScreenCut course
+      screen_cut : ends (state_at m) (earlier ++ last ∷ []) ≡ false → ScreenCut course
       screen_cut going = record { at_key = at_key; going = ends_as false going }
+
+      -- the run that stopped there
+      last_stopped : (status : Status) → Stopped course files.wants now.files.wants status → {after_reads after_fault : Type 0} → after_reads
+          → Runs status options first before (told_at now_left now_reads now) files now.files after_reads after_fault now.session
+      last_stopped status stopped led =
+          last_runs options first before files so.opened now now_left now_reads so.is_opened bytes nothing_behind within reads made (so.pressed ++ earlier) last _ all_up_to
+          (front_trans _ _ _ in_front order) complete_front status stopped led
 
     -- ---- keys up to one that wanted memory
     module _ (next : KeysWanted more m now) where
@@ -205,62 +222,60 @@ module _ (number : ℕ) (options : PlainOptions) (before : Told) (left : Option 
       pressed_complete = elim in_complete as (λ _. IsFront (keys_pressed (so.pressed ++ next.pressed)) (completed bytes) ⊎ IsOver options (told_at now_left now_reads now) bytes reads)
           [ inl h ↦ inl (front_without _ _ next.wanted h) | inr h ↦ inr h ]
 
-      abbrev wanting_course : Course options before (told_at now_left now_reads now)
-      wanting_course = all_course options before so.opened now now_left now_reads so.is_opened bytes [] nothing_behind (omega arith) within reads made
+      abbrev wanting_course : Course options first before (told_at now_left now_reads now)
+      wanting_course = all_course options first before files so.opened now now_left now_reads so.is_opened bytes [] nothing_behind (omega arith) within reads made
           (so.pressed ++ next.pressed) all_shown (front_without _ _ next.wanted in_keys) pressed_complete
 
-      key_wanted : KeyWanted wanting_course
+      key_wanted : KeyWanted wanting_course files.wants now.files.wants
       key_wanted = record {
         wanted = next.wanted;
-        takes = all_takes options before so.opened now now_left now_reads so.is_opened bytes [] nothing_behind (omega arith) within reads made
+        takes = all_takes options first before files so.opened now now_left now_reads so.is_opened bytes [] nothing_behind (omega arith) within reads made
             (so.pressed ++ next.pressed) all_shown (front_without _ _ next.wanted in_keys) pressed_complete next.wanted
-            (subst (λ (s : State). IsTrue (key_takes_memory s.session next.wanted)) (sym (after_more so.opened m so.pressed so.all next.pressed)) next.takes);
+            (takes_more so.opened m so.pressed so.all next.pressed next.wanted next.takes);
+        counts = all_counts options first before files so.opened now now_left now_reads so.is_opened bytes [] nothing_behind (omega arith) within reads made
+            (so.pressed ++ next.pressed) all_shown (front_without _ _ next.wanted in_keys) pressed_complete next.wanted now.files.wants
+            (counts_more so.opened m so.pressed so.all next.pressed next.wanted now.files.wants so.wants next.counts);
         next = in_keys;
         complete = in_complete;
-        going = all_going options before so.opened now now_left now_reads so.is_opened bytes [] nothing_behind (omega arith) within reads made
+        going = all_going options first before files so.opened now now_left now_reads so.is_opened bytes [] nothing_behind (omega arith) within reads made
             (so.pressed ++ next.pressed) all_shown (front_without _ _ next.wanted in_keys) pressed_complete;
         taken = record { in_turn = in_turn next.pressed; reads = reads_in_turn next.pressed };
       }
 
+      -- the run that stopped there
+      key_wanted_runs : {after_reads after_fault : Type 0} → after_reads
+          → Runs NoMemory options first before (told_at now_left now_reads now) files now.files after_reads after_fault now.session
+      key_wanted_runs led =
+          all_runs options first before files so.opened now now_left now_reads so.is_opened bytes [] nothing_behind (omega arith) within reads made
+          (so.pressed ++ next.pressed) all_shown (front_without _ _ next.wanted in_keys) pressed_complete NoMemory
+          (wants_rose (request (after first (so.pressed ++ next.pressed)).session key_wanted.wanted) files.wants now.files.wants key_wanted.counts)
+          (inr (inr (omega arith, refl, key_wanted))) (inl (led, refl))
+
     -- a screen of one of the keys was cut short, or one of them wanted memory
     module _ {after_reads after_fault : Type 0} (led : after_reads) where
-      out_of_memory : KeysCut more m now ⊎ KeysWanted more m now → Ended NoMemory options before (told_at now_left now_reads now) after_reads after_fault
-      out_of_memory (inl cut) = record {
-        course = course cut.earlier cut.last cut.front cut.count cut.up_to;
-        stopped = inr (inl (refl, inr (screen_cut cut.earlier cut.last cut.front cut.count cut.up_to cut.going)));
-        source = inl (led, refl);
-        rescued = refl;
-      }
-      out_of_memory (inr next) = record {
-        course = wanting_course next;
-        stopped = inr (inr (omega arith, refl, key_wanted next));
-        source = inl (led, refl);
-        rescued = refl;
-      }
+      out_of_memory : KeysCut more m now ⊎ KeysWanted more m now
+          → Runs NoMemory options first before (told_at now_left now_reads now) files now.files after_reads after_fault now.session
+      out_of_memory (inl cut) =
+          last_stopped cut.earlier cut.last cut.front cut.count cut.up_to NoMemory
+          (inr (inl (refl, inr (screen_cut cut.earlier cut.last cut.front cut.count cut.up_to cut.going)))) led
+      out_of_memory (inr next) = key_wanted_runs next led
 
     -- by the status
     pub stopped_at_key : (status : Status) → Pressed (Over status) more m now → {after_reads after_fault : Type 0} → after_reads
-        → Ended status options before (told_at now_left now_reads now) after_reads after_fault
-    stopped_at_key Done next led = record {
-      course = course next.earlier next.last next.front next.count next.up_to;
-      stopped = (
-        all_written next.earlier next.last next.front next.count next.up_to next.all,
-        refl,
-        inr (record {
-          at_key = at_key next.earlier next.last next.front next.count next.up_to;
-          quit = ends_as next.earlier next.last next.front next.count next.up_to true next.quit;
-          no_read = quit_last next;
-        }),
-      );
-      source = inl (led, refl);
-      rescued = refl;
-    }
-    stopped_at_key WriteFault next led = record {
-      course = course next.earlier next.last next.front next.count next.up_to;
-      stopped = (refl, inr (screen_cut next.earlier next.last next.front next.count next.up_to next.going));
-      source = inl (led, refl);
-      rescued = refl;
-    }
+        → Runs status options first before (told_at now_left now_reads now) files now.files after_reads after_fault now.session
+    stopped_at_key Done next led =
+        last_stopped next.earlier next.last next.front next.count next.up_to Done (
+          all_written next.earlier next.last next.front next.count next.up_to next.all,
+          refl,
+          inr (record {
+            at_key = at_key next.earlier next.last next.front next.count next.up_to;
+            quit = ends_as next.earlier next.last next.front next.count next.up_to true next.quit;
+            no_read = quit_last next;
+          }),
+        ) led
+    stopped_at_key WriteFault next led =
+        last_stopped next.earlier next.last next.front next.count next.up_to WriteFault
+        (refl, inr (screen_cut next.earlier next.last next.front next.count next.up_to next.going)) led
     stopped_at_key NoMemory next led = out_of_memory led next
     stopped_at_key ReadFault next led = absurd next
     stopped_at_key BadWords next led = absurd next
@@ -291,11 +306,11 @@ module _ (number : ℕ) (options : PlainOptions) (before : Told) (left : Option 
     now_read = Consumes-trans _ _ _ so.bytes (byte ∷ []) so.read read
 
     -- all its keys were shown
-    pub so_far_more : (kept : List ℕ) → kept ≡ now_held → KeysShown (listed given) m now → SoFar (number + 1) options before now_left now_reads kept now
+    pub so_far_more : (kept : List ℕ) → kept ≡ now_held → KeysShown (listed given) m now → SoFar (number + 1) first before files now_left now_reads kept now
     so_far_more kept same next =
         let all : pressed_keys ++ listed given ≡ keys_pressed (so.pressed ++ next.pressed) =
         ap (λ l. pressed_keys ++ l) (sym next.all) ∙ sym (keys_pressed-append so.pressed next.pressed) in
-        subst (λ h. SoFar (number + 1) options before now_left now_reads h now) (sym same)
+        subst (λ h. SoFar (number + 1) first before files now_left now_reads h now) (sym same)
         (record {
           bytes = now_bytes;
           many = now_many;
@@ -306,6 +321,7 @@ module _ (number : ℕ) (options : PlainOptions) (before : Told) (left : Option 
           is_opened = so.is_opened;
           pressed = so.pressed ++ next.pressed;
           all = both_shown so.opened m so.pressed so.all now next.pressed next.shown;
+          wants = next.wants ∙ so.wants;
           keys_are = λ rest. keys_now rest ∙ ap (λ l. l ++ keys (now_held ++ rest)) all;
           completed_are = λ rest. completed_now rest ∙ ap (λ l. l ++ completed (now_held ++ rest)) all;
           in_turn = in_turn_now next.pressed;
@@ -313,7 +329,7 @@ module _ (number : ℕ) (options : PlainOptions) (before : Told) (left : Option 
 
     -- one of its keys ended the run
     pub ended_by_byte : (status : Status) → number < options.key_limit → Pressed (Over status) (listed given) m now → {after_reads after_fault : Type 0} → after_reads
-        → Ended status options before (told_at now_left now_reads now) after_reads after_fault
+        → Runs status options first before (told_at now_left now_reads now) files now.files after_reads after_fault now.session
     ended_by_byte status below next led =
         let done : completed now_bytes ≡ pressed_keys ++ listed given = completed_list now_bytes now_held (pressed_keys ++ listed given) completed_now now_held_is in
         stopped_at_key now_bytes (listed given) now_read (omega (arith, now_many, below)) (number + 1) (made_more one)
@@ -321,26 +337,49 @@ module _ (number : ℕ) (options : PlainOptions) (before : Told) (left : Option 
         (inl ([], done ∙ sym (append-nil (pressed_keys ++ listed given)))) in_turn_now (λ earlier. inl (sym now_many)) (λ quit. sym now_many) status next led
 
   -- ---- a read gave no answer
-  pub read_cut : (lost : List ℕ) → number < options.key_limit → length lost ≤ 1 → Consumes left now_left lost → now_reads ≡ raised so_reads → now ≡ m
-      → (course : Course options before (told_at now_left now_reads now)) × (length (written (first_state options course.map course.loads) course.pressed) ≤ course.count) × ReadCut course × (course.rescue ≡ NoRescue)
-  read_cut lost below few read one same =
-      let all : AllShown so.opened now so.pressed = subst (λ z. AllShown so.opened z so.pressed) (sym same) so.all in
-      let done : completed so.bytes ≡ pressed_keys = completed_list so.bytes held pressed_keys so.completed_are so.held_is in
-      let whole : IsFront pressed_keys (completed so.bytes) = ([], done ∙ sym (append-nil pressed_keys)) in (
-        all_course options before so.opened now now_left now_reads so.is_opened so.bytes lost (Consumes-trans _ _ _ so.bytes lost so.read read) few (omega (arith, so.many, below)) (number + 1) (made_more one) so.pressed all
-            (keys held, ended_list keys so.bytes held pressed_keys so.keys_are) (inl whole),
-        omega arith,
-        record {
-          all = record {
-            pressed = sym done;
-            going = all_going options before so.opened now now_left now_reads so.is_opened so.bytes lost (Consumes-trans _ _ _ so.bytes lost so.read read) few (omega (arith, so.many, below)) (number + 1) (made_more one) so.pressed all
-                (keys held, ended_list keys so.bytes held pressed_keys so.keys_are) (inl whole);
-          };
-          below = omega (arith, so.many, below);
-          one_more = ap (λ n. n + 1) (sym so.many);
-        },
-        refl,
-      )
+  module _ (lost : List ℕ) (below : number < options.key_limit) (few : length lost ≤ 1) (read : Consumes left now_left lost) (one : now_reads ≡ raised so_reads)
+      (same : now ≡ m) where
+    cut_shown : AllShown so.opened now so.pressed
+    cut_shown = subst (λ z. AllShown so.opened z so.pressed) (sym same) so.all
+
+    cut_done : completed so.bytes ≡ pressed_keys
+    cut_done = completed_list so.bytes held pressed_keys so.completed_are so.held_is
+
+    cut_read : Consumes before.left now_left (so.bytes ++ lost)
+    cut_read = Consumes-trans _ _ _ so.bytes lost so.read read
+
+    cut_order : IsFront pressed_keys (keys so.bytes)
+    cut_order = (keys held, ended_list keys so.bytes held pressed_keys so.keys_are)
+
+    cut_complete : IsFront pressed_keys (completed so.bytes) ⊎ IsOver options (told_at now_left now_reads now) so.bytes (number + 1)
+    cut_complete = inl ([], cut_done ∙ sym (append-nil pressed_keys))
+
+    abbrev cut_course : Course options first before (told_at now_left now_reads now)
+    cut_course = all_course options first before files so.opened now now_left now_reads so.is_opened so.bytes lost cut_read few (omega (arith, so.many, below))
+        (number + 1) (made_more one) so.pressed cut_shown cut_order cut_complete
+
+    read_cut : ReadCut cut_course
+    read_cut = record {
+      all = record {
+        pressed = sym cut_done;
+        going = all_going options first before files so.opened now now_left now_reads so.is_opened so.bytes lost cut_read few (omega (arith, so.many, below))
+            (number + 1) (made_more one) so.pressed cut_shown cut_order cut_complete;
+      };
+      below = omega (arith, so.many, below);
+      one_more = ap (λ n. n + 1) (sym so.many);
+    }
+
+    cut_runs : (status : Status) → Stopped cut_course files.wants now.files.wants status → {after_reads after_fault : Type 0} → after_fault → Runs status options first before (told_at now_left now_reads now) files now.files after_reads after_fault now.session
+    cut_runs status stopped broke =
+        all_runs options first before files so.opened now now_left now_reads so.is_opened so.bytes lost cut_read few (omega (arith, so.many, below))
+        (number + 1) (made_more one) so.pressed cut_shown cut_order cut_complete status
+        (omega (arith, ap (λ (z : Moment). z.files.wants) same, so.wants, so.is_opened.wants)) stopped (inr (broke, read_cut))
+
+    pub read_failed : {after_reads after_fault : Type 0} → after_fault → Runs ReadFault options first before (told_at now_left now_reads now) files now.files after_reads after_fault now.session
+    read_failed broke = cut_runs ReadFault (omega arith, read_cut) broke
+
+    pub read_wanted : {after_reads after_fault : Type 0} → after_fault → Runs NoMemory options first before (told_at now_left now_reads now) files now.files after_reads after_fault now.session
+    read_wanted broke = cut_runs NoMemory (inl (omega arith, read_cut)) broke
 
   -- ---- no byte comes any more
   module _ (read : Consumes left now_left []) (within : number ≤ options.key_limit) (reads : ℕ) (made : now_reads ≡ raised_by reads before.reads)
@@ -366,32 +405,44 @@ module _ (number : ℕ) (options : PlainOptions) (before : Told) (left : Option 
 
     -- what isn't complete ended the run
     pub ended_by_rest : (status : Status) → Pressed (Over status) (keys held) m now → {after_reads after_fault : Type 0} → after_reads
-        → Ended status options before (told_at now_left now_reads now) after_reads after_fault
+        → Runs status options first before (told_at now_left now_reads now) files now.files after_reads after_fault now.session
     ended_by_rest status next led =
         stopped_at_key so.bytes (keys held) all_read (omega (arith, so.many, within)) reads made ([], all_keys ∙ sym (append-nil (pressed_keys ++ keys held))) (inr over)
         in_turn_still reads_still (λ quit. absurd (rest_goes_on held m now so.held_is quit)) status next led
 
     -- all was shown
-    pub all_pressed : KeysShown (keys held) m now
-        → (course : Course options before (told_at now_left now_reads now)) × (length (written (first_state options course.map course.loads) course.pressed) ≤ course.count)
-        × (course.lost ≡ []) × (course.bytes ≡ so.bytes) × (course.reads ≡ reads) × PressedAll course (keys course.bytes) × (course.rescue ≡ NoRescue)
-    all_pressed next =
-        let ps = so.pressed ++ next.pressed in
-        let all : AllShown so.opened now ps = both_shown so.opened m so.pressed so.all now next.pressed next.shown in
-        let keys_are : keys_pressed ps ≡ keys so.bytes = keys_pressed-append so.pressed next.pressed ∙ ap (λ l. pressed_keys ++ l) next.all ∙ sym all_keys in
-        let order : IsFront (keys_pressed ps) (keys so.bytes) = ([], sym keys_are ∙ sym (append-nil (keys_pressed ps))) in
-        let read_all = subst (Consumes before.left now_left) (sym (append-nil so.bytes)) all_read in (
-          all_course options before so.opened now now_left now_reads so.is_opened so.bytes [] read_all (omega arith) (omega (arith, so.many, within)) reads made ps all order (inr over),
-          omega arith,
-          refl,
-          refl,
-          refl,
-          record {
-            pressed = keys_are;
-            going = all_going options before so.opened now now_left now_reads so.is_opened so.bytes [] read_all (omega arith) (omega (arith, so.many, within)) reads made ps all order (inr over);
-          },
-          refl,
-        )
+    module _ (next : KeysShown (keys held) m now) where
+      abbrev ended_keys : List PressedKey
+      ended_keys = so.pressed ++ next.pressed
+
+      pub ended_shown : AllShown so.opened now ended_keys
+      ended_shown = both_shown so.opened m so.pressed so.all now next.pressed next.shown
+
+      ended_pressed : keys_pressed ended_keys ≡ keys so.bytes
+      ended_pressed = keys_pressed-append so.pressed next.pressed ∙ ap (λ l. pressed_keys ++ l) next.all ∙ sym all_keys
+
+      pub ended_order : IsFront (keys_pressed ended_keys) (keys so.bytes)
+      ended_order = ([], sym ended_pressed ∙ sym (append-nil (keys_pressed ended_keys)))
+
+      pub ended_read : Consumes before.left now_left (so.bytes ++ [])
+      ended_read = subst (Consumes before.left now_left) (sym (append-nil so.bytes)) all_read
+
+      abbrev ended_course : Course options first before (told_at now_left now_reads now)
+      ended_course = all_course options first before files so.opened now now_left now_reads so.is_opened so.bytes [] ended_read (omega arith)
+          (omega (arith, so.many, within)) reads made ended_keys ended_shown ended_order (inr over)
+
+      pub pressed_all : PressedAll ended_course (keys so.bytes)
+      pressed_all = record {
+        pressed = ended_pressed;
+        going = all_going options first before files so.opened now now_left now_reads so.is_opened so.bytes [] ended_read (omega arith)
+            (omega (arith, so.many, within)) reads made ended_keys ended_shown ended_order (inr over);
+      }
+
+      pub ended_runs : (status : Status) → Stopped ended_course files.wants now.files.wants status → {after_reads after_fault : Type 0} → after_reads → Runs status options first before (told_at now_left now_reads now) files now.files after_reads after_fault now.session
+      ended_runs status stopped led =
+          all_runs options first before files so.opened now now_left now_reads so.is_opened so.bytes [] ended_read (omega arith)
+          (omega (arith, so.many, within)) reads made ended_keys ended_shown ended_order (inr over) status
+          (omega (arith, next.wants, so.wants, so.is_opened.wants)) stopped (inl (led, refl))
 
   -- the source ended
   module _ (read : Consumes left now_left []) (ended : IsAtEnd now_left) (below : number < options.key_limit) (one : now_reads ≡ raised so_reads) where
@@ -399,12 +450,10 @@ module _ (number : ℕ) (options : PlainOptions) (before : Told) (left : Option 
     end_read = record { one_more = ap (λ n. n + 1) (sym so.many); below = omega (arith, so.many, below); ended = ended }
 
     pub ended_at_end : (going : Going) → Pressed going (keys held) m now → {after_reads after_fault : Type 0} → after_reads
-        → Ended (ended_as going Done) options before (told_at now_left now_reads now) after_reads after_fault
+        → Runs (ended_as going Done) options first before (told_at now_left now_reads now) files now.files after_reads after_fault now.session
     ended_at_end On next led =
-        let p = all_pressed read (omega (arith, below)) (number + 1) (made_more one) (inl end_read) next in
-        let end : EndRead options (told_at now_left now_reads now) p.0.bytes p.0.reads =
-        record { one_more = omega (arith, ap length p.3, p.4, so.many); below = omega (arith, ap length p.3, so.many, below); ended = ended } in
-        record { course = p.0; stopped = (p.1, p.2, inl (record { all = p.5; end = end })); source = inl (led, p.2); rescued = p.6 }
+        ended_runs read (omega (arith, below)) (number + 1) (made_more one) (inl end_read) next Done
+        (omega arith, refl, inl (record { all = pressed_all read (omega (arith, below)) (number + 1) (made_more one) (inl end_read) next; end = end_read })) led
     ended_at_end (Over status) next led = ended_by_rest read (omega (arith, below)) (number + 1) (made_more one) (inl end_read) status next led
 
   -- as many bytes were read as the limit allows
@@ -413,10 +462,8 @@ module _ (number : ℕ) (options : PlainOptions) (before : Told) (left : Option 
     limit_taken = record { one_each = sym so.many; many = so.many ∙ all }
 
     pub ended_at_limit : (going : Going) → Pressed going (keys held) m now → {after_reads after_fault : Type 0} → after_reads
-        → Ended (ended_as going KeyLimit) options before (told_at now_left now_reads now) after_reads after_fault
+        → Runs (ended_as going KeyLimit) options first before (told_at now_left now_reads now) files now.files after_reads after_fault now.session
     ended_at_limit On next led =
-        let p = all_pressed read (omega (arith, all)) number (unread ∙ so.made) (inr limit_taken) next in
-        let limit : LimitTaken options p.0.bytes p.0.reads =
-        record { one_each = omega (arith, ap length p.3, p.4, so.many); many = ap length p.3 ∙ so.many ∙ all } in
-        record { course = p.0; stopped = (p.1, p.2, record { all = p.5; limit = limit }); source = inl (led, p.2); rescued = p.6 }
+        ended_runs read (omega (arith, all)) number (unread ∙ so.made) (inr limit_taken) next KeyLimit
+        (omega arith, refl, record { all = pressed_all read (omega (arith, all)) number (unread ∙ so.made) (inr limit_taken) next; limit = limit_taken }) led
     ended_at_limit (Over status) next led = ended_by_rest read (omega (arith, all)) number (unread ∙ so.made) (inr limit_taken) status next led

@@ -4,7 +4,7 @@ use Rattle.screen_window.specs.Paint.{Paint}
 use Rattle.screen_window.specs.PlainGrid.{PlainGrid}
 use Rattle.synth_top.specs.Private.Pressing.{last_shown}
 use Rattle.synth_top.specs.Run.{painted_over}
-use Rattle.synth_top.specs.Turn.{State, PressedKey, Replied, after, ends, failures, grids, turn}
+use Rattle.synth_top.specs.Turn.{HaveReplies, PressedKey, State, after, ends, failures, grids, turn}
 
 -- a test that fails, and then another
 or_false : (a b : Bool) → a ≡ false → (a || b) ≡ b
@@ -33,10 +33,10 @@ grids-append s (p ∷ ps) qs =
     ap (λ l. (turn s p).grids ++ l) (grids-append (turn s p).after ps qs)
     ∙ sym (append_assoc (turn s p).grids (grids (turn s p).after ps) (grids (after s (p ∷ ps)) qs))
 
--- what the files did
-pub Replied-append : (s : State) (ps qs : List PressedKey) → Replied s ps → Replied (after s ps) qs → Replied s (ps ++ qs)
-Replied-append s [] qs first second = second
-Replied-append s (p ∷ ps) qs first second = (first.0, Replied-append (turn s p).after ps qs first.1 second)
+-- what the files replied
+pub HaveReplies-append : (s : State) (ps qs : List PressedKey) → HaveReplies s ps → HaveReplies (after s ps) qs → HaveReplies s (ps ++ qs)
+HaveReplies-append s [] qs first second = second
+HaveReplies-append s (p ∷ ps) qs first second = (first.0, HaveReplies-append (turn s p).after ps qs first.1 second)
 
 pub failures-append : (ps qs : List PressedKey) → failures (ps ++ qs) ≡ failures ps + failures qs
 failures-append [] qs = omega arith

@@ -1,10 +1,13 @@
 -- ---- the words of the command
 pub mod Number
+pub mod Given
 pub mod Options
 -- ---- keys, and what one makes of session and files
 pub mod Keys
-pub mod Reply
 pub mod Turn
+-- ---- the files that are loaded first, and the one that is saved last
+pub mod Loads
+pub mod Rescue
 -- ---- whole runs
 pub mod Status
 pub mod Laid

@@ -1,40 +1,48 @@
--- The words that follow the program's name, and what they ask for.
-use Rattle.std.specs.Prelude.{ℕ, ◌&&◌, nat_le, List, [], ◌∷◌, Option, None, Some, codes, bytes_eq, if◌then◌else◌}
-use Rattle.std.specs.Option.{option_and_then}
+-- What the words that follow the program's name ask for.
+use Rattle.std.specs.Prelude.{ℕ, Bool, true, ◌&&◌, nat_le, List, Option, None, Some, option_and_then, if◌then◌else◌}
+use Rattle.std.specs.Option.{option_map_or}
 use Rattle.screen_window.specs.declared.limit.TheConstants.{FEWEST_ROWS, MOST_ROWS, FEWEST_COLS, MOST_COLS}
+use Rattle.session_words.specs.Argument.{is_file_name}
 use Rattle.synth_session.specs.Extent.{Extent}
-use Rattle.synth_top.specs.declared.options.TheConstants.{KEY_LIMIT, USUAL_ROWS, USUAL_COLS}
+use Rattle.synth_top.specs.declared.options.TheConstants.{FEWEST_KEYS, MOST_KEYS, USUAL_ROWS, USUAL_COLS}
+use Rattle.synth_top.specs.Given.{PlainGiven, given_in}
 use Rattle.synth_top.specs.Number.{number_in_digits}
 
--- what the words ask for: the size of the screen, and how many bytes of keys are taken at most
+-- what the words ask for: the size of the screen, how many bytes of keys are taken at most, and the names of the files with the
+-- program and with its input, if there are any
 pub record PlainOptions : Type 0 where
   pub size : Extent
   pub key_limit : ℕ
-
--- the size of a screen where no words say it
-abbrev pub usual_size : Extent
-usual_size = record { rows = USUAL_ROWS; cols = USUAL_COLS }
+  pub program : Option (List ℕ)
+  pub input : Option (List ℕ)
 
 -- the number that a word is, where it is `least` or more and `most` or less
 abbrev pub count_between : ℕ → ℕ → List ℕ → Option ℕ
 count_between least most word =
     option_and_then (λ n. if nat_le least n then Some n else None) (number_in_digits most word)
 
--- the options with this size
-abbrev pub options_for : Extent → PlainOptions
-options_for size = record { size = size; key_limit = KEY_LIMIT }
+-- the number that words give, in its range, or else the usual one
+abbrev pub count_given : ℕ → ℕ → (usual : ℕ) → Option (List ℕ) → Option ℕ
+count_given least most usual None = Some usual
+count_given least most usual (Some word) = count_between least most word
 
--- the options with as many rows and columns as two words say
-abbrev pub options_with : List ℕ → List ℕ → Option PlainOptions
-options_with rows cols =
-    option_and_then (λ r.
-    option_and_then (λ c. Some (options_for (record { rows = r; cols = c }))) (count_between FEWEST_COLS MOST_COLS cols))
-    (count_between FEWEST_ROWS MOST_ROWS rows)
+-- whether no file is named, or by a name that a file may have
+abbrev pub is_name_given : Option (List ℕ) → Bool
+is_name_given name = option_map_or is_file_name name true
+
+-- what is asked for by what words give: each number in its range, and each name of a file one that a file may have
+abbrev pub options_with : PlainGiven → Option PlainOptions
+options_with given =
+    option_and_then (λ rows.
+    option_and_then (λ cols.
+    option_and_then (λ keys.
+    if is_name_given given.program && is_name_given given.input
+    then Some (record { size = record { rows = rows; cols = cols }; key_limit = keys; program = given.program; input = given.input })
+    else None)
+    (count_given FEWEST_KEYS MOST_KEYS MOST_KEYS given.keys))
+    (count_given FEWEST_COLS MOST_COLS USUAL_COLS given.cols))
+    (count_given FEWEST_ROWS MOST_ROWS USUAL_ROWS given.rows)
 
 -- what the words ask for, or none where they aren't words of the command
 unfoldable pub options_of : List (List ℕ) → Option PlainOptions
-options_of [] = Some (options_for usual_size)
-options_of (first ∷ rows ∷ second ∷ cols ∷ []) =
-    if bytes_eq first (codes "--rows") && bytes_eq second (codes "--cols")
-    then options_with rows cols else None
-options_of _ = None
+options_of words = option_and_then options_with (given_in words)

@@ -1,3 +1,6 @@
 -- Words that private contracts alone cite: nobody has to believe them.
+pub mod ClapCommand
+pub mod Loading
 pub mod PlainForms
 pub mod Pressing
+pub mod Running

@@ -1,21 +1,22 @@
 -- A whole run: from the bytes of keys to the bytes of screens.
-use Rattle.std.specs.Prelude.{◌≡◌, ◌⊎◌, ℕ, ◌+◌, ◌-◌, ◌^◌, ◌<◌, ◌≤◌, min, max, true, false, IsTrue, List, [], ◌∷◌, ◌++◌, length, map, take, Option, None, codes}
+use Rattle.std.specs.Prelude.{◌≡◌, ◌⊎◌, ℕ, ◌+◌, ◌-◌, ◌^◌, ◌<◌, ◌≤◌, min, max, true, false, IsTrue, List, [], ◌∷◌, ◌++◌, length, map, take, Option, codes}
 use Rattle.std.specs.Io.KnownBytes.{Appends, Consumes, IsAtEnd}
-use Rattle.synth_outside.specs.Files.{FileMap}
 use Rattle.screen_window.specs.Paint.{Paint, control}
 use Rattle.screen_window.specs.PlainGrid.{PlainGrid, blank_grid}
 use Rattle.synth_session.specs.declared.key.Key.{Key}
+use Rattle.synth_session.specs.FileReply.{CountsWant, PlainFiles}
+use Rattle.synth_session.specs.KeyRequest.{request}
 use Rattle.synth_session.specs.MemoryTaken.{key_takes_memory}
-use Rattle.synth_session.specs.OpenedSession.{opened_session}
 use Rattle.synth_session.specs.PlainSession.{PlainSession}
 use Rattle.synth_session.specs.SessionScreen.{grid}
 use Rattle.synth_top.specs.declared.status.Status.{Status}
 use Rattle.synth_top.specs.declared.status.Status.TheVariants.{Done, ReadFault, WriteFault, NoMemory, BadWords, KeyLimit}
 use Rattle.synth_top.specs.Keys.{completed, keys}
 use Rattle.synth_top.specs.Laid.{LaysFor}
-use Rattle.synth_top.specs.Reply.{Reply, NotAsked, failure}
-use Rattle.synth_top.specs.Turn.{State, IsMapOf, PressedKey, Replied, after, ends, failures, grids}
+use Rattle.synth_top.specs.Loads.{CanLoad, Loads, first_state, load_failures}
 use Rattle.synth_top.specs.Options.{PlainOptions}
+use Rattle.synth_top.specs.Rescue.{CountsRescueWant, IsRescue, Rescue, files_with, rescue_failure}
+use Rattle.synth_top.specs.Turn.{HaveReplies, IsToldAs, PressedKey, State, after, ends, failures, grids}
 
 -- ---- what is written
 
@@ -39,30 +40,13 @@ written state pressed =
 
 -- ---- what a run begins with
 
--- what is told of the outside: the bytes that the source has left and how many reads it counted, the
--- bytes that the sink took, the map of the files and how many faults these counted, and how many lines
--- were counted as laid
+-- what is told of keys and screens: the bytes that the source has left and how many reads it counted, the
+-- bytes that the sink took, and how many lines were counted as laid
 pub record Told : Type 0 where
   pub left : Option (List ℕ)
   pub reads : ℕ
   pub taken : Option (List ℕ)
-  pub files : Option FileMap
-  pub file_faults : ℕ
   pub laid : ℕ
-
--- what the files did where the program and its input were loaded, before the first screen
-pub record Loads : Type 0 where
-  pub program : Reply
-  pub input : Reply
-
--- no words name a file to be loaded yet
-pub record CanLoad (options : PlainOptions) (files : FileMap) (loads : Loads) : Type 0 where
-  pub program : loads.program ≡ NotAsked
-  pub input : loads.input ≡ NotAsked
-
--- the state of the opening screen, with a new program
-abbrev pub first_state : PlainOptions → FileMap → Loads → State
-first_state options files loads = record { session = opened_session options.size None; files = files }
 
 -- ---- what a run has done
 
@@ -104,26 +88,8 @@ ReadsInTurn options now bytes reads pressed =
     (reads ≡ length bytes)
     ⊎ (EndRead options now bytes reads × IsFront (completed bytes) (keys_pressed pressed))
 
--- what was saved at the end of a run
-pub data Rescue : Type 0 where
-  NoRescue : Rescue
-
--- whether this has to be saved where a run ends so: nothing is saved yet
-abbrev pub IsRescue : Status → Rescue → Type 0
-IsRescue status rescue = rescue ≡ NoRescue
-
--- the map of the files with what was saved
-abbrev pub map_with : Rescue → FileMap → FileMap
-map_with NoRescue files = files
-
--- what a run with these options has done between two moments
-pub record Course (options : PlainOptions) (before now : Told) : Type 0 where
-  -- the map of the files: the one that they tell, or some map where they tell none
-  pub map : FileMap
-  pub told : IsMapOf before.files map
-  -- the loads
-  pub loads : Loads
-  pub can_load : CanLoad options map loads
+-- what a run from this state of its opening screen has done between two moments
+pub record Course (options : PlainOptions) (first : State) (before now : Told) : Type 0 where
   -- the bytes of keys, each taken once and in order, and at most one that a failed read lost
   pub bytes : List ℕ
   pub lost : List ℕ
@@ -133,38 +99,29 @@ pub record Course (options : PlainOptions) (before now : Told) : Type 0 where
   -- how many reads were made
   pub reads : ℕ
   pub made : now.reads ≡ raised_by reads before.reads
-  -- the keys pressed, each with what the files did in it; what isn't complete is pressed only where
+  -- the keys pressed, each with what the files replied in it; what isn't complete is pressed only where
   -- no byte comes any more
   pub pressed : List PressedKey
-  pub can_reply : Replied (first_state options map loads) pressed
+  pub can_reply : HaveReplies first pressed
   pub in_order : IsFront (keys_pressed pressed) (keys bytes)
   pub complete : IsFront (keys_pressed pressed) (completed bytes) ⊎ IsOver options now bytes reads
   -- how many bytes of all that is written the sink took
   pub count : ℕ
-  pub wrote : Appends before.taken now.taken
-      (take count (written (first_state options map loads) pressed))
-  -- the map of the files as the turns and what was saved make it, and at least as many faults of
-  -- theirs as failures
-  pub rescue : Rescue
-  pub files : IsMapOf now.files
-      (map_with rescue (after (first_state options map loads) pressed).files)
-  pub faults : RoseBy (failure loads.program + failure loads.input + failures pressed)
-      before.file_faults now.file_faults
+  pub wrote : Appends before.taken now.taken (take count (written first pressed))
   -- the lines laid: at most as many as the windows of the opening screen and of the screens of the keys
   -- have rows
-  pub laid : LaysFor (grid (first_state options map loads).session ∷ grids (first_state options map loads) pressed)
-      before.laid now.laid
+  pub laid : LaysFor (grid first.session ∷ grids first pressed) before.laid now.laid
 
 -- ---- why a run stopped
 
-module _ {options : PlainOptions} {before now : Told} (course : Course options before now) where
-  -- the state of the run's opening screen
-  abbrev pub state_at_first : State
-  state_at_first = first_state options course.map course.loads
+module _ {options : PlainOptions} {first : State} {before now : Told} (course : Course options first before now) where
+  -- the state behind the keys pressed
+  abbrev pub state_behind : State
+  state_behind = after first course.pressed
 
   -- the sink took all that is written
   abbrev pub AllWritten : Type 0
-  AllWritten = length (written state_at_first course.pressed) ≤ course.count
+  AllWritten = length (written first course.pressed) ≤ course.count
 
   -- no byte was lost
   abbrev pub NoneLost : Type 0
@@ -173,7 +130,7 @@ module _ {options : PlainOptions} {before now : Told} (course : Course options b
   -- just these keys were pressed, and none ended the session
   pub record PressedAll (all : List Key) : Type 0 where
     pub pressed : keys_pressed course.pressed ≡ all
-    pub going : ends state_at_first course.pressed ≡ false
+    pub going : ends first course.pressed ≡ false
 
   -- the source's end was read below the limit, and then what isn't complete was pressed too
   pub record SourceEnded : Type 0 where
@@ -204,14 +161,14 @@ module _ {options : PlainOptions} {before now : Told} (course : Course options b
     pub earlier : List PressedKey
     pub last : PressedKey
     pub is_last : course.pressed ≡ earlier ++ last ∷ []
-    pub going : ends state_at_first earlier ≡ false
-    pub shown : length (written state_at_first earlier) ≤ course.count
+    pub going : ends first earlier ≡ false
+    pub shown : length (written first earlier) ≤ course.count
     pub taken : TakenBehind earlier
 
   -- the last key pressed ended the session, and no read was made behind its byte
   pub record QuitPressed : Type 0 where
     pub at_key : AtLastKey
-    pub quit : ends state_at_first course.pressed ≡ true
+    pub quit : ends first course.pressed ≡ true
     pub no_read : course.reads ≡ length course.bytes
 
   -- a write of the opening screen gave no answer, before any read
@@ -223,38 +180,72 @@ module _ {options : PlainOptions} {before now : Told} (course : Course options b
   -- a write of a screen of the last key pressed gave no answer
   pub record ScreenCut : Type 0 where
     pub at_key : AtLastKey
-    pub going : ends state_at_first course.pressed ≡ false
+    pub going : ends first course.pressed ≡ false
 
-  -- a key wanted memory, which is one that takes some: it isn't among those pressed but is the next one of
-  -- the keys of the bytes, those pressed didn't end the session, and no byte was taken before they were
-  pub record KeyWanted : Type 0 where
+  -- a key wanted memory, which is one that takes some, between these counts of the files' wants: it isn't
+  -- among those pressed but is the next one of the keys of the bytes, those pressed didn't end the session,
+  -- and no byte was taken before they were
+  pub record KeyWanted (wants_before wants_now : ℕ) : Type 0 where
     pub wanted : Key
-    pub takes : IsTrue (key_takes_memory (after state_at_first course.pressed).session wanted)
+    pub takes : IsTrue (key_takes_memory state_behind.session wanted)
+    pub counts : CountsWant (request state_behind.session wanted) wants_before wants_now
     pub next : IsFront (keys_pressed course.pressed ++ wanted ∷ []) (keys course.bytes)
     pub complete : IsFront (keys_pressed course.pressed ++ wanted ∷ []) (completed course.bytes)
         ⊎ IsOver options now course.bytes course.reads
-    pub going : ends state_at_first course.pressed ≡ false
+    pub going : ends first course.pressed ≡ false
     pub taken : TakenBehind course.pressed
 
-  -- what each status says of the run
-  abbrev pub Stopped : Status → Type 0
-  Stopped Done = AllWritten × NoneLost × (SourceEnded ⊎ QuitPressed)
-  Stopped KeyLimit = AllWritten × NoneLost × LimitMet
-  Stopped ReadFault = AllWritten × ReadCut
-  Stopped WriteFault = NoneLost × (OpeningCut ⊎ ScreenCut)
-  Stopped NoMemory =
-      (AllWritten × ReadCut) ⊎ ((NoneLost × (OpeningCut ⊎ ScreenCut)) ⊎ (AllWritten × NoneLost × KeyWanted))
-  Stopped BadWords = ⊥
+  -- what each status says of the run, between these counts of the files' wants
+  abbrev pub Stopped : (wants_before wants_now : ℕ) → Status → Type 0
+  Stopped wants_before wants_now Done = AllWritten × NoneLost × (SourceEnded ⊎ QuitPressed)
+  Stopped wants_before wants_now KeyLimit = AllWritten × NoneLost × LimitMet
+  Stopped wants_before wants_now ReadFault = AllWritten × ReadCut
+  Stopped wants_before wants_now WriteFault = NoneLost × (OpeningCut ⊎ ScreenCut)
+  Stopped wants_before wants_now NoMemory =
+      (AllWritten × ReadCut) ⊎ ((NoneLost × (OpeningCut ⊎ ScreenCut)) ⊎ (AllWritten × NoneLost × KeyWanted wants_before wants_now))
+  Stopped wants_before wants_now BadWords = ⊥
 
   -- what the source keeps besides its bytes is as after reads that were Ok, and then no byte was lost;
   -- or as behind one that wasn't, and then that read cut the run
   abbrev pub LeavesSource : Type 0 → Type 0 → Type 0
   LeavesSource after_reads after_fault = (after_reads × NoneLost) ⊎ (after_fault × ReadCut)
 
--- the run did this, and stopped, left its source and saved as its status says
-pub record Ended (status : Status) (options : PlainOptions) (before now : Told)
+-- ---- a whole run
+
+-- no session was opened, for want of memory: nothing was read or written, the map of the files is as before, and their counts
+-- haven't fallen
+pub record NotOpened (status : Status) (before now : Told) (files_before files_now : PlainFiles) (after_reads : Type 0) : Type 0 where
+  pub wanted : status ≡ NoMemory
+  pub same : now ≡ before
+  pub source : after_reads
+  pub stored : files_now.stored ≡ files_before.stored
+  pub faults : files_before.faults ≤ files_now.faults
+  pub wants : files_before.wants ≤ files_now.wants
+
+-- a session was opened: the run did this, and stopped, left its source and saved as its status says
+pub record Ran (status : Status) (options : PlainOptions) (before now : Told) (files_before files_now : PlainFiles)
     (after_reads after_fault : Type 0) : Type 0 where
-  pub course : Course options before now
-  pub stopped : Stopped course status
+  -- what the files did in the loads before the first screen
+  pub loads : Loads
+  pub can_load : CanLoad options files_before.stored loads
+  -- what was done from the first screen on, why it stopped, and how many wants the files had counted then
+  pub course : Course options (first_state options files_before.stored loads) before now
+  pub wants : ℕ
+  pub wants_later : files_before.wants ≤ wants
+  pub stopped : Stopped course files_before.wants wants status
   pub source : LeavesSource course after_reads after_fault
-  pub rescued : IsRescue status course.rescue
+  -- what was saved at the end
+  pub rescue : Rescue
+  pub rescued : IsRescue status rescue
+  pub wants_now : CountsRescueWant rescue wants files_now.wants
+  -- the map of the files as the keys and what was saved make it, and at least as many faults of theirs as
+  -- failures
+  pub files : IsToldAs (files_with rescue (state_behind course)) files_now.stored
+  pub faults : RoseBy (load_failures loads + failures course.pressed + rescue_failure rescue)
+      files_before.faults files_now.faults
+
+-- the editor ended so: no session was opened, or the run went to its end
+abbrev pub Ended : Status → PlainOptions → (before now : Told) → (files_before files_now : PlainFiles) → (after_reads after_fault : Type 0) → Type 0
+Ended status options before now files_before files_now after_reads after_fault =
+    NotOpened status before now files_before files_now after_reads
+    ⊎ Ran status options before now files_before files_now after_reads after_fault

@@ -1,32 +1,53 @@
 -- The turns of keys: what each makes of the session and the files, and the screens that it shows.
-use Rattle.std.specs.Prelude.{◌≡◌, ℕ, ◌+◌, Bool, true, false, ◌||◌, List, [], ◌∷◌, ◌++◌, Option, Some, None, if◌then◌else◌}
+use Rattle.std.specs.Prelude.{◌≡◌, ℕ, ◌+◌, Bool, true, false, ◌||◌, List, [], ◌∷◌, ◌++◌, Option, Some, None, option_map, if◌then◌else◌}
+use Rattle.std.specs.FinMap.{insert}
 use Rattle.synth_outside.specs.Files.{FileMap}
+use Rattle.file_store.specs.declared.refusal.FileRefusal.{FileRefusal}
 use Rattle.screen_window.specs.PlainGrid.{PlainGrid}
 use Rattle.synth_session.specs.declared.answer.Answer.{Answer}
 use Rattle.synth_session.specs.declared.answer.Answer.TheVariants.{Done, Refused, Quit}
 use Rattle.synth_session.specs.declared.key.Key.{Key}
+use Rattle.synth_session.specs.FileReply.{CanReply, Reply, Request}
 use Rattle.synth_session.specs.KeyOutcome.{KeyOutcome}
+use Rattle.synth_session.specs.KeyRequest.{request}
 use Rattle.synth_session.specs.PlainSession.{PlainSession}
 use Rattle.synth_session.specs.Press.{press}
 use Rattle.synth_session.specs.SessionScreen.{grid}
-use Rattle.synth_top.specs.Reply.{Reply, NotAsked, failure}
 
--- what a key's turn begins with: the session, and the map of the files
+-- what a key's turn begins with: the session, and the map of the files; where there is none, nothing is claimed of the files
 pub record State : Type 0 where
   pub session : PlainSession
-  pub files : FileMap
+  pub files : Option FileMap
 
--- the map is the one that files tell; of files that tell none it may be any
-abbrev pub IsMapOf : Option FileMap → FileMap → Type 0
-IsMapOf None map = Unit {0}
-IsMapOf (Some told) map = map ≡ told
+-- files have the map that is claimed
+abbrev pub IsToldAs : (claimed told : Option FileMap) → Type 0
+IsToldAs None told = Unit {0}
+IsToldAs (Some map) told = told ≡ Some map
 
--- a key that is pressed, and what the files did in it
+-- a key that is pressed, and what the files reply to what it asks of them
 pub record PressedKey : Type 0 where
   pub key : Key
   pub reply : Reply
 
+-- how many failures a reply is
+abbrev pub failure : Reply → ℕ
+failure (Reply.Refused FileRefusal.FileFault) = 1
+failure reply = 0
+
 -- ---- one turn
+
+-- what the key asks of the files
+abbrev pub asked : State → PressedKey → Request
+asked state pressed = request state.session pressed.key
+
+-- the files can reply so in the key
+abbrev pub HasReply : State → PressedKey → Type 0
+HasReply state pressed = CanReply state.files (asked state pressed) pressed.reply
+
+-- the map of the files behind a reply: where bytes were saved it has them under their name, and else it is as before
+abbrev pub files_behind : Request → Reply → Option FileMap → Option FileMap
+files_behind (Request.Save name bytes) Reply.Saved files = option_map (λ map. insert map name bytes) files
+files_behind request reply files = files
 
 -- whether an answer ends the session
 abbrev pub is_quit : Answer → Bool
@@ -41,21 +62,18 @@ pub record Turn : Type 0 where
   pub after : State
   pub ends : Bool
 
--- the turn of a key with this outcome: one screen, but none where the session ends
-abbrev pub turn_with : State → KeyOutcome → Turn
-turn_with state outcome = record {
+-- the turn of a key with this outcome, behind which the files have this map: one screen, but none where the session ends
+abbrev pub turn_with : KeyOutcome → Option FileMap → Turn
+turn_with outcome files = record {
   grids = if is_quit outcome.answer then [] else grid outcome.after ∷ [];
-  after = record state { session = outcome.after };
+  after = record { session = outcome.after; files = files };
   ends = is_quit outcome.answer;
 }
 
--- the turn of a key: no key asks anything of the files yet
+-- the turn of a key, by what the files reply in it
 unfoldable pub turn : State → PressedKey → Turn
-turn state pressed = turn_with state (press state.session pressed.key)
-
--- whether the files can have done this in the key: they weren't asked
-abbrev pub CanReply : State → PressedKey → Type 0
-CanReply state pressed = pressed.reply ≡ NotAsked
+turn state pressed =
+    turn_with (press state.session pressed.key pressed.reply) (files_behind (asked state pressed) pressed.reply state.files)
 
 -- ---- one turn after the other
 
@@ -74,10 +92,10 @@ abbrev pub ends : State → List PressedKey → Bool
 ends state [] = false
 ends state (first ∷ rest) = (turn state first).ends || ends (turn state first).after rest
 
--- what the files did in each key is what they can have done
-abbrev pub Replied : State → List PressedKey → Type 0
-Replied state [] = Unit {0}
-Replied state (first ∷ rest) = CanReply state first × Replied (turn state first).after rest
+-- the files can reply so in each key
+abbrev pub HaveReplies : State → List PressedKey → Type 0
+HaveReplies state [] = Unit {0}
+HaveReplies state (first ∷ rest) = HasReply state first × HaveReplies (turn state first).after rest
 
 -- in how many keys a call on the files failed
 abbrev pub failures : List PressedKey → ℕ

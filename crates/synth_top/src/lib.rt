@@ -1,13 +1,15 @@
 //! The editor as a whole: words and key bytes come in, screens go out.
 #![tactic(auto)]
 
-ghost use Rattle.std.specs.Prelude.{◌≡◌, ◌≤◌, map, IfSome, string_bytes};
+ghost use Rattle.std.specs.Prelude.{◌≡◌, ◌⊎◌, ◌≤◌, None, map, IfSome, string_bytes};
 ghost use Rattle.synth_top.specs.Private.PlainForms.{plain_options};
 ghost use Rattle.synth_top.specs.Run.{Ended};
 ghost use Rattle.synth_top.specs.Status.{CausedBy, LeftAs};
 ghost use Rattle.synth_top.specs.Options.{options_of};
 
+mod command;
 mod key;
+mod loading;
 mod number;
 mod options;
 mod run;
@@ -15,6 +17,7 @@ mod status;
 mod words;
 
 pub use key::{KeyReader, Keys};
+use loading::load_first;
 use options::Options;
 use plcs_base::{OutOfMemory, Work};
 use run::Editor;
@@ -24,14 +27,20 @@ use synth_outside::{Files, Sink, Source};
 pub use synth_session::Key;
 pub use words::words_of;
 
-/// Edits a program: reads the words that follow the program's name, and then writes the opening
-/// screen and one screen after each key to the screen's sink, until a key ends the session or the
-/// source of keys ends. Key bytes are taken one a read, and no read is made behind the source's end,
+/// Edits a program: reads the words that follow the program's name, loads the files that they name, and then
+/// writes the opening screen and one screen after each key to the screen's sink, until a key ends the session
+/// or the source of keys ends. Key bytes are taken one a read, and no read is made behind the source's end,
 /// the limit or a quit. Where a key wants memory, it does nothing, and the editor ends.
 ///
-/// The words are none, for a screen of 24 rows and 80 columns, or `--rows N --cols M`. Files aren't
-/// used yet. Where source, sink or files tell nothing of their bytes, what is claimed of the others
-/// stands all the same.
+/// The words are `--rows N`, `--cols N`, `--keys N`, `--input FILE` and `PROGRAM`, each once at most and in any
+/// order; a value stands in the next word, or in the same behind `=`, and behind `--` no word is an option.
+/// Without them the screen has 24 rows and 80 columns, 1,000,000,000 bytes of keys are taken at most, the
+/// program is a new one, and its input is empty. Where a file is refused, the opening screen says so, and the
+/// session begins as without it.
+///
+/// Where memory runs out while a session is open, its program is saved under the name `RESCUE`, as far as the
+/// files allow. Where source, sink or files tell nothing of their bytes, what is claimed of the others stands all
+/// the same.
 pub fn synth<S: Source, K: Sink, F: Files, W: Work>(
     alloc: Global,
     words: &[String],
@@ -40,30 +49,18 @@ pub fn synth<S: Source, K: Sink, F: Files, W: Work>(
     files: &mut F,
     work: &mut W,
 ) -> Status
-    // Words that aren't of the command are refused before anything is read or written.
+    // Words that aren't of the command are refused before anything is read or written, unless memory runs out.
     ensures bad_words { options_of (map string_bytes words.now) ≡ None →
-        (result ≡ Status.BadWords) × (keys.new ≡ keys.old) × (screen.new ≡ screen.old)
-        × (work.new ≡ work.old) }
+        ((result ≡ Status.BadWords) ⊎ (result ≡ Status.NoMemory))
+        × (keys.new ≡ keys.old) × (screen.new ≡ screen.old) × (files.new ≡ files.old) × (work.new ≡ work.old) }
 
     // With words of the command the run did what its record says, and stopped as the status says.
     ensures ended { IfSome (options_of (map string_bytes words.now)) (λ options.
         Ended result options
-        (record {
-          left = S.left keys.old;
-          reads = S.reads keys.old;
-          taken = K.taken screen.old;
-          files = F.stored files.old;
-          file_faults = F.faults files.old;
-          laid = W.laid work.old;
-        })
-        (record {
-          left = S.left keys.new;
-          reads = S.reads keys.new;
-          taken = K.taken screen.new;
-          files = F.stored files.new;
-          file_faults = F.faults files.new;
-          laid = W.laid work.new;
-        })
+        (record { left = S.left keys.old; reads = S.reads keys.old; taken = K.taken screen.old; laid = W.laid work.old })
+        (record { left = S.left keys.new; reads = S.reads keys.new; taken = K.taken screen.new; laid = W.laid work.new })
+        (record { stored = F.stored files.old; faults = F.faults files.old; wants = F.wants files.old })
+        (record { stored = F.stored files.new; faults = F.faults files.new; wants = F.wants files.new })
         (S.leads_to keys.old keys.new) (S.breaks_at keys.old keys.new)) }
 
     // A fault is answered exactly where the count of its own cause rose.
@@ -74,56 +71,49 @@ pub fn synth<S: Source, K: Sink, F: Files, W: Work>(
     // Of what the source keeps besides its bytes, its own relations hold.
     ensures source { LeftAs result (S.leads_to keys.old keys.new) (S.breaks_at keys.old keys.new) }
 
-    // No key uses files yet, and nothing is counted but lines laid and phrases checked.
-    ensures files { files.new ≡ files.old }
+    // Nothing is counted but lines laid and phrases checked.
     ensures emitted { W.emitted work.new ≡ W.emitted work.old }
     ensures checks { W.checked work.old ≤ W.checked work.new }
     ensures fetched { W.fetched work.new ≡ W.fetched work.old }
 {
-    match options::options_of(words) {
-        Some(options) => edit(alloc, options, keys, screen, files, work),
-        None => Status::BadWords,
+    match options::options_of(alloc, words) {
+        Ok(options) => edit(alloc, &options, keys, screen, files, work),
+        Err(status) => status,
     }
 }
 
 /// Edits as the words ask for.
 fn edit<S: Source, K: Sink, F: Files, W: Work>(
     alloc: Global,
-    options: Options,
+    options: &Options<'_>,
     keys: &mut S,
     screen: &mut K,
     files: &mut F,
     work: &mut W,
 ) -> Status
-    ensures ended { Ended result (plain_options options)
-        (record {
-          left = S.left keys.old;
-          reads = S.reads keys.old;
-          taken = K.taken screen.old;
-          files = F.stored files.old;
-          file_faults = F.faults files.old;
-          laid = W.laid work.old;
-        })
-        (record {
-          left = S.left keys.new;
-          reads = S.reads keys.new;
-          taken = K.taken screen.new;
-          files = F.stored files.new;
-          file_faults = F.faults files.new;
-          laid = W.laid work.new;
-        })
+    ensures ended { Ended result (plain_options options.now)
+        (record { left = S.left keys.old; reads = S.reads keys.old; taken = K.taken screen.old; laid = W.laid work.old })
+        (record { left = S.left keys.new; reads = S.reads keys.new; taken = K.taken screen.new; laid = W.laid work.new })
+        (record { stored = F.stored files.old; faults = F.faults files.old; wants = F.wants files.old })
+        (record { stored = F.stored files.new; faults = F.faults files.new; wants = F.wants files.new })
         (S.leads_to keys.old keys.new) (S.breaks_at keys.old keys.new) }
     ensures read { CausedBy (result ≡ Status.ReadFault) (S.faults keys.old) (S.faults keys.new) }
     ensures write { CausedBy (result ≡ Status.WriteFault)
         (K.faults screen.old) (K.faults screen.new) }
     ensures source { LeftAs result (S.leads_to keys.old keys.new) (S.breaks_at keys.old keys.new) }
-    ensures files { files.new ≡ files.old }
     ensures emitted { W.emitted work.new ≡ W.emitted work.old }
     ensures checks { W.checked work.old ≤ W.checked work.new }
     ensures fetched { W.fetched work.new ≡ W.fetched work.old }
 {
-    match Editor::open(alloc, options.size, work) {
-        Ok(mut editor) => editor.run(alloc, options, keys, screen, files, work),
-        Err(OutOfMemory) => Status::NoMemory,
-    }
+    let loads = match load_first(alloc, options, files) {
+        Ok(loads) => loads,
+        Err(OutOfMemory) => return Status::NoMemory,
+    };
+    let mut editor = match Editor::open(alloc, options, loads, work) {
+        Ok(editor) => editor,
+        Err(OutOfMemory) => return Status::NoMemory,
+    };
+    let status = editor.run(alloc, options, keys, screen, files, work);
+    editor.rescue(status, files);
+    status
 }

@@ -1,16 +1,23 @@
-//! The words that follow the program's name, and what they ask for.
+//! What the words that follow the program's name ask for.
 
-ghost use Rattle.std.specs.Prelude.{◌≡◌, ◌≤◌, map, option_map, IfSome};
+ghost use Rattle.std.specs.Prelude.{◌≡◌, ◌⊎◌, ◌≤◌, None, Some, map, option_map, IfErr, IfOk, IfSome};
 ghost use Rattle.std.specs.String.{string_bytes};
-ghost use Rattle.synth_top.specs.Private.PlainForms.{plain_options};
-ghost use Rattle.synth_top.specs.Options.{count_between, options_of};
+ghost use Rattle.synth_top.specs.Options.{count_between, count_given, is_name_given, options_of, options_with};
+ghost use Rattle.synth_top.specs.Private.PlainForms.{plain_given, plain_options};
 
+use crate::command::{Given, read_words};
 use crate::number::number_in_digits;
+use crate::status::Status;
 use screen_window::{FEWEST_COLS, FEWEST_ROWS, MOST_COLS, MOST_ROWS};
+use session_words::is_file_name;
+use std::alloc::Global;
 use synth_session::ScreenSize;
 
-/// How many bytes of keys are taken at most.
-const KEY_LIMIT: u64 = 1_000_000_000;
+/// The least number of bytes of keys that words can ask for.
+const FEWEST_KEYS: u32 = 1;
+
+/// The greatest number of bytes of keys that words can ask for; where they ask for none, it is this.
+const MOST_KEYS: u32 = 1_000_000_000;
 
 /// How many rows a screen has where no words say it.
 const USUAL_ROWS: u16 = 24;
@@ -20,47 +27,95 @@ const USUAL_COLS: u16 = 80;
 
 /// What the words ask for.
 #[derive(Clone, Copy, Debug)]
-pub struct Options {
+pub struct Options<'a> {
     /// The size of the screen.
     pub size: ScreenSize,
     /// How many bytes of keys are taken at most.
-    pub key_limit: u64,
+    pub key_limit: u32,
+    /// The name of the file with the program, if there is one.
+    pub program: Option<&'a str>,
+    /// The name of the file with the program's input, if there is one.
+    pub input: Option<&'a str>,
 }
 
-/// What the words after the program's name ask for: a screen of 24 by 80 where there are none, or
-/// that of `--rows N --cols M`. `None` where the words are any others.
+/// What the words after the program's name ask for. Words that aren't of the command are `BadWords`, and
+/// it is `NoMemory` where memory ran out.
 #[tactic(auto, unfolding(crate::specs::Options::options_of))]
-pub fn options_of(words: &[String]) -> Option<Options>
-    ensures { option_map plain_options result ≡ options_of (map string_bytes words.now) }
+pub fn options_of<'a>(alloc: Global, words: &'a [String]) -> Result<Options<'a>, Status>
+    ensures options { IfOk result (λ options. options_of (map string_bytes words.entry.now) ≡ Some (plain_options options)) }
+    ensures bad { IfErr result (λ status. (status ≡ Status.NoMemory)
+        ⊎ ((status ≡ Status.BadWords) × (options_of (map string_bytes words.entry.now) ≡ None))) }
 {
-    match words {
-        [] => Some(Options {
-            size: ScreenSize::new(USUAL_ROWS, USUAL_COLS),
-            key_limit: KEY_LIMIT,
-        }),
-        [first, rows, second, cols] => {
-            if first.as_str() != "--rows" || second.as_str() != "--cols" {
-                return None;
-            }
-            let rows = count_between(FEWEST_ROWS, MOST_ROWS, rows.as_str())?;
-            let cols = count_between(FEWEST_COLS, MOST_COLS, cols.as_str())?;
-            Some(Options {
-                size: ScreenSize::new(rows, cols),
-                key_limit: KEY_LIMIT,
-            })
-        }
-        _ => None,
+    match read_words(alloc, words) {
+        Ok(given) => match options_with(&given) {
+            Some(options) => Ok(options),
+            None => Err(Status::BadWords),
+        },
+        Err(status) => Err(status),
+    }
+}
+
+/// What is asked for by what the words give, if each number is in its range and each name one that a file
+/// may have.
+fn options_with<'a>(given: &Given<'a>) -> Option<Options<'a>>
+    ensures { option_map plain_options result ≡ options_with (plain_given given.now) }
+{
+    let rows = count_given(
+        u32::from(FEWEST_ROWS),
+        u32::from(MOST_ROWS),
+        u32::from(USUAL_ROWS),
+        given.rows,
+    )?;
+    let cols = count_given(
+        u32::from(FEWEST_COLS),
+        u32::from(MOST_COLS),
+        u32::from(USUAL_COLS),
+        given.cols,
+    )?;
+    let key_limit = count_given(FEWEST_KEYS, MOST_KEYS, MOST_KEYS, given.keys)?;
+    if !is_name_given(given.program) || !is_name_given(given.input) {
+        return None;
+    }
+    Some(Options {
+        size: ScreenSize::new(rows as u16, cols as u16),
+        key_limit,
+        program: given.program,
+        input: given.input,
+    })
+}
+
+/// The number that the words give, if it is in its range, which both bounds are part of; the usual one
+/// where they give none.
+fn count_given(least: u32, most: u32, usual: u32, word: Option<&str>) -> Option<u32>
+    requires least { least ≤ usual }
+    requires most { usual ≤ most }
+    ensures value { result ≡ count_given least most usual (option_map (λ word. word.now) word.entry) }
+    ensures range { IfSome result (λ n. (least ≤ n) × (n ≤ most)) }
+{
+    match word {
+        Some(word) => count_between(least, most, word),
+        None => Some(usual),
     }
 }
 
 /// The number that a word is, where it lies between the two bounds, which are part of the range.
-fn count_between(least: u16, most: u16, word: &str) -> Option<u16>
+fn count_between(least: u32, most: u32, word: &str) -> Option<u32>
     ensures value { result ≡ count_between least most word.now }
     ensures range { IfSome result (λ n. (least ≤ n) × (n ≤ most)) }
 {
-    let count = number_in_digits(u32::from(most), word.as_bytes())?;
-    if count < u32::from(least) {
+    let count = number_in_digits(most, word.as_bytes())?;
+    if count < least {
         return None;
     }
-    Some(count as u16)
+    Some(count)
+}
+
+/// Whether no file is named, or by a name that a file may have.
+fn is_name_given(name: Option<&str>) -> bool
+    ensures { result ≡ is_name_given (option_map (λ name. name.now) name.entry) }
+{
+    match name {
+        Some(name) => is_file_name(name.as_bytes()),
+        None => true,
+    }
 }

@@ -11,19 +11,24 @@ ghost use Rattle.synth_session.specs.SessionScreen.{grid};
 ghost use Rattle.synth_session.specs.SessionView.{plain_session, shown_grid};
 ghost use Rattle.synth_top.specs.Keys.{keys, listed};
 ghost use Rattle.synth_top.specs.Laid.{LaysFor};
-ghost use Rattle.synth_top.specs.Private.PlainForms.{plain_options};
-ghost use Rattle.synth_top.specs.Private.Pressing.{IsNew, IsReady, PressesKeys, ReadsByte, ended_as, snapshot_of};
-ghost use Rattle.synth_top.specs.Run.{Ended, opening};
+ghost use Rattle.synth_top.specs.Loads.{loaded_input, refusal_told};
+ghost use Rattle.synth_top.specs.Private.Loading.{IsInputIfLoaded, IsTreeIfLoaded};
+ghost use Rattle.synth_top.specs.Private.PlainForms.{input_reply, plain_loads, plain_options};
+ghost use Rattle.synth_top.specs.Private.Pressing.{IsOpened, IsReady, IsUnshown, PressesKeys, ReadsByte, ended_as, moment_of};
+ghost use Rattle.synth_top.specs.Private.Running.{Rescues, Runs};
+ghost use Rattle.synth_top.specs.Run.{opening};
 ghost use Rattle.synth_top.specs.Status.{CausedBy, LeftAs};
 
 use crate::key::{KeyReader, Keys};
+use crate::loading::{FileLoad, FirstLoads};
 use crate::options::Options;
 use crate::status::Status;
+use file_store::FileRefusal;
 use plcs_base::{OutOfMemory, Work};
 use screen_window::write_piece;
 use std::alloc::Global;
 use synth_outside::{Files, Sink, SinkFault, Source, SourceFault};
-use synth_session::{Answer, Key, ScreenSize, Session};
+use synth_session::{Answer, Key, Refusal, Session};
 
 /// Whether the session goes on.
 #[derive(Clone, Copy, Debug)]
@@ -54,18 +59,56 @@ pub struct Editor<W> {
 }
 
 impl<W: Work> Editor<W> {
-    /// An editor for a session with a new program, before its first screen.
-    pub fn open(alloc: Global, size: ScreenSize, work: &mut W) -> Result<Self, OutOfMemory>
-        ensures new { IfOk result (λ e. IsNew size e) }
+    /// An editor for a session over the program that was loaded, or a new one, with the input that was
+    /// loaded, before its first screen. It tells of the first load that was refused.
+    pub fn open(
+        alloc: Global,
+        options: &Options<'_>,
+        loads: FirstLoads,
+        work: &mut W,
+    ) -> Result<Self, OutOfMemory>
+        requires tree { IsTreeIfLoaded loads.program }
+        requires within { IsInputIfLoaded loads.input }
+        ensures opened { IfOk result (λ e. IsOpened (plain_options options.now) (plain_loads loads) e) }
         ensures checks { W.checked work.old ≤ W.checked work.new }
         ensures emitted { W.emitted work.new ≡ W.emitted work.old }
         ensures fetched { W.fetched work.new ≡ W.fetched work.old }
         ensures laid { W.laid work.new ≡ W.laid work.old }
     {
-        Ok(Editor {
-            session: Session::open(alloc, size, None, work)?,
+        let refusal = loads.first_refusal();
+        let input = bytes_or_none(alloc, loads.input);
+        let session = Session::open(alloc, options.size, loads.program.loaded(), input, work)?;
+        let mut editor = Editor {
+            session,
             reader: KeyReader::new(),
-        })
+        };
+        editor.tell(refusal);
+        Ok(editor)
+    }
+
+    /// Shows a refusal on the message row, if there is one.
+    fn tell(&mut self, refusal: Option<FileRefusal>)
+        requires { IsReady self.old }
+        ensures session { plain_session self.new.session ≡ refusal_told refusal (plain_session self.old.session) }
+        ensures ready { IsReady self.new }
+        ensures shown { shown_grid self.new.session ≡ shown_grid self.old.session }
+        ensures reader { self.new.reader ≡ self.old.reader }
+    {
+        if let Some(refusal) = refusal {
+            self.session.show_message(Refusal::File(refusal));
+        }
+    }
+
+    /// Saves the program where memory ran out; that it can't be saved ends the run no other way.
+    pub fn rescue<F: Files>(&self, status: Status, files: &mut F)
+        requires { IsReady self.now }
+        ensures { Rescues status (plain_session self.now.session)
+            (record { stored = F.stored files.old; faults = F.faults files.old; wants = F.wants files.old })
+            (record { stored = F.stored files.new; faults = F.faults files.new; wants = F.wants files.new }) }
+    {
+        if let Status::NoMemory = status {
+            let _ = self.session.rescue(files);
+        }
     }
 
     /// Runs the session to its end: the opening screen, and then one byte of keys after the other,
@@ -73,37 +116,25 @@ impl<W: Work> Editor<W> {
     pub fn run<S: Source, K: Sink, F: Files>(
         &mut self,
         alloc: Global,
-        options: Options,
+        options: &Options<'_>,
         keys: &mut S,
         screen: &mut K,
         files: &mut F,
         work: &mut W,
     ) -> Status
-        requires { IsNew options.size self.old }
-        ensures ended { Ended result (plain_options options)
-            (record {
-              left = S.left keys.old;
-              reads = S.reads keys.old;
-              taken = K.taken screen.old;
-              files = F.stored files.old;
-              file_faults = F.faults files.old;
-              laid = W.laid work.old;
-            })
-            (record {
-              left = S.left keys.new;
-              reads = S.reads keys.new;
-              taken = K.taken screen.new;
-              files = F.stored files.new;
-              file_faults = F.faults files.new;
-              laid = W.laid work.new;
-            })
-            (S.leads_to keys.old keys.new) (S.breaks_at keys.old keys.new) }
+        requires { IsUnshown self.old }
+        ensures runs { Runs result (plain_options options.now) (record { session = plain_session self.old.session; files = F.stored files.old })
+            (record { left = S.left keys.old; reads = S.reads keys.old; taken = K.taken screen.old; laid = W.laid work.old })
+            (record { left = S.left keys.new; reads = S.reads keys.new; taken = K.taken screen.new; laid = W.laid work.new })
+            (record { stored = F.stored files.old; faults = F.faults files.old; wants = F.wants files.old })
+            (record { stored = F.stored files.new; faults = F.faults files.new; wants = F.wants files.new })
+            (S.leads_to keys.old keys.new) (S.breaks_at keys.old keys.new) (plain_session self.new.session) }
+        ensures ready { IsReady self.new }
         ensures read { CausedBy (result ≡ Status.ReadFault) (S.faults keys.old) (S.faults keys.new) }
         ensures write { CausedBy (result ≡ Status.WriteFault)
             (K.faults screen.old) (K.faults screen.new) }
         ensures source { LeftAs result
             (S.leads_to keys.old keys.new) (S.breaks_at keys.old keys.new) }
-        ensures files { files.new ≡ files.old }
         ensures emitted { W.emitted work.new ≡ W.emitted work.old }
         ensures checks { W.checked work.old ≤ W.checked work.new }
         ensures fetched { W.fetched work.new ≡ W.fetched work.old }
@@ -165,10 +196,9 @@ impl<W: Work> Editor<W> {
     ) -> Going
         requires { IsReady self.old }
         ensures presses { PressesKeys result (keys self.old.reader)
-            (snapshot_of self.old (K.taken screen.old) (F.stored files.old) (F.faults files.old) (W.laid work.old))
-            (snapshot_of self.new (K.taken screen.new) (F.stored files.new) (F.faults files.new) (W.laid work.new))
+            (moment_of self.old (K.taken screen.old) (record { stored = F.stored files.old; faults = F.faults files.old; wants = F.wants files.old }) (W.laid work.old))
+            (moment_of self.new (K.taken screen.new) (record { stored = F.stored files.new; faults = F.faults files.new; wants = F.wants files.new }) (W.laid work.new))
             (K.faults screen.old) (K.faults screen.new) self.new }
-        ensures files { files.new ≡ files.old }
         ensures emitted { W.emitted work.new ≡ W.emitted work.old }
         ensures checks { W.checked work.old ≤ W.checked work.new }
         ensures fetched { W.fetched work.new ≡ W.fetched work.old }
@@ -188,11 +218,10 @@ impl<W: Work> Editor<W> {
     ) -> Going
         requires { IsReady self.old }
         ensures presses { PressesKeys result (listed keys)
-            (snapshot_of self.old (K.taken screen.old) (F.stored files.old) (F.faults files.old) (W.laid work.old))
-            (snapshot_of self.new (K.taken screen.new) (F.stored files.new) (F.faults files.new) (W.laid work.new))
+            (moment_of self.old (K.taken screen.old) (record { stored = F.stored files.old; faults = F.faults files.old; wants = F.wants files.old }) (W.laid work.old))
+            (moment_of self.new (K.taken screen.new) (record { stored = F.stored files.new; faults = F.faults files.new; wants = F.wants files.new }) (W.laid work.new))
             (K.faults screen.old) (K.faults screen.new) self.new }
         ensures reader { self.new.reader ≡ self.old.reader }
-        ensures files { files.new ≡ files.old }
         ensures emitted { W.emitted work.new ≡ W.emitted work.old }
         ensures checks { W.checked work.old ≤ W.checked work.new }
         ensures fetched { W.fetched work.new ≡ W.fetched work.old }
@@ -214,11 +243,10 @@ impl<W: Work> Editor<W> {
     ) -> Going
         requires { IsReady self.old }
         ensures presses { PressesKeys result (option_to_list key)
-            (snapshot_of self.old (K.taken screen.old) (F.stored files.old) (F.faults files.old) (W.laid work.old))
-            (snapshot_of self.new (K.taken screen.new) (F.stored files.new) (F.faults files.new) (W.laid work.new))
+            (moment_of self.old (K.taken screen.old) (record { stored = F.stored files.old; faults = F.faults files.old; wants = F.wants files.old }) (W.laid work.old))
+            (moment_of self.new (K.taken screen.new) (record { stored = F.stored files.new; faults = F.faults files.new; wants = F.wants files.new }) (W.laid work.new))
             (K.faults screen.old) (K.faults screen.new) self.new }
         ensures reader { self.new.reader ≡ self.old.reader }
-        ensures files { files.new ≡ files.old }
         ensures emitted { W.emitted work.new ≡ W.emitted work.old }
         ensures checks { W.checked work.old ≤ W.checked work.new }
         ensures fetched { W.fetched work.new ≡ W.fetched work.old }
@@ -236,21 +264,20 @@ impl<W: Work> Editor<W> {
         alloc: Global,
         key: Key,
         screen: &mut K,
-        _files: &mut F,
+        files: &mut F,
         work: &mut W,
     ) -> Going
         requires { IsReady self.old }
         ensures presses { PressesKeys result (key ∷ [])
-            (snapshot_of self.old (K.taken screen.old) (F.stored _files.old) (F.faults _files.old) (W.laid work.old))
-            (snapshot_of self.new (K.taken screen.new) (F.stored _files.new) (F.faults _files.new) (W.laid work.new))
+            (moment_of self.old (K.taken screen.old) (record { stored = F.stored files.old; faults = F.faults files.old; wants = F.wants files.old }) (W.laid work.old))
+            (moment_of self.new (K.taken screen.new) (record { stored = F.stored files.new; faults = F.faults files.new; wants = F.wants files.new }) (W.laid work.new))
             (K.faults screen.old) (K.faults screen.new) self.new }
         ensures reader { self.new.reader ≡ self.old.reader }
-        ensures files { _files.new ≡ _files.old }
         ensures emitted { W.emitted work.new ≡ W.emitted work.old }
         ensures checks { W.checked work.old ≤ W.checked work.new }
         ensures fetched { W.fetched work.new ≡ W.fetched work.old }
     {
-        let Ok(answer) = self.session.press(alloc, key, work) else {
+        let Ok(answer) = self.session.press(alloc, key, files, work) else {
             return Going::Over(Status::NoMemory);
         };
         if let Answer::Quit = answer {
@@ -281,6 +308,16 @@ impl<W: Work> Editor<W> {
     {
         self.session.draw(work);
         self.session.paint(screen)
+    }
+}
+
+/// The bytes of the input that was loaded, and else none.
+fn bytes_or_none(alloc: Global, input: FileLoad<Vec<u8>>) -> Vec<u8>
+    ensures { result.items ≡ loaded_input (input_reply input) }
+{
+    match input {
+        FileLoad::Loaded(bytes) => bytes,
+        _ => Vec::new(alloc),
     }
 }
 

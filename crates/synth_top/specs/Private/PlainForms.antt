@@ -1,7 +1,47 @@
 -- The plain data of the types of this crate.
+use Rattle.std.specs.Prelude.{ℕ, Vec, option_map}
+use Rattle.std.specs.declared.alloc.Global.{Global}
+use Rattle.template_tree.specs.PlainTree.{PlainTree, roomless_tree}
+use Rattle.synth_session.specs.FileReply.{Reply}
+use Rattle.synth_top.specs.declared.command.Given.{Given}
+use Rattle.synth_top.specs.declared.loading.FileLoad.{FileLoad}
+use Rattle.synth_top.specs.declared.loading.FirstLoads.{FirstLoads}
 use Rattle.synth_top.specs.declared.options.Options.{Options}
+use Rattle.synth_top.specs.Given.{PlainGiven}
+use Rattle.synth_top.specs.Loads.{InputReply, Loads}
 use Rattle.synth_top.specs.Options.{PlainOptions}
+
+-- what words give, as plain data
+abbrev pub plain_given : Given → PlainGiven
+plain_given g = record {
+  rows = option_map (λ text. text.now) g.rows;
+  cols = option_map (λ text. text.now) g.cols;
+  keys = option_map (λ text. text.now) g.keys;
+  input = option_map (λ text. text.now) g.input;
+  program = option_map (λ text. text.now) g.program;
+}
 
 -- options as plain data
 abbrev pub plain_options : Options → PlainOptions
-plain_options o = record { size = o.size; key_limit = o.key_limit }
+plain_options o = record {
+  size = o.size;
+  key_limit = o.key_limit;
+  program = option_map (λ name. name.now) o.program;
+  input = option_map (λ name. name.now) o.input;
+}
+
+-- what came of the program, as plain data: a tree without its room
+abbrev pub program_reply : FileLoad PlainTree → Reply
+program_reply FileLoad.NotAsked = Reply.NotAsked
+program_reply (FileLoad.Loaded tree) = Reply.Loaded (roomless_tree tree)
+program_reply (FileLoad.Refused refusal) = Reply.Refused refusal
+
+-- what came of the input, as plain data
+abbrev pub input_reply : FileLoad (Vec ℕ Global) → InputReply
+input_reply FileLoad.NotAsked = InputReply.NotAsked
+input_reply (FileLoad.Loaded bytes) = InputReply.Loaded bytes.items
+input_reply (FileLoad.Refused refusal) = InputReply.Refused refusal
+
+-- both loads as plain data
+abbrev pub plain_loads : FirstLoads → Loads
+plain_loads loads = record { program = program_reply loads.program; input = input_reply loads.input }

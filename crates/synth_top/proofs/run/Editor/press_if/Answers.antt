@@ -1,21 +1,18 @@
 use Rattle.std.proofs.Common.{[], ap, sym, refl, arith}
 use Rattle.std.specs.Option.{option_to_list}
-use Rattle.synth_top.proofs.OneKey.{none_shown}
+use Rattle.synth_top.proofs.OneKey.{none_shown, unchanged_itself}
 use Rattle.synth_top.proofs.run.Editor.press_if.Goals as goal
 
 -- no key was pressed
 pub returns-in-None-clause-presses : goal.returns-in-None-clause-presses
 returns-in-None-clause-presses g c = record {
   ends = tt;
-  pressed = λ map told. (
-    map,
-    told,
-    record {
-      pressed = [];
-      all = sym (ap option_to_list c.in-None.is);
-      shown = none_shown _ _ (record { state = refl; shown = refl; taken = refl; file_faults = refl; laid = refl });
-    },
-  );
+  pressed = record {
+    pressed = [];
+    all = sym (ap option_to_list c.in-None.is);
+    shown = none_shown _ _ (unchanged_itself _);
+    wants = refl;
+  };
   cause = record { later = omega arith; rose = λ e. absurd (cc); same = λ other. refl; last = λ e. refl };
   ready = c.requires;
 }

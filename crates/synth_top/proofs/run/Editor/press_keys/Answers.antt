@@ -9,10 +9,7 @@ returns-clause-presses g c =
     let second = c.press_if-2.ensures.presses in
     record {
       ends = second.ends;
-      pressed = λ map told.
-          let p = first.pressed map told in
-          let q = second.pressed p.0 p.1 in
-          (q.0, q.1, pressed_then c.press_if-2.result _ _ _ _ _ p.2 q.2);
+      pressed = pressed_then c.press_if-2.result _ _ _ _ _ first.pressed second.pressed;
       cause = caused_behind _ _ _ (first.cause.same (λ e. absurd (cc))) second.cause;
       ready = second.ready;
     }
@@ -23,9 +20,7 @@ returns-in-Over-clause-presses g c =
     let first = c.in-Over.ensures.presses in
     record {
       ends = first.ends;
-      pressed = λ map told.
-          let p = first.pressed map told in
-          (p.0, p.1, pressed_before c.in-Over.status _ _ _ _ p.2);
+      pressed = pressed_before c.in-Over.status _ _ _ _ first.pressed;
       cause = first.cause;
       ready = first.ready;
     }

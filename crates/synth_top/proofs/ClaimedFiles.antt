@@ -1,0 +1,147 @@
+-- Turns of a state that claims no more of the files than another.
+use Rattle.std.proofs.Common.{◌≡◌, ℕ, Bool, ◌||◌, List, [], ◌∷◌, ◌++◌, Option, Some, None, refl, sym, ap, ◌∙◌, subst, arith}
+use Rattle.synth_outside.specs.Files.{FileMap}
+use Rattle.screen_window.specs.PlainGrid.{PlainGrid}
+use Rattle.file_store.specs.declared.refusal.FileRefusal.{FileRefusal}
+use Rattle.file_store.specs.FileReading.{IsLoadRefused}
+use Rattle.synth_session.specs.FileReply.{CanReply, CountsFault, IsMapBehind, Reply, Request}
+use Rattle.synth_session.specs.PlainSession.{PlainSession}
+use Rattle.synth_session.specs.KeyRequest.{request}
+use Rattle.synth_session.specs.Press.{press}
+use Rattle.synth_top.specs.Run.{RoseBy}
+use Rattle.synth_top.specs.Turn.{HasReply, HaveReplies, IsToldAs, PressedKey, State, after, asked, ends, failure, files_behind, grids, turn}
+
+-- ---- maps
+
+-- what files tell may be claimed of them
+pub told_itself : (files : Option FileMap) → IsToldAs files files
+told_itself None = tt
+told_itself (Some map) = refl
+
+pub told_same : (before now : Option FileMap) → now ≡ before → IsToldAs before now
+told_same None now same = tt
+told_same (Some map) now same = same
+
+-- what is claimed of what is claimed
+pub told_through : (a b c : Option FileMap) → IsToldAs a b → IsToldAs b c → IsToldAs a c
+told_through None b c first second = tt
+told_through (Some map) b c first second = subst (λ files. IsToldAs files c) first second
+
+-- the map that files have behind a reply may be claimed
+pub told_behind : (request : Request) (reply : Reply) (before now : Option FileMap) → IsMapBehind request reply before now
+    → IsToldAs (files_behind request reply before) now
+told_behind Request.Nothing reply before now is = told_same before now is
+told_behind (Request.Load name) reply before now is = told_same before now is
+told_behind (Request.Save name bytes) Reply.NotAsked before now is = told_same before now is
+told_behind (Request.Save name bytes) (Reply.Loaded tree) before now is = told_same before now is
+told_behind (Request.Save name bytes) (Reply.Refused refusal) before now is = told_same before now is
+told_behind (Request.Save name bytes) Reply.Saved None now is = tt
+told_behind (Request.Save name bytes) Reply.Saved (Some map) now is = is
+
+-- nothing is claimed behind a reply where nothing was
+untold_behind : (request : Request) (reply : Reply) → files_behind request reply None ≡ None
+untold_behind Request.Nothing reply = refl
+untold_behind (Request.Load name) reply = refl
+untold_behind (Request.Save name bytes) Reply.NotAsked = refl
+untold_behind (Request.Save name bytes) (Reply.Loaded tree) = refl
+untold_behind (Request.Save name bytes) (Reply.Refused refusal) = refl
+untold_behind (Request.Save name bytes) Reply.Saved = refl
+
+-- no more is claimed behind a reply where no more was
+less_behind : (request : Request) (reply : Reply) (a b : Option FileMap) → IsToldAs a b
+    → IsToldAs (files_behind request reply a) (files_behind request reply b)
+less_behind request reply None b told = subst (λ files. IsToldAs files (files_behind request reply b)) (sym (untold_behind request reply)) tt
+less_behind request reply (Some map) b told =
+    subst (λ files. IsToldAs (files_behind request reply (Some map)) (files_behind request reply files)) (sym told)
+    (told_itself (files_behind request reply (Some map)))
+
+-- ---- replies
+
+-- of files of which nothing is claimed a load may be refused for each reason
+untold_refusal : (name : List ℕ) (refusal : FileRefusal) → IsLoadRefused None name refusal
+untold_refusal name FileRefusal.NoFile = tt
+untold_refusal name FileRefusal.FileFault = tt
+untold_refusal name (FileRefusal.NotAListing line) = tt
+untold_refusal name FileRefusal.TooDeep = tt
+untold_refusal name FileRefusal.TooLarge = tt
+untold_refusal name FileRefusal.TooLong = tt
+untold_refusal name FileRefusal.OutOfMemory = tt
+
+-- where no more is claimed, no fewer replies are possible
+reply_less : (request : Request) (reply : Reply) (a b : Option FileMap) → IsToldAs a b → CanReply b request reply → CanReply a request reply
+reply_less request reply (Some map) b told can = subst (λ files. CanReply files request reply) told can
+reply_less Request.Nothing reply None b told can = can
+reply_less (Request.Save name bytes) reply None b told can = can
+reply_less (Request.Load name) Reply.NotAsked None b told can = absurd can
+reply_less (Request.Load name) Reply.Saved None b told can = absurd can
+reply_less (Request.Load name) (Reply.Loaded tree) None b told can = (can.0, tt)
+reply_less (Request.Load name) (Reply.Refused refusal) None b told can = (can.0, untold_refusal name refusal)
+
+-- the count of faults rose by as many failures as a reply is
+pub fault_counted : (reply : Reply) (before now : ℕ) → CountsFault reply before now → RoseBy (failure reply) before now
+fault_counted Reply.NotAsked before now counts = omega (arith, counts)
+fault_counted Reply.Saved before now counts = omega (arith, counts)
+fault_counted (Reply.Loaded tree) before now counts = omega (arith, counts)
+fault_counted (Reply.Refused FileRefusal.FileFault) before now counts = let rose = counts.rose refl in omega (arith, rose)
+fault_counted (Reply.Refused FileRefusal.NoFile) before now counts = omega (arith, counts.later)
+fault_counted (Reply.Refused (FileRefusal.NotAListing line)) before now counts = omega (arith, counts.later)
+fault_counted (Reply.Refused FileRefusal.TooDeep) before now counts = omega (arith, counts.later)
+fault_counted (Reply.Refused FileRefusal.TooLarge) before now counts = omega (arith, counts.later)
+fault_counted (Reply.Refused FileRefusal.TooLong) before now counts = omega (arith, counts.later)
+fault_counted (Reply.Refused FileRefusal.OutOfMemory) before now counts = omega (arith, counts.later)
+
+-- ---- turns
+
+-- the session is the same, and no more is claimed of the files
+pub record ClaimsNoMore (s t : State) : Type 0 where
+  pub session : s.session ≡ t.session
+  pub files : IsToldAs s.files t.files
+
+module _ (s t : State) (pressed : PressedKey) (less : ClaimsNoMore s t) where
+  -- the key asks the same
+  same_request : asked s pressed ≡ asked t pressed
+  same_request = ap (λ (z : PlainSession). request z pressed.key) less.session
+
+  turn_less : ClaimsNoMore (turn s pressed).after (turn t pressed).after
+  unfolding turn
+  turn_less = record {
+    session = ap (λ (z : PlainSession). (press z pressed.key pressed.reply).after) less.session;
+    files = subst (λ asks. IsToldAs (files_behind (asked s pressed) pressed.reply s.files) (files_behind asks pressed.reply t.files)) same_request
+        (less_behind (asked s pressed) pressed.reply s.files t.files less.files);
+  }
+
+  turn_grids_same : (turn s pressed).grids ≡ (turn t pressed).grids
+  unfolding turn
+  turn_grids_same = ap (λ (z : PlainSession). (turn (record { session = z; files = s.files }) pressed).grids) less.session
+
+  turn_ends_same : (turn s pressed).ends ≡ (turn t pressed).ends
+  unfolding turn
+  turn_ends_same = ap (λ (z : PlainSession). (turn (record { session = z; files = s.files }) pressed).ends) less.session
+
+  turn_reply_less : HasReply t pressed → HasReply s pressed
+  turn_reply_less can =
+      reply_less (asked s pressed) pressed.reply s.files t.files less.files
+      (subst (λ asks. CanReply t.files asks pressed.reply) (sym same_request) can)
+
+-- ---- one turn after the other
+
+pub after_less : (s t : State) (ps : List PressedKey) → ClaimsNoMore s t → ClaimsNoMore (after s ps) (after t ps)
+after_less s t [] less = less
+after_less s t (p ∷ ps) less = after_less (turn s p).after (turn t p).after ps (turn_less s t p less)
+
+pub same_grids : (s t : State) (ps : List PressedKey) → ClaimsNoMore s t → grids s ps ≡ grids t ps
+same_grids s t [] less = refl
+same_grids s t (p ∷ ps) less =
+    ap (λ (gs : List PlainGrid). gs ++ grids (turn s p).after ps) (turn_grids_same s t p less)
+    ∙ ap (λ (gs : List PlainGrid). (turn t p).grids ++ gs) (same_grids (turn s p).after (turn t p).after ps (turn_less s t p less))
+
+pub same_ends : (s t : State) (ps : List PressedKey) → ClaimsNoMore s t → ends s ps ≡ ends t ps
+same_ends s t [] less = refl
+same_ends s t (p ∷ ps) less =
+    ap (λ (b : Bool). b || ends (turn s p).after ps) (turn_ends_same s t p less)
+    ∙ ap (λ (b : Bool). (turn t p).ends || b) (same_ends (turn s p).after (turn t p).after ps (turn_less s t p less))
+
+pub replies_less : (s t : State) (ps : List PressedKey) → ClaimsNoMore s t → HaveReplies t ps → HaveReplies s ps
+replies_less s t [] less can = tt
+replies_less s t (p ∷ ps) less can =
+    (turn_reply_less s t p less can.0, replies_less (turn s p).after (turn t p).after ps (turn_less s t p less) can.1)

@@ -1,0 +1,97 @@
+-- The files that are loaded before the first screen: the program, and then its input.
+use Rattle.std.specs.Prelude.{◌≡◌, ◌≢◌, ℕ, ◌+◌, ◌≤◌, List, [], length, Option, Some, None}
+use Rattle.std.specs.Option.{option_or}
+use Rattle.synth_outside.specs.Files.{FileMap}
+use Rattle.template_tree.specs.PlainTree.{PlainTree}
+use Rattle.file_store.specs.declared.refusal.FileRefusal.{FileRefusal}
+use Rattle.file_store.specs.FileReading.{Holds, IsFileRefused}
+use Rattle.file_store.specs.Limit.{longest_input}
+use Rattle.synth_session.specs.declared.answer.Refusal.{Refusal}
+use Rattle.synth_session.specs.FileReply.{CanReply, Reply, Request}
+use Rattle.synth_session.specs.OpenedSession.{opened_session}
+use Rattle.synth_session.specs.PlainSession.{PlainSession}
+use Rattle.synth_session.specs.RefusalText.{refusal_text}
+use Rattle.synth_top.specs.Options.{PlainOptions}
+use Rattle.synth_top.specs.Turn.{State, failure}
+
+-- ---- what the files did
+
+-- what came of the file with the input: none is named, these bytes were loaded, or it was refused for this
+pub data InputReply : Type 0 where
+  NotAsked : InputReply
+  Loaded : (bytes : List ℕ) → InputReply
+  Refused : FileRefusal → InputReply
+
+-- what the files did in both loads
+pub record Loads : Type 0 where
+  pub program : Reply
+  pub input : InputReply
+
+-- what is asked of the files for the program: where a file is named, to load the program of the name
+abbrev pub program_request : (name : Option (List ℕ)) → Request
+program_request None = Request.Nothing
+program_request (Some name) = Request.Load name
+
+-- files with this map can reply so for the input: its bytes are the content of the name, and no more than may be; or there is
+-- none for this reason; want of memory is no reply
+abbrev pub IsInputReply : Option FileMap → (name : Option (List ℕ)) → InputReply → Type 0
+IsInputReply stored None reply = reply ≡ InputReply.NotAsked
+IsInputReply stored (Some name) InputReply.NotAsked = ⊥
+IsInputReply stored (Some name) (InputReply.Loaded bytes) = Holds stored name (λ content. content ≡ bytes) × (length bytes ≤ longest_input)
+IsInputReply stored (Some name) (InputReply.Refused refusal) =
+    (refusal ≢ FileRefusal.OutOfMemory) × IsFileRefused longest_input stored name refusal
+
+-- files with this map can do so in the loads that the options ask for
+pub record CanLoad (options : PlainOptions) (stored : Option FileMap) (loads : Loads) : Type 0 where
+  pub program : CanReply stored (program_request options.program) loads.program
+  pub input : IsInputReply stored options.input loads.input
+
+-- how many failures a reply for the input is
+abbrev pub input_failure : InputReply → ℕ
+input_failure (InputReply.Refused FileRefusal.FileFault) = 1
+input_failure reply = 0
+
+-- in how many of the loads a call on the files failed
+abbrev pub load_failures : Loads → ℕ
+load_failures loads = failure loads.program + input_failure loads.input
+
+-- ---- the first session
+
+-- the program that was loaded
+abbrev pub loaded_program : Reply → Option PlainTree
+loaded_program (Reply.Loaded tree) = Some tree
+loaded_program reply = None
+
+-- the bytes of the input that was loaded, and else none
+abbrev pub loaded_input : InputReply → List ℕ
+loaded_input (InputReply.Loaded bytes) = bytes
+loaded_input reply = []
+
+-- why the program was refused
+abbrev pub program_refusal : Reply → Option FileRefusal
+program_refusal (Reply.Refused refusal) = Some refusal
+program_refusal reply = None
+
+-- why the input was refused
+abbrev pub input_refusal : InputReply → Option FileRefusal
+input_refusal (InputReply.Refused refusal) = Some refusal
+input_refusal reply = None
+
+-- the first refusal of the two: the program's comes before the input's
+abbrev pub first_refusal : Loads → Option FileRefusal
+first_refusal loads = option_or (program_refusal loads.program) (input_refusal loads.input)
+
+-- the session with the message of a refusal, if there was one
+abbrev pub refusal_told : Option FileRefusal → PlainSession → PlainSession
+refusal_told None s = s
+refusal_told (Some refusal) s = record s { message = refusal_text (Refusal.File refusal) }
+
+-- the session of the opening screen: over the program that was loaded or a new one, with the input that was loaded, and with
+-- the message of the first refusal
+abbrev pub first_session : PlainOptions → Loads → PlainSession
+first_session options loads =
+    refusal_told (first_refusal loads) (opened_session options.size (loaded_program loads.program) (loaded_input loads.input))
+
+-- the state of the opening screen; the loads leave the map as it is
+abbrev pub first_state : PlainOptions → Option FileMap → Loads → State
+first_state options stored loads = record { session = first_session options loads; files = stored }

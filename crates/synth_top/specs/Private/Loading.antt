@@ -1,0 +1,65 @@
+-- What loading a file does, before a session is opened.
+use Rattle.std.specs.Prelude.{◌≡◌, ℕ, ◌≤◌, List, Option, Some, None, Vec, length}
+use Rattle.std.specs.declared.alloc.Global.{Global}
+use Rattle.template_tree.specs.PlainTree.{PlainTree}
+use Rattle.template_tree.specs.Tree.{IsTree}
+use Rattle.file_store.specs.declared.refusal.FileRefusal.{FileRefusal}
+use Rattle.file_store.specs.Limit.{longest_input}
+use Rattle.synth_session.specs.FileReply.{CanReply, PlainFiles, Reply}
+use Rattle.synth_top.specs.declared.loading.FileLoad.{FileLoad}
+use Rattle.synth_top.specs.Loads.{CanLoad, InputReply, IsInputReply, Loads, input_failure, load_failures, program_request}
+use Rattle.synth_top.specs.Options.{PlainOptions}
+use Rattle.synth_top.specs.Run.{RoseBy}
+use Rattle.synth_top.specs.Turn.{failure}
+
+-- ---- what the files did
+
+-- files were read without want of memory, and so many calls failed
+pub record OnlyRead (failures : ℕ) (before now : PlainFiles) : Type 0 where
+  pub stored : now.stored ≡ before.stored
+  pub later : before.faults ≤ now.faults
+  pub faults : RoseBy failures before.faults now.faults
+  pub wants : now.wants ≡ before.wants
+
+-- the program was loaded so
+pub record ProgramLoads (name : Option (List ℕ)) (reply : Reply) (before now : PlainFiles) : Type 0 where
+  pub can : CanReply before.stored (program_request name) reply
+  pub read : OnlyRead (failure reply) before now
+
+-- the input was loaded so
+pub record InputLoads (name : Option (List ℕ)) (reply : InputReply) (before now : PlainFiles) : Type 0 where
+  pub can : IsInputReply before.stored name reply
+  pub read : OnlyRead (input_failure reply) before now
+
+-- both were loaded so
+pub record BothLoad (options : PlainOptions) (loads : Loads) (before now : PlainFiles) : Type 0 where
+  pub can : CanLoad options before.stored loads
+  pub read : OnlyRead (load_failures loads) before now
+
+-- memory ran out in a load: the map is as before, and the counts haven't fallen
+pub record LoadsNothing (before now : PlainFiles) : Type 0 where
+  pub stored : now.stored ≡ before.stored
+  pub faults : before.faults ≤ now.faults
+  pub wants : before.wants ≤ now.wants
+
+-- ---- what was loaded
+
+-- what was loaded, if something was
+abbrev pub load_content : {T : Type 0} → FileLoad T → Option T
+load_content (FileLoad.Loaded content) = Some content
+load_content load = None
+
+-- why a file was refused, if it was
+abbrev pub load_refusal : {T : Type 0} → FileLoad T → Option FileRefusal
+load_refusal (FileLoad.Refused refusal) = Some refusal
+load_refusal load = None
+
+-- a program that was loaded is a tree
+abbrev pub IsTreeIfLoaded : FileLoad PlainTree → Type 0
+IsTreeIfLoaded (FileLoad.Loaded tree) = IsTree tree
+IsTreeIfLoaded load = Unit {0}
+
+-- an input that was loaded is no longer than it may be
+abbrev pub IsInputIfLoaded : FileLoad (Vec ℕ Global) → Type 0
+IsInputIfLoaded (FileLoad.Loaded bytes) = length bytes.items ≤ longest_input
+IsInputIfLoaded load = Unit {0}

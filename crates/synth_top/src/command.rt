@@ -1,0 +1,108 @@
+//! The command as clap reads it: what the words give, as texts.
+
+ghost use Rattle.std.specs.Prelude.{◌≡◌, ◌≢◌, ◌⊎◌, codes, false, map, None, Some, IfErr, IfOk};
+ghost use Rattle.std.specs.String.{string_bytes};
+ghost use Rattle.clap.specs.Words.{app_of, found_of, kind_of, new_rule, rule_of};
+ghost use Rattle.synth_top.specs.Given.{given_in};
+ghost use Rattle.synth_top.specs.Private.ClapCommand.{bare_app, given_of_matches, option_rule, synth_app};
+ghost use Rattle.synth_top.specs.Private.PlainForms.{plain_given};
+
+use crate::status::Status;
+use clap::error::ErrorKind;
+use clap::{Arg, ArgMatches, Command, Error};
+use std::alloc::{AllocError, Global};
+
+/// What the words give: a text for each option that they name, and the word that stands by itself.
+#[derive(Clone, Copy, Debug)]
+pub struct Given<'a> {
+    /// How many rows the screen has.
+    pub rows: Option<&'a str>,
+    /// How many columns the screen has.
+    pub cols: Option<&'a str>,
+    /// How many bytes of keys are taken at most.
+    pub keys: Option<&'a str>,
+    /// The name of the file with the program's input.
+    pub input: Option<&'a str>,
+    /// The name of the file with the program.
+    pub program: Option<&'a str>,
+}
+
+/// What the words give. Words that aren't of the command are `BadWords`, and it is `NoMemory` where
+/// memory ran out.
+pub fn read_words<'a>(alloc: Global, words: &'a [String]) -> Result<Given<'a>, Status>
+    ensures given { IfOk result (λ given. given_in (map string_bytes words.entry.now) ≡ Some (plain_given given)) }
+    ensures bad { IfErr result (λ status. (status ≡ Status.NoMemory)
+        ⊎ ((status ≡ Status.BadWords) × (given_in (map string_bytes words.entry.now) ≡ None))) }
+{
+    let command = match synth_command(alloc) {
+        Ok(command) => command,
+        Err(AllocError) => return Err(Status::NoMemory),
+    };
+    match command.try_get_matches_from(words) {
+        Ok(matches) => Ok(given_by(&matches)),
+        Err(error) => Err(status_of(&error)),
+    }
+}
+
+/// The command: four options, and a word that stands by itself.
+fn synth_command<'a>(alloc: Global) -> Result<Command<'a>, AllocError>
+    ensures { IfOk result (λ command. app_of command ≡ synth_app) }
+{
+    bare_command(alloc)
+        .arg(option_named(alloc, "rows"))?
+        .arg(option_named(alloc, "cols"))?
+        .arg(option_named(alloc, "keys"))?
+        .arg(option_named(alloc, "input"))?
+        .arg(program_word(alloc))
+}
+
+/// The command without its options: it knows neither help nor version, and its first word is the first
+/// behind the program's name.
+fn bare_command<'a>(alloc: Global) -> Command<'a>
+    ensures { app_of result ≡ bare_app }
+{
+    Command::new(alloc, "synth")
+        .no_binary_name(true)
+        .disable_help_flag(true)
+        .disable_version_flag(true)
+}
+
+/// The option of this name, whose value is the next word or stands behind `=`.
+fn option_named<'a>(alloc: Global, name: &'a str) -> Arg<'a>
+    ensures rule { rule_of result ≡ option_rule name.entry.now }
+    ensures local { result.global ≡ false }
+{
+    Arg::new(alloc, name).long(name)
+}
+
+/// The word that stands by itself.
+fn program_word<'a>(alloc: Global) -> Arg<'a>
+    ensures rule { rule_of result ≡ new_rule (codes "program") }
+    ensures local { result.global ≡ false }
+{
+    Arg::new(alloc, "program")
+}
+
+/// What the matches give.
+fn given_by<'a>(matches: &ArgMatches<'a>) -> Given<'a>
+    ensures { plain_given result ≡ given_of_matches (found_of matches.now) }
+{
+    Given {
+        rows: matches.get_str("rows"),
+        cols: matches.get_str("cols"),
+        keys: matches.get_str("keys"),
+        input: matches.get_str("input"),
+        program: matches.get_str("program"),
+    }
+}
+
+/// How the editor ends where clap refuses the words.
+fn status_of(error: &Error) -> Status
+    ensures { ((result ≡ Status.NoMemory) × (kind_of error.now ≡ ErrorKind.OutOfMemory))
+        ⊎ ((result ≡ Status.BadWords) × (kind_of error.now ≢ ErrorKind.OutOfMemory)) }
+{
+    match error.kind() {
+        ErrorKind::OutOfMemory => Status::NoMemory,
+        _ => Status::BadWords,
+    }
+}
