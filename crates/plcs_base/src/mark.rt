@@ -33,7 +33,7 @@ pub enum MarkKind {
     Reserved,
 }
 
-/// The marks of a program's phrases. For the layers that make code of them and show them.
+/// The trait of the marks of a program's phrases, for the layers that make code of them and show them.
 ///
 /// They are a finite map from phrases to what is wrong with them.
 pub trait Marked {
