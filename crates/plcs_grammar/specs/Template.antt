@@ -183,12 +183,12 @@ program_sections =
     record { lead = None; sort = Sort.Main; amount = Amount.One }
     ∷ list_of Sort.Procedure ∷ []
 
--- the plain form of a segment
+-- the plain form of a segment of a line in the code's table
 abbrev pub plain_segment : Segment → PlainSegment
 plain_segment (Segment.Words bytes) = PlainSegment.words bytes.now
 plain_segment (Segment.Part category) = PlainSegment.part category
 
--- the plain form of a section
+-- the plain form of a section in the code's table
 abbrev pub plain_section : Section → PlainSection
 plain_section section =
     record { lead = option_map (λ bytes. bytes.now) section.lead; sort = section.sort; amount = section.amount }

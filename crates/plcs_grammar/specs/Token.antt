@@ -56,7 +56,7 @@ IsNumeral bytes = (1 ≤ length bytes) × IsTrue (list_all is_digit bytes)
 abbrev pub numeral_value : List ℕ → ℕ
 numeral_value digits = number_from_digits 10 (map (λ digit. digit - 48) digits)
 
--- what stands behind a token ends it as a word: no letter, digit or `_` follows
+-- what stands behind a token ends a word: no letter, digit or `_` follows
 abbrev pub EndsWord : List ℕ → Type 0
 EndsWord behind = IsTrue (not (begins_with is_name_byte behind))
 
