@@ -9,7 +9,7 @@ use Rattle.plcs_grammar.specs.SyntaxPlace.{SyntaxAt}
 use Rattle.phrase_parser.specs.declared.fault.PhraseFault.{PhraseFault}
 use Rattle.phrase_parser.specs.declared.fault.PhraseFault.TheVariants.{Syntax, NumberTooLarge, TooDeep, OutOfMemory}
 
--- what a fault says of the text; want of memory says nothing
+-- what a fault of the parser says of the text; want of memory says nothing
 abbrev pub FaultSays : Category → List ℕ → PhraseFault → Type 0
 FaultSays category x (Syntax place) = (¬ (Outline category x)) × SyntaxAt category x place
 FaultSays category x (NumberTooLarge place) = IsOver category x (OverLimit.number_too_large place)
@@ -21,17 +21,17 @@ abbrev pub Answers : Category → List ℕ → Result Phrase PhraseFault → Typ
 Answers category x (Ok phrase) = Reads category x (plain_phrase phrase)
 Answers category x (Err fault) = FaultSays category x fault
 
--- the answer is the phrase, unless memory ran out
+-- the parser's answer is the phrase, unless memory ran out
 abbrev pub Only : Result Phrase PhraseFault → PlainPhrase → Type 0
 Only (Ok phrase) reading = plain_phrase phrase ≡ reading
 Only (Err fault) reading = fault ≡ OutOfMemory
 
--- the answer is the fault, unless memory ran out
+-- the parser's answer is the fault, unless memory ran out
 abbrev pub OnlyFault : Result Phrase PhraseFault → PhraseFault → Type 0
 OnlyFault (Ok phrase) fault = ⊥
 OnlyFault (Err answered) fault = (answered ≡ fault) ⊎ (answered ≡ OutOfMemory)
 
--- the fault of what goes past a limit
+-- the fault that the parser answers where this goes past a limit first
 abbrev pub over_fault : OverLimit → PhraseFault
 over_fault (OverLimit.number_too_large place) = NumberTooLarge place
 over_fault (OverLimit.too_deep place) = TooDeep place

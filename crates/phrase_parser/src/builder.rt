@@ -1,4 +1,4 @@
-//! The phrase that tokens are, built of them one by one.
+//! The builder: the phrase that tokens are, built of them one by one.
 ghost use Rattle.std.specs.Prelude.{◌≡◌, map, All};
 ghost use Rattle.plcs_grammar.specs.PlainPhrase.{plain_phrase};
 ghost use Rattle.phrase_parser.specs.Private.Machine.{start, run, phrase_of_if};
@@ -23,7 +23,7 @@ use crate::token::Placed;
 use plcs_grammar::{Category, Phrase};
 use std::alloc::Global;
 
-/// The phrase that the tokens are, which stand in the text.
+/// The phrase that is built of the tokens, which stand in the text.
 ///
 /// It takes time and memory in proportion to the tokens, and little stack.
 pub fn build(

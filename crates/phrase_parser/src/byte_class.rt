@@ -5,7 +5,7 @@ ghost use Rattle.phrase_parser.specs.Private.Front.{is_in};
 
 use plcs_base::{is_digit, is_name_byte};
 
-/// The classes of bytes that stand in a row.
+/// The classes of bytes of which runs are counted.
 #[derive(Clone, Copy)]
 pub enum ByteClass {
     /// The blank between tokens.
@@ -16,7 +16,7 @@ pub enum ByteClass {
     NameByte,
 }
 
-/// How many bytes of the class the text begins with.
+/// How long the run of bytes of the class is that the text begins with.
 pub fn leading(class: ByteClass, text: &[u8]) -> usize
     ensures counted { result ≡ prefix_len (is_in class) text.now }
     ensures within { result ≤ length text.now }
@@ -28,7 +28,7 @@ pub fn leading(class: ByteClass, text: &[u8]) -> usize
     count
 }
 
-/// Whether a byte is of a class.
+/// Whether a byte is of the class, so that the run goes on.
 fn is_in(class: ByteClass, byte: u8) -> bool
     ensures { result ≡ is_in class byte }
 {

@@ -1,4 +1,4 @@
-//! Whether tokens are a phrase within its limits, and else what goes wrong first.
+//! The check: whether tokens are a phrase within its limits, and else what goes wrong first.
 ghost use Rattle.std.specs.Prelude.{◌≡◌, ◌<◌, ◌≤◌, length, map, All, IfOk, None};
 ghost use Rattle.phrase_parser.specs.Private.Findings.{findings};
 ghost use Rattle.phrase_parser.specs.Private.TokenIn.{LiesIn};
@@ -20,7 +20,7 @@ use crate::check::token_class::class_at;
 use crate::token::Placed;
 use std::alloc::{AllocError, Global};
 
-/// What is found in the tokens of the text, which is cut up to the place, or else up to its end.
+/// What the check finds as it goes over the tokens of the text, which is cut up to the place, or else up to its end.
 ///
 /// It takes time in proportion to the tokens, some bytes of memory for each parenthesis that is open, and
 /// little stack.

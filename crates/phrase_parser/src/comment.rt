@@ -9,7 +9,7 @@ use plcs_base::is_printable;
 use plcs_grammar::{Category, Phrase, trimmed};
 use std::alloc::Global;
 
-/// The text of a comment, without the blanks at both its ends.
+/// The phrase that the text of a comment is, without the blanks at both its ends.
 pub fn comment(alloc: Global, text: &[u8]) -> Result<Phrase, PhraseFault>
     requires { length text.now < 2 ^ 32 }
     ensures says { Answers CommentText text.now result }
@@ -35,7 +35,7 @@ fn comment_syntax(text: &[u8]) -> Option<usize>
     }
 }
 
-/// The first place at which a comment's end begins or a byte isn't printable.
+/// The first place of a comment's text at which its end begins or a byte isn't printable.
 fn comment_offence(text: &[u8]) -> Option<usize>
     ensures { result ≡ comment_offence 0 text.now }
 {

@@ -25,7 +25,7 @@ fn bit_value(digit: u8) -> Option<bool>
     }
 }
 
-/// Whether a word may end where the text begins.
+/// Whether a bit constant may end where the text begins: no letter, digit or `_` follows.
 fn ends_word(behind: &[u8]) -> bool
     ensures { result ≡ ends_word behind.now }
 {

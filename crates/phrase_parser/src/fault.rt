@@ -1,10 +1,10 @@
-//! Why a text is no phrase.
+//! The fault that `parse` answers: why a text is no phrase.
 ghost use Rattle.std.specs.Prelude.{◌≡◌};
 ghost use Rattle.phrase_parser.specs.declared.fault.PhraseFault.TheVariants.{OutOfMemory};
 
 use std::alloc::{AllocError, AllocFailed};
 
-/// Why a text was not read as a phrase. Places are counted from 0, in bytes.
+/// The fault that `parse` answers: why a text was not read as a phrase. Places are counted from 0, in bytes.
 #[derive(Clone, Copy, Debug, PartialEq, Eq)]
 pub enum PhraseFault {
     /// The text has no reading, even with numbers of any size and any nesting. The place is the start of

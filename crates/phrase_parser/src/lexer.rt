@@ -37,7 +37,7 @@ pub fn tokens(alloc: Global, text: &[u8]) -> Result<TokenList, AllocError>
     Ok(TokenList { placed, stop: None })
 }
 
-/// The place behind the blanks that stand at this place of the text.
+/// The place behind the blanks that stand at this place of the text, where its next token may begin.
 fn behind_blanks(text: &[u8], at: usize) -> usize
     requires { at ≤ length text.now }
     ensures { result ≡ at + blanks (drop at text.now) }
@@ -45,7 +45,7 @@ fn behind_blanks(text: &[u8], at: usize) -> usize
     at + leading(ByteClass::Blank, &text[at..])
 }
 
-/// The longest token that begins at the place. `None` where no token can be made there.
+/// The longest token that begins at the place of the text, with its places. `None` where no token can be made there.
 fn token_at(text: &[u8], start: usize) -> Option<Placed>
     requires { start ≤ length text.now }
     ensures { result ≡ placed_at start (front_of (drop start text.now)) }

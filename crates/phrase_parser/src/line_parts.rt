@@ -3,7 +3,7 @@ ghost use Rattle.std.specs.Prelude.{◌≡◌, ◌&&◌, not, nat_eq, Some, None
 ghost use Rattle.std.specs.List.{starts_with};
 ghost use Rattle.phrase_parser.specs.LineParts.{cut_at, is_quoted_behind};
 
-/// What stands before the first divider outside of quotes, and what stands behind that divider. `None` where
+/// What stands in a line before the first divider outside of quotes, and what stands behind that divider. `None` where
 /// no divider stands outside of quotes.
 pub fn cut_at<'a>(text: &'a [u8], divider: &[u8]) -> Option<(&'a [u8], &'a [u8])>
     ensures { MatchOption result (cut_at divider.now text.now ≡ None)
@@ -28,7 +28,7 @@ fn ends_part(inside: bool, here: &[u8], divider: &[u8]) -> bool
     !inside && here.starts_with(divider)
 }
 
-/// Whether what follows the byte is inside of quotes.
+/// Whether what follows the byte of a line is inside of quotes.
 fn is_quoted_behind(inside: bool, byte: u8) -> bool
     ensures { result ≡ is_quoted_behind inside byte }
 {

@@ -40,7 +40,7 @@ pub fn infix_of(sign: Sign) -> Option<InfixOp>
     }
 }
 
-/// The level that the operator joins, from 1 for the one that joins last.
+/// The level at which an infix operator joins its operands, from 1 for the one that joins last.
 pub fn priority(op: InfixOp) -> u8
     ensures { result ≡ priority op }
 {

@@ -1,4 +1,4 @@
-//! The phrase that a text reads as.
+//! The parser: the phrase that a text reads as, or the fault that is answered.
 ghost use Rattle.std.specs.Prelude.{◌≡◌, ◌<◌, ◌^◌, ℕ, length, map, All, Some, IfOk, IsTrue, is_some};
 ghost use Rattle.plcs_grammar.specs.Canon.{IsWellFormed};
 ghost use Rattle.plcs_grammar.specs.OverLimit.{OverLimit};
@@ -45,7 +45,7 @@ pub fn parse(alloc: Global, category: Category, text: &[u8]) -> Result<Phrase, P
     }
 }
 
-/// The phrase that the tokens of the text are, where this is wanted first.
+/// The phrase that a text reads as by its tokens, which are cut, checked and built; the check begins with this shape.
 fn phrase(
     alloc: Global,
     category: Category,
@@ -69,7 +69,7 @@ fn phrase(
     }
 }
 
-/// The parser's fault where something goes past its limit.
+/// What the check finds past a limit, which the parser turns into the fault that it answers.
 fn over_fault(over: Over) -> PhraseFault
     requires { over_place (over_of over) < 2 ^ 32 }
     ensures { result ≡ over_fault (over_of over) }

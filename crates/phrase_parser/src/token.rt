@@ -22,7 +22,7 @@ pub enum TokenKind {
     Sign(Sign),
 }
 
-/// A token where it stands in a text.
+/// A token where it stands in a text: its kind and its places.
 #[derive(Clone, Copy, Debug, PartialEq, Eq)]
 pub struct Placed {
     /// The kind of the token.

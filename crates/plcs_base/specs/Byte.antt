@@ -9,7 +9,7 @@ is_letter byte = (nat_le 97 byte && nat_le byte 122) || (nat_le 65 byte && nat_l
 abbrev pub is_digit : ℕ → Bool
 is_digit byte = nat_le 48 byte && nat_le byte 57
 
--- whether the byte may follow in a name: a letter, a digit or `_`
+-- whether the byte is a letter, a digit or `_`: the class of bytes that may follow in a name
 abbrev pub is_name_byte : ℕ → Bool
 is_name_byte byte = is_letter byte || (is_digit byte || (byte == 95))
 

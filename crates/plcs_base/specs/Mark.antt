@@ -5,7 +5,7 @@ use Rattle.std.specs.FinMap.{FinMap}
 use Rattle.plcs_base.specs.declared.place.PhraseAt.{PhraseAt}
 use Rattle.plcs_base.specs.declared.mark.MarkKind.{MarkKind}
 
--- the order of phrases: by slot, and within a slot by part
+-- the order of phrases in the map of marks: by slot, and within a slot by part
 abbrev pub phrase_cmp : PhraseAt → PhraseAt → Ordering
 phrase_cmp = then_cmp (on (λ at. at.slot.0) nat_cmp) (on (λ at. at.part) nat_cmp)
 

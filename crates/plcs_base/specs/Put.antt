@@ -7,7 +7,7 @@ pub data PutsAll {Out : Type 0} (puts : Out → ℕ → Out → Type 0) : Out �
   puts_next : {before between after : Out} {byte : ℕ} {bytes : List ℕ}
       → puts before byte between → PutsAll puts between bytes after → PutsAll puts before (byte ∷ bytes) after
 
--- putting some bytes and then some more is putting the ones followed by the others
+-- the law that putting some bytes and then some more is putting the ones followed by the others
 abbrev pub PutsInTurn : {Out : Type 0} → (Out → ℕ → Out → Type 0) → Type 0
 PutsInTurn {Out = Out} puts =
     (before after : Out) (first second : List ℕ)

@@ -16,7 +16,7 @@ pub fn is_digit(byte: u8) -> bool
     matches!(byte, b'0'..=b'9')
 }
 
-/// Whether the byte may follow in a name: a letter, a digit or `_`.
+/// Whether the byte is a letter, a digit or `_`: the class of bytes that may follow in a name.
 pub fn is_name_byte(byte: u8) -> bool
     ensures { result ≡ is_name_byte byte }
 {

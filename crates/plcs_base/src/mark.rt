@@ -1,7 +1,7 @@
-//! What is wrong with phrases.
+//! The marks of phrases: what is wrong with them.
 use crate::place::PhraseAt;
 
-/// What is wrong with a phrase: its first offence.
+/// What is wrong with a phrase that has a mark: its first offence.
 ///
 /// A procedure's heading is effective where all its parts are filled, its name is neither a built-in
 /// function's nor `main`, and no earlier effective heading has it. Which items are effective,
@@ -33,7 +33,7 @@ pub enum MarkKind {
     Reserved,
 }
 
-/// The marks of a program's phrases. For the layers that make code of them and show them.
+/// The trait of the marks of a program's phrases, for the layers that make code of them and show them.
 ///
 /// They are a finite map from phrases to what is wrong with them.
 pub trait Marked {
@@ -43,7 +43,7 @@ pub trait Marked {
 
     ghost marks: { Self → MarkMap };
 
-    /// What is wrong with the phrase, or `None` where nothing is.
+    /// The mark of the phrase, which says what is wrong with it, or `None` where nothing is.
     fn mark(&self, at: PhraseAt) -> Option<MarkKind>
         ensures { result ≡ get (marks self.now) at };
 }

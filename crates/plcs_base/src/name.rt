@@ -91,7 +91,7 @@ fn is_name(bytes: &[u8]) -> bool
     is_word(bytes) && bytes.len() <= LONGEST_NAME && !is_keyword(bytes)
 }
 
-/// Whether the bytes are a letter and then letters, digits or `_`.
+/// Whether the bytes are a word, as names and keywords are: a letter and then letters, digits or `_`.
 fn is_word(bytes: &[u8]) -> bool
     ensures { result ≡ is_word bytes.now }
 {
@@ -101,7 +101,7 @@ fn is_word(bytes: &[u8]) -> bool
     }
 }
 
-/// Whether each of the bytes may follow in a name.
+/// Whether each of the bytes may follow behind the first one of a name.
 fn all_name_bytes(bytes: &[u8]) -> bool
     ensures { result ≡ list_all is_name_byte bytes.now }
 {
@@ -116,7 +116,7 @@ fn is_keyword(bytes: &[u8]) -> bool
     is_one_of(bytes, &KEYWORDS)
 }
 
-/// Whether the bytes are one of these words.
+/// Whether the bytes are one of these words, such as the keywords.
 fn is_one_of(bytes: &[u8], words: &[&[u8]]) -> bool
     ensures { result ≡ list_any (λ word. bytes_eq bytes.now word.now) words.now }
 {

@@ -20,7 +20,7 @@ pub struct Place {
     pub point: Point,
 }
 
-/// A phrase of a node.
+/// Where a phrase stands in a program: a part of a node.
 #[derive(Clone, Copy, Debug, PartialEq, Eq, PartialOrd, Ord, Hash)]
 pub struct PhraseAt {
     /// The node whose part the phrase fills.

@@ -3,7 +3,7 @@ ghost use Rattle.plcs_base.specs.Put.{PutsInTurn};
 
 use crate::byte_out::ByteOut;
 
-/// Putting some bytes and then some more is putting the ones followed by the others.
+/// The law that putting some bytes and then some more is putting the ones followed by the others.
 pub fn puts_in_turn<O: ByteOut>()
     ensures { PutsInTurn O.puts }
 {}

@@ -2,7 +2,7 @@
 use crate::declared::Declared;
 use crate::place::Slot;
 
-/// The effective items of a program's procedures. For the layers that check phrases against declarations.
+/// The trait of the effective items of a program's procedures, for the layers that check phrases against declarations.
 ///
 /// They are a finite map from the slots of procedures to lists of items.
 ///

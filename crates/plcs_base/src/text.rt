@@ -30,7 +30,7 @@ impl Model for TextValue {
 }
 
 impl TextValue {
-    /// The bytes as a text, or `None` where there are more than 256.
+    /// The bytes as the text of a value, or `None` where there are more than 256.
     pub fn read(bytes: &[u8]) -> Option<TextValue>
         ensures fits { IsSome result ↔ (IsTextValue bytes.now) }
         ensures same { IfSome result (λ text. text ≡ bytes.now) }
@@ -41,7 +41,7 @@ impl TextValue {
         }
     }
 
-    /// The bytes of the text, at most 256.
+    /// The bytes of the text that the value holds, at most 256.
     pub fn as_bytes(&self) -> &[u8]
         ensures bytes { result.now ≡ self.now }
         ensures short { IsTextValue self.now }

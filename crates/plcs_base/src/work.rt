@@ -15,28 +15,28 @@ pub trait Work {
 
     ghost laid: { Self → ℕ };
 
-    /// An instruction was emitted into code.
+    /// Counts an instruction that was emitted into code.
     fn emitted(&mut self)
         ensures emits { emitted self.new ≡ raised (emitted self.old) }
         ensures checks { checked self.new ≡ checked self.old }
         ensures fetches { fetched self.new ≡ fetched self.old }
         ensures lays { laid self.new ≡ laid self.old };
 
-    /// A phrase was checked against the declarations.
+    /// Counts a phrase that was checked against the declarations.
     fn checked(&mut self)
         ensures emits { emitted self.new ≡ emitted self.old }
         ensures checks { checked self.new ≡ raised (checked self.old) }
         ensures fetches { fetched self.new ≡ fetched self.old }
         ensures lays { laid self.new ≡ laid self.old };
 
-    /// An instruction was fetched from code.
+    /// Counts an instruction that was fetched from code.
     fn fetched(&mut self)
         ensures emits { emitted self.new ≡ emitted self.old }
         ensures checks { checked self.new ≡ checked self.old }
         ensures fetches { fetched self.new ≡ raised (fetched self.old) }
         ensures lays { laid self.new ≡ laid self.old };
 
-    /// A line of the screen was laid out.
+    /// Counts a line of the screen that was laid out.
     fn laid(&mut self)
         ensures emits { emitted self.new ≡ emitted self.old }
         ensures checks { checked self.new ≡ checked self.old }
@@ -44,7 +44,7 @@ pub trait Work {
         ensures lays { laid self.new ≡ raised (laid self.old) };
 }
 
-/// The four counts as plain numbers, each of which stays at its last value.
+/// The four counts of the editor's work as plain numbers, each of which stays at its last value.
 #[derive(Clone, Copy, Debug, Default, PartialEq, Eq)]
 pub struct Counts {
     /// Instructions emitted.

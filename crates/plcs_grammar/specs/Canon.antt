@@ -10,15 +10,15 @@ use Rattle.plcs_grammar.specs.Token.{quoted, bit_bytes}
 use Rattle.plcs_grammar.specs.PlainPhrase.{PlainExpr, PlainExprs, PlainVarRef, PlainPhrase}
 use Rattle.plcs_grammar.specs.Reads.{Reads}
 
--- a text in parentheses, with no blank inside
+-- a canonical text in parentheses, with no blank inside
 abbrev pub parenthesized_bytes : List ℕ → List ℕ
 parenthesized_bytes bytes = codes "(" ++ (bytes ++ codes ")")
 
--- a text behind a sign that has a blank on each side
+-- a canonical text behind a sign that has a blank on each side
 abbrev pub behind_sign : Sign → List ℕ → List ℕ
 behind_sign sign bytes = codes " " ++ (sign_bytes sign ++ (codes " " ++ bytes))
 
--- what stands between the elements of a list
+-- what stands in a canonical text between the elements of a list: a comma and a blank
 abbrev pub comma : List ℕ
 comma = codes ", "
 
@@ -50,17 +50,17 @@ abbrev mutual
   canon_behind (PlainExprs.cons a rest) = comma ++ (canon a ++ canon_behind rest)
 
 module _ {X : Type 0} (bytes_of : X → List ℕ) where
-  -- the texts of the elements behind the first one of a list, each behind a comma and a blank
+  -- the canonical texts of a list's elements behind the first one, of whatever kind, each behind a comma and a blank
   abbrev pub more_joined : List X → List ℕ
   more_joined [] = []
   more_joined (x ∷ xs) = comma ++ (bytes_of x ++ more_joined xs)
 
-  -- the texts of a list's elements, joined by a comma and a blank
+  -- the canonical texts of a list's elements, of whatever kind, joined by a comma and a blank
   abbrev pub joined : List X → List ℕ
   joined [] = []
   joined (x ∷ xs) = bytes_of x ++ more_joined xs
 
--- the text of a declared name, with the size of an array or without one
+-- the canonical text of a declared name, with the size of an array or without one
 abbrev pub canon_sized : List ℕ → Option ℕ → List ℕ
 canon_sized name None = name
 canon_sized name (Some size) = name ++ parenthesized_bytes (decimal size)
@@ -69,7 +69,7 @@ canon_sized name (Some size) = name ++ parenthesized_bytes (decimal size)
 abbrev pub canon_item : Item → List ℕ
 canon_item item = canon_sized item.name item.size
 
--- the text of a call; without arguments it has no parentheses
+-- the canonical text of a call of a procedure; without arguments it has no parentheses
 abbrev pub canon_call : List ℕ → PlainExprs → List ℕ
 canon_call name PlainExprs.nil = name
 canon_call name (PlainExprs.cons a rest) = name ++ parenthesized_bytes (canon_list (PlainExprs.cons a rest))

@@ -7,15 +7,15 @@ use Rattle.plcs_grammar.specs.declared.category.Category.TheVariants.{CommentTex
 use Rattle.plcs_grammar.specs.Placeholder.{placeholder}
 use Rattle.plcs_grammar.specs.Cuts.{unblanked}
 
--- a text without the blanks at both its ends
+-- a text without the blanks at both its ends, as a comment's is read
 abbrev pub trimmed : List ℕ → List ℕ
 trimmed x = reverse (unblanked (reverse (unblanked x)))
 
--- what would end the comment
+-- the bytes that would end the comment
 abbrev pub comment_end : List ℕ
 comment_end = codes "*/"
 
--- what stands for a comment that isn't there yet
+-- the placeholder of a comment's text, which is no such text
 abbrev pub comment_placeholder : List ℕ
 comment_placeholder = placeholder CommentText
 

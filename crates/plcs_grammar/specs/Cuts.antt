@@ -14,11 +14,11 @@ pub record Piece : Type 0 where
 abbrev pub tokens_of : List Piece → List Token
 tokens_of pieces = map (λ piece. piece.token) pieces
 
--- how many blanks the text begins with
+-- how many blanks the text begins with, before the first of its pieces
 abbrev pub blanks : List ℕ → ℕ
 blanks x = prefix_len is_blank x
 
--- the text behind the blanks that it begins with
+-- the text behind the blanks that it begins with, where the first of its pieces stands
 abbrev pub unblanked : List ℕ → List ℕ
 unblanked x = drop (blanks x) x
 

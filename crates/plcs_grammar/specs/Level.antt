@@ -33,11 +33,11 @@ abbrev pub IsNoCall : PlainVarRef → Type 0
 IsNoCall (PlainVarRef.simple name) = Unit {0}
 IsNoCall (PlainVarRef.subscripted name index) = IsTrue (not (is_builtin_name name))
 
--- the tokens are the name alone
+-- the tokens are the name alone, as a variable without a subscript is
 abbrev pub IsNameToken : List ℕ → List Token → Type 0
 IsNameToken name tokens = tokens ≡ Token.name name ∷ []
 
--- some tokens in parentheses
+-- some tokens in parentheses, as an expression, a subscript or arguments stand in them
 abbrev pub in_parentheses : List Token → List Token
 in_parentheses tokens = Token.sign Sign.OpenParenthesis ∷ (tokens ++ (Token.sign Sign.CloseParenthesis ∷ []))
 
@@ -59,19 +59,19 @@ abbrev mutual
   Level (PlainExpr.parenthesized a) level tokens =
       (inner : List Token) × (tokens ≡ in_parentheses inner) × Level a 1 inner
 
-  -- the tokens are the variable: a name, or a name and a subscript in parentheses
+  -- the tokens are the variable: a name, or a name and, in parentheses, a subscript of the lowest level
   pub IsReference : PlainVarRef → List Token → Type 0
   IsReference (PlainVarRef.simple name) tokens = IsNameToken name tokens
   IsReference (PlainVarRef.subscripted name index) tokens =
       (inner : List Token) × (tokens ≡ Token.name name ∷ in_parentheses inner) × Level index 1 inner
 
-  -- the tokens are the expressions, one or more, joined by commas
+  -- the tokens are the expressions, one or more of the lowest level, joined by commas
   pub IsExprList : PlainExprs → List Token → Type 0
   IsExprList PlainExprs.nil tokens = ⊥
   IsExprList (PlainExprs.cons a rest) tokens =
       (left right : List Token) × (tokens ≡ left ++ right) × Level a 1 left × IsMoreExprs rest right
 
-  -- the tokens are more expressions, each behind a comma
+  -- the tokens are more expressions of the lowest level, each behind a comma
   pub IsMoreExprs : PlainExprs → List Token → Type 0
   IsMoreExprs PlainExprs.nil tokens = tokens ≡ []
   IsMoreExprs (PlainExprs.cons a rest) tokens =

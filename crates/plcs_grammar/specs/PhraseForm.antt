@@ -10,16 +10,16 @@ use Rattle.plcs_grammar.specs.ListForm.{IsListOf}
 use Rattle.plcs_grammar.specs.PlainPhrase.{PlainExprs, PlainPhrase, category_of}
 use Rattle.plcs_grammar.specs.Level.{Level, IsNameToken, IsReference, IsExprList, in_parentheses}
 
--- the tokens are a declared name, with the size of an array, which is at least 1, or without one
+-- the tokens are a name of a declared list, with the size of an array, which is at least 1, or without one
 abbrev pub IsSizedName : List ℕ → Option ℕ → List Token → Type 0
 IsSizedName name None tokens = IsNameToken name tokens
 IsSizedName name (Some size) tokens = (1 ≤ size) × (tokens ≡ Token.name name ∷ in_parentheses (Token.number size ∷ []))
 
--- the tokens are a declared item
+-- the tokens are a declared item, an element of the phrase that is a declared list
 abbrev pub IsItem : Item → List Token → Type 0
 IsItem item tokens = IsSizedName item.name item.size tokens
 
--- the tokens are a call: a name, or a name and arguments in parentheses
+-- the tokens are the phrase that is a call of a procedure: a name, or a name and arguments in parentheses
 abbrev pub IsCall : List ℕ → PlainExprs → List Token → Type 0
 IsCall name PlainExprs.nil tokens = IsNameToken name tokens
 IsCall name (PlainExprs.cons a rest) tokens =

@@ -24,12 +24,12 @@ mutual
     builtin : Builtin → PlainExprs → PlainExpr
     parenthesized : PlainExpr → PlainExpr
 
-  -- a variable where it is used: its name, with a subscript or without one
+  -- a variable where it is used, as plain data: its name, with a subscript or without one
   pub data PlainVarRef : Type 0 where
     simple : List ℕ → PlainVarRef
     subscripted : List ℕ → PlainExpr → PlainVarRef
 
-  -- a list of expressions
+  -- a list of expressions as plain data
   pub data PlainExprs : Type 0 where
     nil : PlainExprs
     cons : PlainExpr → PlainExprs → PlainExprs
@@ -49,7 +49,7 @@ pub data PlainPhrase : Type 0 where
   greatest_length : ℕ → PlainPhrase
   comment : List ℕ → PlainPhrase
 
--- the category of a phrase
+-- the category of a phrase that is plain data
 abbrev pub category_of : PlainPhrase → Category
 category_of (assignment target value) = Category.Assignment
 category_of (condition e) = Category.Condition
@@ -64,12 +64,12 @@ category_of (name_list names) = Category.NameList
 category_of (greatest_length n) = Category.Length
 category_of (comment bytes) = Category.CommentText
 
--- the list of expressions that a list of the definitions is
+-- the list of expressions as plain data, made of a list of plain expressions
 abbrev pub exprs_from : List PlainExpr → PlainExprs
 exprs_from [] = PlainExprs.nil
 exprs_from (t ∷ ts) = PlainExprs.cons t (exprs_from ts)
 
--- the variable of a name with the subscript that is there, if one is
+-- the plain form of a variable of this name, with its subscript already in plain form, if there is one
 abbrev pub reference_with : List ℕ → Option (Box PlainExpr Global) → PlainVarRef
 reference_with name None = PlainVarRef.simple name
 reference_with name (Some index) = PlainVarRef.subscripted name index.value

@@ -11,12 +11,12 @@ use Rattle.plcs_grammar.specs.Limit.{IsWithinLimits}
 use Rattle.plcs_grammar.specs.OpenedLevel.{phrase_opened_levels}
 use Rattle.plcs_grammar.specs.OverLimit.{OverLimit, first_over}
 
--- the whole text is cut into the pieces, and they are the phrase
+-- the text has the phrase as its reading by tokens: the whole text is cut into the pieces, and they are the phrase
 pub record IsCutAs (category : Category) (x : List ℕ) (pieces : List Piece) (phrase : PlainPhrase) : Type 0 where
   pub cuts : Cuts pieces 0 x None
   pub form : Form category (tokens_of pieces) phrase
 
--- the text is that of the comment, in the category of comments
+-- the text has the phrase as its reading without tokens: it is that of the comment, in the category of comments
 pub record IsCommentAs (category : Category) (x : List ℕ) (phrase : PlainPhrase) : Type 0 where
   pub category_is : category ≡ CommentText
   pub text : IsCommentText x

@@ -16,6 +16,6 @@ pub record IsShownText (category : Category) (x : List ℕ) : Type 0 where
   pub no_blank_last : (front : List ℕ) → x ≢ front ++ codes " "
   pub no_placeholder : x ≢ placeholder category
 
--- the canonical text of each well-formed phrase can be shown
+-- the law that the canonical text of each well-formed phrase can be shown
 abbrev pub CanonicalTextsShow : Type 0
 CanonicalTextsShow = (category : Category) (phrase : PlainPhrase) → IsWellFormed category phrase → IsShownText category (Canon phrase)

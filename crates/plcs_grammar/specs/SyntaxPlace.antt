@@ -10,15 +10,15 @@ use Rattle.plcs_grammar.specs.Comment.{comment_syntax}
 -- where the pieces of a text with this end go wrong; the text is cut up to its end, or up to a byte where no token
 -- can be made
 pub data GoesWrong (category : Category) (pieces : List Piece) (end : ℕ) : Option ℕ → ℕ → Type 0 where
-  -- at the first token that can't stand there
+  -- the text goes wrong at the first token that can't stand there
   at_token : {stop : Option ℕ} (front : List Piece) (piece : Piece) (back : List Piece)
       → pieces ≡ front ++ (piece ∷ back)
       → Begins category (tokens_of front)
       → ¬ (Begins category (tokens_of (front ++ (piece ∷ []))))
       → GoesWrong category pieces end stop piece.start
-  -- at the byte, where all tokens before it can stand
+  -- the text goes wrong at the byte where no token can be made, where all tokens before it can stand
   at_byte : (stop : ℕ) → Begins category (tokens_of pieces) → GoesWrong category pieces end (Some stop) stop
-  -- at the end, where all tokens can stand and something is missing
+  -- the text goes wrong at its end, where all tokens can stand and something is missing
   at_end : Begins category (tokens_of pieces) → ((phrase : PlainPhrase) → ¬ (Form category (tokens_of pieces) phrase))
       → GoesWrong category pieces end None end
 

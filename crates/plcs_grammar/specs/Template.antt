@@ -32,11 +32,11 @@ pub record PlainRow : Type 0 where
   pub sections : List PlainSection
   pub last : Option (List ℕ)
 
--- the section of one item of a sort or more
+-- the section of a list: one item of the sort or more
 abbrev pub list_of : Sort → PlainSection
 list_of sort = record { lead = None; sort = sort; amount = Amount.Many }
 
--- the section of one statement
+-- the section of one statement, without a line before it
 abbrev pub body : PlainSection
 body = record { lead = None; sort = Sort.Statement; amount = Amount.One }
 
@@ -145,7 +145,7 @@ templates =
     ∷ Template.Group ∷ Template.Get ∷ Template.Put ∷ Template.PutSkip ∷ Template.Call ∷ Template.Return
     ∷ Template.Comment ∷ Template.Proc ∷ Template.ProcP ∷ []
 
--- whether the word is that of the command, if there is one
+-- whether the word is that of a row's command, if the row has one
 abbrev pub is_command : List ℕ → Option (List ℕ) → Bool
 is_command word None = false
 is_command word (Some own) = bytes_eq word own
@@ -177,18 +177,18 @@ row_of Assign =
     }
 row_of (Filled template) = template_row template
 
--- what a program is: main and a list of procedures
+-- the sections of a program, beside the table: main and a list of procedures
 abbrev pub program_sections : List PlainSection
 program_sections =
     record { lead = None; sort = Sort.Main; amount = Amount.One }
     ∷ list_of Sort.Procedure ∷ []
 
--- the plain form of a segment
+-- the plain form of a segment of a line in the code's table
 abbrev pub plain_segment : Segment → PlainSegment
 plain_segment (Segment.Words bytes) = PlainSegment.words bytes.now
 plain_segment (Segment.Part category) = PlainSegment.part category
 
--- the plain form of a section
+-- the plain form of a section in the code's table
 abbrev pub plain_section : Section → PlainSection
 plain_section section =
     record { lead = option_map (λ bytes. bytes.now) section.lead; sort = section.sort; amount = section.amount }

@@ -17,29 +17,29 @@ pub data Token : Type 0 where
   bit : Bool → Token
   sign : Sign → Token
 
--- whether the first byte, if there is one, passes the test
+-- whether what stands behind a token begins with a byte that passes the test
 abbrev pub begins_with : (ℕ → Bool) → List ℕ → Bool
 begins_with test [] = false
 begins_with test (byte ∷ rest) = test byte
 
--- the byte of a quote
+-- the byte of a quote, as it stands around constants
 abbrev pub quote : ℕ
 quote = 39
 
--- whether the byte is a quote
+-- whether the byte is a quote, as it stands around constants
 abbrev pub is_quote : ℕ → Bool
 is_quote byte = byte == quote
 
--- a byte of a text as it is written between quotes: a quote twice
+-- a byte of a character constant's value as it is written between quotes: a quote twice
 abbrev pub doubled : ℕ → List ℕ
 doubled byte = if is_quote byte then quote ∷ quote ∷ [] else byte ∷ []
 
--- a text with each quote written twice
+-- a character constant's value with each quote written twice
 abbrev pub with_quotes_doubled : List ℕ → List ℕ
 with_quotes_doubled [] = []
 with_quotes_doubled (byte ∷ rest) = doubled byte ++ with_quotes_doubled rest
 
--- a text as it is written: between quotes, with each quote in it twice
+-- a character constant as it is written: its value between quotes, with each quote in it twice
 abbrev pub quoted : List ℕ → List ℕ
 quoted bytes = quote ∷ (with_quotes_doubled bytes ++ (quote ∷ []))
 
@@ -52,11 +52,11 @@ bit_bytes true = codes "'1'B"
 abbrev pub IsNumeral : List ℕ → Type 0
 IsNumeral bytes = (1 ≤ length bytes) × IsTrue (list_all is_digit bytes)
 
--- the number that digits write
+-- the value of a numeral: the number that its digits write
 abbrev pub numeral_value : List ℕ → ℕ
 numeral_value digits = number_from_digits 10 (map (λ digit. digit - 48) digits)
 
--- what stands behind ends a word: no letter, digit or `_` follows
+-- what stands behind a token ends a word: no letter, digit or `_` follows
 abbrev pub EndsWord : List ℕ → Type 0
 EndsWord behind = IsTrue (not (begins_with is_name_byte behind))
 

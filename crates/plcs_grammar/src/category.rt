@@ -4,7 +4,7 @@ ghost use Rattle.std.specs.Prelude.{◌≡◌};
 /// What is shown where a statement is still wanted.
 pub(crate) const STATEMENT_HOLE_WORD: &[u8] = b"{statement}";
 
-/// What kind of phrase a part of a template holds.
+/// The category of a phrase: what kind of phrase a part of a template holds.
 #[derive(Clone, Copy, Debug, PartialEq, Eq)]
 pub enum Category {
     /// A variable, `=` and an expression.

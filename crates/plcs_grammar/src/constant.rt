@@ -39,7 +39,7 @@ pub fn put_quoted<O: ByteOut>(bytes: &[u8], out: &mut O)
     out.put(b'\'');
 }
 
-/// Puts the bytes of a text, each quote among them twice.
+/// Puts the bytes of a character constant's value, each quote among them twice.
 fn put_with_quotes_doubled<O: ByteOut>(bytes: &[u8], out: &mut O)
     ensures { PutsAll O.puts out.old (with_quotes_doubled bytes.now) out.new }
 {
@@ -48,7 +48,7 @@ fn put_with_quotes_doubled<O: ByteOut>(bytes: &[u8], out: &mut O)
     }
 }
 
-/// Puts a byte of a text, twice if it is a quote.
+/// Puts one byte of a character constant's value, twice if it is a quote.
 fn put_with_quote_doubled<O: ByteOut>(byte: u8, out: &mut O)
     ensures { PutsAll O.puts out.old (with_quotes_doubled (byte ∷ [])) out.new }
 {

@@ -40,7 +40,7 @@ pub fn copy_phrase(alloc: Global, phrase: &Phrase) -> Result<Phrase, OutOfMemory
     }
 }
 
-/// Copies of variables, in order.
+/// Copies of a phrase's variables, in order.
 fn copy_variables(alloc: Global, variables: &[VarRef]) -> Result<Vec<VarRef>, OutOfMemory>
     ensures { IfOk result (λ copies. map plain_var_ref copies.items ≡ map plain_var_ref variables.now) }
 {
@@ -51,7 +51,7 @@ fn copy_variables(alloc: Global, variables: &[VarRef]) -> Result<Vec<VarRef>, Ou
     Ok(copies)
 }
 
-/// A copy of a declared item.
+/// A copy of a declared item of a phrase.
 fn copy_item(item: &Item) -> Result<Item, OutOfMemory>
     ensures { IfOk result (λ copy. copy ≡ item.now) }
 {
@@ -62,7 +62,7 @@ fn copy_item(item: &Item) -> Result<Item, OutOfMemory>
     })
 }
 
-/// Copies of declared items, in order.
+/// Copies of a phrase's declared items, in order.
 fn copy_items(alloc: Global, items: &[Item]) -> Result<Vec<Item>, OutOfMemory>
     ensures { IfOk result (λ copies. copies.items ≡ items.now) }
 {
@@ -73,7 +73,7 @@ fn copy_items(alloc: Global, items: &[Item]) -> Result<Vec<Item>, OutOfMemory>
     Ok(copies)
 }
 
-/// Copies of names, in order.
+/// Copies of a phrase's names, in order.
 fn copy_names(alloc: Global, names: &[Name]) -> Result<Vec<Name>, OutOfMemory>
     ensures { IfOk result (λ copies. copies.items ≡ names.now) }
 {

@@ -1,4 +1,4 @@
-//! Copies of expressions.
+//! Copies of expressions, and of the variables, names and texts in them.
 ghost use Rattle.std.specs.Prelude.{◌≡◌, IfOk, map};
 ghost use Rattle.plcs_grammar.specs.PlainPhrase.{plain_expr, plain_var_ref};
 ghost use Rattle.plcs_grammar.specs.Private.Link.{linked};
@@ -48,7 +48,7 @@ pub(crate) fn copy_expr(alloc: Global, expr: &Expr) -> Result<Expr, OutOfMemory>
     }
 }
 
-/// A copy of a variable.
+/// A copy of a variable, with the expression that is its subscript.
 #[cycle(copy_expr)]
 pub(crate) fn copy_variable(alloc: Global, variable: &VarRef) -> Result<VarRef, OutOfMemory>
     ensures { IfOk result (λ copy. plain_var_ref copy ≡ plain_var_ref variable.now) }
@@ -78,21 +78,21 @@ pub(crate) fn copy_exprs(alloc: Global, exprs: &[Expr]) -> Result<Vec<Expr>, Out
     Ok(copies)
 }
 
-/// A copy of a name.
+/// A copy of a name, in an expression or elsewhere in a phrase.
 pub(crate) fn copy_name(name: &Name) -> Result<Name, OutOfMemory>
     ensures { IfOk result (λ copy. copy ≡ name.now) }
 {
     Ok(name.clone()?)
 }
 
-/// A copy of a text.
+/// A copy of a text, the value of a character constant in an expression.
 fn copy_text(text: &TextValue) -> Result<TextValue, OutOfMemory>
     ensures { IfOk result (λ copy. copy ≡ text.now) }
 {
     Ok(text.clone()?)
 }
 
-/// The chain of the operators, the last one first, to the right of the operand.
+/// The copy of a chain of operators, made of its copied leftmost operand and operators, the last of them first.
 fn chained(alloc: Global, operand: Expr, links: Vec<Link>) -> Result<Expr, OutOfMemory>
     ensures { IfOk result (λ chain. plain_expr chain ≡ linked (plain_expr operand) links.items) }
 {
@@ -106,7 +106,7 @@ fn chained(alloc: Global, operand: Expr, links: Vec<Link>) -> Result<Expr, OutOf
     Ok(chain)
 }
 
-/// An operator of a chain, with its right operand.
+/// An operator of a chain that is copied, with its right operand.
 #[derive(Drop)]
 pub(crate) struct Link {
     /// The operator between the chain before it and its right operand.

@@ -1,4 +1,4 @@
-//! Equality of expressions.
+//! Equality of expressions, and of the variables in them.
 ghost use Rattle.std.specs.Prelude.{◌≡◌, ◌↔◌, IsTrue};
 ghost use Rattle.plcs_grammar.specs.PlainPhrase.{plain_expr, plain_exprs, plain_var_ref};
 
@@ -34,7 +34,7 @@ pub(crate) fn same_expr(one: &Expr, other: &Expr) -> bool
     }
 }
 
-/// Whether two variables have one plain form.
+/// Whether two variables, with the expressions that are their subscripts, have one plain form.
 #[cycle(same_expr)]
 pub(crate) fn same_variable(one: &VarRef, other: &VarRef) -> bool
     ensures { IsTrue result ↔ (plain_var_ref one.now ≡ plain_var_ref other.now) }

@@ -1,7 +1,7 @@
 //! The kinds of nodes, and the sorts of places where they may stand.
 use crate::template::Template;
 
-/// What a node of a program is.
+/// The kind of a node: what the node of a program is.
 #[derive(Clone, Copy, Debug, PartialEq, Eq)]
 pub enum NodeKind {
     /// A declaration that is still wanted.

@@ -33,7 +33,7 @@ pub fn same_phrase(one: &Phrase, other: &Phrase) -> bool
     }
 }
 
-/// Whether two lists of variables have the same plain forms, one by one.
+/// Whether the lists of variables of two phrases have the same plain forms, one by one.
 fn same_variables(all: &[VarRef], others: &[VarRef]) -> bool
     ensures { IsTrue result ↔ (map plain_var_ref all.now ≡ map plain_var_ref others.now) }
 {

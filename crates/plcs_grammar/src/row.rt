@@ -68,7 +68,7 @@ impl NodeKind {
     }
 }
 
-/// Whether the word is that of the command, if there is one.
+/// Whether the word is that of a row's command, if the row has one.
 fn is_command(word: &[u8], command: Option<&[u8]>) -> bool
     ensures { result ≡ is_command word.now (option_map (λ own. own.now) command.entry) }
 {
@@ -136,7 +136,7 @@ impl Template {
     }
 }
 
-/// What a program is: main, and a list of procedures.
+/// What stands inside a program, which has no row in the table: main, and a list of procedures.
 pub fn program_sections() -> &'static [Section]
     ensures { map plain_section result.now ≡ program_sections }
 {

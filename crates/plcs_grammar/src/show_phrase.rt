@@ -36,7 +36,7 @@ pub fn show<O: ByteOut>(phrase: &Phrase, out: &mut O)
     }
 }
 
-/// Puts the canonical text of a call.
+/// Puts the canonical text of a phrase that is a call of a procedure.
 fn show_call<O: ByteOut>(name: &Name, arguments: &[Expr], out: &mut O)
     ensures { PutsAll O.puts out.old (canon_call name.now (plain_exprs arguments.now)) out.new }
 {

@@ -14,7 +14,7 @@ pub fn trimmed(text: &[u8]) -> &[u8]
     rest
 }
 
-/// How many blanks the text begins with.
+/// How many blanks the text begins with, all of which are trimmed.
 fn leading_blanks(text: &[u8]) -> usize
     ensures counted { result ≡ blanks text.now }
     ensures within { result ≤ length text.now }

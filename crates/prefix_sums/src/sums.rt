@@ -8,7 +8,7 @@ use crate::position::Position;
 use std::alloc::{AllocError, Global};
 use std::marker::Model;
 
-/// How many numbers lie between two marks.
+/// How many numbers of the list lie between two marks, which are the running sums beside it.
 const BLOCK: usize = 64;
 
 /// A list of numbers, whose sums are found in few steps however long it is. Contracts see it as the list,
@@ -33,7 +33,7 @@ impl Model for PrefixSums {
 }
 
 impl PrefixSums {
-    /// No numbers. It takes no memory.
+    /// The list of no numbers. It takes no memory.
     pub fn new(alloc: Global) -> PrefixSums
         ensures { result.numbers ≡ [] }
     {
@@ -44,21 +44,21 @@ impl PrefixSums {
         }
     }
 
-    /// How many numbers there are.
+    /// How many numbers the list has.
     pub fn len(&self) -> usize
         ensures { result ≡ length self.now.numbers }
     {
         self.numbers.len()
     }
 
-    /// The sum of all of them.
+    /// The sum of all numbers of the list.
     pub fn total(&self) -> u32
         ensures total { result ≡ sum self.now.numbers }
     {
         self.total
     }
 
-    /// The sum of the first `k` of them, or of all where there are fewer.
+    /// The running sum of the first `k` numbers of the list, or of all where there are fewer.
     pub fn before(&self, k: usize) -> u32
         ensures { result ≡ sum (take k self.now.numbers) }
     {
@@ -73,8 +73,8 @@ impl PrefixSums {
 }
 
 impl PrefixSums {
-    /// In which number the count runs out, where each number takes its share of it in turn, or `None`
-    /// where all of them together are no more than the count.
+    /// In which number of the list the count runs out, where each number takes its share of it in turn, or `None` where
+    /// all of them together are no more than the count.
     pub fn find(&self, at: u32) -> Option<Position>
         ensures { IsFound self.now.numbers at result }
     {
@@ -93,7 +93,7 @@ impl PrefixSums {
         None
     }
 
-    /// How many marks aren't above the count.
+    /// How many of the marks, the running sums beside the list, aren't above the count.
     fn block_of(&self, at: u32) -> usize
         ensures whole { 64 * result ≤ length self.now.numbers }
         ensures before { sum (take (64 * result) self.now.numbers) ≤ at }
@@ -112,7 +112,7 @@ impl PrefixSums {
         low
     }
 
-    /// The sum of the numbers in so many blocks.
+    /// The running sum of the numbers in the first so many blocks of 64.
     fn mark_before(&self, block: usize) -> u32
         requires whole { 64 * block ≤ length self.now.numbers }
         ensures { result ≡ sum (take (64 * block) self.now.numbers) }
@@ -136,7 +136,7 @@ impl PrefixSums {
         self.marks.reserve(more / BLOCK + 1)
     }
 
-    /// Sets the number in this place, counted from 0. It takes no memory.
+    /// Sets the number of the list in this place, counted from 0. It takes no memory.
     pub fn set(&mut self, k: usize, number: u32)
         requires there { k < length self.old.numbers }
         requires fits { sum (slice_set self.old.numbers k number) < 2 ^ 32 }
@@ -150,7 +150,7 @@ impl PrefixSums {
         }
     }
 
-    /// Puts a number in before the one in this place, counted from 0, or at the end. It takes no memory.
+    /// Puts a number into the list before the one in this place, counted from 0, or at the end. It takes no memory.
     pub fn insert(&mut self, k: usize, number: u32)
         requires there { k ≤ length self.old.numbers }
         requires room { 0 < self.old.spare }
@@ -167,7 +167,7 @@ impl PrefixSums {
         }
     }
 
-    /// Takes the number in this place out, counted from 0. The room for it stays.
+    /// Takes the number in this place out of the list, counted from 0. The room for it stays.
     pub fn remove(&mut self, k: usize) -> u32
         requires there { k < length self.old.numbers }
         ensures taken { Some result ≡ slice_get self.old.numbers k }
@@ -183,7 +183,7 @@ impl PrefixSums {
     }
 }
 
-/// Puts a number into the room that a list has.
+/// Puts a number in this place into a list of numbers, in the room that it has.
 fn insert_reserved(numbers: &mut Vec<u32>, k: usize, number: u32)
     requires there { k ≤ vec_len numbers.old }
     requires room { vec_len numbers.old < vec_capacity numbers.old }

@@ -14,13 +14,13 @@ use Rattle.phrase_parser.specs.declared.front.Front.{Front}
 use Rattle.phrase_parser.specs.declared.token.Placed.{Placed}
 use Rattle.phrase_parser.specs.declared.token.TokenKind.TheVariants as kind
 
--- whether a byte is of a class
+-- whether a byte is of the class of which a run is counted at the front of a text
 abbrev pub is_in : ByteClass → ℕ → Bool
 is_in class.Blank = is_blank
 is_in class.Digit = is_digit
 is_in class.NameByte = is_name_byte
 
--- whether what stands behind ends a word: no letter, digit or `_` follows
+-- whether what stands behind the front of a text ends a word: no letter, digit or `_` follows
 abbrev pub ends_word : List ℕ → Bool
 ends_word behind = not (begins_with is_name_byte behind)
 
@@ -55,7 +55,7 @@ bit_constant (a ∷ digit ∷ []) = None
 bit_constant (a ∷ []) = None
 bit_constant [] = None
 
--- where a character constant ends, if its value has so few bytes that it is one
+-- where a character constant at the front of a text ends, if its value has so few bytes that it is one
 abbrev pub end_if_short : ℕ → ℕ → Option ℕ
 end_if_short end content = if nat_le content longest_text then Some end else None
 
@@ -84,7 +84,7 @@ constant_of None None = None
 abbrev pub constant_front : List ℕ → Option Front
 constant_front x = constant_of (bit_constant x) (constant_end 1 0 (drop 1 x))
 
--- the sign of two bytes, if there is a second
+-- the sign that the first two bytes of a text are, if there is a second
 abbrev pub double_at : ℕ → List ℕ → Option Sign
 double_at first [] = None
 double_at first (second ∷ rest) = sign_of (first ∷ second ∷ [])

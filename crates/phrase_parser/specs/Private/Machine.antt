@@ -16,7 +16,7 @@ use Rattle.plcs_grammar.specs.PlainPhrase.{PlainExpr, PlainExprs, PlainVarRef, P
 use Rattle.plcs_grammar.specs.Builtin.{builtin_of}
 use Rattle.plcs_grammar.specs.Level.{priority}
 
--- what an expression that stands in no other is for, with what of the phrase stands before it
+-- the machine's base: what an expression that stands in no other is for, with what of the phrase stands before it
 pub data Base : Type 0 where
   condition : Base
   expression : Base
@@ -26,7 +26,7 @@ pub data Base : Type 0 where
   variable_subscript : List PlainVarRef → List ℕ → Base
   call_arguments : List ℕ → PlainExprs → Base
 
--- what is open around an operand, the innermost outside
+-- the machine's stack: what is open around an operand, the innermost outside
 pub data Stack : Type 0 where
   base : Base → Stack
   prefix : PrefixOp → Stack → Stack
@@ -35,7 +35,7 @@ pub data Stack : Type 0 where
   subscript : List ℕ → Stack → Stack
   arguments : Builtin → PlainExprs → Stack → Stack
 
--- what a name that stands in no expression is for, with what of the phrase stands before it
+-- the machine's role: what a name that stands in no expression is for, with what of the phrase stands before it
 pub data Role : Type 0 where
   target : Role
   variables : List PlainVarRef → Role
@@ -47,42 +47,43 @@ pub data Role : Type 0 where
 
 -- a state of the machine: what was read last, and what is wanted
 pub data State : Type 0 where
-  -- an operand is wanted
+  -- the machine's state in which an operand is wanted
   wanted : Stack → State
-  -- an operand that is no operator with its own operands was just read
+  -- the machine's state in which an operand that is no operator with its own operands was just read
   had : Stack → PlainExpr → State
-  -- a name is wanted, or was just read
+  -- the machine's states in which a name is wanted, or was just read
   name_wanted : Role → State
   name_had : Role → List ℕ → State
-  -- the parenthesis behind a target's subscript, a variable's subscript or a call's arguments was just read
+  -- the machine's states behind the closing parenthesis of a target's subscript, a variable's subscript or a call's
+  -- arguments
   target_had : PlainVarRef → State
   variable_had : List PlainVarRef → State
   call_had : List ℕ → PlainExprs → State
-  -- the size of an array is wanted, or it or the parenthesis behind it was just read
+  -- the machine's states in which the size of an array is wanted, or it or the parenthesis behind it was just read
   size_wanted : List Item → List ℕ → State
   size_had : List Item → List ℕ → ℕ → State
   item_had : List Item → State
-  -- a length is wanted, or was just read
+  -- the machine's states in which a length is wanted, or was just read
   length_wanted : State
   length_had : ℕ → State
 
--- a stack and the operand on it
+-- the machine's stack and the operand on it
 abbrev pub Operand : Type 0
 Operand = Stack × PlainExpr
 
--- a list of expressions with one more at the end
+-- a list of expressions that the machine read, with one more at the end
 abbrev pub expr_push : PlainExprs → PlainExpr → PlainExprs
 expr_push PlainExprs.nil t = PlainExprs.cons t PlainExprs.nil
 expr_push (PlainExprs.cons a rest) t = PlainExprs.cons a (expr_push rest t)
 
--- the operator that the sign is before an operand
+-- the prefix operator that the machine takes a sign for, before an operand
 abbrev pub prefix_of : Sign → Option PrefixOp
 prefix_of Sign.Plus = Some before.Plus
 prefix_of Sign.Minus = Some before.Minus
 prefix_of Sign.Caret = Some before.Not
 prefix_of sign = None
 
--- the operator that the sign is behind an operand
+-- the infix operator that the machine takes a sign for, behind an operand
 abbrev pub infix_of : Sign → Option InfixOp
 infix_of Sign.Bar = Some between.Or
 infix_of Sign.Ampersand = Some between.And
@@ -99,7 +100,7 @@ infix_of Sign.Times = Some between.Times
 infix_of Sign.Divide = Some between.Divide
 infix_of sign = None
 
--- an operand, joined with each operator of the level or a higher one that is open on the stack
+-- an operand, joined with each operator of the level or a higher one that is open on the machine's stack
 abbrev pub reduced : Stack → ℕ → PlainExpr → Operand
 reduced (base b) level t = (base b, t)
 reduced (prefix op s) level t = reduced s level (PlainExpr.unary op t)
@@ -108,39 +109,39 @@ reduced (parenthesis s) level t = (parenthesis s, t)
 reduced (subscript name s) level t = (subscript name s, t)
 reduced (arguments function done s) level t = (arguments function done s, t)
 
--- the state behind an infix operator, whose left operand is read
+-- the machine's state behind an infix operator whose left operand is joined
 abbrev pub behind_infix : InfixOp → Operand → State
 behind_infix op o = wanted (left o.1 op o.0)
 
--- the state behind a whole operand
+-- the machine's state behind a whole operand
 abbrev pub step_operand : State → PlainExpr → Option State
 step_operand (wanted s) t = Some (had s t)
 step_operand state t = None
 
--- the state behind a name
+-- the machine's state behind a name
 abbrev pub step_name : State → List ℕ → Option State
 step_name (wanted s) name = Some (had s (PlainExpr.variable (PlainVarRef.simple name)))
 step_name (name_wanted role) name = Some (name_had role name)
 step_name state name = None
 
--- the state behind a number
+-- the machine's state behind a number
 abbrev pub step_number : State → ℕ → Option State
 step_number (wanted s) n = Some (had s (PlainExpr.number (pos n)))
 step_number (size_wanted done name) n = if nat_le 1 n then Some (size_had done name n) else None
 step_number length_wanted n = if nat_le 1 n && nat_le n longest_text then Some (length_had n) else None
 step_number state n = None
 
--- the stack on which a parenthesis is opened behind a name in an expression
+-- the machine's stack on which a parenthesis is opened behind a name in an expression
 abbrev pub open_frame : List ℕ → Option Builtin → Stack → Stack
 open_frame name None s = subscript name s
 open_frame name (Some function) s = arguments function PlainExprs.nil s
 
--- the state behind a parenthesis that is opened behind an operand, which a name alone takes
+-- the machine's state behind a parenthesis that is opened behind an operand, which a name alone takes
 abbrev pub step_open_behind : Stack → PlainExpr → Option State
 step_open_behind s (PlainExpr.variable (PlainVarRef.simple name)) = Some (wanted (open_frame name (builtin_of name) s))
 step_open_behind s t = None
 
--- the state behind a parenthesis that is opened behind a name that stands in no expression
+-- the machine's state behind a parenthesis that is opened behind a name that stands in no expression
 abbrev pub step_open_role : Role → List ℕ → Option State
 step_open_role target name = Some (wanted (base (target_subscript name)))
 step_open_role (variables done) name = Some (wanted (base (variable_subscript done name)))
@@ -148,21 +149,21 @@ step_open_role callee name = Some (wanted (base (call_arguments name PlainExprs.
 step_open_role (items done) name = Some (size_wanted done name)
 step_open_role role name = None
 
--- the state behind an opening parenthesis
+-- the machine's state behind an opening parenthesis
 abbrev pub step_open : State → Option State
 step_open (wanted s) = Some (wanted (parenthesis s))
 step_open (had s t) = step_open_behind s t
 step_open (name_had role name) = step_open_role role name
 step_open state = None
 
--- the state behind the closing parenthesis of a subscript or call in which the phrase's own expression stands
+-- the machine's state behind the closing parenthesis of a subscript or call in which the phrase's own expression stands
 abbrev pub step_close_base : Base → PlainExpr → Option State
 step_close_base (target_subscript name) t = Some (target_had (PlainVarRef.subscripted name t))
 step_close_base (variable_subscript done name) t = Some (variable_had (done ++ (PlainVarRef.subscripted name t ∷ [])))
 step_close_base (call_arguments name done) t = Some (call_had name (expr_push done t))
 step_close_base b t = None
 
--- the state behind the closing parenthesis of the innermost that is open on the stack
+-- the machine's state behind the closing parenthesis of the innermost that is open on the stack
 abbrev pub step_close_stack : Stack → PlainExpr → Option State
 step_close_stack (base b) t = step_close_base b t
 step_close_stack (prefix op s) t = None
@@ -171,32 +172,32 @@ step_close_stack (parenthesis s) t = Some (had s (PlainExpr.parenthesized t))
 step_close_stack (subscript name s) t = Some (had s (PlainExpr.variable (PlainVarRef.subscripted name t)))
 step_close_stack (arguments function done s) t = Some (had s (PlainExpr.builtin function (expr_push done t)))
 
--- the state behind a closing parenthesis
+-- the machine's state behind a closing parenthesis
 abbrev pub step_close : State → Option State
 step_close (had s t) = let o = reduced s 1 t in step_close_stack o.0 o.1
 step_close (size_had done name n) = Some (item_had (done ++ (record { name = name; size = Some n } ∷ [])))
 step_close state = None
 
--- the state behind a comma that follows the phrase's own expression
+-- the machine's state behind a comma that follows the phrase's own expression
 abbrev pub step_comma_base : Base → PlainExpr → Option State
 step_comma_base (expressions done) t = Some (wanted (base (expressions (expr_push done t))))
 step_comma_base (call_arguments name done) t = Some (wanted (base (call_arguments name (expr_push done t))))
 step_comma_base b t = None
 
--- the state behind a comma in the innermost parenthesis that is open on the stack
+-- the machine's state behind a comma in the innermost parenthesis that is open on the stack
 abbrev pub step_comma_stack : Stack → PlainExpr → Option State
 step_comma_stack (base b) t = step_comma_base b t
 step_comma_stack (arguments function done s) t = Some (wanted (arguments function (expr_push done t) s))
 step_comma_stack s t = None
 
--- the state behind a comma that follows a name that stands in no expression
+-- the machine's state behind a comma that follows a name that stands in no expression
 abbrev pub step_comma_role : Role → List ℕ → Option State
 step_comma_role (variables done) name = Some (name_wanted (variables (done ++ (PlainVarRef.simple name ∷ []))))
 step_comma_role (items done) name = Some (name_wanted (items (done ++ (record { name = name; size = None } ∷ []))))
 step_comma_role (names done) name = Some (name_wanted (names (done ++ (name ∷ []))))
 step_comma_role role name = None
 
--- the state behind a comma
+-- the machine's state behind a comma
 abbrev pub step_comma : State → Option State
 step_comma (had s t) = let o = reduced s 1 t in step_comma_stack o.0 o.1
 step_comma (name_had role name) = step_comma_role role name
@@ -204,35 +205,35 @@ step_comma (variable_had done) = Some (name_wanted (variables done))
 step_comma (item_had done) = Some (name_wanted (items done))
 step_comma state = None
 
--- the state behind `=` that follows a name that stands in no expression
+-- the machine's state behind `=` that follows a name that stands in no expression
 abbrev pub step_equal_role : Role → List ℕ → Option State
 step_equal_role target name = Some (wanted (base (assigned (PlainVarRef.simple name))))
 step_equal_role role name = None
 
--- the state behind `=`: it assigns to the target of an assignment, and elsewhere it compares
+-- the machine's state behind `=`: it assigns to the target of an assignment, and elsewhere it compares
 abbrev pub step_equal : State → Option State
 step_equal (had s t) = Some (behind_infix between.Equal (reduced s (priority between.Equal) t))
 step_equal (name_had role name) = step_equal_role role name
 step_equal (target_had reference) = Some (wanted (base (assigned reference)))
 step_equal state = None
 
--- the state behind a sign where an operand is wanted, with the prefix operator that it is there
+-- the machine's state behind a sign where an operand is wanted, with the prefix operator that it is there
 abbrev pub step_prefix : Stack → Option PrefixOp → Option State
 step_prefix s None = None
 step_prefix s (Some op) = Some (wanted (prefix op s))
 
--- the state behind a sign that follows an operand, with the infix operator that it is there
+-- the machine's state behind a sign that follows an operand, with the infix operator that it is there
 abbrev pub step_infix : Stack → PlainExpr → Option InfixOp → Option State
 step_infix s t None = None
 step_infix s t (Some op) = Some (behind_infix op (reduced s (priority op) t))
 
--- the state behind a sign that is an operator wherever it stands
+-- the machine's state behind a sign that is an operator wherever it stands
 abbrev pub step_operator : State → Sign → Option State
 step_operator (wanted s) sign = step_prefix s (prefix_of sign)
 step_operator (had s t) sign = step_infix s t (infix_of sign)
 step_operator state sign = None
 
--- the state behind a sign
+-- the machine's state behind a sign
 abbrev pub step_sign : State → Sign → Option State
 step_sign state Sign.OpenParenthesis = step_open state
 step_sign state Sign.CloseParenthesis = step_close state
@@ -240,7 +241,7 @@ step_sign state Sign.Comma = step_comma state
 step_sign state Sign.Equal = step_equal state
 step_sign state sign = step_operator state sign
 
--- the state behind one more token, if it can stand there
+-- the machine's state behind one more token, if it can stand there
 abbrev pub step : State → Token → Option State
 step state (Token.name name) = step_name state name
 step state (Token.keyword word) = None
@@ -249,17 +250,17 @@ step state (Token.text value) = step_operand state (PlainExpr.text value)
 step state (Token.bit value) = step_operand state (PlainExpr.bit value)
 step state (Token.sign sign) = step_sign state sign
 
--- the state behind one more token, if the machine has not stopped and the token can stand there
+-- the machine's state behind one more token, if the machine has not stopped and the token can stand there
 abbrev pub step_if : Option State → Token → Option State
 step_if None token = None
 step_if (Some state) token = step state token
 
--- the state behind more tokens, if they can stand there
+-- the machine's state behind more tokens, if they can stand there
 abbrev pub run : List Token → Option State → Option State
 run [] state = state
 run (token ∷ tokens) state = run tokens (step_if state token)
 
--- the state before all tokens of a phrase; a comment has no tokens
+-- the machine's state before all tokens of a phrase; a comment has no tokens
 abbrev pub start : Category → Option State
 start Assignment = Some (name_wanted target)
 start Condition = Some (wanted (base condition))
@@ -274,7 +275,7 @@ start NameList = Some (name_wanted (names []))
 start Length = Some length_wanted
 start CommentText = None
 
--- the phrase that ends with the phrase's own expression, if it may
+-- the phrase that the machine's base ends as with the phrase's own expression, if it may
 abbrev pub phrase_of_base : Base → PlainExpr → Option PlainPhrase
 phrase_of_base condition t = Some (PlainPhrase.condition t)
 phrase_of_base expression t = Some (PlainPhrase.expression t)
@@ -282,12 +283,12 @@ phrase_of_base (expressions done) t = Some (PlainPhrase.expression_list (expr_pu
 phrase_of_base (assigned reference) t = Some (PlainPhrase.assignment reference t)
 phrase_of_base b t = None
 
--- the phrase that ends with an expression, if nothing is open around it
+-- the phrase that the machine's stack ends as with an expression, if nothing is open around it
 abbrev pub phrase_of_stack : Stack → PlainExpr → Option PlainPhrase
 phrase_of_stack (base b) t = phrase_of_base b t
 phrase_of_stack s t = None
 
--- the phrase that ends with a name that stands in no expression, if it may
+-- the phrase that the machine's role ends as with a name that stands in no expression, if it may
 abbrev pub phrase_of_role : Role → List ℕ → Option PlainPhrase
 phrase_of_role target name = None
 phrase_of_role (variables done) name = Some (PlainPhrase.variable_list (done ++ (PlainVarRef.simple name ∷ [])))
@@ -297,7 +298,7 @@ phrase_of_role (names done) name = Some (PlainPhrase.name_list (done ++ (name �
 phrase_of_role variable name = Some (PlainPhrase.variable_name name)
 phrase_of_role procedure name = Some (PlainPhrase.procedure_name name)
 
--- the phrase that a state ends as, if the tokens that were read are all of it
+-- the phrase that the machine's state ends as, if the tokens that were read are all of it
 abbrev pub phrase_of : State → Option PlainPhrase
 phrase_of (had s t) = let o = reduced s 1 t in phrase_of_stack o.0 o.1
 phrase_of (name_had role name) = phrase_of_role role name

@@ -1,4 +1,4 @@
--- What the check keeps, as the machine without trees has it.
+-- What the check keeps and finds, as the recognizer and the model of its findings have it.
 use Rattle.std.specs.Prelude.{ℕ, ◌≤◌, List, reverse, Option, Some, None}
 use Rattle.std.specs.List.{AllByRecursion}
 use Rattle.plcs_grammar.specs.Builtin.{is_builtin_name}
@@ -22,7 +22,7 @@ use Rattle.phrase_parser.specs.declared.check.finding.Finding.TheVariants as fou
 use Rattle.phrase_parser.specs.Private.Findings as findings
 use Rattle.phrase_parser.specs.Private.Findings.{Seen}
 
--- the shape of the model that the check's shape stands for; the model has the innermost parenthesis first
+-- the shape of the recognizer that the check's shape stands for; the recognizer has the innermost parenthesis first
 abbrev pub shape_of : Shape → model.Shape
 shape_of (Wanted nesting level) = model.Shape.wanted nesting.place (reverse nesting.brackets.items) level
 shape_of (Had last nesting) = model.Shape.had last nesting.place (reverse nesting.brackets.items)
@@ -37,12 +37,12 @@ shape_of ItemHad = model.Shape.item_had
 shape_of LengthWanted = model.Shape.length_wanted
 shape_of LengthHad = model.Shape.length_had
 
--- the shape of the model that the check's shape stands for, if there is one
+-- the shape of the recognizer that the check's shape stands for, if there is one
 abbrev pub shape_if : Option Shape → Option model.Shape
 shape_if None = None
 shape_if (Some shape) = Some (shape_of shape)
 
--- the class of a token of the kind whose bytes are these
+-- the class of a token of the kind whose bytes are these, as the check sees it
 abbrev pub class_from : TokenKind → List ℕ → TokenClass
 class_from token.Name bytes = TokenClass.Name (is_builtin_name bytes)
 class_from token.Keyword bytes = TokenClass.Keyword
@@ -55,16 +55,16 @@ class_from (token.Sign sign) bytes = TokenClass.Sign sign
 abbrev pub seen_in : List ℕ → Placed → Seen
 seen_in text placed = record { class = class_from placed.kind (bytes_in text placed); start = placed.start }
 
--- the deepest level of which one more can still be counted
+-- the deepest level that the check may keep, so that one more can still be counted
 abbrev pub deepest_level : ℕ
 deepest_level = 4294967294
 
--- the level of the last name is not over the limit
+-- the level that the check keeps of the last name is not over the limit
 abbrev pub LastWithin : ℕ → Last → Type 0
 LastWithin limit Last.Operand = Unit {0}
 LastWithin limit (Last.Named is_builtin level) = level ≤ limit
 
--- the levels of the open parentheses of an expression are not over the limit
+-- the levels that the check keeps of the open parentheses of an expression are not over the limit
 abbrev pub NestingWithin : ℕ → Ground → List Bracket → Type 0
 NestingWithin limit at brackets = (model.ground_level at ≤ limit) × AllByRecursion (λ bracket. bracket.level ≤ limit) brackets
 
@@ -83,17 +83,17 @@ Within limit model.Shape.item_had = Unit {0}
 Within limit model.Shape.length_wanted = Unit {0}
 Within limit model.Shape.length_had = Unit {0}
 
--- what goes past a limit, as the definitions of the grammar have it
+-- what the check finds past a limit, as the definitions of the grammar have it
 abbrev pub over_of : Over → OverLimit
 over_of (NumberTooLarge place) = OverLimit.number_too_large place
 over_of (TooDeep place) = OverLimit.too_deep place
 
--- the place of what goes past a limit
+-- the place of what the check finds past a limit
 abbrev pub over_place : OverLimit → ℕ
 over_place (OverLimit.number_too_large place) = place
 over_place (OverLimit.too_deep place) = place
 
--- what goes past a limit, if something does, as the definitions of the grammar have it
+-- what the check finds past a limit, if it finds anything, as the definitions of the grammar have it
 abbrev pub over_if : Option Over → Option OverLimit
 over_if None = None
 over_if (Some over) = Some (over_of over)

@@ -4,7 +4,7 @@ use Rattle.plcs_grammar.specs.declared.sign.Sign.{Sign}
 use Rattle.plcs_grammar.specs.Token.{Token}
 use Rattle.phrase_parser.specs.Private.Machine.{Base, Stack, Role, State, step_if}
 
--- how many levels are open at the operand of a phrase's own expression
+-- how many levels are open on the machine's base, at the operand of the phrase's own expression
 abbrev pub base_depth : Base → ℕ
 base_depth Base.condition = 0
 base_depth Base.expression = 0
@@ -14,7 +14,7 @@ base_depth (Base.target_subscript name) = 1
 base_depth (Base.variable_subscript done name) = 1
 base_depth (Base.call_arguments name done) = 1
 
--- how many levels are open at the operand on a stack
+-- how many levels are open at the operand on the machine's stack
 abbrev pub depth : Stack → ℕ
 depth (Stack.base b) = base_depth b
 depth (Stack.prefix op s) = depth s + 1
@@ -23,22 +23,24 @@ depth (Stack.parenthesis s) = depth s + 1
 depth (Stack.subscript name s) = depth s + 1
 depth (Stack.arguments function done s) = depth s + 1
 
--- the level that a token opens where an operand is wanted and so many are open: each sign that can stand there opens one
+-- the level that a token opens where the machine wants an operand and so many are open: each sign that can stand there
+-- opens one
 abbrev pub opens_before : ℕ → Token → ℕ
 opens_before outside (Token.sign sign) = outside + 1
 opens_before outside token = 0
 
--- the level that a token opens behind an operand or a name
+-- the level that a token opens behind an operand or a name that the machine just read
 abbrev pub opens_behind : ℕ → Token → ℕ
 opens_behind outside (Token.sign Sign.OpenParenthesis) = outside + 1
 opens_behind outside token = 0
 
--- the level that a token opens behind a name that stands in no expression; an array's size opens none
+-- the level that a token opens behind a name of the machine's role, which stands in no expression; an array's size
+-- opens none
 abbrev pub opens_by_role : Role → Token → ℕ
 opens_by_role (Role.items done) token = 0
 opens_by_role role token = opens_behind 0 token
 
--- the level that a token opens in a state, or 0
+-- the level that a token opens in a state of the machine, or 0
 abbrev pub opens : State → Token → ℕ
 opens (State.wanted s) token = opens_before (depth s) token
 opens (State.had s t) token = opens_behind (depth s) token
@@ -50,7 +52,7 @@ abbrev pub opens_if : Option State → Token → ℕ
 opens_if None token = 0
 opens_if (Some state) token = opens state token
 
--- for each token that follows a state the level that it opens, or 0
+-- for each token that follows a state of the machine the level that it opens, or 0
 abbrev pub trace : List Token → Option State → List ℕ
 trace [] state = []
 trace (token ∷ tokens) state = opens_if state token ∷ trace tokens (step_if state token)

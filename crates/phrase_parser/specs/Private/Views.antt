@@ -1,4 +1,4 @@
--- What the builder's stacks and states stand for.
+-- What the builder's bases, stacks, roles and states stand for in the machine.
 use Rattle.std.specs.Prelude.{List, [], ◌∷◌, map}
 use Rattle.plcs_grammar.specs.declared.expr.Expr.{Expr}
 use Rattle.plcs_grammar.specs.PlainPhrase.{PlainExpr, PlainVarRef, plain_expr, plain_exprs, plain_var_ref}
@@ -42,7 +42,7 @@ stack_on s (f ∷ fs) = stack_on (pushed f s) fs
 abbrev pub stack_of : Stack → machine.Stack
 stack_of s = stack_on (machine.Stack.base (base_of s.base)) s.frames.items
 
--- the expression that a primary is: an operand that is no operator with operands of its own
+-- the expression that the builder's primary stands for: an operand that is no operator with operands of its own
 abbrev pub primary_of : Primary → PlainExpr
 primary_of (primary.Number z) = PlainExpr.number z
 primary_of (primary.Text value) = PlainExpr.text value.value

@@ -1,4 +1,4 @@
-//! What an expression that stands in no other is for, and what each sign behind the expression does to it.
+//! The base of an expression that stands in no other, and what each sign behind the expression does to it.
 
 ghost use Rattle.std.specs.Prelude.{◌≡◌};
 ghost use Rattle.phrase_parser.specs.Private.Machine.{Stack as OpenStack, State as MachineState, step_close_base, step_close, step_comma_base, phrase_of_base};
@@ -16,7 +16,7 @@ use plcs_base::Name;
 use plcs_grammar::{Expr, Phrase, VarRef};
 use std::alloc::Global;
 
-/// What an expression that stands in no other is for, with what of the phrase stands before it.
+/// The base of an expression that stands in no other: what it is for, with what of the phrase stands before it.
 #[derive(Drop)]
 pub enum Base {
     /// A whole condition.
@@ -35,7 +35,7 @@ pub enum Base {
     CallArguments(Name, Vec<Expr>),
 }
 
-/// The state in which an operand is wanted and nothing but the base is open.
+/// The state on a base alone: an operand is wanted, and nothing but the base is open.
 pub fn wanted_on(alloc: Global, base: Base) -> State
     ensures { state_of result ≡ MachineState.wanted (OpenStack.base (base_of base)) }
 {
@@ -43,8 +43,8 @@ pub fn wanted_on(alloc: Global, base: Base) -> State
     State::Wanted(Stack { base, frames })
 }
 
-/// The state behind the closing parenthesis of a subscript or call in which the phrase's own expression stands,
-/// if it stands in one.
+/// The state that a base becomes behind the closing parenthesis of the subscript or call in which its expression
+/// stands, if it stands in one.
 pub fn step_close_base(alloc: Global, base: Base, expr: Expr) -> Result<State, BuildError>
     ensures { Gives state_of result (step_close_base (base_of base) (plain_expr expr)) }
 {
@@ -61,7 +61,7 @@ pub fn step_close_base(alloc: Global, base: Base, expr: Expr) -> Result<State, B
     }
 }
 
-/// The state behind a comma that follows an expression that stands in no other, if one can stand there.
+/// The state that a base becomes behind a comma that follows its expression, if one can stand there.
 pub fn step_comma_base(alloc: Global, base: Base, expr: Expr) -> Result<State, BuildError>
     ensures { Gives state_of result (step_comma_base (base_of base) (plain_expr expr)) }
 {
@@ -82,7 +82,7 @@ pub fn step_comma_base(alloc: Global, base: Base, expr: Expr) -> Result<State, B
     }
 }
 
-/// The phrase that ends with the expression, which stands in no other, if it may end so.
+/// The phrase that a base ends as behind its expression, if it may end so.
 pub fn phrase_of_base(base: Base, expr: Expr) -> Result<Phrase, BuildError>
     ensures { Gives plain_phrase result (phrase_of_base (base_of base) (plain_expr expr)) }
 {

@@ -1,10 +1,10 @@
-//! Why tokens were not built into a phrase.
+//! Why the builder stopped before it had a phrase.
 ghost use Rattle.std.specs.Prelude.{◌≡◌};
 ghost use Rattle.phrase_parser.specs.declared.builder.fault.BuildError.TheVariants.{OutOfMemory};
 
 use std::alloc::{AllocError, AllocFailed};
 
-/// Why tokens were not built into a phrase.
+/// Why the builder stopped: memory ran out, or the tokens are no phrase.
 #[derive(Clone, Copy, Debug, PartialEq, Eq)]
 pub enum BuildError {
     /// Memory ran out.

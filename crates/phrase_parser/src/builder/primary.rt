@@ -1,4 +1,4 @@
-//! Operands that are no operators with operands of their own.
+//! Primaries: operands that are no operators with operands of their own.
 
 ghost use Rattle.std.specs.Prelude.{◌≡◌, ◌≤◌, IfOk, pos};
 ghost use Rattle.plcs_grammar.specs.Limit.{greatest_number};
@@ -10,7 +10,7 @@ use plcs_base::{Name, TextValue};
 use plcs_grammar::{Builtin, Expr};
 use std::alloc::{AllocError, Global};
 
-/// An operand that is no operator with operands of its own.
+/// A primary: an operand that is no operator with operands of its own.
 #[derive(Drop)]
 pub enum Primary {
     /// A number.
@@ -29,7 +29,7 @@ pub enum Primary {
     Parenthesized(Box<Expr>),
 }
 
-/// The number as an operand.
+/// The number as a primary.
 pub fn number(n: u32) -> Primary
     requires { n ≤ greatest_number }
     ensures { primary_of result ≡ PlainExpr.number (pos n) }
@@ -37,21 +37,21 @@ pub fn number(n: u32) -> Primary
     Primary::Number(n as i32)
 }
 
-/// The character constant as an operand.
+/// The character constant as a primary.
 pub fn constant(alloc: Global, value: TextValue) -> Result<Primary, AllocError>
     ensures { IfOk result (λ made. primary_of made ≡ PlainExpr.text value) }
 {
     Ok(Primary::Text(Box::new(alloc, value)?))
 }
 
-/// The variable with the subscript as an operand.
+/// The variable with the subscript as a primary.
 pub fn cell(alloc: Global, name: Name, index: Expr) -> Result<Primary, AllocError>
     ensures { IfOk result (λ made. primary_of made ≡ PlainExpr.variable (PlainVarRef.subscripted name (plain_expr index))) }
 {
     Ok(Primary::Subscripted(name, Box::new(alloc, index)?))
 }
 
-/// The expression in parentheses as an operand.
+/// The expression in parentheses as a primary.
 pub fn parenthesized(alloc: Global, inside: Expr) -> Result<Primary, AllocError>
     ensures { IfOk result (λ made. primary_of made ≡ PlainExpr.parenthesized (plain_expr inside)) }
 {

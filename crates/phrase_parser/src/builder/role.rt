@@ -1,4 +1,4 @@
-//! What a name that stands in no expression is for, and what each sign behind the name does to it.
+//! The role of a name that stands in no expression, and what each sign behind the name does to it.
 
 ghost use Rattle.phrase_parser.specs.Private.Machine.{step_open_role, step_open, step_comma_role, step_equal_role, phrase_of_role};
 ghost use Rattle.phrase_parser.specs.Private.Gives.{Gives};
@@ -15,7 +15,7 @@ use plcs_base::Name;
 use plcs_grammar::{Item, Phrase, VarRef};
 use std::alloc::Global;
 
-/// What a name that stands in no expression is for, with what of the phrase stands before it.
+/// The role of a name that stands in no expression: what it is for, with what of the phrase stands before it.
 #[derive(Drop)]
 pub enum Role {
     /// The target of an assignment.
@@ -34,7 +34,7 @@ pub enum Role {
     Procedure,
 }
 
-/// The state behind a parenthesis that is opened behind a name that stands in no expression, if one can stand there.
+/// The state that a role becomes behind a parenthesis that is opened behind its name, if one can stand there.
 pub fn step_open_role(alloc: Global, role: Role, name: Name) -> Result<State, BuildError>
     ensures { Gives state_of result (step_open_role (role_of role) name) }
 {
@@ -47,7 +47,7 @@ pub fn step_open_role(alloc: Global, role: Role, name: Name) -> Result<State, Bu
     }
 }
 
-/// The state behind a comma that follows a name that stands in no expression, if one can stand there.
+/// The state that a role becomes behind a comma that follows its name, if one can stand there.
 pub fn step_comma_role(role: Role, name: Name) -> Result<State, BuildError>
     ensures { Gives state_of result (step_comma_role (role_of role) name) }
 {
@@ -68,7 +68,7 @@ pub fn step_comma_role(role: Role, name: Name) -> Result<State, BuildError>
     }
 }
 
-/// The state behind `=` that follows a name that stands in no expression, if it can stand there.
+/// The state that a role becomes behind `=` that follows its name, if it can stand there.
 pub fn step_equal_role(alloc: Global, role: Role, name: Name) -> Result<State, BuildError>
     ensures { Gives state_of result (step_equal_role (role_of role) name) }
 {
@@ -83,7 +83,7 @@ pub fn step_equal_role(alloc: Global, role: Role, name: Name) -> Result<State, B
     }
 }
 
-/// The phrase that ends with the name, which stands in no expression, if it may end so.
+/// The phrase that a role ends as behind its name, if it may end so.
 pub fn phrase_of_role(alloc: Global, role: Role, name: Name) -> Result<Phrase, BuildError>
     ensures { Gives plain_phrase result (phrase_of_role (role_of role) name) }
 {

@@ -1,4 +1,4 @@
-//! What stands open around an operand, and what each sign does to it.
+//! The builder's stack: what stands open around an operand, and what each sign does to it.
 
 ghost use Rattle.std.specs.Prelude.{◌≡◌, IfOk};
 ghost use Rattle.phrase_parser.specs.Private.Machine.{open_frame, step_open_behind, step_open, Stack as OpenStack, step_close_base, step_close_stack, step_close, step_comma_base, step_comma_stack, behind_infix, step_prefix, step_infix, phrase_of_base, phrase_of_stack, reduced};
@@ -19,7 +19,7 @@ use plcs_base::Name;
 use plcs_grammar::{Builtin, Expr, InfixOp, Phrase, PrefixOp};
 use std::alloc::{AllocError, Global};
 
-/// All that stands open around an operand.
+/// The builder's stack: all that stands open around an operand.
 #[derive(Drop)]
 pub struct Stack {
     /// What the outermost expression is for.
@@ -43,7 +43,7 @@ pub enum Frame {
     Arguments(Builtin, Vec<Expr>),
 }
 
-/// The state behind a parenthesis that is opened behind an operand: only a name can stand before it.
+/// The state that a stack becomes behind a parenthesis that is opened behind an operand, which only a name takes.
 pub fn step_open_behind(alloc: Global, stack: Stack, primary: Primary) -> Result<State, BuildError>
     ensures { Gives state_of result (step_open_behind (stack_of stack) (primary_of primary)) }
 {
@@ -55,7 +55,7 @@ pub fn step_open_behind(alloc: Global, stack: Stack, primary: Primary) -> Result
     Ok(State::Wanted(with_frame(stack, frame)?))
 }
 
-/// The frame that a parenthesis opens behind a name, which may be that of the built-in function.
+/// The frame that a parenthesis opens on the stack behind a name, which may be that of the built-in function.
 fn open_frame(alloc: Global, name: Name, function: Option<Builtin>) -> Frame
     ensures { (s : OpenStack) → pushed result s ≡ open_frame name function s }
 {
@@ -65,7 +65,7 @@ fn open_frame(alloc: Global, name: Name, function: Option<Builtin>) -> Frame
     }
 }
 
-/// The state behind a parenthesis that is closed behind an expression, the innermost that is open.
+/// The state that a stack becomes behind the closing parenthesis of the innermost that is open on it.
 #[tactic(auto, using(crate::proofs::Frames::FrameStacks::stack_on_push))]
 pub fn step_close_stack(alloc: Global, stack: Stack, expr: Expr) -> Result<State, BuildError>
     ensures { Gives state_of result (step_close_stack (stack_of stack) (plain_expr expr)) }
@@ -83,7 +83,7 @@ pub fn step_close_stack(alloc: Global, stack: Stack, expr: Expr) -> Result<State
     Ok(State::Had(Stack { base, frames }, primary))
 }
 
-/// The state behind a comma that follows an expression, in the innermost parenthesis that is open.
+/// The state that a stack becomes behind a comma in the innermost parenthesis that is open on it.
 #[tactic(auto, using(crate::proofs::Frames::FrameStacks::stack_on_push))]
 pub fn step_comma_stack(alloc: Global, stack: Stack, expr: Expr) -> Result<State, BuildError>
     ensures { Gives state_of result (step_comma_stack (stack_of stack) (plain_expr expr)) }
@@ -102,7 +102,7 @@ pub fn step_comma_stack(alloc: Global, stack: Stack, expr: Expr) -> Result<State
     }
 }
 
-/// The state behind a prefix operator, where an operand is wanted.
+/// The state that a stack becomes behind a prefix operator, where an operand is wanted.
 pub fn step_prefix(stack: Stack, op: Option<PrefixOp>) -> Result<State, BuildError>
     ensures { Gives state_of result (step_prefix (stack_of stack) op) }
 {
@@ -112,7 +112,7 @@ pub fn step_prefix(stack: Stack, op: Option<PrefixOp>) -> Result<State, BuildErr
     }
 }
 
-/// The state behind an infix operator that follows an operand.
+/// The state that a stack becomes behind an infix operator, once the operand before it is joined.
 pub fn step_infix(
     alloc: Global,
     stack: Stack,
@@ -130,7 +130,7 @@ pub fn step_infix(
     }
 }
 
-/// The state behind an infix operator whose left operand is read.
+/// The state that a stack becomes behind an infix operator whose left operand is joined already.
 pub fn behind_infix(stack: Stack, left: Expr, op: InfixOp) -> Result<State, AllocError>
     ensures { IfOk result (λ s. state_of s ≡ behind_infix op (pair_of (stack, left))) }
 {
@@ -147,7 +147,7 @@ pub fn with_frame(stack: Stack, frame: Frame) -> Result<Stack, AllocError>
     Ok(Stack { base, frames })
 }
 
-/// The phrase that ends with the expression, unless something is still open around it.
+/// The phrase that a stack ends as behind the expression, unless something is still open on it.
 #[tactic(auto, using(crate::proofs::Frames::FrameStacks::stack_on_push, crate::proofs::Frames::FrameStacks::ended_at_open))]
 pub fn phrase_of_stack(stack: Stack, expr: Expr) -> Result<Phrase, BuildError>
     ensures { Gives plain_phrase result (phrase_of_stack (stack_of stack) (plain_expr expr)) }
@@ -159,7 +159,7 @@ pub fn phrase_of_stack(stack: Stack, expr: Expr) -> Result<Phrase, BuildError>
     }
 }
 
-/// The level at which every operator is joined.
+/// The level at which every operator that is open on a stack is joined.
 pub const EVERY_LEVEL: u8 = 1;
 
 /// An operand, joined with each operator of the level or a higher one that is open on the stack, and what is left
@@ -187,7 +187,7 @@ pub fn reduced(
     Ok((Stack { base, frames }, operand))
 }
 
-/// An operand, joined with the frame around it if that is an operator of the level or a higher one.
+/// An operand, joined with the frame of the stack around it if that is an operator of the level or a higher one.
 fn join(alloc: Global, frame: Frame, level: u8, operand: Expr) -> Result<Joined, AllocError>
     ensures { IfOk result
         (λ j. (s : OpenStack) → reduced (pushed frame s) level (plain_expr operand) ≡ rest_of j s level) }
@@ -205,7 +205,7 @@ fn join(alloc: Global, frame: Frame, level: u8, operand: Expr) -> Result<Joined,
     }
 }
 
-/// What comes of an operand and the frame around it.
+/// What comes of an operand and the frame of the stack around it.
 #[derive(Drop)]
 pub enum Joined {
     /// The two are an operand.

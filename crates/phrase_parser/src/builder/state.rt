@@ -1,4 +1,4 @@
-//! What was read last and what is wanted, and what each token does to it.
+//! The builder's state: what was read last and what is wanted, and what each token does to it.
 
 ghost use Rattle.phrase_parser.specs.Private.Machine.{start, step, step_operand, step_name, step_number, behind_infix, step_equal_role, step_equal, step_prefix, step_infix, step_operator, step_sign, step_open_behind, step_open_role, step_open, step_close_stack, step_close, step_comma_stack, step_comma_role, step_comma, phrase_of_stack, phrase_of_role, phrase_of};
 ghost use Rattle.phrase_parser.specs.Private.TokenIn.{IsPlacedIn, token_in};
@@ -55,7 +55,7 @@ pub enum State {
     LengthHad(u16),
 }
 
-/// The state before all tokens of a phrase; a comment has no tokens.
+/// The builder's state before all tokens of a phrase; a comment has no tokens.
 pub fn start(alloc: Global, category: Category) -> Result<State, BuildError>
     ensures { Gives state_of result (start category) }
 {
@@ -75,7 +75,7 @@ pub fn start(alloc: Global, category: Category) -> Result<State, BuildError>
     }
 }
 
-/// The state behind one more token, if it can stand there.
+/// The builder's state behind one more token, if it can stand there.
 pub fn step(alloc: Global, state: State, text: &[u8], token: Placed) -> Result<State, BuildError>
     requires { IsPlacedIn text.now token }
     ensures { Gives state_of result (step (state_of state) (token_in text.now token)) }
@@ -91,7 +91,7 @@ pub fn step(alloc: Global, state: State, text: &[u8], token: Placed) -> Result<S
     }
 }
 
-/// The state behind a name, if one can stand there.
+/// The builder's state behind a name, if one can stand there.
 pub fn step_name(state: State, name: Name) -> Result<State, BuildError>
     ensures { Gives state_of result (step_name (state_of state) name) }
 {
@@ -102,7 +102,7 @@ pub fn step_name(state: State, name: Name) -> Result<State, BuildError>
     }
 }
 
-/// The state behind a number, if one can stand there.
+/// The builder's state behind a number, if one can stand there.
 pub fn step_number(state: State, n: u32) -> Result<State, BuildError>
     requires { n ≤ greatest_number }
     ensures { Gives state_of result (step_number (state_of state) n) }
@@ -117,7 +117,7 @@ pub fn step_number(state: State, n: u32) -> Result<State, BuildError>
     }
 }
 
-/// The state behind a whole operand, if one can stand there.
+/// The builder's state behind a whole operand, if one can stand there.
 pub fn step_operand(state: State, primary: Primary) -> Result<State, BuildError>
     ensures { Gives state_of result (step_operand (state_of state) (primary_of primary)) }
 {
@@ -127,7 +127,7 @@ pub fn step_operand(state: State, primary: Primary) -> Result<State, BuildError>
     }
 }
 
-/// The state behind a sign, if it can stand there.
+/// The builder's state behind a sign, if it can stand there.
 pub fn step_sign(alloc: Global, state: State, sign: Sign) -> Result<State, BuildError>
     ensures { Gives state_of result (step_sign (state_of state) sign) }
 {
@@ -140,7 +140,7 @@ pub fn step_sign(alloc: Global, state: State, sign: Sign) -> Result<State, Build
     }
 }
 
-/// The state behind an opening parenthesis, if one can stand there.
+/// The builder's state behind an opening parenthesis, if one can stand there.
 pub fn step_open(alloc: Global, state: State) -> Result<State, BuildError>
     ensures { Gives state_of result (step_open (state_of state)) }
 {
@@ -152,7 +152,7 @@ pub fn step_open(alloc: Global, state: State) -> Result<State, BuildError>
     }
 }
 
-/// The state behind a closing parenthesis, if one can stand there.
+/// The builder's state behind a closing parenthesis, if one can stand there.
 pub fn step_close(alloc: Global, state: State) -> Result<State, BuildError>
     ensures { Gives state_of result (step_close (state_of state)) }
 {
@@ -168,7 +168,7 @@ pub fn step_close(alloc: Global, state: State) -> Result<State, BuildError>
     }
 }
 
-/// The state behind a comma, if one can stand there.
+/// The builder's state behind a comma, if one can stand there.
 pub fn step_comma(alloc: Global, state: State) -> Result<State, BuildError>
     ensures { Gives state_of result (step_comma (state_of state)) }
 {
@@ -184,7 +184,7 @@ pub fn step_comma(alloc: Global, state: State) -> Result<State, BuildError>
     }
 }
 
-/// The state behind `=`, if it can stand there: it assigns to the target of an assignment, and elsewhere it
+/// The builder's state behind `=`, if it can stand there: it assigns to the target of an assignment, and elsewhere it
 /// compares.
 fn step_equal(alloc: Global, state: State) -> Result<State, BuildError>
     ensures { Gives state_of result (step_equal (state_of state)) }
@@ -201,7 +201,7 @@ fn step_equal(alloc: Global, state: State) -> Result<State, BuildError>
     }
 }
 
-/// The state behind a sign that is an operator wherever it stands, if it can stand there.
+/// The builder's state behind a sign that is an operator wherever it stands, if it can stand there.
 fn step_operator(alloc: Global, state: State, sign: Sign) -> Result<State, BuildError>
     ensures { Gives state_of result (step_operator (state_of state) sign) }
 {
@@ -212,7 +212,7 @@ fn step_operator(alloc: Global, state: State, sign: Sign) -> Result<State, Build
     }
 }
 
-/// The phrase that a state ends as, if all of it is read.
+/// The phrase that the builder's state ends as, if all of it is read.
 pub fn phrase_of(alloc: Global, state: State) -> Result<Phrase, BuildError>
     ensures { Gives plain_phrase result (phrase_of (state_of state)) }
 {

@@ -10,7 +10,7 @@ ghost use Rattle.phrase_parser.specs.Private.TokenIn.{IsConstant, between_quotes
 use arrayvec::ArrayVec;
 use plcs_base::{LONGEST_TEXT, Name, TextValue};
 
-/// The name that the bytes are.
+/// The name that the bytes of a token are.
 pub fn name_of(bytes: &[u8]) -> Name
     requires { IsName bytes.now }
     ensures { result ≡ bytes.now }
@@ -18,7 +18,7 @@ pub fn name_of(bytes: &[u8]) -> Name
     Name::read(bytes).unwrap()
 }
 
-/// The value of the character constant that the bytes are.
+/// The value of the character constant that the bytes of a token are.
 #[tactic(auto, using(crate::proofs::Tokens::ConstantValues::constant_long, crate::proofs::Tokens::ConstantValues::constant_short))]
 pub fn constant_value(bytes: &[u8]) -> TextValue
     requires { IsConstant bytes.now }
@@ -41,7 +41,7 @@ fn undoubled(bytes: &[u8]) -> TextValue
     TextValue::read(value.as_slice()).unwrap()
 }
 
-/// What is left behind the byte and, where it is a quote, behind the quote that doubles it.
+/// What is left of a constant's bytes behind the byte and, where it is a quote, behind the quote that doubles it.
 fn behind_quote(byte: u8, rest: &[u8]) -> &[u8]
     ensures left { undoubled result.now ≡ (if is_quote byte then undoubled_behind rest.now else undoubled rest.now) }
     ensures shorter { length result.now ≤ length rest.now }

@@ -1,4 +1,4 @@
-//! What is found in the tokens of a text.
+//! Findings: what the check finds in the tokens of a text.
 ghost use Rattle.std.specs.Prelude.{◌≡◌};
 ghost use Rattle.phrase_parser.specs.Private.Recognizer.{may_end};
 ghost use Rattle.phrase_parser.specs.Private.Findings.{is_large, seen_over, finding_of, found_at_end};
@@ -8,7 +8,7 @@ use crate::check::shape::{Shape, may_end};
 use crate::check::token_class::TokenClass;
 use plcs_grammar::{GREATEST_NESTING, GREATEST_NUMBER};
 
-/// What goes past its limit, and the place of it.
+/// What the check finds past a limit, and the place of it.
 #[derive(Clone, Copy)]
 pub enum Over {
     /// A number that is too large.
@@ -17,7 +17,7 @@ pub enum Over {
     TooDeep(usize),
 }
 
-/// What is found in the tokens of a text.
+/// A finding of the check: what the tokens of a text are.
 #[derive(Clone, Copy)]
 pub enum Finding {
     /// They are a phrase within the limits.
@@ -28,7 +28,7 @@ pub enum Finding {
     Over(Over),
 }
 
-/// Whether the token is a number that is too large.
+/// Whether a token that the check sees is a number that is too large, by its class.
 fn is_large(class: TokenClass) -> bool
     ensures { result ≡ is_large class }
 {
@@ -39,7 +39,7 @@ fn is_large(class: TokenClass) -> bool
     }
 }
 
-/// Whether the token with this place, which opens the level, goes past a limit.
+/// What the check finds past a limit in the token with this place, which opens the level, if it finds anything.
 pub fn seen_over(class: TokenClass, start: usize, level: u32) -> Option<Over>
     ensures { over_if result ≡ seen_over (record { class = class; start = start }) level }
 {
@@ -52,7 +52,7 @@ pub fn seen_over(class: TokenClass, start: usize, level: u32) -> Option<Over>
     }
 }
 
-/// The finding of tokens that are a phrase, where this goes past a limit first or nothing does.
+/// The finding where the tokens are a phrase, and this goes past a limit first or nothing does.
 fn finding_of(over: Option<Over>) -> Finding
     ensures { as_found result ≡ finding_of (over_if over) }
 {
@@ -62,7 +62,7 @@ fn finding_of(over: Option<Over>) -> Finding
     }
 }
 
-/// What is found behind the last token: the text ends there, or no further token can be made.
+/// What the check finds behind the last token: the text ends there, or no further token can be made.
 pub fn found_at_end(stop: Option<usize>, end: usize, shape: &Shape, over: Option<Over>) -> Finding
     ensures { as_found result ≡ found_at_end stop end (shape_of shape.now) (over_if over) }
 {

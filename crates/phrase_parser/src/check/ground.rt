@@ -1,4 +1,4 @@
-//! Where an expression stands that stands in no other, and what each sign behind the expression does to it.
+//! The ground of an expression that stands in no other, and what each sign behind the expression does to it.
 
 ghost use Rattle.std.specs.Prelude.{◌≡◌, []};
 ghost use Rattle.phrase_parser.specs.Private.Recognizer.{Shape as model, ground_level, next_close_ground, next_comma_ground};
@@ -8,7 +8,7 @@ use crate::check::nesting::Nesting;
 use crate::check::shape::Shape;
 use std::alloc::Global;
 
-/// Where an expression stands that stands in no other.
+/// The ground of an expression that stands in no other: where it stands.
 #[derive(Clone, Copy)]
 pub enum Ground {
     /// Alone: it is the whole phrase, or the value of an assignment.
@@ -23,15 +23,15 @@ pub enum Ground {
     CallList,
 }
 
-/// The shape in which an operand is wanted and nothing is open but the phrase's own expression.
+/// The shape on a ground alone: an operand is wanted, and nothing is open but the phrase's own expression.
 pub fn wanted(alloc: Global, place: Ground, level: u32) -> Shape
     ensures { shape_of result ≡ model.wanted place [] level }
 {
     Shape::Wanted(Nesting::of(alloc, place), level)
 }
 
-/// The shape behind the closing parenthesis of a subscript or call in which the phrase's own expression stands, if it
-/// stands in one.
+/// The shape that a ground becomes behind the closing parenthesis of the subscript or call in which its expression
+/// stands, if it stands in one.
 pub fn next_close_ground(place: Ground) -> Option<Shape>
     ensures { shape_if result ≡ next_close_ground place }
 {
@@ -43,7 +43,7 @@ pub fn next_close_ground(place: Ground) -> Option<Shape>
     }
 }
 
-/// The shape behind a comma that follows the phrase's own expression, if one can stand there.
+/// The shape that a ground becomes behind a comma that follows its expression, if one can stand there.
 pub fn next_comma_ground(alloc: Global, place: Ground) -> Option<Shape>
     ensures { shape_if result ≡ next_comma_ground place }
 {
@@ -54,7 +54,7 @@ pub fn next_comma_ground(alloc: Global, place: Ground) -> Option<Shape>
     }
 }
 
-/// How many levels are open where the phrase's own expression begins.
+/// How many levels are open on a ground, where its expression begins.
 pub fn ground_level(place: Ground) -> u32
     ensures { result ≡ ground_level place }
 {

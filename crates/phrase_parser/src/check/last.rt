@@ -13,7 +13,7 @@ pub enum Last {
     Named(bool, u32),
 }
 
-/// The level that a parenthesis opens behind an operand, or 0.
+/// The level that a parenthesis opens behind the last token of an expression, or 0.
 pub fn level_behind(last: Last) -> u32
     requires { LastWithin deepest_level last }
     ensures { result ≡ level_behind last }

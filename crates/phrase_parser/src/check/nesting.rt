@@ -1,4 +1,4 @@
-//! The open parentheses around an operand, and what each sign does to them.
+//! The nesting of an operand: the open parentheses around it, and what each sign does to them.
 
 ghost use Rattle.std.specs.Prelude.{◌≡◌, ◌≤◌, IfOk, [], reverse};
 ghost use Rattle.phrase_parser.specs.Private.Recognizer.{ground_level, inside, bracketed, next_close_ground, next_close_in, next_comma_ground, next_comma_in, may_end_in, Shape as model};
@@ -9,7 +9,7 @@ use crate::check::last::Last;
 use crate::check::shape::Shape;
 use std::alloc::{AllocError, Global};
 
-/// The open parentheses around an operand.
+/// The nesting of an operand: the open parentheses around it.
 #[derive(Drop)]
 pub struct Nesting {
     /// Where the outermost expression stands.
@@ -18,7 +18,7 @@ pub struct Nesting {
     pub brackets: Vec<Bracket>,
 }
 
-/// An open parenthesis in an expression.
+/// An open parenthesis of a nesting.
 #[derive(Clone, Copy)]
 pub struct Bracket {
     /// Whether a comma may stand in the parenthesis.
@@ -28,7 +28,7 @@ pub struct Bracket {
 }
 
 impl Nesting {
-    /// The nesting in which no parenthesis is open in the phrase's own expression.
+    /// The nesting with no parenthesis open in the phrase's own expression.
     pub fn of(alloc: Global, place: Ground) -> Nesting
         ensures place { result.place ≡ place }
         ensures brackets { result.brackets.items ≡ [] }
@@ -38,7 +38,7 @@ impl Nesting {
     }
 }
 
-/// The shape behind a parenthesis that is opened where so many levels are open.
+/// The shape that a nesting becomes behind a parenthesis that is opened where so many levels are open.
 #[tactic(auto, using(crate::proofs::Findings::OpenBrackets::brackets_push))]
 pub fn bracketed(nesting: Nesting, takes_commas: bool, level: u32) -> Result<Shape, AllocError>
     requires { level ≤ deepest_level }
@@ -56,7 +56,7 @@ pub fn bracketed(nesting: Nesting, takes_commas: bool, level: u32) -> Result<Sha
     Ok(Shape::Wanted(Nesting { place, brackets }, level))
 }
 
-/// The shape behind the closing parenthesis of the innermost that is open.
+/// The shape that a nesting becomes behind a parenthesis that closes its innermost one.
 #[tactic(auto, using(crate::proofs::Findings::OpenBrackets::brackets_push))]
 pub fn next_close_in(nesting: Nesting) -> Option<Shape>
     ensures { shape_if result ≡ next_close_in nesting.place (reverse nesting.brackets.items) }
@@ -71,7 +71,7 @@ pub fn next_close_in(nesting: Nesting) -> Option<Shape>
     }
 }
 
-/// The shape behind a comma in the innermost open parenthesis, if one can stand there.
+/// The shape that a nesting becomes behind a comma in its innermost parenthesis, if one can stand there.
 #[tactic(auto, using(crate::proofs::Findings::OpenBrackets::brackets_push))]
 pub fn next_comma_in(alloc: Global, nesting: Nesting) -> Result<Option<Shape>, AllocError>
     ensures { IfOk result (λ s. shape_if s ≡ next_comma_in nesting.place (reverse nesting.brackets.items)) }
@@ -90,7 +90,7 @@ pub fn next_comma_in(alloc: Global, nesting: Nesting) -> Result<Option<Shape>, A
     Ok(Some(Shape::Wanted(Nesting { place, brackets }, bracket.level)))
 }
 
-/// The shape behind an infix operator, where an operand is wanted.
+/// The shape that a nesting becomes behind an infix operator, where an operand is wanted.
 pub fn behind_operator(nesting: Nesting) -> Shape
     ensures { shape_of result
         ≡ model.wanted nesting.place (reverse nesting.brackets.items)
@@ -100,7 +100,7 @@ pub fn behind_operator(nesting: Nesting) -> Shape
     Shape::Wanted(nesting, level)
 }
 
-/// Whether a phrase may end behind an expression in these open parentheses.
+/// Whether a phrase may end behind an expression with this nesting.
 pub fn may_end_in(nesting: &Nesting) -> bool
     ensures { result ≡ may_end_in nesting.now.place (reverse nesting.now.brackets.items) }
 {
@@ -110,7 +110,7 @@ pub fn may_end_in(nesting: &Nesting) -> bool
     }
 }
 
-/// How many levels the open parentheses opened.
+/// How many levels the open parentheses of a nesting opened.
 pub fn inside(nesting: &Nesting) -> u32
     ensures { result ≡ inside nesting.now.place (reverse nesting.now.brackets.items) }
 {

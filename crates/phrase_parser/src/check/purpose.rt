@@ -1,4 +1,4 @@
-//! What a name that stands in no expression is for, without what stands before it, and what each sign behind the name does to it.
+//! The purpose of a name that stands in no expression, and what each sign behind the name does to it.
 
 ghost use Rattle.std.specs.Prelude.{◌≡◌};
 ghost use Rattle.phrase_parser.specs.Private.Recognizer.{next_open_name, next_comma_name, next_equal_name, level_by_purpose};
@@ -8,7 +8,7 @@ use crate::check::ground::{Ground, wanted};
 use crate::check::shape::Shape;
 use std::alloc::Global;
 
-/// What a name that stands in no expression is for.
+/// The purpose of a name that stands in no expression: what it is for, without what stands before it.
 #[derive(Clone, Copy)]
 pub enum Purpose {
     /// The target of an assignment.
@@ -25,7 +25,7 @@ pub enum Purpose {
     Single,
 }
 
-/// The shape behind a parenthesis that is opened behind a name that stands in no expression, if one can stand there.
+/// The shape that a purpose becomes behind a parenthesis that is opened behind its name, if one can stand there.
 pub fn next_open_name(alloc: Global, purpose: Purpose) -> Option<Shape>
     ensures { shape_if result ≡ next_open_name purpose }
 {
@@ -38,7 +38,7 @@ pub fn next_open_name(alloc: Global, purpose: Purpose) -> Option<Shape>
     }
 }
 
-/// The shape behind a comma that follows a name that stands in no expression, if one can stand there.
+/// The shape that a purpose becomes behind a comma that follows its name, if one can stand there.
 pub fn next_comma_name(purpose: Purpose) -> Option<Shape>
     ensures { shape_if result ≡ next_comma_name purpose }
 {
@@ -50,7 +50,7 @@ pub fn next_comma_name(purpose: Purpose) -> Option<Shape>
     }
 }
 
-/// The shape behind `=` that follows a name that stands in no expression, if it can stand there.
+/// The shape that a purpose becomes behind `=` that follows its name, if it can stand there.
 pub fn next_equal_name(alloc: Global, purpose: Purpose) -> Option<Shape>
     ensures { shape_if result ≡ next_equal_name purpose }
 {
@@ -64,8 +64,7 @@ pub fn next_equal_name(alloc: Global, purpose: Purpose) -> Option<Shape>
     }
 }
 
-/// The level that a parenthesis opens behind a name that stands in no expression, or 0: an array's size
-/// opens none.
+/// The level that a parenthesis opens behind a name of this purpose, or 0: an array's size opens none.
 pub fn level_by_purpose(purpose: Purpose) -> u32
     ensures { result ≡ level_by_purpose purpose }
 {

@@ -1,4 +1,4 @@
-//! What was read last and what is wanted, without trees, and what each token does to it.
+//! The check's shape: what was read last and what is wanted, without trees, and what each token does to it.
 
 ghost use Rattle.std.specs.Prelude.{◌≡◌, IfOk};
 ghost use Rattle.phrase_parser.specs.Private.Recognizer.{next_name, next_constant, next_number, next_open_name, next_open, next_close, next_comma_name, next_comma, next_equal_name, next_equal, next_operator, next_sign, next, first_shape, may_end, level_behind, level_by_purpose, sign_level, level_of};
@@ -18,7 +18,7 @@ use plcs_base::LONGEST_TEXT;
 use plcs_grammar::{Category, Sign};
 use std::alloc::{AllocError, Global};
 
-/// A shape: what was read last and what is wanted, without trees.
+/// The check's shape: what was read last and what is wanted, without trees.
 #[derive(Drop)]
 pub enum Shape {
     /// An operand is wanted, with so many levels open.
@@ -47,7 +47,7 @@ pub enum Shape {
     LengthHad,
 }
 
-/// What is wanted before all tokens of a phrase; a comment has no tokens.
+/// The check's shape before all tokens of a phrase; a comment has no tokens.
 pub fn first_shape(alloc: Global, category: Category) -> Option<Shape>
     ensures { shape_if result ≡ first_shape category }
 {
@@ -65,7 +65,7 @@ pub fn first_shape(alloc: Global, category: Category) -> Option<Shape>
     }
 }
 
-/// What is wanted behind one more token, if it can stand there.
+/// The check's shape behind one more token, if it can stand there.
 pub fn next(alloc: Global, shape: Shape, class: TokenClass) -> Result<Option<Shape>, AllocError>
     requires { Within deepest_level (shape_of shape) }
     ensures { IfOk result (λ s. shape_if s ≡ next (shape_of shape) class) }
@@ -79,7 +79,7 @@ pub fn next(alloc: Global, shape: Shape, class: TokenClass) -> Result<Option<Sha
     }
 }
 
-/// The shape behind a name, if one can stand there.
+/// The check's shape behind a name, if one can stand there.
 fn next_name(shape: Shape, is_builtin: bool) -> Option<Shape>
     ensures { shape_if result ≡ next_name (shape_of shape) is_builtin }
 {
@@ -90,7 +90,7 @@ fn next_name(shape: Shape, is_builtin: bool) -> Option<Shape>
     }
 }
 
-/// The shape behind a number, if one can stand there.
+/// The check's shape behind a number, if one can stand there.
 fn next_number(shape: Shape, n: u32) -> Option<Shape>
     ensures { shape_if result ≡ next_number (shape_of shape) n }
 {
@@ -102,7 +102,7 @@ fn next_number(shape: Shape, n: u32) -> Option<Shape>
     }
 }
 
-/// The shape behind a constant, if one can stand there.
+/// The check's shape behind a constant, if one can stand there.
 fn next_constant(shape: Shape) -> Option<Shape>
     ensures { shape_if result ≡ next_constant (shape_of shape) }
 {
@@ -112,7 +112,7 @@ fn next_constant(shape: Shape) -> Option<Shape>
     }
 }
 
-/// The shape behind a sign, if it can stand there.
+/// The check's shape behind a sign, if it can stand there.
 fn next_sign(alloc: Global, shape: Shape, sign: Sign) -> Result<Option<Shape>, AllocError>
     requires { Within deepest_level (shape_of shape) }
     ensures { IfOk result (λ s. shape_if s ≡ next_sign (shape_of shape) sign) }
@@ -138,7 +138,7 @@ fn next_sign(alloc: Global, shape: Shape, sign: Sign) -> Result<Option<Shape>, A
     }
 }
 
-/// The shape behind an opening parenthesis, if one can stand there.
+/// The check's shape behind an opening parenthesis, if one can stand there.
 fn next_open(alloc: Global, shape: Shape) -> Result<Option<Shape>, AllocError>
     requires { Within deepest_level (shape_of shape) }
     ensures { IfOk result (λ s. shape_if s ≡ next_open (shape_of shape)) }
@@ -153,7 +153,7 @@ fn next_open(alloc: Global, shape: Shape) -> Result<Option<Shape>, AllocError>
     }
 }
 
-/// The shape behind a closing parenthesis, if one can stand there.
+/// The check's shape behind a closing parenthesis, if one can stand there.
 fn next_close(shape: Shape) -> Option<Shape>
     ensures { shape_if result ≡ next_close (shape_of shape) }
 {
@@ -164,7 +164,7 @@ fn next_close(shape: Shape) -> Option<Shape>
     }
 }
 
-/// The shape behind a comma, if one can stand there.
+/// The check's shape behind a comma, if one can stand there.
 fn next_comma(alloc: Global, shape: Shape) -> Result<Option<Shape>, AllocError>
     ensures { IfOk result (λ s. shape_if s ≡ next_comma (shape_of shape)) }
 {
@@ -177,7 +177,7 @@ fn next_comma(alloc: Global, shape: Shape) -> Result<Option<Shape>, AllocError>
     }
 }
 
-/// The shape behind `=`, if it can stand there.
+/// The check's shape behind `=`, if it can stand there.
 fn next_equal(alloc: Global, shape: Shape) -> Option<Shape>
     ensures { shape_if result ≡ next_equal (shape_of shape) }
 {
@@ -189,7 +189,7 @@ fn next_equal(alloc: Global, shape: Shape) -> Option<Shape>
     }
 }
 
-/// The shape behind a sign that is an operator wherever it stands, if it can stand there.
+/// The check's shape behind a sign that is an operator wherever it stands, if it can stand there.
 #[tactic(auto, using(crate::proofs::Findings::OperatorTests::prefix_if, crate::proofs::Findings::OperatorTests::infix_if))]
 fn next_operator(shape: Shape, sign: Sign) -> Option<Shape>
     requires { Within deepest_level (shape_of shape) }
@@ -205,7 +205,7 @@ fn next_operator(shape: Shape, sign: Sign) -> Option<Shape>
     }
 }
 
-/// Whether the tokens that lead to a shape may be a whole phrase.
+/// Whether the tokens that lead to the check's shape may be a whole phrase.
 pub fn may_end(shape: &Shape) -> bool
     ensures { result ≡ may_end (shape_of shape.now) }
 {
@@ -221,7 +221,7 @@ pub fn may_end(shape: &Shape) -> bool
     }
 }
 
-/// The level that a token opens at a shape, or 0.
+/// The level that a token opens at the check's shape, or 0.
 pub fn level_of(shape: &Shape, class: TokenClass) -> u32
     requires { Within deepest_level (shape_of shape.now) }
     ensures { result ≡ level_of (shape_of shape.now) class }
@@ -233,7 +233,7 @@ pub fn level_of(shape: &Shape, class: TokenClass) -> u32
     }
 }
 
-/// The level that a sign opens at a shape, or 0.
+/// The level that a sign opens at the check's shape, or 0.
 fn sign_level(shape: &Shape, sign: Sign) -> u32
     requires { Within deepest_level (shape_of shape.now) }
     ensures { result ≡ sign_level (shape_of shape.now) sign }

@@ -3,7 +3,7 @@ use Rattle.std.specs.Prelude.{◌≡◌, ℕ, ◌+◌, ◌-◌, ◌*◌, ◌^◌
 use Rattle.prefix_sums.specs.declared.sums.PrefixSums.TheInside.{Inside}
 use Rattle.prefix_sums.specs.PlainSums.{PlainSums}
 
--- what a list in memory is seen as
+-- what a list in memory, kept with its running sums, is seen as
 abbrev pub seen : Inside → PlainSums
 seen a =
     record {
@@ -11,11 +11,11 @@ seen a =
       spare = min (vec_capacity a.numbers - vec_len a.numbers) (64 * vec_capacity a.marks + 63 - vec_len a.numbers);
     }
 
--- each mark is the sum of the numbers up to it, of which there are 64 more than up to the one before
+-- each mark is the running sum of the numbers up to it, of which there are 64 more than up to the one before
 abbrev pub AreMarks : List ℕ → List ℕ → Type 0
 AreMarks numbers marks = (b : ℕ) → b < length marks → slice_index marks b ≡ sum (take (64 * b + 64) numbers)
 
--- the marks and the total are those of the numbers, and there is a mark for each 64 numbers
+-- the running sums that are kept, the marks and the total, are those of the numbers, with a mark for each 64 of them
 pub record IsRight (a : Inside) : Type 0 where
   pub marks : AreMarks a.numbers.items a.marks.items
   pub enough : vec_len a.numbers < 64 * vec_len a.marks + 64
@@ -23,7 +23,8 @@ pub record IsRight (a : Inside) : Type 0 where
   pub total : a.total ≡ sum a.numbers.items
   pub fits : sum a.numbers.items < 2 ^ 32
 
--- the marks are being mended: those below the number are of the new numbers, the others of the old ones
+-- the marks, which are running sums, are being mended: those below the number are of the new list, the others of the
+-- old
 pub record AreMended (olds news marks : List ℕ) (b : ℕ) : Type 0 where
   pub done : (j : ℕ) → j < b → j < length marks → slice_index marks j ≡ sum (take (64 * j + 64) news)
   pub left : (j : ℕ) → b ≤ j → j < length marks → slice_index marks j ≡ sum (take (64 * j + 64) olds)
