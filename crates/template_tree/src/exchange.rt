@@ -79,7 +79,7 @@ impl Tree {
 }
 
 impl Change {
-    /// The change where another node came into a slot of the procedure.
+    /// The change of an exchange: another node came into a slot of the procedure.
     fn of_node(slot: Slot, procedure: Slot) -> Change
         ensures { result ≡ record { slot = slot; procedure = procedure; what = What.Node } }
     {

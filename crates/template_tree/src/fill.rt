@@ -101,7 +101,7 @@ fn holes(alloc: Global, sections: &[Section]) -> Result<Nodes, OutOfMemory>
     Ok(list)
 }
 
-/// Puts a hole for each of the sections at the end of the list.
+/// Puts a fresh node's hole for each of the sections at the end of its list.
 fn push_holes(list: &mut Nodes, alloc: Global, sections: &[Section]) -> Result<(), OutOfMemory>
     ensures { OnOk result (roomless (forest list.new.items) ≡ join (roomless (forest list.old.items)) (section_holes (map plain_section sections.now))) }
 {
@@ -112,7 +112,7 @@ fn push_holes(list: &mut Nodes, alloc: Global, sections: &[Section]) -> Result<(
     push_holes(list, alloc, others)
 }
 
-/// Puts the hole of the section's sort, if there is one, at the end of the list.
+/// Puts a fresh node's hole of the section's sort, if there is one, at the end of its list.
 fn push_hole(list: &mut Nodes, alloc: Global, section: &Section) -> Result<(), OutOfMemory>
     ensures { OnOk result (roomless (forest list.new.items) ≡ join (roomless (forest list.old.items)) (forest (hole_list 0 (hole_of section.now.sort)))) }
 {

@@ -44,7 +44,7 @@ fn takes(kind: NodeKind, part: u8, place: &PhrasePlace) -> bool
     }
 }
 
-/// Whether a part of the category may be empty.
+/// Whether a part of the category may be set to nothing.
 fn may_be_empty(category: Category) -> bool
     ensures { result ≡ may_be_empty category }
 {
