@@ -7,11 +7,11 @@ use Rattle.template_tree.specs.Limit.{deepest_path, most_slots}
 use Rattle.template_tree.specs.PlainTree.{Label, Forest, PlainNodes, PlainTree, forest}
 use Rattle.template_tree.specs.Slots.{count, depth, with_slots_from}
 
--- the label of a node of the kind with these parts, whose slot isn't drawn yet; nothing is elided
+-- the label of a node that is built: of the kind with these parts; its slot isn't drawn yet, and nothing is elided
 abbrev pub built_label : NodeKind → List (Option PlainPhrase) → (spare : ℕ) → Label
 built_label kind parts spare = record { slot = 0; kind = kind; parts = parts; elided = false; spare = spare }
 
--- the tree with these items, whose slots are drawn from 0 in listing order
+-- the tree that is built of these items, whose slots are drawn from 0 in listing order
 abbrev pub built_tree : PlainNodes → PlainTree
 built_tree list =
     record {
@@ -21,7 +21,7 @@ built_tree list =
       live = count (forest list.items);
     }
 
--- the items are over the limit; the depth comes first
+-- the items of which a tree is to be built are over the limit; the depth comes first
 abbrev pub Over : Forest → OverLimit → Type 0
 Over items OverLimit.TooDeep = deepest_path < depth items
 Over items OverLimit.TooLarge = (depth items ≤ deepest_path) × (most_slots < count items)

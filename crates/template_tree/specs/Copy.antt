@@ -5,7 +5,7 @@ use Rattle.template_tree.specs.PlainTree.{PlainNode, roomless_node}
 use Rattle.template_tree.specs.Edit.{whole}
 use Rattle.template_tree.specs.EditAnswer.{MayTake}
 
--- a node in which nothing is elided
+-- a node as it is copied: nothing in it is elided
 abbrev pub whole_node : PlainNode → PlainNode
 whole_node node = record { label = record node.label { elided = false }; inner = whole node.inner }
 

@@ -3,13 +3,13 @@ use Rattle.std.specs.Prelude.{ℕ, List, [], ◌∷◌, slice_set, slice_index_o
 use Rattle.template_tree.specs.PlainTree.{PlainNode, PlainNodes, nodes, forest}
 use Rattle.template_tree.specs.Lend.{with_item}
 
--- a node with another one at the path below it
+-- a node after the one at the path below it was lent and written to: another one stands there
 abbrev pub put_below : List ℕ → PlainNode → PlainNode → PlainNode
 put_below [] new node = new
 put_below (k ∷ path) new node =
     record node
     { inner = forest (slice_set (nodes node.inner) k (put_below path new (slice_index_or (nodes node.inner) k new))) }
 
--- a list with another node at the path below one of its items
+-- a list of nodes after the one at the path below an item of it was lent and written to: another one stands there
 abbrev pub put_in : PlainNodes → ℕ → List ℕ → PlainNode → PlainNodes
 put_in list k path new = with_item list k (put_below path new (slice_index_or list.items k new))

@@ -1,4 +1,4 @@
--- Edits of a tree, each at a slot.
+-- Edits of a tree, each at a slot, and the holes that they bring in or leave.
 use Rattle.std.specs.Prelude.{◌≡◌, ℕ, zero, suc, ◌+◌, Bool, true, false, if◌then◌else◌, ◌==◌, nat_lt, List, [], ◌∷◌, ◌++◌, find, Option, Some, None, option_map}
 use Rattle.plcs_grammar.specs.declared.node_kind.NodeKind.{NodeKind}
 use Rattle.plcs_grammar.specs.declared.node_kind.Sort.{Sort}
@@ -35,11 +35,11 @@ edit_slot slot change (Forest.cons label inner rest) =
     then join (forest (change record { label = label; inner = inner })) (edit_slot slot change rest)
     else Forest.cons label (edit_slot slot change inner) (edit_slot slot change rest)
 
--- the tree with these items and so many slots drawn
+-- the tree with its items edited to these, and with so many slots drawn
 abbrev pub with_items : PlainTree → Forest → ℕ → PlainTree
 with_items tree items drawn = record { items = items; spare = tree.spare; drawn = drawn; live = count items }
 
--- nodes with nothing elided
+-- nodes as an edit brings them in: nothing in them is elided
 abbrev pub whole : Forest → Forest
 whole Forest.nil = Forest.nil
 whole (Forest.cons label inner rest) = Forest.cons (record label { elided = false }) (whole inner) (whole rest)
@@ -67,44 +67,44 @@ is_hole other = false
 abbrev pub hole_left : NodeKind → Option NodeKind
 hole_left kind = if is_hole kind then None else hole_of (sort_of kind)
 
--- a node of the kind with no parts and nothing inside
+-- a hole as an edit brings it in: a node of the kind with no parts and nothing inside
 abbrev pub lone : ℕ → NodeKind → PlainNode
 lone slot kind =
     record { label = record { slot = slot; kind = kind; parts = []; elided = false; spare = 0 }; inner = Forest.nil }
 
--- the hole of the sort in the slot, where there is one
+-- the hole of the kind in the slot as a list of items, which is empty where there is no kind
 abbrev pub hole_list : ℕ → Option NodeKind → List PlainNode
 hole_list slot None = []
 hole_list slot (Some kind) = lone slot kind ∷ []
 
--- an item with a hole of its sort, in the slot, on this side of it
+-- what an item gives way to where a hole is added: the item, with a hole of its sort, in the slot, on this side of it
 abbrev pub with_hole : ℕ → Side → PlainNode → List PlainNode
 with_hole slot Side.Before item = hole_list slot (hole_of (sort_of item.label.kind)) ++ item ∷ []
 with_hole slot Side.After item = item ∷ hole_list slot (hole_of (sort_of item.label.kind))
 
--- the tree with the node in place of what stood in the slot
+-- the tree after an edit that put the node in place of what stood in the slot
 abbrev pub Put : PlainTree → ℕ → PlainNode → PlainTree
 Put tree slot node =
     with_items tree (edit_slot slot (λ _. node_in_slot slot tree.drawn node ∷ []) tree.items) (tree.drawn + count node.inner)
 
--- the tree with a hole beside the item in the slot
+-- the tree after an edit that added a hole beside the item in the slot
 abbrev pub Add : PlainTree → ℕ → Side → PlainTree
 Add tree slot side = with_items tree (edit_slot slot (with_hole tree.drawn side) tree.items) (tree.drawn + 1)
 
--- the tree without the item in the slot
+-- the tree after an edit that dropped the item in the slot
 abbrev pub Drop : PlainTree → ℕ → PlainTree
 Drop tree slot = with_items tree (edit_slot slot (λ _. []) tree.items) tree.drawn
 
--- the tree with this in a part of the node in the slot
+-- the tree after an edit that set a part of the node in the slot to this
 abbrev pub Part : PlainTree → ℕ → ℕ → Option PlainPhrase → PlainTree
 Part tree slot part place = with_items tree (edit_slot slot (λ node. with_part part place node ∷ []) tree.items) tree.drawn
 
--- the slot of main, the procedure or the procedure hole in which the slot stands
+-- the slot of main, the procedure or the procedure hole in which the slot of an edit stands
 abbrev pub procedure_of : Forest → ℕ → Option ℕ
 procedure_of items slot =
     option_map (λ item. item.label.slot) (find (λ item. nat_lt 0 (times slot (forest (item ∷ [])))) (nodes items))
 
--- how the nodes before and after differ where this was done in the slot
+-- how the nodes before an edit and after it differ, where it did this in the slot
 abbrev pub DifferBy : What → ℕ → Forest → Forest → Type 0
 DifferBy What.Node slot before after =
     (node : PlainNode) × (node.label.slot ≡ slot)
@@ -117,14 +117,14 @@ DifferBy What.Added slot before after =
 DifferBy What.Dropped slot before after =
     (times slot before ≡ 1) × (roomless after ≡ roomless (edit_slot slot (λ _. []) before))
 
--- the nodes in which the slot of a change stands: those before, where it was dropped, or else those after
+-- the nodes in which the slot of an edit's change stands: those before, where it was dropped, or else those after
 abbrev pub changed_in : What → Forest → Forest → Forest
 changed_in What.Node before after = after
 changed_in (What.Part part) before after = after
 changed_in What.Added before after = after
 changed_in What.Dropped before after = before
 
--- the trees before and after differ by the change
+-- the trees before an edit and after it differ by its change
 pub record Differs (before after : PlainTree) (change : Change) : Type 0 where
   pub by : DifferBy change.what change.slot.0 before.items after.items
   pub within : procedure_of (changed_in change.what before.items after.items) change.slot.0 ≡ Some change.procedure.0

@@ -1,4 +1,4 @@
--- What an edit answers: the receipt of the edit, or why it is refused.
+-- What an edit answers: its receipt, or why it is refused; and at which nodes each edit may be made.
 use Rattle.std.specs.Prelude.{◌≡◌, ℕ, ◌<◌, ◌≤◌, List, Option, Some, None, IsSome, IsSomeAnd, IsTrue, ◌⊎◌, unwrap_or}
 use Rattle.plcs_grammar.specs.declared.category.Category.{Category}
 use Rattle.plcs_grammar.specs.declared.node_kind.NodeKind.{NodeKind}
@@ -28,23 +28,24 @@ pub record IsEdit (edit : TreeEdit) (slot : ℕ) (before after : PlainTree) (rec
   pub undoes : undone receipt back (roomless_tree after) ≡ roomless_tree before
   pub can_undo : CanUndo receipt back after
 
--- the slot of a node, where there is one
+-- the slot of the node at which an edit is made, if there is one, or else 0
 abbrev pub slot_in : Option PlainNode → ℕ
 slot_in None = 0
 slot_in (Some node) = node.label.slot
 
--- the edit was made at a node of which this holds, and gave nothing out
+-- the answer to an edit that was made: it was at a node of which this holds, and gave nothing out
 pub record Edits (edit : TreeEdit) (there : Option PlainNode) (Here : PlainNode → Type 0) (before after : PlainTree) (receipt : PlainReceipt) : Type 0 where
   pub here : IsSomeAnd there Here
   pub is_edit : IsEdit edit (slot_in there) before after receipt None
 
--- a tree within the limits
+-- the tree that an edit would make is within the limits of depth, live slots and drawn slots
 pub record IsWithin (tree : PlainTree) : Type 0 where
   pub shallow : depth tree.items ≤ deepest_path
   pub few : tree.live ≤ most_slots
   pub drawn_few : tree.drawn ≤ most_drawn_slots
 
--- a tree is over a limit, and over none that is asked for before it; where memory is wanting, it is over none
+-- the tree that an edit would make is over a limit, and over none that is asked for before it; where memory is wanting,
+-- it is over none
 abbrev pub IsOver : TreeFault → PlainTree → Type 0
 IsOver TreeFault.NotHere tree = ⊥
 IsOver TreeFault.TooDeep tree = deepest_path < depth tree.items
@@ -59,37 +60,37 @@ Refuses edit there Here before TreeFault.NotHere = IsSomeAnd there Here → ⊥
 Refuses edit there Here before fault =
     IsSomeAnd there (λ node. Here node × IsOver fault (tree_after edit before node.label.slot))
 
--- the node is a hole where nodes of the kind stand
+-- a node of the kind may be filled in or inserted at this node: it is a hole where nodes of the kind stand
 abbrev pub IsHoleFor : NodeKind → PlainNode → Type 0
 IsHoleFor kind node = hole_of (sort_of kind) ≡ Some node.label.kind
 
--- the node becomes the assignment: it is a statement hole or an assignment, and the phrase is one
+-- the assignment may be filled in at this node: it is a statement hole or an assignment, and the phrase is one
 abbrev pub TakesAssignment : PlainPhrase → PlainNode → Type 0
 TakesAssignment phrase node =
     ((node.label.kind ≡ NodeKind.StatementHole) ⊎ (node.label.kind ≡ NodeKind.Assign)) × (category_of phrase ≡ Category.Assignment)
 
--- the node has this stop, and its part takes this
+-- a phrase may be set, or removed, at this node: the part is one of its stops, and takes this
 abbrev pub TakesAtStop : ℕ → Option PlainPhrase → PlainNode → Type 0
 TakesAtStop part place node = (part < part_stops node.label.kind) × Takes (part_category node.label.kind part) place
 
--- the node may be taken out: it is neither main nor a hole
+-- this node may be taken out: it is neither main nor a hole
 abbrev pub MayTake : PlainNode → Type 0
 MayTake node = IsSome (hole_left node.label.kind)
 
--- the hole that stays where a node of the kind is taken out
+-- the node that by the answer stands where a node of the kind was taken out: a hole
 abbrev pub hole_in_place : NodeKind → PlainNode
 hole_in_place kind = lone 0 (unwrap_or (hole_left kind) kind)
 
--- the edit took the node out of the tree, and left a hole in its slot
+-- the answer where the node was taken out of the tree: the edit left a hole in its slot
 pub record TakesOut (node : PlainNode) (before after : PlainTree) (receipt : PlainReceipt) : Type 0 where
   pub may_take : MayTake node
   pub is_edit : IsEdit (TreeEdit.put (hole_in_place node.label.kind)) node.label.slot before after receipt (Some node)
 
--- the node at the path is an item of a list
+-- a hole may be added beside this node: the node at the path is an item of a list
 abbrev pub IsListItem : Forest → List ℕ → PlainNode → Type 0
 IsListItem items path node = IsTrue (is_listed (sort_of node.label.kind) (sections_at program_sections items path))
 
--- the node at the path is a hole in a list of two or more
+-- this node may be dropped: the node at the path is a hole in a list of two or more
 pub record IsSpareHole (items : Forest) (path : List ℕ) (node : PlainNode) : Type 0 where
   pub hole : IsTrue (is_hole node.label.kind)
   pub listed : IsListItem items path node

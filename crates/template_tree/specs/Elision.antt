@@ -6,12 +6,12 @@ use Rattle.plcs_grammar.specs.declared.template.Template.TheVariants.{Comment}
 use Rattle.template_tree.specs.PlainTree.{PlainNode, PlainTree}
 use Rattle.template_tree.specs.Edit.{edit_at}
 
--- whether the template is a comment
+-- whether the template is a comment, so that its refinement can be hidden
 abbrev pub is_comment_template : Template → Bool
 is_comment_template Comment = true
 is_comment_template other = false
 
--- whether nodes of the kind are comments
+-- whether nodes of the kind are comments, so that their refinements can be hidden
 abbrev pub is_comment : NodeKind → Bool
 is_comment (NodeKind.Filled template) = is_comment_template template
 is_comment other = false
@@ -20,7 +20,7 @@ is_comment other = false
 abbrev pub hidden_after_turn : PlainNode → Option Bool
 hidden_after_turn node = if is_comment node.label.kind then Some (not node.label.elided) else None
 
--- a comment turned, or another node as it is
+-- a comment turned, from shown to hidden or back, or another node as it is
 abbrev pub turn : PlainNode → List PlainNode
 turn node =
     (if is_comment node.label.kind then record node { label = record node.label { elided = not node.label.elided } } else node) ∷ []

@@ -18,21 +18,21 @@ use Rattle.template_tree.specs.PlainTree.{Label, Forest, PlainNode}
 
 -- ---- what a declaration declares
 
--- the items of a declared list
+-- the items of a declared list, as its phrase has them
 abbrev pub items_of_list : PlainPhrase → List Item
 items_of_list (PlainPhrase.declared_list items) = items
 items_of_list other = []
 
--- the items that stand in the first part
+-- the items that stand in the first part of a declaration
 abbrev pub list_items : List (Option PlainPhrase) → List Item
 list_items parts = unwrap_or (option_map items_of_list (part_at parts 0)) []
 
--- the number of a length
+-- the number that the phrase of a greatest length says
 abbrev pub number_of_length : PlainPhrase → Option ℕ
 number_of_length (PlainPhrase.greatest_length n) = Some n
 number_of_length other = None
 
--- the greatest length that stands in the second part, if one does
+-- the greatest length that stands in the second part of a declaration of texts, if one does
 abbrev pub length_given : List (Option PlainPhrase) → Option ℕ
 length_given parts = option_and_then number_of_length (part_at parts 1)
 
@@ -53,7 +53,7 @@ type_given other parts = None
 abbrev pub declared_as : ItemType → Item → Declared
 declared_as ty item = record { name = item.name; ty = ty; size = unwrap_or item.size 0 }
 
--- the items of a list with the type that is given, if one is
+-- the items of a declared list with the type that their declaration gives, or none where it gives none
 abbrev pub with_type : Option ItemType → List Item → List Declared
 with_type None items = []
 with_type (Some ty) items = map (declared_as ty) items
@@ -69,15 +69,15 @@ all_declared (Forest.cons label inner rest) = declares label ++ all_declared res
 
 -- ---- which items are effective
 
--- how many cells an item has: one as a scalar, and as an array its size
+-- how many cells a declared item has: one as a scalar, and as an array its size
 abbrev pub cells_of : Declared → ℕ
 cells_of item = if item.size == 0 then 1 else item.size
 
--- how many cells items have together
+-- how many cells declared items have together
 abbrev pub cells : List Declared → ℕ
 cells items = sum_by cells_of items
 
--- the item of the name, if one has it
+-- the declared item of the name, if one of these has it
 abbrev pub item_named : List ℕ → List Declared → Option Declared
 item_named name items = find (λ item. bytes_eq name item.name) items
 
@@ -89,11 +89,11 @@ item_offence before item =
     else (if is_some (item_named item.name before) then Some MarkKind.Duplicate
     else (if nat_lt most_cells (cells before + cells_of item) then Some MarkKind.TooManyCells else None))
 
--- the effective items after one more
+-- the effective items once one more is declared behind them
 abbrev pub with_item : (before : List Declared) → Declared → List Declared
 with_item before item = if is_some (item_offence before item) then before else before ++ (item ∷ [])
 
--- the effective items after some more, one after the other
+-- the effective items once some more are declared behind them, one after the other
 abbrev pub effective : (before : List Declared) → List Declared → List Declared
 effective before [] = before
 effective before (item ∷ rest) = effective (with_item before item) rest
@@ -102,7 +102,7 @@ effective before (item ∷ rest) = effective (with_item before item) rest
 abbrev pub items_inside : Forest → List Declared
 items_inside inner = effective [] (all_declared inner)
 
--- main or the procedure in the slot, if one of them has it
+-- main or the procedure in the slot, whose effective items are asked for, if one of them has it
 abbrev pub procedure_at : (program : Forest) → (slot : ℕ) → Option PlainNode
 procedure_at Forest.nil slot = None
 procedure_at (Forest.cons label inner rest) slot =
@@ -119,21 +119,21 @@ pub record Heading : Type 0 where
   pub name : List ℕ
   pub parameters : List (List ℕ)
 
--- the name that a procedure is given
+-- the name that the phrase in a heading gives to its procedure
 abbrev pub name_of_procedure : PlainPhrase → Option (List ℕ)
 name_of_procedure (PlainPhrase.procedure_name name) = Some name
 name_of_procedure other = None
 
--- the names of a list of parameters
+-- the names that the phrase in a heading gives to its parameters
 abbrev pub names_of_list : PlainPhrase → Option (List (List ℕ))
 names_of_list (PlainPhrase.name_list names) = Some names
 names_of_list other = None
 
--- the name in the first part, if it is there
+-- the name in the first part of a heading, if it is there
 abbrev pub name_given : List (Option PlainPhrase) → Option (List ℕ)
 name_given parts = option_and_then name_of_procedure (part_at parts 0)
 
--- the parameters in the second part, if they are there
+-- the parameters in the second part of a heading, if they are there
 abbrev pub parameters_given : List (Option PlainPhrase) → Option (List (List ℕ))
 parameters_given parts = option_and_then names_of_list (part_at parts 1)
 
@@ -158,13 +158,13 @@ heading_of other parts = None
 abbrev pub may_be_called : List ℕ → Bool
 may_be_called name = not (is_builtin_name name) && not (bytes_eq name (codes "main"))
 
--- the kind of the values of a type
+-- the kind of the values of a declared type
 abbrev pub kind_of_type : ItemType → Kind
 kind_of_type ItemType.Fixed = Kind.Fixed
 kind_of_type ItemType.Bit = Kind.Bit
 kind_of_type (ItemType.Text n) = Kind.Text
 
--- the kind of a scalar, if it is one
+-- the kind of a declared item, if it is a scalar
 abbrev pub scalar_kind : Declared → Option Kind
 scalar_kind item = if item.size == 0 then Some (kind_of_type item.ty) else None
 

@@ -7,12 +7,13 @@ use Rattle.template_tree.specs.PlainTree.{Forest, PlainNode, forest, join}
 use Rattle.template_tree.specs.Program.{parts_of}
 use Rattle.template_tree.specs.Edit.{hole_list, hole_of}
 
--- a hole in each of the sections
+-- the holes inside a fresh node: one in each of the sections
 abbrev pub section_holes : List PlainSection → Forest
 section_holes [] = Forest.nil
 section_holes (section ∷ sections) = join (forest (hole_list 0 (hole_of section.sort))) (section_holes sections)
 
--- a node of the kind with its parts empty, and with a hole in each section of its row; its slots aren't drawn yet
+-- a fresh node of the kind: its parts are empty, and a hole stands in each section of its row; its slots aren't drawn
+-- yet
 abbrev pub fresh_node : NodeKind → PlainNode
 fresh_node kind =
     record {
@@ -21,7 +22,7 @@ fresh_node kind =
       inner = section_holes (row_of kind).sections;
     }
 
--- an assignment
+-- a fresh assignment: a node with the phrase as its one part
 abbrev pub assignment_node : PlainPhrase → PlainNode
 assignment_node phrase =
     record {

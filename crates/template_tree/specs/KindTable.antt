@@ -1,11 +1,11 @@
--- What operators and built-in functions take and give.
+-- The tables of kinds: what operators and built-in functions take and give.
 use Rattle.std.specs.Prelude.{Bool, true, false, List, [], ◌∷◌, Option, Some, None}
 use Rattle.plcs_base.specs.declared.value.Kind.{Kind}
 use Rattle.plcs_grammar.specs.declared.builtin.Builtin.{Builtin}
 use Rattle.plcs_grammar.specs.declared.operator.InfixOp.{InfixOp}
 use Rattle.plcs_grammar.specs.declared.operator.PrefixOp.{PrefixOp}
 
--- whether two kinds are one
+-- whether two kinds, of operands or arguments, are the same
 abbrev pub same_kind : Kind → Kind → Bool
 same_kind Kind.Fixed Kind.Fixed = true
 same_kind Kind.Bit Kind.Bit = true
@@ -57,7 +57,7 @@ pub record BuiltinRow : Type 0 where
   pub perhaps : Option Kind
   pub gives : Kind
 
--- the table of built-in functions
+-- the table of the kinds that built-in functions take and give
 abbrev pub builtin_row : Builtin → BuiltinRow
 builtin_row Builtin.Abs = record { takes = Kind.Fixed ∷ []; perhaps = None; gives = Kind.Fixed }
 builtin_row Builtin.Mod = record { takes = Kind.Fixed ∷ (Kind.Fixed ∷ []); perhaps = None; gives = Kind.Fixed }

@@ -14,7 +14,7 @@ most_slots = MOST_SLOTS
 abbrev pub most_drawn_slots : ℕ
 most_drawn_slots = MOST_DRAWN_SLOTS
 
--- how many bytes the canonical text of a phrase may have
+-- how many bytes the canonical text of a phrase in a tree may have
 abbrev pub longest_phrase : ℕ
 longest_phrase = LONGEST_PHRASE
 

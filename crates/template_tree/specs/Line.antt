@@ -9,12 +9,12 @@ use Rattle.template_tree.specs.PlainTree.{Label, Forest}
 use Rattle.template_tree.specs.Program.{sort_of}
 use Rattle.template_tree.specs.Section.{left_for, left_after, next_lead}
 
--- a line: its level, and what is written behind the level's blanks
+-- a line of a program: its level, and what is written behind the level's blanks
 pub record Line : Type 0 where
   pub level : ℕ
   pub text : List ℕ
 
--- the bytes of a line: the blanks, two for each level, and the text
+-- the bytes of a line of a program: the blanks, two for each level, and the text
 abbrev pub line_bytes : Line → List ℕ
 line_bytes line = replicate (2 * line.level) 32 ++ line.text
 
@@ -29,7 +29,7 @@ segment_text (PlainSegment.words bytes) parts = bytes
 segment_text (PlainSegment.part category) [] = part_text category None
 segment_text (PlainSegment.part category) (part ∷ parts) = part_text category part
 
--- the parts that are left after the segment
+-- the parts that are left after a segment of a line
 abbrev pub parts_after : PlainSegment → List (Option PlainPhrase) → List (Option PlainPhrase)
 parts_after (PlainSegment.words bytes) parts = parts
 parts_after (PlainSegment.part category) [] = []
@@ -40,16 +40,17 @@ abbrev pub segments_text : List PlainSegment → List (Option PlainPhrase) → L
 segments_text [] parts = []
 segments_text (segment ∷ segments) parts = segment_text segment parts ++ segments_text segments (parts_after segment parts)
 
--- a line that the table of templates has as it stands, before a section or last in a node: one line, or none where it has none
+-- a fixed line of a program, which the table of templates has as it stands, before a section or last in a node: one
+-- line, or none where it has none
 abbrev pub fixed_line : ℕ → Option (List ℕ) → List Line
 fixed_line level None = []
 fixed_line level (Some text) = record { level = level; text = text } ∷ []
 
--- the first line of a node
+-- the first line of a node of a program: the segments of its row, with its parts in them
 abbrev pub head_line : ℕ → Label → Line
 head_line level label = record { level = level; text = segments_text (row_of label.kind).line label.parts }
 
--- what stands for an elided refinement
+-- the line that stands for an elided refinement
 abbrev pub elision_line : ℕ → Line
 elision_line level = record { level = level; text = codes "..." }
 

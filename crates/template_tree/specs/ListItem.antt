@@ -1,4 +1,4 @@
--- Lists of items, and which items stand in one.
+-- Lists of items: which items stand in one, and the sections and the nodes among which a node stands.
 use Rattle.std.specs.Prelude.{ℕ, ◌+◌, Bool, true, false, if◌then◌else◌, List, [], ◌∷◌, slice_get}
 use Rattle.std.specs.Option.{option_map_or}
 use Rattle.plcs_grammar.specs.declared.node_kind.Sort.{Sort}
@@ -7,12 +7,12 @@ use Rattle.plcs_grammar.specs.Template.{PlainSection, row_of}
 use Rattle.template_tree.specs.PlainTree.{Forest, nodes}
 use Rattle.template_tree.specs.Section.{same_sort}
 
--- whether a section is a list
+-- whether a section of a row, by its amount, is a list of items
 abbrev pub is_list : Amount → Bool
 is_list Amount.One = false
 is_list Amount.Many = true
 
--- whether items of the sort stand in a list, where these are the sections
+-- whether items of the sort stand in a list, and not alone, where these are the sections of a row
 abbrev pub is_listed : Sort → List PlainSection → Bool
 is_listed sort [] = false
 is_listed sort (section ∷ sections) = if same_sort section.sort sort then is_list section.amount else is_listed sort sections
@@ -30,7 +30,7 @@ siblings_at items [] = Forest.nil
 siblings_at items (k ∷ []) = items
 siblings_at items (k ∷ (j ∷ path)) = option_map_or (λ node. siblings_at node.inner (j ∷ path)) (slice_get (nodes items) k) Forest.nil
 
--- how many are of the sort
+-- how many of the nodes among which an item stands, told by their sorts, are of the sort
 abbrev pub how_many : Sort → List Sort → ℕ
 how_many sort [] = 0
 how_many sort (one ∷ others) = (if same_sort sort one then 1 else 0) + how_many sort others

@@ -4,7 +4,7 @@ use Rattle.template_tree.specs.Line.{Line, line_bytes, listing_lines}
 use Rattle.template_tree.specs.PlainTree.{Forest}
 use Rattle.template_tree.specs.Program.{IsProgram}
 
--- the bytes of lines, each with its line end behind it
+-- the bytes of lines as a listing has them, each with its line end behind it
 abbrev pub bytes_of : List Line → List ℕ
 bytes_of [] = []
 bytes_of (line ∷ lines) = line_bytes line ++ (10 ∷ bytes_of lines)
@@ -18,8 +18,8 @@ pub record Spells (items : Forest) (x : List ℕ) : Type 0 where
   pub program : IsProgram items
   pub listed : x ≡ Listing items
 
--- the stretches of a text between its bytes 10, where `front` is what the first begins with; the last one has no byte 10
--- behind it
+-- a listing split at its line ends: the stretches of a text between its bytes 10, where `front` is what the first
+-- begins with; the last one has no byte 10 behind it
 abbrev pub split_at_ends : (front : List ℕ) → List ℕ → List (List ℕ)
 split_at_ends front [] = front ∷ []
 split_at_ends front (byte ∷ rest) = if byte == 10 then front ∷ split_at_ends [] rest else split_at_ends (front ++ (byte ∷ [])) rest

@@ -47,7 +47,7 @@ surroundings program procedure slot =
 
 -- ---- the verdict of each phrase
 
--- places of phrases with their verdicts
+-- a list of places of phrases, each with its verdict
 abbrev pub VerdictList : Type 0
 VerdictList = List (PhraseAt × Option MarkKind)
 
@@ -72,7 +72,7 @@ procedure_verdicts program (Forest.cons label inner rest) =
     node_verdicts program record { label = label; inner = inner } (Forest.cons label inner Forest.nil)
     ++ procedure_verdicts program rest
 
--- verdicts by the places of their phrases
+-- a map of verdicts by the places of their phrases
 abbrev pub VerdictMap : Type 0
 VerdictMap = FinMap phrase_cmp (Option MarkKind)
 
@@ -82,7 +82,7 @@ Verdicts program = from_entries (procedure_verdicts program program)
 
 -- ---- the marks
 
--- the phrase with its offence, if it has one
+-- the place of a phrase with its offence, if its verdict is one
 abbrev pub offence_at : PhraseAt × Option MarkKind → Option (PhraseAt × MarkKind)
 offence_at entry = option_map (λ kind. (entry.0, kind)) entry.1
 

@@ -8,7 +8,7 @@ use Rattle.plcs_grammar.specs.PlainPhrase.{PlainExpr, PlainExprs, PlainVarRef, P
 use Rattle.template_tree.specs.PlainTree.{Forest}
 
 abbrev mutual
-  -- the names of the variables in an expression, in order
+  -- the names that an expression mentions, those of its variables, in order
   pub names_in : PlainExpr → List (List ℕ)
   names_in (PlainExpr.number z) = []
   names_in (PlainExpr.text value) = []
@@ -19,12 +19,12 @@ abbrev mutual
   names_in (PlainExpr.builtin function arguments) = names_in_all arguments
   names_in (PlainExpr.parenthesized a) = names_in a
 
-  -- the name of a variable, and those in its subscript
+  -- the names that a variable mentions: its own, and those in its subscript
   pub reference_names : PlainVarRef → List (List ℕ)
   reference_names (PlainVarRef.simple name) = name ∷ []
   reference_names (PlainVarRef.subscripted name index) = name ∷ names_in index
 
-  -- the names in a list of expressions
+  -- the names that a list of expressions mentions
   pub names_in_all : PlainExprs → List (List ℕ)
   names_in_all PlainExprs.nil = []
   names_in_all (PlainExprs.cons a rest) = names_in a ++ names_in_all rest
@@ -45,7 +45,7 @@ mentioned (PlainPhrase.name_list names) = names
 mentioned (PlainPhrase.greatest_length n) = []
 mentioned (PlainPhrase.comment bytes) = []
 
--- the place of a part
+-- the place at which a phrase is that mentions names: this part of the node in the slot
 abbrev pub phrase_place : (slot part : ℕ) → PhraseAt
 phrase_place slot part = record { slot = record { 0 = slot }; part = part }
 
@@ -66,7 +66,7 @@ mentions name Forest.nil = []
 mentions name (Forest.cons label inner rest) =
     part_mentions name label.slot 0 label.parts ++ (mentions name inner ++ mentions name rest)
 
--- the places are those of the phrases that mention the name, each once, in order of slot and part
+-- the uses of a name: the places of the phrases that mention it, each once, in order of slot and part
 pub record AreUses (name : List ℕ) (program : Forest) (uses : List PhraseAt) : Type 0 where
   pub increasing : IsStrictlySortedBy phrase_cmp uses
   pub each : (at : PhraseAt) → Contains uses at ↔ Contains (mentions name program) at

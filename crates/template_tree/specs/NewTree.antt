@@ -3,11 +3,11 @@ use Rattle.std.specs.Prelude.{ℕ, false, []}
 use Rattle.plcs_grammar.specs.declared.node_kind.NodeKind.{NodeKind}
 use Rattle.template_tree.specs.PlainTree.{Label, Forest}
 
--- the label of a node of the kind with no parts
+-- the label of a node of the new program: the kind in the slot, with no parts
 abbrev pub bare_label : ℕ → NodeKind → Label
 bare_label slot kind = record { slot = slot; kind = kind; parts = []; elided = false; spare = 0 }
 
--- main in slot 0 with a declaration hole in 1 and a statement hole in 2, and a procedure hole in 3
+-- the new program: main in slot 0 with a declaration hole in 1 and a statement hole in 2, and a procedure hole in 3
 abbrev pub new_items : Forest
 new_items =
     Forest.cons (bare_label 0 NodeKind.Main)

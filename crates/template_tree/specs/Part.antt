@@ -8,7 +8,7 @@ use Rattle.plcs_grammar.specs.Template.{row_of}
 use Rattle.template_tree.specs.PlainTree.{PlainNode}
 use Rattle.template_tree.specs.Program.{parts_of, may_be_empty, IsPhrase}
 
--- the phrase that stands in the part of this number, if one does
+-- the phrase that stands in the part of this number among the parts of a node, if one does
 abbrev pub part_at : List (Option PlainPhrase) → ℕ → Option PlainPhrase
 part_at parts part = option_flatten (slice_get parts part)
 
@@ -16,17 +16,17 @@ part_at parts part = option_flatten (slice_get parts part)
 abbrev pub part_category : NodeKind → ℕ → Option Category
 part_category kind part = slice_get (parts_of (row_of kind).line) part
 
--- a part of the category, if there is one, takes this
+-- a part of the category, if there is one, takes this: a phrase of the category, or nothing where it may be empty
 abbrev pub Takes : Option Category → Option PlainPhrase → Type 0
 Takes None place = ⊥
 Takes (Some category) None = IsTrue (may_be_empty category)
 Takes (Some category) (Some phrase) = category_of phrase ≡ category
 
--- a phrase, if there is one, that may stand in some part
+-- what is to be put into a part, if it is a phrase, may stand in some part
 abbrev pub IsPlace : Option PlainPhrase → Type 0
 IsPlace None = Unit {0}
 IsPlace (Some phrase) = IsPhrase (category_of phrase) phrase
 
--- a node with this in a part
+-- a node with this, a phrase or nothing, in its part of this number
 abbrev pub with_part : ℕ → Option PlainPhrase → PlainNode → PlainNode
 with_part part place node = record node { label = record node.label { parts = slice_set node.label.parts part place } }

@@ -17,19 +17,19 @@ node_at items (k ∷ path) = option_and_then (λ item. below item path) (slice_g
 abbrev pub slot_at : Forest → List ℕ → Option ℕ
 slot_at items path = option_map (λ node. node.label.slot) (node_at items path)
 
--- the number in its list of the node at a path
+-- the last number of a path, which the node there has in its list
 abbrev pub last_of : List ℕ → ℕ
 last_of [] = 0
 last_of (k ∷ []) = k
 last_of (k ∷ (j ∷ path)) = last_of (j ∷ path)
 
--- the path with another last number
+-- a path with another last number, which leads to another item of the same list
 abbrev pub with_last : (ℕ → ℕ) → List ℕ → List ℕ
 with_last other [] = []
 with_last other (k ∷ []) = other k ∷ []
 with_last other (k ∷ (j ∷ path)) = k ∷ with_last other (j ∷ path)
 
--- where a node stands that came on this side of the one at a path
+-- the path beside a path: where a node stands that came on this side of the one there
 abbrev pub added_path : Side → List ℕ → List ℕ
 added_path Side.Before path = path
 added_path Side.After path = with_last suc path

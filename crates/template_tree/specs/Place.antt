@@ -12,12 +12,12 @@ use Rattle.template_tree.specs.ListItem.{is_list}
 use Rattle.template_tree.specs.PlainTree.{Label, Forest}
 use Rattle.template_tree.specs.Program.{sort_of}
 
--- a slot, and a point in it
+-- a place of a run: a slot, and a point in it
 pub record PlainAt : Type 0 where
   pub slot : ℕ
   pub point : ℕ
 
--- the place at this point of a slot
+-- the place of a run at this point of a slot
 abbrev pub at : ℕ → ℕ → PlainAt
 at slot point = record { slot = slot; point = point }
 
@@ -36,7 +36,7 @@ inner_end NodeKind.Main = Some 1
 inner_end (NodeKind.Filled template) = template_end template
 inner_end other = None
 
--- the place where a run goes on once what stands inside is done
+-- the place where a run goes on once what stands inside the node in a slot is done: this point of it, or else behind it
 abbrev pub end_at : ℕ → Option ℕ → PlainAt → PlainAt
 end_at slot None behind = behind
 end_at slot (Some point) behind = at slot point
@@ -52,12 +52,12 @@ abbrev pub passes_in : NodeKind → Bool
 passes_in (NodeKind.Filled template) = passes_in_template template
 passes_in other = false
 
--- whether the sort is that of statements
+-- whether the sort is that of statements, at which a run may stand
 abbrev pub is_statement : Sort → Bool
 is_statement Statement = true
 is_statement other = false
 
--- whether what stands inside is done one after the other, and not one of it alone
+-- whether a run does what stands in these sections one after the other, and not one of it alone
 abbrev pub in_turn : List PlainSection → Bool
 in_turn [] = true
 in_turn (section ∷ sections) = is_list section.amount && in_turn sections
@@ -70,7 +70,7 @@ begin (Forest.cons label inner rest) behind =
     then (if passes_in label.kind then begin inner behind else at label.slot 0)
     else begin rest behind
 
--- what is known of the node in a slot: the node, and where a run goes on once it is done
+-- the site of a slot in a run: the node there, and where the run goes on once that is done
 pub record Site : Type 0 where
   pub label : Label
   pub inner : Forest
@@ -91,7 +91,7 @@ site_among slot turn (Forest.cons label inner rest) behind =
 abbrev pub site : Forest → ℕ → Option Site
 site items slot = site_among slot false items (at 0 1)
 
--- where the node at a site begins
+-- where a run begins that comes to the node at a site
 abbrev pub site_start : Site → PlainAt
 site_start site = if passes_in site.label.kind then begin site.inner site.after else at site.label.slot 0
 
@@ -103,12 +103,13 @@ Start items slot = option_map site_start (site items slot)
 abbrev pub After : Forest → ℕ → Option PlainAt
 After items slot = option_map (λ site. site.after) (site items slot)
 
--- how many items a variable list has
+-- how many items the variable list in a GET has: each is a point of it
 abbrev pub item_count : List (Option PlainPhrase) → ℕ
 item_count (Some (PlainPhrase.variable_list targets) ∷ parts) = length targets
 item_count other = 0
 
--- whether a template has the point, apart from the start of a statement; a GET whose phrase is marked has none
+-- whether a run has a place at the point of a node of the template, apart from the start of a statement; a GET whose
+-- phrase is marked has none
 abbrev pub has_template_point : Bool → Label → Template → ℕ → Bool
 has_template_point marked label For point = point == 1
 has_template_point marked label Call point = point == 1
@@ -117,7 +118,8 @@ has_template_point marked label Proc point = point == 1
 has_template_point marked label ProcP point = point == 1
 has_template_point marked label other point = false
 
--- whether a node of the kind has the point, apart from the start of a statement; a GET whose phrase is marked has none
+-- whether a run has a place at the point of a node of the kind, apart from the start of a statement; a GET whose phrase
+-- is marked has none
 abbrev pub has_point : Bool → Label → NodeKind → ℕ → Bool
 has_point marked label NodeKind.Main point = point == 1
 has_point marked label (NodeKind.Filled template) point = has_template_point marked label template point
@@ -129,6 +131,6 @@ exists_at marked None point = false
 exists_at marked (Some site) point =
     (is_statement (sort_of site.label.kind) && (point == 0)) || has_point marked site.label site.label.kind point
 
--- the place exists, where it is told of each slot whether the first phrase there is marked
+-- the place of a run exists, where it is told of each slot whether the first phrase there is marked
 abbrev pub Exists : (ℕ → Bool) → Forest → PlainAt → Type 0
 Exists marked items place = IsTrue (exists_at (marked place.slot) (site items place.slot) place.point)

@@ -4,7 +4,7 @@ use Rattle.plcs_grammar.specs.PlainPhrase.{PlainPhrase, plain_phrase}
 use Rattle.template_tree.specs.declared.phrase_place.PhrasePlace.{PhrasePlace}
 use Rattle.template_tree.specs.declared.phrase_place.PhrasePlace.TheVariants.{Empty, Filled}
 
--- the phrase that stands there, or nothing
+-- the plain form of what stands in a part: the phrase, or nothing
 abbrev pub plain_place : PhrasePlace → Option PlainPhrase
 plain_place Empty = None
 plain_place (Filled phrase) = Some (plain_phrase phrase)

@@ -13,27 +13,28 @@ use Rattle.plcs_grammar.specs.Template.{PlainSegment, PlainSection, row_of, prog
 use Rattle.template_tree.specs.Limit.{longest_phrase}
 use Rattle.template_tree.specs.PlainTree.{Label, Forest, PlainNode}
 
--- the categories of the parts of a line
+-- the categories that the line of a row asks for in its parts, one after the other
 abbrev pub parts_of : List PlainSegment → List Category
 parts_of [] = []
 parts_of (PlainSegment.words bytes ∷ segments) = parts_of segments
 parts_of (PlainSegment.part category ∷ segments) = category ∷ parts_of segments
 
--- the sort of a node
+-- the sort that the row of a kind gives to its nodes: that of main, procedures, declarations or statements
 abbrev pub sort_of : NodeKind → Sort
 sort_of kind = (row_of kind).sort
 
--- the sorts of nodes in order
+-- the sorts of nodes in order, as the sections of a row ask for them
 abbrev pub sorts : Forest → List Sort
 sorts Forest.nil = []
 sorts (Forest.cons label inner rest) = sort_of label.kind ∷ sorts rest
 
--- a phrase of the category that may stand in a part
+-- a phrase of the category that may stand in a part of a program: it is well formed, and its canonical text not too
+-- long
 pub record IsPhrase (category : Category) (phrase : PlainPhrase) : Type 0 where
   pub well_formed : IsWellFormed category phrase
   pub short : length (Canon phrase) ≤ longest_phrase
 
--- whether a part of the category may be empty: an assignment never is
+-- whether in a program a part of the category may be empty: an assignment never is
 abbrev pub may_be_empty : Category → Bool
 may_be_empty Assignment = false
 may_be_empty Condition = true
@@ -48,24 +49,24 @@ may_be_empty NameList = true
 may_be_empty Length = true
 may_be_empty CommentText = true
 
--- what a part of the category may hold
+-- what a part of the category may hold in a program: a phrase, or nothing where it may be empty
 abbrev pub IsPart : Category → Option PlainPhrase → Type 0
 IsPart category None = IsTrue (may_be_empty category)
 IsPart category (Some phrase) = IsPhrase category phrase
 
--- the parts are of the categories, one by one
+-- the parts of a node hold what their row asks for: a phrase of each of the categories, one by one, or nothing
 abbrev pub AreParts : List Category → List (Option PlainPhrase) → Type 0
 AreParts [] [] = Unit {0}
 AreParts [] (part ∷ parts) = ⊥
 AreParts (category ∷ categories) [] = ⊥
 AreParts (category ∷ categories) (part ∷ parts) = IsPart category part × AreParts categories parts
 
--- the items of one section: one of its sort, or one or more
+-- the items are what one section of a row asks for: one of its sort, or one or more
 abbrev pub AreItems : Amount → Sort → List Sort → Type 0
 AreItems Amount.One sort items = items ≡ sort ∷ []
 AreItems Amount.Many sort items = (1 ≤ length items) × All (λ item. item ≡ sort) items
 
--- the items are those of the sections, one section after the other
+-- the items are what the sections of a row ask for, one section after the other
 abbrev pub Fill : List PlainSection → List Sort → Type 0
 Fill [] items = items ≡ []
 Fill (section ∷ sections) items =
@@ -86,7 +87,7 @@ AreNodes (Forest.cons label inner rest) = IsNode label (sorts inner) × AreNodes
 abbrev pub IsSubtree : PlainNode → Type 0
 IsSubtree node = IsNode node.label (sorts node.inner) × AreNodes node.inner
 
--- the nodes are a program: main, and a list of procedures
+-- the nodes are a program: main, and a list of procedures, each node what its row asks for
 pub record IsProgram (items : Forest) : Type 0 where
   pub listed : Fill program_sections (sorts items)
   pub sound : AreNodes items

@@ -1,4 +1,4 @@
--- Receipts of edits, and the tree before an edit.
+-- Receipts of edits, and how edits are undone by them: the tree before an edit, and the room that undoing takes.
 use Rattle.std.specs.Prelude.{ℕ, ◌<◌, List, [], ◌∷◌, Option, Some, None, slice_get}
 use Rattle.std.specs.Option.{option_map_or}
 use Rattle.plcs_grammar.specs.PlainPhrase.{PlainPhrase}
@@ -18,7 +18,8 @@ pub data PlainUndoing : Type 0 where
   take_out : PlainUndoing
   put_in : Side → PlainNode → PlainUndoing
 
--- a receipt: the change that it is of, where and how that is undone, and how many slots were drawn and live before
+-- a receipt as plain data: the change that it is of, where and how that is undone, and how many slots were drawn and
+-- live before
 pub record PlainReceipt : Type 0 where
   pub change : Change
   pub path : List ℕ
@@ -26,17 +27,18 @@ pub record PlainReceipt : Type 0 where
   pub drawn : ℕ
   pub live : ℕ
 
--- an item with a node beside it
+-- an item with a node put in beside it, as a dropped hole comes back
 abbrev pub with_beside : Side → PlainNode → PlainNode → List PlainNode
 with_beside Side.Before node item = node ∷ (item ∷ [])
 with_beside Side.After node item = item ∷ (node ∷ [])
 
--- the node that comes back, where one was given out, or else the one that is there
+-- the node that comes back where an edit is undone: the one that was given out, if one was, or else the one that is
+-- there
 abbrev pub node_back : Option PlainNode → PlainNode → PlainNode
 node_back None item = item
 node_back (Some node) item = roomless_node node
 
--- what stands again in place of a node, without the room of lists
+-- what stands again in place of a node once an edit is undone, without the room of lists
 abbrev pub items_before : PlainUndoing → Option PlainNode → PlainNode → List PlainNode
 items_before (PlainUndoing.put node) back item = node ∷ []
 items_before PlainUndoing.put_back back item = node_back back item ∷ []
@@ -55,14 +57,15 @@ undone receipt back tree =
       live = receipt.live;
     }
 
--- the room of the list in which the node at a path stands, or would stand; the first is the room of the outermost list
+-- how much room there is where an edit is to be undone: that of the list in which the node at a path stands, or would
+-- stand; the first is the room of the outermost list
 abbrev pub list_room : ℕ → Forest → List ℕ → ℕ
 list_room spare items [] = 0
 list_room spare items (k ∷ []) = spare
 list_room spare items (k ∷ (j ∷ path)) =
     option_map_or (λ node. list_room node.label.spare node.inner (j ∷ path)) (slice_get (nodes items) k) 0
 
--- a list to which a hole comes back has room for it
+-- a list to which a hole comes back, where an edit is undone, has room for it
 abbrev pub HasRoomBack : PlainUndoing → ℕ → Type 0
 HasRoomBack (PlainUndoing.put_in side hole) room = 0 < room
 HasRoomBack other room = Unit {0}

@@ -21,7 +21,7 @@ RoomGoesOnce = (items : Forest) → roomless (roomless items) ≡ roomless items
 abbrev pub TreesIgnoreRoom : Type 0
 TreesIgnoreRoom = (tree : PlainTree) → IsTree tree ↔ IsTree (roomless_tree tree)
 
--- as many nodes stand there without room
+-- there are as many nodes without room
 abbrev pub CountsIgnoreRoom : Type 0
 CountsIgnoreRoom = (items : Forest) → count (roomless items) ≡ count items
 
@@ -29,7 +29,7 @@ CountsIgnoreRoom = (items : Forest) → count (roomless items) ≡ count items
 abbrev pub NodesIgnoreRoom : Type 0
 NodesIgnoreRoom = (items : Forest) (path : List ℕ) → node_at (roomless items) path ≡ option_map roomless_node (node_at items path)
 
--- the slot at a path is that slot
+-- the slot at a path is the same without room
 abbrev pub SlotsIgnoreRoom : Type 0
 SlotsIgnoreRoom = (items : Forest) (path : List ℕ) → slot_at (roomless items) path ≡ slot_at items path
 

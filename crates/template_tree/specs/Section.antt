@@ -4,7 +4,7 @@ use Rattle.plcs_grammar.specs.declared.node_kind.Sort.{Sort}
 use Rattle.plcs_grammar.specs.declared.row.Amount.{Amount}
 use Rattle.plcs_grammar.specs.Template.{PlainSection}
 
--- whether two sorts are one
+-- whether the sort of a section and that of an item are the same
 abbrev pub same_sort : Sort → Sort → Bool
 same_sort Sort.Main Sort.Main = true
 same_sort Sort.Procedure Sort.Procedure = true
@@ -17,18 +17,18 @@ abbrev pub left_for : Sort → List PlainSection → List PlainSection
 left_for sort [] = []
 left_for sort (section ∷ sections) = if same_sort section.sort sort then section ∷ sections else left_for sort sections
 
--- the sections that are left after an item of this one: the others, where it holds one; a list goes on, and the line
--- before it is written already
+-- the sections that are left after an item of the one section: the others, where it holds one item; a list goes on, and
+-- the line before it is written already
 abbrev pub left_in : Amount → PlainSection → List PlainSection → List PlainSection
 left_in Amount.One section sections = sections
 left_in Amount.Many section sections = record section { lead = None } ∷ sections
 
--- the sections that are left after an item of the first
+-- the sections that are left after an item of the first one among them
 abbrev pub left_after : List PlainSection → List PlainSection
 left_after [] = []
 left_after (section ∷ sections) = left_in section.amount section sections
 
--- the line before the next item, if there is one
+-- the line that the section of the next item has before it, if it has one that isn't written yet
 abbrev pub next_lead : List PlainSection → Option (List ℕ)
 next_lead [] = None
 next_lead (section ∷ sections) = section.lead

@@ -7,17 +7,17 @@ abbrev pub count : Forest → ℕ
 count Forest.nil = 0
 count (Forest.cons label inner rest) = count inner + count rest + 1
 
--- how many numbers the longest path has
+-- how deep nodes stand: how many numbers the longest path to one of them has
 abbrev pub depth : Forest → ℕ
 depth Forest.nil = 0
 depth (Forest.cons label inner rest) = max (depth inner + 1) (depth rest)
 
--- how often a slot stands
+-- how often a slot stands among nodes, those inside others too
 abbrev pub times : ℕ → Forest → ℕ
 times slot Forest.nil = 0
 times slot (Forest.cons label inner rest) = (if label.slot == slot then 1 else 0) + (times slot inner + times slot rest)
 
--- each slot is below the number
+-- each slot of the nodes, and of those inside them, is below the number
 abbrev pub AllBelow : ℕ → Forest → Type 0
 AllBelow number Forest.nil = Unit {0}
 AllBelow number (Forest.cons label inner rest) = (label.slot < number) × AllBelow number inner × AllBelow number rest

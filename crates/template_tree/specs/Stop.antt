@@ -22,7 +22,7 @@ pub record PlainStop : Type 0 where
   pub path : List ℕ
   pub part : Option ℕ
 
--- the plain form of a stop
+-- the plain form of a stop of the cursor
 abbrev pub plain_stop : Stop → PlainStop
 plain_stop stop = record { path = stop.path.items; part = stop.part }
 
@@ -44,7 +44,7 @@ abbrev pub part_stops : NodeKind → ℕ
 part_stops NodeKind.Assign = 0
 part_stops kind = length (parts_of (row_of kind).line)
 
--- a node that stands inside the item of this number
+-- a visible node inside the item of this number, as it is seen from outside of that
 abbrev pub inside : ℕ → VisibleNode → VisibleNode
 inside k node = record node { path = k ∷ node.path }
 
@@ -60,7 +60,7 @@ visible_nodes left k line (Forest.cons label inner rest) =
     ∷ (if label.elided then [] else visible_nodes (row_of label.kind).sections 0 (first + 1) inner))
     ++ visible_nodes (left_after here) (k + 1) (line + length (lines true 0 left (Forest.cons label inner Forest.nil))) rest
 
--- the stops of a node: its own, then its parts
+-- the stops of a visible node: its own, then its parts
 abbrev pub stops_of : VisibleNode → List VisibleStop
 stops_of node =
     record { stop = record { path = node.path; part = None }; line = node.line }
@@ -78,13 +78,13 @@ listed_stop stops stop = find (λ listed. same_stop listed.stop stop) stops
 abbrev pub line_at : Forest → PlainStop → ℕ
 line_at items stop = option_map_or (λ listed. listed.line) (listed_stop (Stops items) stop) 0
 
--- the node at the path below a node, where nothing on the way to it is elided
+-- the visible node at the path below a node: nothing on the way to it is elided
 abbrev pub visible_below : PlainNode → List ℕ → Option PlainNode
 visible_below node [] = Some node
 visible_below node (k ∷ path) =
     if node.label.elided then None else option_and_then (λ item. visible_below item path) (slice_get (nodes node.inner) k)
 
--- the node at the path, where nothing on the way to it is elided
+-- the visible node at the path: nothing on the way to it is elided
 abbrev pub visible_at : Forest → List ℕ → Option PlainNode
 visible_at items [] = None
 visible_at items (k ∷ path) = option_and_then (λ item. visible_below item path) (slice_get (nodes items) k)

@@ -6,21 +6,22 @@ use Rattle.template_tree.specs.declared.change.What.{What}
 use Rattle.template_tree.specs.PlainTree.{PlainNode, PlainTree, roomless_node}
 use Rattle.template_tree.specs.Edit.{Put, Add, Drop, Part}
 
--- an edit at a node: another node comes into its slot, a hole comes beside it, it is dropped, or a part of it is set
+-- an edit at a node, one of four: another node comes into its slot, a hole comes beside it, it is dropped, or a part of
+-- it is set
 pub data TreeEdit : Type 0 where
   put : PlainNode → TreeEdit
   add : Side → TreeEdit
   drop : TreeEdit
   set_part : ℕ → Option PlainPhrase → TreeEdit
 
--- the tree after an edit at the node in the slot
+-- the tree after an edit, whichever of the four it is, at the node in the slot
 abbrev pub tree_after : TreeEdit → PlainTree → ℕ → PlainTree
 tree_after (TreeEdit.put node) tree slot = Put tree slot node
 tree_after (TreeEdit.add side) tree slot = Add tree slot side
 tree_after TreeEdit.drop tree slot = Drop tree slot
 tree_after (TreeEdit.set_part part place) tree slot = Part tree slot part place
 
--- what an edit does
+-- which of the four an edit is, as its change says what it did
 abbrev pub what_of : TreeEdit → What
 what_of (TreeEdit.put node) = What.Node
 what_of (TreeEdit.add side) = What.Added

@@ -14,18 +14,18 @@ use Rattle.template_tree.specs.KindTable.{builtin_row, infix_gives, infix_takes,
 
 -- ---- what is found in turn
 
--- what is made of what one part gives: an offence in the part comes first
+-- what is found behind one part of a phrase: an offence in the part comes first
 abbrev pub then_found : {A B : Type 0} → Result A MarkKind → (A → Result B MarkKind) → Result B MarkKind
 then_found (Ok a) make = make a
 then_found (Err offence) make = Err offence
 
--- what is made of what two parts give: an offence in the first part comes first, and then one in the second
+-- what is found behind two parts of a phrase: an offence in the first part comes first, and then one in the second
 abbrev pub both_found : {A B C : Type 0} → Result A MarkKind → Result B MarkKind → (A → B → Result C MarkKind) → Result C MarkKind
 both_found (Ok a) (Ok b) make = make a b
 both_found (Ok a) (Err offence) make = Err offence
 both_found (Err offence) other make = Err offence
 
--- the offence that was found, if one was
+-- the offence that was found in a part of a phrase, if one was
 abbrev pub offence_in : {A : Type 0} → Result A MarkKind → Option MarkKind
 offence_in (Ok a) = None
 offence_in (Err offence) = Some offence
@@ -37,50 +37,52 @@ abbrev pub item_found : List Declared → List ℕ → Result Declared MarkKind
 item_found items name =
     if is_builtin_name name then Err MarkKind.Reserved else ok_or (item_named name items) MarkKind.Undeclared
 
--- the kind of an item that stands without a subscript
+-- the kind found for an item that stands without a subscript, or that it needs one
 abbrev pub scalar_found : Declared → Result Kind MarkKind
 scalar_found item = if item.size == 0 then Ok (kind_of_type item.ty) else Err MarkKind.NeedsSubscript
 
--- the kind of an item that stands with a subscript
+-- the kind found for an item that stands with a subscript, or that it is no array
 abbrev pub cell_found : Declared → Result Kind MarkKind
 cell_found item = if item.size == 0 then Err MarkKind.NotArray else Ok (kind_of_type item.ty)
 
--- the kind of a name without a subscript
+-- the kind found for a name without a subscript, or its offence
 abbrev pub name_kind : List Declared → List ℕ → Result Kind MarkKind
 name_kind items name = then_found (item_found items name) scalar_found
 
--- the kind of a name with a subscript
+-- the kind found for a name with a subscript, or its offence
 abbrev pub array_kind : List Declared → List ℕ → Result Kind MarkKind
 array_kind items name = then_found (item_found items name) cell_found
 
 -- ---- expressions
 
--- what is found where this kind is wanted
+-- the kind that was found where this kind is wanted, or a mismatch of types
 abbrev pub of_kind : Kind → Kind → Result Kind MarkKind
 of_kind kind found = if same_kind kind found then Ok found else Err MarkKind.TypeMismatch
 
--- whether two kinds are right where two of this kind are taken, or two of any one kind
+-- whether the kinds found left and right of an infix operator fit, where it takes two of this kind, or two of any one
+-- kind
 abbrev pub is_pair : Option Kind → Kind → Kind → Bool
 is_pair None left right = same_kind left right
 is_pair (Some kind) left right = same_kind kind left && same_kind kind right
 
--- the kind that an infix operator gives for two kinds
+-- the kind found for an infix operator between operands of two kinds, or a mismatch of types
 abbrev pub infix_found : InfixOp → Kind → Kind → Result Kind MarkKind
 infix_found op left right =
     if is_pair (infix_takes op) left right then Ok (infix_gives op) else Err MarkKind.TypeMismatch
 
--- whether so many arguments are right where so many are taken, and perhaps one more
+-- whether the number of arguments that were found is right where so many are taken, and perhaps one more
 abbrev pub is_count : ℕ → Option Kind → ℕ → Bool
 is_count taken None count = count == taken
 is_count taken (Some kind) count = (count == taken) || (count == taken + 1)
 
--- whether the kinds are those that are taken, one by one, as far as there are both
+-- whether the arguments that were found have the kinds that are taken, one by one, as far as there are both
 abbrev pub fit : List Kind → List Kind → Bool
 fit [] kinds = true
 fit (kind ∷ taken) [] = true
 fit (kind ∷ taken) (found ∷ kinds) = same_kind kind found && fit taken kinds
 
--- the kind that a built-in function gives for arguments of these kinds: their number comes before their kinds
+-- the kind found for a built-in function with arguments of these kinds, or its offence: their number comes before their
+-- kinds
 abbrev pub builtin_found : Builtin → List Kind → Result Kind MarkKind
 builtin_found function kinds =
     if is_count (length (builtin_row function).takes) (builtin_row function).perhaps (length kinds)
@@ -114,7 +116,7 @@ abbrev mutual
 
 -- ---- phrases in statements
 
--- the first offence in variables
+-- the first offence in a list of variables
 abbrev pub references_offence : List Declared → List PlainVarRef → Option MarkKind
 references_offence items [] = None
 references_offence items (reference ∷ rest) =
@@ -150,7 +152,7 @@ parameter_offence items all name =
     else (if nat_lt 1 (count_by (bytes_eq name) all) then Some MarkKind.Duplicate
     else (if is_some (option_and_then scalar_kind (item_named name items)) then None else Some MarkKind.ParameterUndeclared))
 
--- the first offence of parameters of the list
+-- the first offence of a list of parameters
 abbrev pub parameters_offence : List Declared → (all : List (List ℕ)) → List (List ℕ) → Option MarkKind
 parameters_offence items all [] = None
 parameters_offence items all (name ∷ rest) =

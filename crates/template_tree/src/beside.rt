@@ -1,4 +1,4 @@
-//! Paths to the items beside an item.
+//! Paths to the items beside an item of a list, and on which side of them it stood.
 ghost use Rattle.std.specs.Prelude.{◌≡◌, ◌<◌, pred, suc};
 ghost use Rattle.template_tree.specs.Path.{added_path, last_of, with_last};
 ghost use Rattle.template_tree.specs.Private.Beside.{side_of};
@@ -7,7 +7,7 @@ use crate::exchange::copied;
 use crate::path::Path;
 use crate::side::Side;
 
-/// Where a node stands that came on this side of the one at the path.
+/// The path beside a path: where a node stands that came on this side of the item there.
 pub fn added_path(side: Side, path: &Path) -> Path
     requires small { last_of path.now.items < 4294967295 }
     ensures { result.items ≡ added_path side path.now.items }
@@ -18,7 +18,7 @@ pub fn added_path(side: Side, path: &Path) -> Path
     }
 }
 
-/// The path to the next item.
+/// The path to the item behind the one at the path, in the same list.
 fn next_path(path: &Path) -> Path
     requires small { last_of path.now.items < 4294967295 }
     ensures { result.items ≡ with_last suc path.now.items }
@@ -42,7 +42,7 @@ pub fn path_before(path: &Path) -> Path
     before
 }
 
-/// On which side of the item there the one at the path stood.
+/// On which side of the item at `path_before` the item at the path stood, before it left its list.
 pub(crate) fn side_left(path: &Path) -> Side
     ensures { result ≡ side_of (last_of path.now.items) }
 {

@@ -1,4 +1,4 @@
-//! Nodes and trees built from their leaves.
+//! Nodes and trees built from their leaves, and the slots that are drawn for nodes.
 ghost use Rattle.std.specs.Prelude.{◌≡◌, ◌+◌, ◌≤◌, IfErr, IfOk, map};
 ghost use Rattle.template_tree.specs.Build.{Over, built_label, built_tree};
 ghost use Rattle.template_tree.specs.Limit.{deepest_path, most_slots};
@@ -16,12 +16,12 @@ use crate::tree::Tree;
 use plcs_base::Slot;
 use plcs_grammar::NodeKind;
 
-/// The limit of a tree that nodes are over.
+/// The limit that the items are over of which a tree was to be built.
 #[derive(Clone, Copy, Debug, PartialEq, Eq)]
 pub enum OverLimit {
-    /// A path would have more than 64 numbers.
+    /// A path to one of the items, or to a node inside, would have more than 64 numbers.
     TooDeep,
-    /// More than 20,000 slots would be live.
+    /// The items, with the nodes inside, are more than 20,000.
     TooLarge,
 }
 
@@ -68,7 +68,7 @@ impl Tree {
     }
 }
 
-/// Gives the nodes the slots from this number on in listing order, and says which number is next.
+/// Draws the slots of the nodes, from this number on in listing order, and says which number is next.
 pub(crate) fn draw_slots(list: &mut Nodes, first: u32) -> u32
     requires few { first + count (forest list.old.items) ≤ 4294967295 }
     ensures drawn { list.new ≡ record list.old { items = nodes (with_slots_from first (forest list.old.items)) } }

@@ -2,7 +2,7 @@
 
 use plcs_base::Slot;
 
-/// What was done.
+/// What an edit did with the node or the item in a slot.
 #[derive(Clone, Copy, Debug, PartialEq, Eq)]
 pub enum What {
     /// Another node came into the slot.
@@ -15,13 +15,13 @@ pub enum What {
     Dropped,
 }
 
-/// What an edit changed, and where.
+/// The change that an edit made: what it did, and where.
 #[derive(Clone, Copy, Debug, PartialEq, Eq)]
 pub struct Change {
     /// The slot of the node, or of the item that was added or dropped.
     pub slot: Slot,
     /// The slot of main, the procedure or the procedure hole that the slot is or stands in.
     pub procedure: Slot,
-    /// What was done.
+    /// What was done there.
     pub what: What,
 }

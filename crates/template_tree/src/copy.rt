@@ -19,8 +19,8 @@ use plcs_grammar::copy_phrase;
 use std::alloc::Global;
 
 impl Tree {
-    /// An equal node to the one at the path, with what stands inside it; nothing in it is elided.
-    /// `NotHere` where no node stands there, and at main and at a hole; else `OutOfMemory` may come.
+    /// A copy of the node at the path, with what stands inside it; nothing in it is elided. `NotHere`
+    /// where no node stands there, and at main and at a hole; else `OutOfMemory` may come.
     pub fn copy_node(&self, alloc: Global, path: &Path) -> Result<Node, TreeFault>
         requires tree { IsTree self.now }
         ensures copied { IfOk result (λ copy. IsSomeAnd (node_at self.now.items path.now.items) (λ node. IsCopy node copy)) }
@@ -41,7 +41,7 @@ impl Tree {
 }
 
 impl Node {
-    /// An equal node, with what stands inside it; nothing in it is elided.
+    /// A copy of the node, with what stands inside it; nothing in it is elided.
     pub fn copy(&self, alloc: Global) -> Result<Node, OutOfMemory>
         ensures copied { IfOk result (λ copy. IsCopy self.now copy) }
         ensures subtree { IfOk result (λ copy. IsSubtree self.now → IsSubtree copy) }
@@ -77,7 +77,7 @@ fn copy_places(alloc: Global, places: &[PhrasePlace]) -> Result<Vec<PhrasePlace>
     Ok(copies)
 }
 
-/// A copy of what stands in a part.
+/// A copy of what stands in a part of a node.
 fn copy_place(alloc: Global, place: &PhrasePlace) -> Result<PhrasePlace, OutOfMemory>
     ensures { IfOk result (λ copy. plain_place copy ≡ plain_place place.now) }
 {

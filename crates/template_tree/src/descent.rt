@@ -12,7 +12,7 @@ ghost use Rattle.template_tree.specs.Path.{below};
 use crate::node::{Node, Nodes};
 use std::marker::PhantomData;
 
-/// Lends the node at a path below an item of a list.
+/// A descent: lends the node at a path below an item of a list.
 pub(crate) trait Descent {
     ghost limit: { ℕ };
 
@@ -22,13 +22,13 @@ pub(crate) trait Descent {
         ensures found { option_map (λ node. node.now) result ≡ option_and_then (λ item. below item path.now) (slice_get list.old.items k) };
 }
 
-/// Lends the item itself.
+/// The descent of no step: lends the item itself.
 pub(crate) struct Here;
 
-/// Goes twice as far as `D`, and one step.
+/// The descent that goes twice as far as `D`, and one step.
 pub(crate) struct Twice<D>(PhantomData<D>);
 
-/// Goes 63 steps below an item: to the end of the longest path.
+/// The descent that goes 63 steps below an item: to the end of the longest path.
 pub(crate) type Deepest = Twice<Twice<Twice<Twice<Twice<Twice<Here>>>>>>;
 
 impl Descent for Here {
@@ -53,7 +53,8 @@ impl<D: Descent> Descent for Twice<D> {
     }
 }
 
-/// The numbers before the middle one, that one, and the others; `None` where there are none.
+/// A path in halves: the numbers before the middle one, that one, and the others; `None` where there are
+/// none.
 fn halves(path: &[u32]) -> Option<(&[u32], u32, &[u32])>
     ensures parts { IfSome result (λ p. path.now ≡ p.0.now ++ (p.1 ∷ p.2.now)) }
     ensures short { IfSome result (λ p. (length p.0.now + length p.0.now ≤ length path.now) × (length p.2.now + length p.2.now + 1 ≤ length path.now)) }

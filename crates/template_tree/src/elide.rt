@@ -1,4 +1,4 @@
-//! Refinements that are hidden.
+//! Comments whose refinements are hidden or shown.
 ghost use Rattle.std.specs.Prelude.{◌≡◌, ◌∷◌, [], option_and_then};
 ghost use Rattle.template_tree.specs.Elision.{hidden_after_turn, turn, with_turn_at};
 ghost use Rattle.template_tree.specs.Path.{node_at};
@@ -26,8 +26,8 @@ impl Tree {
 }
 
 impl Node {
-    /// Hides its refinement or shows it again, where it is a comment, and tells whether it is hidden
-    /// now.
+    /// Hides the refinement of this node or shows it again, where it is a comment, and tells whether it
+    /// is hidden now.
     fn turn(&mut self) -> Option<bool>
         ensures told { result ≡ hidden_after_turn self.old }
         ensures turned { turn self.old ≡ self.new ∷ [] }

@@ -1,4 +1,4 @@
-//! A node that comes in place of another.
+//! A node that comes in place of another, and what the change of an edit says.
 ghost use Rattle.std.specs.Prelude.{◌≡◌, ◌+◌, ◌≤◌, IfSome, IsSomeAnd, None, Some};
 ghost use Rattle.template_tree.specs.Edit.{Put, node_in_slot, whole};
 ghost use Rattle.template_tree.specs.EditAnswer.{IsEdit, slot_in};
@@ -62,8 +62,8 @@ impl Tree {
         (old, Change::of_node(slot, procedure))
     }
 
-    /// The slot of main, the procedure or the procedure hole on the way of the path, or 0 where the path
-    /// leads nowhere.
+    /// The procedure that the change of an edit tells: the slot of main, the procedure or the procedure
+    /// hole on the way of the path, or 0 where the path leads nowhere.
     #[tactic(auto, using(crate::specs::PlainTree::nodes_forest))]
     pub(crate) fn procedure_at(&self, path: &Path) -> Slot
         ensures { IfSome (first_item self.now.items path.now.items) (λ item. result.0 ≡ item.label.slot) }
@@ -79,7 +79,7 @@ impl Tree {
 }
 
 impl Change {
-    /// The change of a node in a slot of the procedure.
+    /// The change of an exchange: another node came into a slot of the procedure.
     fn of_node(slot: Slot, procedure: Slot) -> Change
         ensures { result ≡ record { slot = slot; procedure = procedure; what = What.Node } }
     {
@@ -92,7 +92,7 @@ impl Change {
 }
 
 impl Node {
-    /// Makes it a node that comes into the slot: the nodes inside take the slots from this number on,
+    /// Makes the node one that comes into the slot: the nodes inside take the slots from this number on,
     /// and nothing in it is elided. Says which number is next.
     fn settle(&mut self, slot: Slot, first: u32) -> u32
         requires few { first + count self.old.inner ≤ 4294967295 }
@@ -106,7 +106,7 @@ impl Node {
     }
 }
 
-/// Shows each refinement in the nodes again.
+/// Shows each refinement again in nodes that come in place of others.
 fn reveal(list: &mut Nodes)
     ensures { list.new ≡ record list.old { items = nodes (whole (forest list.old.items)) } }
 {
@@ -119,7 +119,7 @@ fn reveal(list: &mut Nodes)
     }
 }
 
-/// A copy of the path.
+/// A copy of the path of an edit.
 pub(crate) fn copied(path: &Path) -> Path
     ensures { result.items ≡ path.now.items }
 {

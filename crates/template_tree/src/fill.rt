@@ -61,7 +61,8 @@ impl Tree {
 }
 
 impl Node {
-    /// A node of the kind with its parts empty, and with a hole in each section of its row.
+    /// A fresh node of the kind, to fill a hole: its parts are empty, and a hole stands in each section
+    /// of its row.
     fn fresh(alloc: Global, kind: NodeKind) -> Result<Node, OutOfMemory>
         ensures { IfOk result (λ node. roomless_node node ≡ fresh_node kind) }
     {
@@ -76,7 +77,7 @@ impl Node {
     }
 }
 
-/// Nothing in each part of a line.
+/// The parts of a fresh node: nothing in each part of its line.
 fn empty_parts(alloc: Global, line: &[Segment]) -> Result<Vec<PhrasePlace>, OutOfMemory>
     ensures { IfOk result (λ parts. map plain_place parts.items ≡ map (λ _. None) (parts_of (map plain_segment line.now))) }
 {
@@ -91,7 +92,7 @@ fn empty_parts(alloc: Global, line: &[Segment]) -> Result<Vec<PhrasePlace>, OutO
     Ok(parts)
 }
 
-/// A hole in each of the sections.
+/// The holes inside a fresh node: one in each of the sections.
 fn holes(alloc: Global, sections: &[Section]) -> Result<Nodes, OutOfMemory>
     ensures { IfOk result (λ list. roomless (forest list.items) ≡ section_holes (map plain_section sections.now)) }
 {
@@ -100,7 +101,7 @@ fn holes(alloc: Global, sections: &[Section]) -> Result<Nodes, OutOfMemory>
     Ok(list)
 }
 
-/// Puts a hole for each of the sections at the end.
+/// Puts a fresh node's hole for each of the sections at the end of its list.
 fn push_holes(list: &mut Nodes, alloc: Global, sections: &[Section]) -> Result<(), OutOfMemory>
     ensures { OnOk result (roomless (forest list.new.items) ≡ join (roomless (forest list.old.items)) (section_holes (map plain_section sections.now))) }
 {
@@ -111,7 +112,7 @@ fn push_holes(list: &mut Nodes, alloc: Global, sections: &[Section]) -> Result<(
     push_holes(list, alloc, others)
 }
 
-/// Puts the hole of the section's sort, if there is one, at the end.
+/// Puts a fresh node's hole of the section's sort, if there is one, at the end of its list.
 fn push_hole(list: &mut Nodes, alloc: Global, section: &Section) -> Result<(), OutOfMemory>
     ensures { OnOk result (roomless (forest list.new.items) ≡ join (roomless (forest list.old.items)) (forest (hole_list 0 (hole_of section.now.sort)))) }
 {
@@ -124,7 +125,7 @@ fn push_hole(list: &mut Nodes, alloc: Global, section: &Section) -> Result<(), O
     Ok(())
 }
 
-/// How many holes the sections hold at first, as far as the type goes.
+/// How many holes stand inside a fresh node with these sections, as far as the type goes.
 fn hole_count(sections: &[Section]) -> u32
     ensures { result ≡ min (count (section_holes (map plain_section sections.now))) 4294967295 }
 {

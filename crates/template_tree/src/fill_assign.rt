@@ -60,7 +60,7 @@ fn takes_assignments(kind: NodeKind) -> bool
     kind == NodeKind::StatementHole || kind == NodeKind::Assign
 }
 
-/// Whether the phrase is an assignment.
+/// Whether the phrase that is to be filled in is an assignment.
 fn is_assignment_phrase(phrase: &Phrase) -> bool
     ensures { IsTrue result ↔ (category_of (plain_phrase phrase.now) ≡ Category.Assignment) }
 {
@@ -68,7 +68,7 @@ fn is_assignment_phrase(phrase: &Phrase) -> bool
 }
 
 impl Node {
-    /// The assignment, or the phrase back where there is no memory for it.
+    /// The assignment as a node, or the phrase back where there is no memory for it.
     fn assignment(alloc: Global, phrase: Phrase) -> Result<Node, Phrase>
         ensures assignment { IfOk result (λ node. roomless_node node ≡ assignment_node (plain_phrase phrase)) }
         ensures refused { IfErr result (λ back. back ≡ phrase) }

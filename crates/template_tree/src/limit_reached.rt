@@ -65,7 +65,8 @@ pub(crate) fn is_within_depth(nodes: &[Node], most: u32) -> bool
     true
 }
 
-/// How many slots are left of so many when each node has one, or `None` where they are too few.
+/// How many slots are left of so many that may be live, when each node has one, or `None` where they are
+/// too few.
 pub(crate) fn slots_left(nodes: &[Node], slots: u32) -> Option<u32>
     ensures left { IfSome result (λ left. left + count (forest nodes.now) ≡ slots) }
     ensures few { IfNone result (slots < count (forest nodes.now)) }

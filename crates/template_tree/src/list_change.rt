@@ -29,8 +29,8 @@ impl Nodes {
         node.inner.remove_at(*next as usize, rest)
     }
 
-    /// Puts a node beside the one at a path, into room of its list. Nothing is put in where no node is
-    /// there.
+    /// Puts a node beside the one at a path, into room of its list: `k` is the first number of the path,
+    /// and `path` are the others. Nothing is put in where no node is there.
     pub(crate) fn insert_at(&mut self, k: usize, path: &[u32], side: Side, node: Node)
         requires room { 0 < list_room self.old.spare (forest self.old.items) (k ∷ path.now) }
         ensures { roomless (forest self.new.items) ≡ edit_at (with_beside side (roomless_node node)) (k ∷ path.now) (roomless (forest self.old.items)) }
@@ -45,7 +45,8 @@ impl Nodes {
         there.inner.insert_at(*next as usize, rest, side, node);
     }
 
-    /// Puts a node beside the one at a path, and takes memory for it.
+    /// Puts a node into the list of the one at a path, beside that one, and takes memory for it: `k` is
+    /// the first number of the path, and `path` are the others.
     pub(crate) fn add_at(
         &mut self,
         k: usize,
@@ -67,7 +68,7 @@ impl Nodes {
         there.inner.add_at(*next as usize, rest, side, node)
     }
 
-    /// Takes the node of this number out, if there is one.
+    /// At the end of a path: takes the node of this number out of its list, if there is one.
     fn take_out(&mut self, k: usize) -> Option<Node>
         ensures taken { result ≡ slice_get self.old.items k }
         ensures others { IfSome result (λ _. self.new ≡ without_item self.old k) }
@@ -79,7 +80,8 @@ impl Nodes {
         None
     }
 
-    /// Puts a node beside the one of this number, if there is one.
+    /// At the end of a path: puts a node beside the one of this number into room of its list, if there
+    /// is one.
     fn insert_beside(&mut self, k: usize, side: Side, node: Node)
         requires room { 0 < self.old.spare }
         ensures { forest self.new.items ≡ edit_at (with_beside side node) (k ∷ []) (forest self.old.items) }

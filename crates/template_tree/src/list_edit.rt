@@ -104,7 +104,7 @@ impl Tree {
 }
 
 impl Tree {
-    /// Whether a hole in a list of two or more is at the path.
+    /// Whether the node at the path may be dropped: it is a hole in a list of two or more.
     fn is_spare_hole(&self, path: &Path) -> bool
         requires tree { IsTree self.now }
         ensures { IsTrue result ↔ IsSomeAnd (node_at self.now.items path.now.items) (IsSpareHole self.now.items path.now.items) }
@@ -122,7 +122,8 @@ impl Tree {
         are_two(sort, self.siblings_at(path))
     }
 
-    /// Puts a node beside the one at the path, and takes memory for it; the counts stay.
+    /// Puts the hole that is added beside the item at the path, and takes memory for it; the tree's
+    /// counts stay.
     fn add_beside(&mut self, path: &Path, side: Side, node: Node) -> Result<(), OutOfMemory>
         ensures added { IfOk result (λ _. roomless_tree self.new ≡ with_edit (with_beside side (roomless_node node)) path.now.items (roomless_tree self.old)) }
         ensures refused { IfErr result (λ _. self.new ≡ self.old) }
@@ -133,7 +134,8 @@ impl Tree {
         self.items.add_at(*k as usize, rest, side, node)
     }
 
-    /// Takes the node at the path out of its list, if one is there; the counts stay.
+    /// Takes the hole that is dropped out of the list at the path, if one is there; the tree's counts
+    /// stay.
     fn drop_item(&mut self, path: &Path) -> Option<Node>
         ensures taken { result ≡ node_at self.old.items path.now.items }
         ensures others { roomless_tree self.new ≡ with_edit (λ _. []) path.now.items (roomless_tree self.old) }

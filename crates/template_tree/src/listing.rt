@@ -33,7 +33,7 @@ impl Tree {
     }
 }
 
-/// Puts the lines of nodes in order, for which these sections are left.
+/// Puts the lines of the listing that nodes in order have, for which these sections are left.
 #[cycle(lines)]
 fn put_nodes<O: ByteOut>(nodes: &[Node], level: u32, sections: SectionsLeft, out: &mut O)
     requires shallow { level + depth (forest nodes.now) ≤ deepest_path }
@@ -48,7 +48,7 @@ fn put_nodes<O: ByteOut>(nodes: &[Node], level: u32, sections: SectionsLeft, out
     }
 }
 
-/// Puts the lines of a node, without the line before it.
+/// Puts the lines of the listing that a node has, without the line before it.
 #[cycle(lines)]
 fn put_node<O: ByteOut>(node: &Node, level: u32, out: &mut O)
     requires shallow { level + depth node.now.inner < deepest_path }
@@ -63,7 +63,7 @@ fn put_node<O: ByteOut>(node: &Node, level: u32, out: &mut O)
     put_fixed_line(row.last, level, out);
 }
 
-/// Puts the line, if there is one.
+/// Puts the fixed line of the listing that the table of templates has as it stands, if there is one.
 fn put_fixed_line<O: ByteOut>(text: Option<&[u8]>, level: u32, out: &mut O)
     ensures { PutsAll O.puts out.old (bytes_of (fixed_line level (option_map (λ bytes. bytes.now) text.entry))) out.new }
 {
@@ -74,7 +74,7 @@ fn put_fixed_line<O: ByteOut>(text: Option<&[u8]>, level: u32, out: &mut O)
     }
 }
 
-/// Puts the blanks before a line of the level.
+/// Puts the blanks before a line of the listing at the level.
 fn put_blanks<O: ByteOut>(level: u32, out: &mut O)
     ensures { PutsAll O.puts out.old (replicate (2 * level) 32) out.new }
 {
@@ -83,7 +83,7 @@ fn put_blanks<O: ByteOut>(level: u32, out: &mut O)
     }
 }
 
-/// Puts the segments of a line, with these parts in them.
+/// Puts the segments of a line of the listing, with these parts in them.
 fn put_segments<O: ByteOut>(segments: &[Segment], parts: &[PhrasePlace], out: &mut O)
     ensures { PutsAll O.puts out.old (segments_text (map plain_segment segments.now) (map plain_place parts.now)) out.new }
 {
@@ -93,7 +93,7 @@ fn put_segments<O: ByteOut>(segments: &[Segment], parts: &[PhrasePlace], out: &m
     }
 }
 
-/// Puts a segment where these parts are left, and gives back those that are left after it.
+/// Puts a segment of a line where these parts are left, and gives back those that are left after it.
 fn put_segment<'a, O: ByteOut>(
     segment: Segment,
     parts: &'a [PhrasePlace],
@@ -117,7 +117,8 @@ fn put_segment<'a, O: ByteOut>(
     others
 }
 
-/// Puts what stands in a part, or the placeholder of its category where it is empty.
+/// Puts what the listing has for a part: its phrase, or the placeholder of its category where it is
+/// empty.
 fn put_part<O: ByteOut>(category: Category, part: &PhrasePlace, out: &mut O)
     ensures { PutsAll O.puts out.old (part_text category (plain_place part.now)) out.new }
 {

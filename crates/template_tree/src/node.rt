@@ -85,14 +85,14 @@ impl Node {
         }
     }
 
-    /// Its slot.
+    /// The slot of the node.
     pub fn slot(&self) -> Slot
         ensures { result.0 ≡ self.now.label.slot }
     {
         self.slot
     }
 
-    /// Its kind.
+    /// The kind of the node.
     pub fn kind(&self) -> NodeKind
         ensures { result ≡ self.now.label.kind }
     {
@@ -101,21 +101,21 @@ impl Node {
 }
 
 impl Node {
-    /// What stands in the part, or `None` where there is no such part.
+    /// What stands in the part of the node, or `None` where it has no such part.
     pub fn part(&self, part: u8) -> Option<&PhrasePlace>
         ensures { option_map (λ place. plain_place place.now) result ≡ slice_get self.now.label.parts part }
     {
         self.parts.get(part as usize)
     }
 
-    /// Whether it is a comment whose refinement is hidden.
+    /// Whether the node is a comment whose refinement is hidden.
     pub fn is_elided(&self) -> bool
         ensures { result ≡ self.now.label.elided }
     {
         self.elided
     }
 
-    /// How many nodes stand in it.
+    /// How many nodes stand inside the node, those inside them not counted.
     #[tactic(auto, using(crate::specs::PlainTree::nodes_forest))]
     pub fn children(&self) -> u32
         requires few { length (nodes self.now.inner) < 2 ^ 32 }
@@ -124,7 +124,8 @@ impl Node {
         self.inner.len() as u32
     }
 
-    /// The node of this number in it, counted from 0 in listing order, or `None` where there is none.
+    /// The node of this number inside the node, counted from 0 in listing order, or `None` where there
+    /// is none.
     #[tactic(auto, using(crate::specs::PlainTree::nodes_forest))]
     pub fn child(&self, k: u32) -> Option<&Node>
         ensures { option_map (λ node. node.now) result ≡ slice_get (nodes self.now.inner) k }
@@ -134,7 +135,7 @@ impl Node {
 }
 
 impl Nodes {
-    /// No nodes, which takes no memory.
+    /// A list of no nodes, which takes no memory.
     pub fn new(alloc: Global) -> Nodes
         ensures { result.items ≡ [] }
     {
@@ -143,21 +144,21 @@ impl Nodes {
         }
     }
 
-    /// How many nodes there are.
+    /// How many nodes the list has.
     pub(crate) fn len(&self) -> usize
         ensures { result ≡ length self.now.items }
     {
         self.list.len()
     }
 
-    /// All the nodes.
+    /// All the nodes of the list.
     pub(crate) fn as_slice(&self) -> &[Node]
         ensures { result.now ≡ self.now.items }
     {
         self.list.as_slice()
     }
 
-    /// The node of this number.
+    /// The node of this number in the list, or `None` where there is none.
     pub(crate) fn get(&self, k: usize) -> Option<&Node>
         ensures { option_map (λ node. node.now) result ≡ slice_get self.now.items k }
     {
@@ -166,7 +167,7 @@ impl Nodes {
 }
 
 impl Nodes {
-    /// Lends the node of this number.
+    /// Lends the node of this number in the list for writing, or `None` where there is none.
     pub(crate) fn get_mut(&mut self, k: usize) -> Option<&mut Node>
         ensures* writes_back { sem 𝓛 (LendsIf list_row.the_row node_row.the_row self.entry result (with_item self.old k) self.old) }
         ensures found { option_map (λ node. node.now) result ≡ slice_get self.old.items k }
@@ -174,7 +175,7 @@ impl Nodes {
         self.list.get_mut(k)
     }
 
-    /// Takes the node of this number out; those behind it close up, and its room stays.
+    /// Takes the node of this number out of the list; those behind it close up, and its room stays.
     pub(crate) fn remove(&mut self, k: usize) -> Node
         requires there { k < length self.old.items }
         ensures taken { Some result ≡ slice_get self.old.items k }
@@ -183,7 +184,7 @@ impl Nodes {
         self.list.remove(k)
     }
 
-    /// Puts a node in before the one of this number, into the room that is there.
+    /// Puts a node into the list before the one of this number, into the room that is there.
     pub(crate) fn insert_within(&mut self, k: usize, node: Node)
         requires there { k ≤ length self.old.items }
         requires room { 0 < self.old.spare }
@@ -208,7 +209,7 @@ impl Nodes {
         Ok(list)
     }
 
-    /// Takes memory for one node more.
+    /// Takes memory for one node more in the list.
     pub(crate) fn reserve_one(&mut self) -> Result<(), OutOfMemory>
         ensures room { OnOk result (0 < self.new.spare) }
         ensures items { self.new.items ≡ self.old.items }
@@ -220,7 +221,7 @@ impl Nodes {
         Ok(())
     }
 
-    /// Puts a node at the end, or gives it back where there is no memory for it.
+    /// Puts a node at the end of the list, or gives it back where there is no memory for it.
     pub fn push(&mut self, node: Node) -> Result<(), Node>
         ensures put { OnOk result (self.new.items ≡ self.old.items ++ node ∷ []) }
         ensures refused { IfErr result (λ back. (back ≡ node) × (self.new ≡ self.old)) }

@@ -55,7 +55,7 @@ impl Tree {
 }
 
 impl Node {
-    /// The node at the path below it.
+    /// The node found at the path below this one, or `None` where it has none there.
     #[tactic(auto, using(crate::specs::PlainTree::nodes_forest))]
     fn below(&self, path: &[u32]) -> Option<&Node>
         ensures { option_map (λ node. node.now) result ≡ below self.now path.now }

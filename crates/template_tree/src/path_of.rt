@@ -23,7 +23,7 @@ impl Tree {
     }
 }
 
-/// The path of the node in the slot, from the list on.
+/// The path found for a slot in the list of nodes, if one of them or of those inside them has it.
 #[cycle(find)]
 fn path_in(nodes: &[Node], slot: Slot) -> Option<Path>
     requires shallow { depth (forest nodes.now) ≤ deepest_path }
@@ -42,7 +42,7 @@ fn path_in(nodes: &[Node], slot: Slot) -> Option<Path>
     None
 }
 
-/// The path of the node in the slot, from the node on; it has no numbers where the slot is the node's own.
+/// The path found for a slot below the node; it has no numbers where the slot is the node's own.
 #[cycle(find)]
 fn path_below(node: &Node, slot: Slot) -> Option<Path>
     requires shallow { depth node.now.inner < deepest_path }
@@ -57,7 +57,7 @@ fn path_below(node: &Node, slot: Slot) -> Option<Path>
     path_in(node.inner.as_slice(), slot)
 }
 
-/// The path with one more number before it.
+/// A path that was found, with one more number before it.
 fn with_first(k: u32, path: Path) -> Path
     requires room { length path.items < deepest_path }
     ensures { result.items ≡ k ∷ path.items }

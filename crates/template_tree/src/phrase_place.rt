@@ -2,7 +2,7 @@
 
 use plcs_grammar::Phrase;
 
-/// What stands in a part.
+/// What stands in a part of a node: nothing, or a phrase.
 #[derive(Drop)]
 pub enum PhrasePlace {
     /// Nothing.

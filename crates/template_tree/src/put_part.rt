@@ -11,9 +11,9 @@ use plcs_grammar::{Category, NodeKind, Segment};
 use std::mem;
 
 impl Node {
-    /// Puts this into the part and gives back what was there. What doesn't fit is given back: where
-    /// there is no such part, where the phrase is of another category, and where an assignment would be
-    /// empty. It takes no memory.
+    /// Sets the part of the node to this and gives back what was there. What doesn't fit is given back:
+    /// where there is no such part, where the phrase is of another category, and where an assignment
+    /// would be empty. It takes no memory.
     pub fn put_part(&mut self, part: u8, place: PhrasePlace) -> Result<PhrasePlace, PhrasePlace>
         requires node { IsSubtree self.old }
         requires phrase { IsPlace (plain_place place) }
@@ -31,7 +31,7 @@ impl Node {
     }
 }
 
-/// Whether a part of a node of the kind takes this.
+/// Whether the part of a node of the kind takes this, a phrase or nothing.
 fn takes(kind: NodeKind, part: u8, place: &PhrasePlace) -> bool
     ensures { IsTrue result ↔ (Takes (part_category kind part) (plain_place place.now)) }
 {
@@ -44,7 +44,7 @@ fn takes(kind: NodeKind, part: u8, place: &PhrasePlace) -> bool
     }
 }
 
-/// Whether a part of the category may be empty.
+/// Whether a part of the category may be set to nothing.
 fn may_be_empty(category: Category) -> bool
     ensures { result ≡ may_be_empty category }
 {
@@ -59,7 +59,7 @@ pub fn part_category(kind: NodeKind, part: u8) -> Option<Category>
     part_of(kind.row().line, part)
 }
 
-/// The category of this part of a line.
+/// The category of the part of this number in a row's line, or `None` where the line has no such part.
 fn part_of(line: &[Segment], part: u8) -> Option<Category>
     ensures { result ≡ slice_get (parts_of (map plain_segment line.now)) part }
 {

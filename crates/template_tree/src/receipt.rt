@@ -8,7 +8,7 @@ use crate::phrase_place::PhrasePlace;
 use crate::side::Side;
 use std::marker::Model;
 
-/// How an edit is undone, with what it took away.
+/// How the edit of a receipt is undone, with what it took away.
 #[derive(Drop)]
 pub(crate) enum Undoing {
     /// The node at the path gives way to this one.
@@ -47,7 +47,7 @@ impl Model for Receipt {
 }
 
 impl Receipt {
-    /// What the edit changed, and where.
+    /// The change that the edit of the receipt made.
     pub fn change(&self) -> Change
         ensures { result ≡ self.now.change }
     {

@@ -15,7 +15,7 @@ pub struct SectionsLeft {
 }
 
 impl SectionsLeft {
-    /// All the sections of a row.
+    /// All the sections of a row, as they are left for its first item.
     pub fn of(sections: &'static [Section]) -> SectionsLeft
         ensures { plain_left result ≡ map plain_section sections.now }
     {
@@ -38,7 +38,7 @@ impl SectionsLeft {
         SectionsLeft::of(others).at(sort)
     }
 
-    /// The line before the next item, if there is one.
+    /// The line that the section of the next item has before it, if it has one that isn't written yet.
     pub fn lead(self) -> Option<&'static [u8]>
         ensures { option_map (λ bytes. bytes.now) result ≡ next_lead (plain_left self) }
     {
@@ -51,7 +51,7 @@ impl SectionsLeft {
         section.lead
     }
 
-    /// The sections that are left after an item of the first.
+    /// The sections that are left after an item of the first one among them.
     pub fn after(self) -> SectionsLeft
         ensures { plain_left result ≡ left_after (plain_left self) }
     {

@@ -19,8 +19,9 @@ use crate::tree::Tree;
 use crate::tree_fault::TreeFault;
 
 impl Tree {
-    /// Puts this into the part at the stop, which need not be visible. `NotHere` where there is no such
-    /// stop, and where the part doesn't take it; it is given back then. It takes no memory.
+    /// Sets the part at the stop, which need not be visible, to this phrase, or to nothing. `NotHere`
+    /// where there is no such stop, and where the part doesn't take it; it is given back then. It takes
+    /// no memory.
     pub fn set_phrase(
         &mut self,
         stop: &Stop,

@@ -1,6 +1,6 @@
 //! Sides of an item.
 
-/// On which side of an item.
+/// A side of an item: before it or after it.
 #[derive(Clone, Copy, Debug, PartialEq, Eq)]
 pub enum Side {
     /// Before it.

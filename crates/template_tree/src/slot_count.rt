@@ -1,4 +1,4 @@
-//! How many slots are live below a node.
+//! How many slots a node has, with those of the nodes inside it.
 ghost use Rattle.std.specs.Prelude.{◌≡◌, ◌+◌, ◌≤◌, option_map};
 ghost use Rattle.template_tree.specs.Path.{node_at};
 ghost use Rattle.template_tree.specs.Slots.{count};
@@ -23,7 +23,7 @@ impl Tree {
 }
 
 impl Node {
-    /// How many slots it has, its own among them.
+    /// How many slots this node has, its own among them.
     pub fn slots(&self) -> u32
         requires few { count self.now.inner + 1 ≤ 4294967295 }
         ensures { result ≡ count self.now.inner + 1 }

@@ -59,7 +59,7 @@ impl Tree {
         })
     }
 
-    /// How many slots are live.
+    /// How many slots of the tree are live.
     pub fn slots(&self) -> u32
         requires tree { IsTree self.now }
         ensures { result ≡ count self.now.items }
@@ -67,7 +67,7 @@ impl Tree {
         self.live
     }
 
-    /// How many items the procedure list has.
+    /// How many items the list of procedures in the tree has.
     pub fn procedures(&self) -> u32
         requires tree { IsTree self.now }
         ensures { result + 1 ≡ length (nodes self.now.items) }

@@ -32,7 +32,7 @@ impl Tree {
         self.live = live;
     }
 
-    /// Puts again in place what stood there before an edit; the counts stay.
+    /// Puts again in place what stood there before the edit that is undone; the counts stay.
     fn restore(&mut self, path: &Path, undoing: Undoing, back: Option<Node>)
         requires tree { IsTree self.old }
         requires room { HasRoomBack (plain_undoing undoing) (list_room self.old.spare self.old.items path.now.items) }

@@ -11,7 +11,7 @@ use crate::tree::Tree;
 use std::mem;
 
 impl Tree {
-    /// The node at the path gives way to this one, if there is one.
+    /// Puts a node again in place of the one at the path, if there is one to come back.
     pub(crate) fn restore_node(&mut self, path: &Path, back: Option<Node>)
         requires tree { IsTree self.old }
         ensures { roomless_tree self.new ≡ with_edit (λ item. node_back back item ∷ []) path.now.items (roomless_tree self.old) }

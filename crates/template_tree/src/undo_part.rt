@@ -13,7 +13,7 @@ use crate::tree::Tree;
 use std::mem;
 
 impl Tree {
-    /// A part of the node at the path holds this again.
+    /// Sets a part of the node at the path again to what it held.
     pub(crate) fn restore_part(&mut self, path: &Path, part: u8, place: PhrasePlace)
         requires tree { IsTree self.old }
         ensures { roomless_tree self.new ≡ with_edit (λ item. with_part part (plain_place place) item ∷ []) path.now.items (roomless_tree self.old) }
@@ -26,7 +26,7 @@ impl Tree {
 }
 
 impl Node {
-    /// A part of it holds this again.
+    /// Sets a part of this node again to what it held.
     fn restore_part(&mut self, part: u8, place: PhrasePlace)
         ensures { self.new ≡ with_part part (plain_place place) self.old }
     {

@@ -6,17 +6,17 @@ use Rattle.plcs_grammar.specs.Template.{PlainSection}
 use Rattle.template_tree.specs.Section.{same_sort}
 use Rattle.template_tree.specs.Edit.{hole_of}
 
--- whether one of the sections holds items of the sort
+-- whether one of the sections behind a list holds items of the sort
 abbrev pub has_sort : Sort → List PlainSection → Bool
 has_sort sort [] = false
 has_sort sort (section ∷ sections) = same_sort section.sort sort || has_sort sort sections
 
--- a list has holes, and no section behind it holds items of its sort
+-- a section that is a list is told apart: it has holes, and no section behind it holds items of its sort
 abbrev pub IsApart : Amount → Sort → List PlainSection → Type 0
 IsApart Amount.One sort sections = Unit {0}
 IsApart Amount.Many sort sections = (is_some (hole_of sort) ≡ true) × (has_sort sort sections ≡ false)
 
--- so it is with each list among the sections
+-- each list among the sections is told apart from those behind it
 abbrev pub AreApart : List PlainSection → Type 0
 AreApart [] = Unit {0}
 AreApart (section ∷ sections) = IsApart section.amount section.sort sections × AreApart sections

@@ -1,4 +1,4 @@
--- When a node may come in place of another, and the limits that are asked before it does.
+-- When a node may come in place of another, the limits that are asked before it does, and what its change says.
 use Rattle.std.specs.Prelude.{◌≡◌, ℕ, ◌<◌, ◌≤◌, Bool, true, false, List, [], ◌∷◌, Option, Some, None, slice_get}
 use Rattle.template_tree.specs.declared.change.Change.{Change}
 use Rattle.template_tree.specs.declared.change.What.{What}
@@ -9,7 +9,7 @@ use Rattle.template_tree.specs.Program.{IsSubtree, sort_of}
 use Rattle.template_tree.specs.Edit.{Put, procedure_of}
 use Rattle.template_tree.specs.EditAnswer.{IsWithin}
 
--- the item of the program on the way of a path
+-- the item of the program on the way of a path: main, the procedure or the procedure hole in which a change is
 abbrev pub first_item : Forest → List ℕ → Option PlainNode
 first_item items [] = None
 first_item items (k ∷ path) = slice_get (nodes items) k
@@ -21,13 +21,14 @@ pub record MayReplace (tree : PlainTree) (node there : PlainNode) : Type 0 where
   pub sort : sort_of node.label.kind ≡ sort_of there.label.kind
   pub within : IsWithin (Put tree there.label.slot node)
 
--- the change says what was done in the slot, which stands in the tree
+-- the change says what an edit did in the slot, which stands in the tree
 pub record IsChangeOf (tree : PlainTree) (slot : ℕ) (what : What) (change : Change) : Type 0 where
   pub slot_is : change.slot.0 ≡ slot
   pub what_is : change.what ≡ what
   pub within : procedure_of tree.items slot ≡ Some change.procedure.0
 
--- the first limit that is met, where the depth is within its own or not, and so many slots would be live and drawn
+-- the first limit that a node would meet, where the depth is within its own or not, and so many slots would be live and
+-- drawn
 abbrev pub MeetsLimit : Bool → (live drawn : ℕ) → TreeFault → Type 0
 MeetsLimit shallow live drawn TreeFault.NotHere = ⊥
 MeetsLimit shallow live drawn TreeFault.TooDeep = shallow ≡ false

@@ -9,7 +9,7 @@ use Rattle.plcs_grammar.specs.PlainPhrase.{PlainPhrase}
 use Rattle.template_tree.specs.PlainTree.{Label, Forest, PlainNode, PlainNodes, PlainTree}
 use Rattle.plcs_grammar.specs.Private.PhraseCode.{phrase_code, head, tail, IsCons}
 
--- a label is told by its fields
+-- a label of a node is told apart by its fields
 abbrev pub label_code : Coded Label
 label_code =
     code_by
@@ -20,10 +20,12 @@ label_code =
     (λ t. record { slot = t.0; kind = t.1.0; parts = t.1.1.0; elided = t.1.1.1.0; spare = t.1.1.1.1 })
     (λ _. refl)
 
+-- the code of nodes in order: a tree of codes of labels
 abbrev pub forest_code_of : Forest → Gv
 forest_code_of Forest.nil = gnil
 forest_code_of (Forest.cons label inner rest) = gcons (label_code.code label) (gcons (forest_code_of inner) (forest_code_of rest))
 
+-- nodes in order with one code are the same
 pub forest_code_of_inj : (x y : Forest) → forest_code_of x ≡ forest_code_of y → x ≡ y
 forest_code_of_inj Forest.nil Forest.nil p = refl
 forest_code_of_inj (Forest.cons l a b) (Forest.cons m c d) p =
@@ -33,20 +35,23 @@ forest_code_of_inj (Forest.cons l a b) (Forest.cons m c d) p =
 forest_code_of_inj Forest.nil (Forest.cons m c d) p = absurd (subst IsCons (sym p) tt)
 forest_code_of_inj (Forest.cons l a b) Forest.nil p = absurd (subst IsCons p tt)
 
--- nodes in order are told by their labels and what stands inside
+-- nodes in order are told apart by their labels and what stands inside
 abbrev pub forest_code : Coded Forest
 forest_code = record { code = forest_code_of; inj = forest_code_of_inj }
 
+-- a node is told apart by its label and what stands inside
 abbrev pub node_code : Coded PlainNode
 node_code =
     code_by (Label × Forest) (coded× label_code forest_code) (λ n. (n.label, n.inner))
     (λ t. record { label = t.0; inner = t.1 }) (λ _. refl)
 
+-- a list of nodes is told apart by its items and its room
 abbrev pub nodes_code : Coded PlainNodes
 nodes_code =
     code_by (List PlainNode × ℕ) (coded× (coded_list node_code) coded_ℕ) (λ n. (n.items, n.spare))
     (λ t. record { items = t.0; spare = t.1 }) (λ _. refl)
 
+-- a tree is told apart by its fields
 abbrev pub tree_code : Coded PlainTree
 tree_code =
     code_by (Forest × (ℕ × (ℕ × ℕ))) (coded× forest_code (coded× coded_ℕ (coded× coded_ℕ coded_ℕ)))

@@ -5,7 +5,7 @@ use Rattle.plcs_grammar.specs.Template.{row_of}
 use Rattle.template_tree.specs.Line.{Line, fixed_line, head_line, lines}
 use Rattle.template_tree.specs.PlainTree.{PlainNode}
 
--- the lines of a node, without the line before it
+-- the lines of one node in the listing, without the line before it
 abbrev pub node_lines : ℕ → PlainNode → List Line
 node_lines level node =
     head_line level node.label

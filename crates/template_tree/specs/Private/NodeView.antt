@@ -4,7 +4,8 @@ use Rattle.template_tree.specs.declared.node.Node.TheInside.{Inside}
 use Rattle.template_tree.specs.PlainTree.{PlainNode, forest}
 use Rattle.template_tree.specs.PlainPlace.{plain_place}
 
--- its fields, with the parts in plain form and the list of what stands inside as nodes in order
+-- a node in memory as plain data: its fields, with the parts in plain form and the list of what stands inside as a
+-- forest
 abbrev pub seen : Inside → PlainNode
 seen a =
     record {

@@ -11,10 +11,12 @@ use Rattle.template_tree.specs.Receipt.{PlainUndoing, PlainReceipt}
 use Rattle.template_tree.specs.Private.NodeCode.{node_code}
 use Rattle.plcs_grammar.specs.Private.PhraseCode.{phrase_code}
 
--- what an undoing is made of: a node and its side, a part and what comes into it, and whether an item is taken out
+-- the pieces by which an undoing is told apart: a node and its side, a part and what comes into it, and whether an item
+-- is taken out
 abbrev pub Pieces : Type 0
 Pieces = Option PlainNode × (Option Side × (Option (ℕ × Option PlainPhrase) × Bool))
 
+-- the pieces of an undoing
 abbrev pub pieces_of : PlainUndoing → Pieces
 pieces_of (PlainUndoing.put node) = (Some node, (None, (None, false)))
 pieces_of PlainUndoing.put_back = (None, (None, (None, false)))
@@ -22,21 +24,23 @@ pieces_of (PlainUndoing.set_part part place) = (None, (None, (Some (part, place)
 pieces_of PlainUndoing.take_out = (None, (None, (None, true)))
 pieces_of (PlainUndoing.put_in side hole) = (Some hole, (Some side, (None, false)))
 
--- an undoing with a node
+-- the undoing of which the pieces are a node and perhaps its side
 abbrev pub with_node : PlainNode → Option Side → PlainUndoing
 with_node node None = PlainUndoing.put node
 with_node node (Some side) = PlainUndoing.put_in side node
 
--- an undoing without one
+-- the undoing of which no piece is a node
 abbrev pub without_node : Option (ℕ × Option PlainPhrase) → Bool → PlainUndoing
 without_node (Some p) taken = PlainUndoing.set_part p.0 p.1
 without_node None true = PlainUndoing.take_out
 without_node None false = PlainUndoing.put_back
 
+-- the undoing that has these pieces
 abbrev pub undoing_from : Option PlainNode → Option Side → Option (ℕ × Option PlainPhrase) → Bool → PlainUndoing
 undoing_from (Some node) side part taken = with_node node side
 undoing_from None side part taken = without_node part taken
 
+-- an undoing is made again of its pieces
 pub undoing_back : (u : PlainUndoing) → undoing_from (pieces_of u).0 (pieces_of u).1.0 (pieces_of u).1.1.0 (pieces_of u).1.1.1 ≡ u
 undoing_back (PlainUndoing.put node) = refl
 undoing_back PlainUndoing.put_back = refl
@@ -44,6 +48,7 @@ undoing_back (PlainUndoing.set_part part place) = refl
 undoing_back PlainUndoing.take_out = refl
 undoing_back (PlainUndoing.put_in side hole) = refl
 
+-- an undoing is told apart by its pieces
 abbrev pub undoing_code : Coded PlainUndoing
 undoing_code =
     code_by Pieces
@@ -52,7 +57,7 @@ undoing_code =
     (coded× (coded_option (coded× coded_ℕ (coded_option phrase_code))) coded_bool)))
     pieces_of (λ t. undoing_from t.0 t.1.0 t.1.1.0 t.1.1.1) undoing_back
 
--- a receipt is told by its fields
+-- a receipt is told apart by its fields
 abbrev pub receipt_code : Coded PlainReceipt
 receipt_code =
     code_by
