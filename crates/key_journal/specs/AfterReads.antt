@@ -1,4 +1,5 @@
--- What became of a journal after some reads: what was taken, and what a crash leaves.
+-- What became of a journal over some reads, one after the other: what was taken, and what a crash
+-- leaves.
 use Rattle.std.specs.Prelude.{◌≡◌, ◌≢◌, ℕ, ◌+◌, ◌-◌, ◌^◌, ◌<◌, ◌≤◌, ◌⊎◌, List, [], ◌∷◌, ◌++◌, Option, Some, None, IsSome, true, false, length, drop, refl}
 use Rattle.std.proofs.Common.{◌∙◌, inl, subst, sym, append-nil}
 use Rattle.std.proofs.lemmas.Bool.{true≢false}
@@ -9,7 +10,8 @@ use Rattle.key_journal.specs.Disk.{DiskState, Newest}
 use Rattle.key_journal.specs.Journal.{PlainJournal}
 use Rattle.key_journal.specs.Recovered.{kept}
 
--- the first keys are recovered, and then some of those that followed them, in their order
+-- what a crash leaves over some reads: the first keys, and then some of those that followed them, in
+-- their order
 abbrev pub LeavesBetween : List ℕ → List ℕ → DiskState → Type 0
 LeavesBetween first all = EachRecovers (λ found. (more : List ℕ) × (rest : List ℕ) ×
     (found ≡ first ++ more) × (all ≡ found ++ rest))
@@ -23,7 +25,8 @@ pub record KeepsAll (past past_after : List DiskState) (given : ℕ) (taken : Li
   pub within : Newest (λ _. given ≤ length (kept past ++ taken)) past_after
   pub behind : (taken ≡ []) ⊎ Newest (λ _. given ≡ length (kept past ++ taken)) past_after
 
--- what holds over reads of which the last wasn't Ok: the last one that was taken may be missing, and wasn't given
+-- what holds over reads of which the last wasn't Ok: the key that it took may be missing, and wasn't
+-- given
 pub record KeepsAllButLast (past past_after : List DiskState) (given : ℕ) (taken last : List ℕ)
     : Type 0 where
   pub each : Throughout (LeavesBetween (kept past) (kept past ++ taken ++ last)) past past_after
@@ -90,7 +93,7 @@ pub record BreaksAt {S D : Type 0} (left : S → Option (List ℕ)) (source_faul
       Newest (LeavesOnly (kept (past first.disk))) (past first.disk) →
       KeepsAllButLast (past first.disk) (past now.disk) now.given taken last
 
--- a disk that doesn't change leaves the same
+-- over no read a journal keeps all: a disk that doesn't change leaves the same
 keeps_itself : (past : List DiskState) (given : ℕ) → given ≤ length (kept past) →
     Newest (LeavesOnly (kept past)) past → KeepsAll past past given []
 keeps_itself [] given few safe = record { each = refl; safe = tt; within = tt; behind = inl refl }
@@ -106,7 +109,7 @@ takes_none : (left : Option (List ℕ)) → Consumes left left []
 takes_none None = tt
 takes_none (Some left) = refl
 
--- a journal that wasn't read
+-- a journal over no read: it leads to itself
 pub leads_to_itself : {S D : Type 0} (left : S → Option (List ℕ)) (source_faults : S → ℕ)
     (leads_to : S → S → Type 0) → ((source : S) → leads_to source source) →
     (past : D → List DiskState) (disk_faults : D → ℕ) (journal : PlainJournal S D) →

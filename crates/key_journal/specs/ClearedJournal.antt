@@ -4,20 +4,20 @@ use Rattle.key_journal.specs.Crash.{LeavesOnly, Throughout}
 use Rattle.key_journal.specs.Disk.{DiskState, MayLeave, Newest}
 use Rattle.key_journal.specs.Recovered.{recovered, kept}
 
--- a crash at the newest moment could leave these keys
+-- a crash just before the journal is cleared could leave these keys
 abbrev pub CouldLeave : List DiskState → List ℕ → Type 0
 CouldLeave [] keys = ⊥
 CouldLeave (state ∷ past) keys =
     (image : List ℕ) × MayLeave state image × (keys ≡ recovered image)
 
--- a crash leaves nothing, or what it could leave just before the call
+-- while a journal is cleared a crash leaves nothing, or what it could leave just before
 pub record LeavesNothingOr (before : List DiskState) (state : DiskState) : Type 0 where
   pub images : (image : List ℕ) → MayLeave state image →
       (recovered image ≡ []) ⊎ CouldLeave before (recovered image)
   pub reads : (recovered state.bytes ≡ []) ⊎ (recovered state.bytes ≡ kept before)
 
--- at each moment, and then, a crash leaves nothing or what it could leave just before, and once it is Ok
--- nothing
+-- a journal is cleared: at each moment, and then, a crash leaves nothing or what it could leave just
+-- before, and once it is Ok nothing
 pub record Clears {E : Type 0} (past past_after : List DiskState) (result : Result Unit E)
     : Type 0 where
   pub each : Throughout (LeavesNothingOr past) past past_after

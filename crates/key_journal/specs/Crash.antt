@@ -3,29 +3,29 @@ use Rattle.std.specs.Prelude.{◌≡◌, ℕ, ◌≤◌, ◌⊎◌, List, [], �
 use Rattle.key_journal.specs.Disk.{DiskState, MayLeave}
 use Rattle.key_journal.specs.Recovered.{recovered}
 
--- this holds of the keys that are recovered from each image that a crash may leave, and from what the
--- disk reads as
+-- at one moment this holds of the keys that are recovered from each image that a crash may leave, and
+-- from what the disk reads as
 pub record EachRecovers (P : List ℕ → Type 0) (state : DiskState) : Type 0 where
   pub images : (image : List ℕ) → MayLeave state image → P (recovered image)
   pub reads : P (recovered state.bytes)
 
--- exactly these keys are recovered
+-- exactly these keys are recovered after a crash
 abbrev pub LeavesOnly : List ℕ → DiskState → Type 0
 LeavesOnly keys = EachRecovers (λ found. found ≡ keys)
 
--- these keys are recovered, or these and then the ones that were taken
+-- these keys are recovered after a crash, or these and then the ones that were taken
 abbrev pub LeavesOneOf : List ℕ → List ℕ → DiskState → Type 0
 LeavesOneOf keys taken = EachRecovers (λ found. (found ≡ keys) ⊎ (found ≡ keys ++ taken))
 
--- these keys are recovered, and perhaps others behind them
+-- these keys are recovered after a crash, and perhaps others behind them
 abbrev pub LeavesAllOf : List ℕ → DiskState → Type 0
 LeavesAllOf keys = EachRecovers (λ found. (rest : List ℕ) × (found ≡ keys ++ rest))
 
--- at least so many keys are recovered
+-- at least so many keys are recovered after a crash
 abbrev pub LeavesAtLeast : ℕ → DiskState → Type 0
 LeavesAtLeast count = EachRecovers (λ found. count ≤ length found)
 
--- this holds of each of the states
+-- this holds at each of some moments of a call, each of which is a state of the disk
 abbrev pub EachState : (DiskState → Type 0) → List DiskState → Type 0
 EachState P [] = Unit {0}
 EachState P (state ∷ states) = P state × EachState P states

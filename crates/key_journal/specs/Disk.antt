@@ -8,8 +8,8 @@ pub record DiskState : Type 0 where
   pub synced : List ℕ
   pub pending : List (ℕ × ℕ)
 
--- a range was written in part: within it, and past the old end, any bytes may stand, the length may
--- be any from the old one to the new one, and all other bytes stay
+-- a range of a disk was written in part: within it, and past the old end, any bytes may stand, the
+-- length may be any from the old one to the new one, and all other bytes stay
 pub record Torn (at count : ℕ) (before now : List ℕ) : Type 0 where
   pub front : take at now ≡ take at before
   pub back : drop (at + count) now ≡ drop (at + count) before
@@ -22,7 +22,7 @@ Leaves synced [] image = image ≡ synced
 Leaves synced (range ∷ pending) image =
     (earlier : List ℕ) × Leaves synced pending earlier × Torn range.0 range.1 earlier image
 
--- a crash at this moment may leave this image
+-- a crash at this moment may leave this image of the disk
 abbrev pub MayLeave : DiskState → List ℕ → Type 0
 MayLeave state image = Leaves state.synced state.pending image
 
@@ -36,16 +36,16 @@ abbrev pub bytes_of : List DiskState → List ℕ
 bytes_of [] = []
 bytes_of (state ∷ past) = state.bytes
 
--- these are the bytes from here on, up to so many or to the end
+-- a disk gives these bytes from a place on, up to so many or to its end
 pub record Gives (at most count : ℕ) (given : List ℕ) (state : DiskState) : Type 0 where
   pub exact : count ≡ min most (length state.bytes - at)
   pub same : given ≡ take count (drop at state.bytes)
 
--- the bytes with the piece written over them from here on
+-- the bytes of a disk with the piece written over them from a place on
 abbrev pub written : List ℕ → ℕ → List ℕ → List ℕ
 written bytes at piece = take at bytes ++ piece ++ drop (at + length piece) bytes
 
--- the state with other bytes in a range, which isn't synced
+-- the state of a disk with other bytes in a range, which isn't synced
 abbrev pub with_range : DiskState → ℕ → ℕ → List ℕ → DiskState
 with_range state at count bytes =
     record { bytes = bytes; synced = state.synced; pending = (at, count) ∷ state.pending }
@@ -54,13 +54,13 @@ with_range state at count bytes =
 abbrev pub with_sync : DiskState → DiskState
 with_sync state = record { bytes = state.bytes; synced = state.bytes; pending = [] }
 
--- the piece was written: there is one more state
+-- the piece was written to a disk: there is one more state
 abbrev pub Writes : ℕ → List ℕ → List DiskState → List DiskState → Type 0
 Writes at piece [] now = now ≡ []
 Writes at piece (state ∷ past) now =
     now ≡ with_range state at (length piece) (written state.bytes at piece) ∷ state ∷ past
 
--- the range was written in part, which is one more state, or not at all
+-- a range of a disk was written in part, which is one more state, or not at all
 abbrev pub Tears : ℕ → ℕ → List DiskState → List DiskState → Type 0
 Tears at count [] now = now ≡ []
 Tears at count (state ∷ past) now = (now ≡ state ∷ past) ⊎ ((bytes : List ℕ) ×
@@ -81,11 +81,11 @@ WritesKeepImages = (state : DiskState) (at : ℕ) (piece : List ℕ) → at ≤ 
     ReadsAsImage state →
     ReadsAsImage (with_range state at (length piece) (written state.bytes at piece))
 
--- a write that was done in part keeps it so, too
+-- a write that was done in part keeps what a disk reads as among these images, too
 abbrev pub TearsKeepImages : Type 0
 TearsKeepImages = (state : DiskState) (at count : ℕ) (bytes : List ℕ) →
     Torn at count state.bytes bytes → ReadsAsImage state → ReadsAsImage (with_range state at count bytes)
 
--- a sync makes what a disk reads as such an image
+-- a sync makes what a disk reads as one of the images that a crash may leave
 abbrev pub SyncsMakeImages : Type 0
 SyncsMakeImages = (state : DiskState) → ReadsAsImage (with_sync state)

@@ -9,14 +9,14 @@ use Rattle.key_journal.specs.Disk.{DiskState, Newest}
 use Rattle.key_journal.specs.Journal.{PlainJournal, both_counts}
 use Rattle.key_journal.specs.Recovered.{kept}
 
--- a crash leaves these keys alone, and the one that was given stands among them at this place,
--- counted from 0
+-- what a read gave: this key, which stands among the keys at this place, counted from 0; a crash leaves
+-- these keys alone
 pub record Gave (place key : ℕ) (keys : List ℕ) (state : DiskState) : Type 0 where
   pub safe : LeavesOnly keys state
   pub next : slice_get keys place ≡ Some key
 
--- the source is at its end, no key was taken, all kept ones were given before, and a crash leaves them
--- alone
+-- what a read that is the end says: the source is at its end, no key was taken, all kept ones were given
+-- before, and a crash leaves them alone
 pub record Ends (left : Option (List ℕ)) (place : ℕ) (keys taken : List ℕ) (past : List DiskState)
     : Type 0 where
   pub source : IsAtEnd left
@@ -24,12 +24,12 @@ pub record Ends (left : Option (List ℕ)) (place : ℕ) (keys taken : List ℕ)
   pub all : drop place keys ≡ []
   pub safe : Newest (LeavesOnly keys) past
 
--- the answer of a read: the next key, or the end
+-- the answer of a read of a journal: the next key, or the end
 abbrev pub NextOrEnd : Option ℕ → Option (List ℕ) → ℕ → List ℕ → List ℕ → List DiskState → Type 0
 NextOrEnd (Some key) left place keys taken past = Newest (Gave place key (keys ++ taken)) past
 NextOrEnd None left place keys taken past = Ends left place keys taken past
 
--- one more key was read, or the end, after so many keys
+-- one more key of a journal was read, or the end, after so many keys
 pub record ReadsKey {E : Type 0} (left left_after : Option (List ℕ)) (place : ℕ)
     (past past_after : List DiskState) (result : Result (Option ℕ) E) : Type 0 where
   -- the bytes that were taken from the source: at most one, and only once all kept keys were given
@@ -57,7 +57,7 @@ key_read buf (Ok zero) = Ok None
 key_read buf (Ok (suc count)) = Ok (Some (slice_index buf 0))
 key_read buf (Err fault) = Err fault
 
--- how many keys were given after a read of so many
+-- how many keys a journal gave, after a read that gave so many
 abbrev pub given_after : {E : Type 0} → ℕ → Result ℕ E → ℕ
 given_after given (Ok count) = given + count
 given_after given (Err fault) = given

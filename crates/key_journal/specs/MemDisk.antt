@@ -5,23 +5,24 @@ use Rattle.key_journal.specs.Disk.{DiskState, with_range, with_sync, written}
 use Rattle.key_journal.specs.declared.mem_disk.DiskCall.{DiskCall}
 use Rattle.key_journal.specs.declared.mem_disk.DiskCall.TheVariants.{Write, Sync}
 
--- the writes and syncs that were done, the calls made with those that are to fail, and how many failed
+-- what a disk in memory is seen as: the writes and syncs that were done, the calls made with those that
+-- are to fail, and how many failed
 pub record PlainMemDisk : Type 0 where
   pub done : List DiskCall
   pub calls : PlainCalls
   pub faults : ℕ
 
--- the states of a disk after one more call that was done
+-- the states of a disk in memory after one more call that was done
 abbrev pub with_call : List DiskState → DiskCall → List DiskState
 with_call [] call = []
 with_call (state ∷ past) (Write at piece) =
     with_range state at (length piece) (written state.bytes at piece) ∷ state ∷ past
 with_call (state ∷ past) Sync = with_sync state ∷ state ∷ past
 
--- an empty disk
+-- the state of a disk in memory that is empty
 abbrev pub empty_state : DiskState
 empty_state = record { bytes = []; synced = []; pending = [] }
 
--- the states of a disk that was empty first, after these calls
+-- the states of a disk in memory, which was empty first, after the calls that were done
 abbrev pub states : List DiskCall → List DiskState
 states calls = fold with_call (empty_state ∷ []) calls

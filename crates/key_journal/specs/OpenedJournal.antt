@@ -8,15 +8,16 @@ use Rattle.key_journal.specs.Recovered.{kept}
 use Rattle.key_journal.specs.declared.disk.DiskFault.{DiskFault}
 use Rattle.key_journal.specs.declared.disk.DiskFault.TheVariants.{Failed}
 
--- a new journal stands on this source, and no key was given yet
+-- a journal that was opened stands on this source, and no key was given yet
 pub record IsNew {S D : Type 0} (inner : S) (journal : PlainJournal S D) : Type 0 where
   pub source : journal.inner ≡ inner
   pub none_given : journal.given ≡ 0
   pub not_ended : journal.ended ≡ false
   pub none_read : journal.reads ≡ 0
 
--- the disk was synced: once it is Ok a crash leaves the kept keys alone, whatever it could leave before,
--- and so it does at each moment at which the disk isn't as before; where it isn't Ok nothing changes
+-- to open a journal syncs its disk: once it is Ok a crash leaves the kept keys alone, whatever it could
+-- leave before, and so it does at each moment at which the disk isn't as before; where it isn't Ok
+-- nothing changes
 pub record OpensDisk {D T : Type 0} (past : D → List DiskState) (faults : D → ℕ) (disk disk_after : D)
     (result : Result T DiskFault) : Type 0 where
   pub each : Throughout (LeavesOnly (kept (past disk))) (past disk) (past disk_after)

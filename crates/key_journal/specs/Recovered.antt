@@ -3,7 +3,8 @@
 use Rattle.std.specs.Prelude.{ℕ, ◌==◌, List, [], ◌∷◌, if◌then◌else◌}
 use Rattle.key_journal.specs.Disk.{DiskState, bytes_of}
 
--- the keys behind the gates, up to the first gate that isn't open or has no key behind it
+-- the keys that are recovered from bytes: those behind the gates, up to the first gate that isn't open
+-- or has no key behind it
 abbrev pub recovered : List ℕ → List ℕ
 recovered [] = []
 recovered (gate ∷ []) = []

@@ -1,4 +1,4 @@
-//! The trait of disks.
+//! The trait of disks, and their faults.
 
 ghost use Rattle.std.specs.Prelude.{◌≡◌, ℕ, ◌+◌, ◌<◌, ◌≤◌, List, length, take, IfOk, OnOk, OnErr, IsErrOf};
 ghost use Rattle.key_journal.specs.Disk.{DiskState, Newest, Gives, Writes, Tears, Syncs, WritesKeepImages, TearsKeepImages, SyncsMakeImages};
@@ -38,7 +38,7 @@ impl From<DiskFault> for SourceFault {
 
     ghost from_gives = { λ fault given. given ≡ source_fault fault };
 
-    /// A read of a journal fails as its disk does.
+    /// The fault of a source that stands on a disk with this fault.
     fn from(fault: DiskFault) -> Self {
         match fault {
             DiskFault::Failed => SourceFault::Failed,

@@ -76,21 +76,21 @@ impl<S: Source, D: Disk> JournalKeys<S, D> {
         }
     }
 
-    /// How many keys were given.
+    /// How many keys the journal gave.
     pub fn given(&self) -> u64
         ensures { result ≡ self.now.given }
     {
         self.given
     }
 
-    /// Whether the last answer was the end.
+    /// Whether the last answer of the journal was the end of keys.
     pub fn ended(&self) -> bool
         ensures { result ≡ self.now.ended }
     {
         self.ended
     }
 
-    /// Hands back the source and the disk as they stand.
+    /// Hands back the source and the disk of the journal as they stand.
     pub fn parts(self) -> (S, D)
         ensures source { result.0 ≡ self.inner }
         ensures disk { result.1 ≡ self.disk }
@@ -106,7 +106,7 @@ impl<S: Source, D: Disk> JournalKeys<S, D> {
         (inner, disk)
     }
 
-    /// Forgets all keys that are kept, and hands back the source and the disk.
+    /// Clears the journal: forgets all keys that are kept, and hands back the source and the disk.
     pub fn clear(self) -> Result<(S, D), (DiskFault, S, D)>
         requires { 0 < self.given }
         ensures source { IfOk result (λ parts. parts.0 ≡ self.inner) }
@@ -134,7 +134,7 @@ impl<S: Source, D: Disk> JournalKeys<S, D> {
     }
 }
 
-// Shuts the first gate.
+// Clears the kept keys from the disk by shutting the first gate.
 fn clear_keys<D: Disk>(disk: &mut D) -> Result<(), DiskFault>
     requires { Newest (LeavesAtLeast 1) (D.past disk.old) }
     ensures clears { Clears (D.past disk.old) (D.past disk.new) result }

@@ -85,7 +85,7 @@ pub(crate) fn keep<D: Disk>(disk: &mut D, given: u64, key: u8) -> Result<(), Dis
     write_synced(disk, 2 * given, &[OPEN])
 }
 
-// Takes the next byte of the source, if there is one.
+// Takes the next byte of the source of new keys, if there is one.
 fn next_byte<S: Source>(inner: &mut S) -> Result<Option<u8>, SourceFault>
     ensures byte { GivesByte (S.left inner.old) (S.left inner.new) result }
     ensures led { IfOk result

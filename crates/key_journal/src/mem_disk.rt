@@ -10,7 +10,7 @@ use std::alloc::{AllocError, Global};
 use std::marker::Model;
 use synth_outside::Calls;
 
-/// The bytes of one write.
+/// The bytes of one write to a disk in memory.
 #[derive(Debug, Drop)]
 pub struct Piece {
     bytes: Vec<u8>,
@@ -87,7 +87,7 @@ impl MemDisk {
         }
     }
 
-    /// What the disk reads as.
+    /// What the disk in memory reads as.
     pub fn bytes(&self) -> &[u8]
         ensures { result.now ≡ bytes_of (states self.now.done) }
     {
@@ -179,7 +179,7 @@ fn is_outside(at: u64, piece: &[u8]) -> bool
     at > DISK_END || piece.len() as u64 > DISK_END - at
 }
 
-// Copies the bytes from `at` on to the front of the buffer, as many as there are and as fit.
+// Copies the bytes of the disk from `at` on to the front of the buffer, as many as there are and as fit.
 fn copy_from(bytes: &[u8], at: u64, buf: &mut [u8]) -> usize
     ensures exact { result ≡ min (length buf.old) (length bytes.now - at) }
     ensures same { take result buf.new ≡ take result (drop at bytes.now) }
@@ -190,7 +190,7 @@ fn copy_from(bytes: &[u8], at: u64, buf: &mut [u8]) -> usize
     count
 }
 
-// The bytes with the piece written over those from `at` on.
+// The bytes of the disk with the piece written over those from `at` on.
 fn written_over(alloc: Global, bytes: &[u8], at: u64, piece: &[u8]) -> Result<Vec<u8>, AllocError>
     requires within { at ≤ length bytes.now }
     requires inside { at + length piece.now ≤ DISK_END }
@@ -204,7 +204,7 @@ fn written_over(alloc: Global, bytes: &[u8], at: u64, piece: &[u8]) -> Result<Ve
     Ok(next)
 }
 
-// Notes a write that is done, or changes nothing.
+// Notes a write to the disk in memory that is done, or changes nothing.
 fn note_write(
     alloc: Global,
     done: &mut Vec<DiskCall>,
@@ -221,7 +221,7 @@ fn note_write(
     Ok(())
 }
 
-// Notes a sync that is done, or changes nothing.
+// Notes a sync of the disk in memory that is done, or changes nothing.
 fn note_sync(done: &mut Vec<DiskCall>) -> Result<(), AllocError>
     ensures ok { OnOk result (done.new.items ≡ done.old.items ++ DiskCall.Sync ∷ []) }
     ensures err { OnErr result (done.new.items ≡ done.old.items) }

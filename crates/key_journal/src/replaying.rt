@@ -54,8 +54,8 @@ fn replay_synced<D: Disk>(
     Ok(key)
 }
 
-// The key that stands behind so many others. Where there is none, a gate that isn't open stands at its
-// place then.
+// The kept key that stands behind so many others. Where there is none, a gate that isn't open stands at
+// its place then.
 fn replayed<D: Disk>(disk: &mut D, given: u64) -> Result<Option<u8>, DiskFault>
     requires replaying { Newest (IsReplaying given) (D.past disk.old) }
     requires few { given ≤ 2 ^ 61 }
@@ -73,7 +73,7 @@ fn replayed<D: Disk>(disk: &mut D, given: u64) -> Result<Option<u8>, DiskFault>
     }
 }
 
-// What stands behind so many blocks.
+// What stands on the disk behind so many blocks.
 fn block_behind<D: Disk>(disk: &mut D, given: u64) -> Result<Block, DiskFault>
     requires few { given ≤ 2 ^ 61 }
     ensures block { IfOk result (λ block.

@@ -33,7 +33,7 @@ impl StdDisk {
         Ok(StdDisk { file, faults: 0 })
     }
 
-    // Raises the count of faults where the call failed.
+    // Raises the count of faults where a call on the file failed.
     fn counted<T: Drop>(&mut self, answer: io::Result<T>) -> Result<T, DiskFault>
         ensures cause { HasCause DiskFault.Failed self.old.faults self.new.faults result }
         ensures value { IfOk result (λ value. answer ≡ Ok value) }
@@ -78,7 +78,7 @@ impl Disk for StdDisk {
     }
 }
 
-// Reads from `at` on until the buffer is full or the file ends, and answers how many bytes.
+// Reads the file from `at` on until the buffer is full or the file ends, and answers how many bytes.
 fn fill_at(file: &File, at: u64, buf: &mut [u8]) -> io::Result<usize>
     ensures { IfOk result (λ count. count ≤ length buf.old) }
 {

@@ -7,7 +7,7 @@ ghost use Rattle.synth_outside.specs.Cause.{HasCause};
 
 use super::{DISK_END, Disk, DiskFault};
 
-/// Writes the piece over a disk that is synced, and syncs it.
+/// Writes the piece over a disk that is synced, and syncs it at once.
 pub(crate) fn write_synced<D: Disk>(disk: &mut D, at: u64, piece: &[u8]) -> Result<(), DiskFault>
     requires synced { Newest IsSynced (D.past disk.old) }
     requires within { Newest (λ state. at ≤ length state.bytes) (D.past disk.old) }

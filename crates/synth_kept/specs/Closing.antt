@@ -9,7 +9,7 @@ use Rattle.synth_kept.specs.declared.status.KeptStatus.TheVariants.{Run}
 use Rattle.synth_top.specs.declared.status.Status.{Status}
 use Rattle.synth_top.specs.declared.status.Status.TheVariants.{Done}
 
--- the journal was left as it stands, or cleared, or to clear it was no success for this fault
+-- how a journal was closed: left as it stands, or cleared, or to clear it was no success for this fault
 pub data Closing : Type 0 where
   LeftStanding : Closing
   Cleared : Closing

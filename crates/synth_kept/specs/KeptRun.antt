@@ -26,7 +26,7 @@ pub record KeptTold : Type 0 where
   pub files : PlainFiles
   pub laid : ℕ
 
--- both the source of new keys and the disk tell
+-- both the source of new keys and the disk of a kept session tell
 pub record TellsBoth (told : KeptTold) : Type 0 where
   pub source : IsSome told.left
   pub disk : told.past ≢ []
@@ -54,7 +54,7 @@ abbrev pub bytes_given : {run : Status} {options : PlainOptions} {before now : T
 bytes_given (inl unopened) = []
 bytes_given (inr ran) = ran.course.bytes
 
--- a key ended the session
+-- a key ended the session of the editor that ran over kept keys
 abbrev pub IsQuit : {run : Status} {options : PlainOptions} {before now : Told} {files_before files_now : PlainFiles}
     {after_reads after_fault : Type 0} → Ended run options before now files_before files_now after_reads after_fault → Type 0
 IsQuit (inl unopened) = ⊥
@@ -75,13 +75,14 @@ pub record RunOverKeys (options : PlainOptions) (run : Status) (closing : Closin
   pub quit : TellsBoth before →
       ClearsWhere ((run ≡ Done) × IsQuit ended) closing
 
--- words that aren't of the command are refused, or memory ran out over them, and nothing is read
+-- words that aren't of the command are refused over an open journal, or memory ran out over them, and
+-- nothing is read
 pub record RefusesWords (run : Status) (taken last : List ℕ) (same_outside : Type 0) : Type 0 where
   pub refused : (run ≡ BadWords) ⊎ (run ≡ NoMemory)
   pub none : taken ++ last ≡ []
   pub outside : same_outside
 
--- what the editor did, by the words
+-- what the editor did over an open journal, by the words
 abbrev pub RunByWords : Option PlainOptions → Status → Closing → KeptTold → KeptTold → List ℕ → List ℕ →
     Type 0 → Type 0 → Type 0 → Type 0
 RunByWords None run closing before now taken last same_outside after_reads after_fault =
@@ -124,7 +125,7 @@ pub record NotOpened (status : KeptStatus) (before now : KeptTold) (same_outside
   pub outside : same_outside
   pub same : now ≡ before
 
--- a kept session ended so
+-- a kept session ended so: its journal couldn't be opened, or the editor ran over it
 abbrev pub KeptEnded : Option PlainOptions → KeptStatus → KeptTold → KeptTold → Type 0 → Type 0 →
     Type 0 → Type 0
 KeptEnded words status before now same_outside after_reads after_fault =

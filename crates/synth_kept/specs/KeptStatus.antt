@@ -6,7 +6,7 @@ use Rattle.synth_kept.specs.declared.status.KeptStatus.TheVariants.{Run, Journal
 use Rattle.synth_top.specs.declared.status.Status.TheVariants.{NoMemory}
 use Rattle.synth_top.specs.Status.{status_number}
 
--- the number that a program ends with
+-- the number with which the program ends that keeps its keys, by its status
 abbrev pub kept_status_number : KeptStatus → ℕ
 kept_status_number (Run status) = status_number status
 kept_status_number JournalFault = 6

@@ -79,7 +79,8 @@ pub fn synth_kept<S: Source, K: Sink, F: Files, D: Disk, W: Work>(
     (KeptStatus::Run(run), keys, disk)
 }
 
-// Whether a key ended the session: the editor is done, but not since the keys were at their end.
+// Whether a key ended the session, so that the journal is to be cleared: the editor is done, but not
+// since the keys were at their end.
 fn is_to_clear<S: Source, D: Disk>(run: Status, journal: &JournalKeys<S, D>) -> bool
     ensures { IsTrue result ↔ IsToClear run journal.now.given journal.now.ended }
 {
@@ -89,7 +90,7 @@ fn is_to_clear<S: Source, D: Disk>(run: Status, journal: &JournalKeys<S, D>) -> 
     }
 }
 
-// Forgets the keys that are kept.
+// Clears the journal behind the run, which forgets the keys that are kept.
 fn clear<S: Source, D: Disk>(journal: JournalKeys<S, D>) -> (KeptStatus, S, D)
     requires { 0 < journal.given }
     ensures cleared { ClearsKeys result.0 (D.past journal.disk) (D.past result.2)

@@ -23,7 +23,8 @@ fn status_of(error: &io::Error) -> KeptStatus {
     }
 }
 
-/// Edits over the system's streams, with the journal in the current folder.
+/// Runs the editor that keeps its keys, over the system's streams, with the journal in the current
+/// folder.
 fn run(rt: &HostRuntime) -> KeptStatus {
     let alloc = rt.alloc();
     let words = match words_of(rt, alloc) {

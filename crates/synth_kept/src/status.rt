@@ -5,7 +5,7 @@ ghost use Rattle.std.specs.Prelude.{◌≡◌};
 use key_journal::DiskFault;
 use synth_top::Status;
 
-/// How a session ended whose keys are kept. A program ends with the status's number.
+/// How a session ended whose keys are kept. Its program ends with the status's number.
 #[derive(Clone, Copy, Debug, PartialEq, Eq)]
 pub enum KeptStatus {
     /// The editor ended so; or memory ran out while the journal was opened or cleared.
@@ -18,7 +18,7 @@ pub enum KeptStatus {
 impl KeptStatus {
     ghost use Rattle.synth_kept.specs.KeptStatus.{kept_status_number};
 
-    /// The number that a program ends with.
+    /// The number with which the program ends that keeps its keys.
     pub fn code(self) -> u8
         ensures { result ≡ kept_status_number self }
     {

@@ -1,4 +1,4 @@
--- Calls that are counted from 1, some of which are to fail.
+-- Calls on a value in memory, counted from 1, some of which are to fail.
 use Rattle.std.specs.Prelude.{◌≡◌, ◌==◌, ℕ, Bool, List, Result, IsErrOf, IsTrue, ◌↔◌, if◌then◌else◌}
 use Rattle.std.specs.List.{list_any}
 use Rattle.plcs_base.specs.Count.{raised}
@@ -10,7 +10,7 @@ pub record PlainCalls : Type 0 where
   pub made : ℕ
   pub faults : ℕ
 
--- whether the number of the next call is in the list
+-- whether the next call is to fail: its number, counted from 1, is in the list
 abbrev pub is_failing : PlainCalls → Bool
 is_failing calls = list_any (λ number. number == raised calls.made) calls.fails
 
@@ -18,12 +18,12 @@ is_failing calls = list_any (λ number. number == raised calls.made) calls.fails
 abbrev pub faults_after : PlainCalls → ℕ
 faults_after calls = if is_failing calls then raised calls.faults else calls.faults
 
--- the same calls after one more
+-- the calls on a value in memory once one more is counted, and a fault where it is to fail
 abbrev pub after_call : PlainCalls → PlainCalls
 after_call calls = record calls { made = raised calls.made; faults = faults_after calls }
 
--- one call was made, it answered this fault exactly where its number is in the list, and the count
--- of faults has its cause in it
+-- one call on a value in memory was made, it answered this fault exactly where its number is in the
+-- list, and the count of faults has its cause in it
 pub record MakesCall {T E : Type 0} (fault : E) (before now : PlainCalls) (result : Result T E)
     : Type 0 where
   pub one : now ≡ after_call before

@@ -2,7 +2,7 @@
 use Rattle.std.specs.Prelude.{ℕ, List}
 use Rattle.synth_outside.specs.Calls.{PlainCalls}
 
--- the bytes that were taken, and the calls
+-- what a sink in memory is seen as: the bytes that it took, and the calls
 pub record PlainMemSink : Type 0 where
   pub taken : List ℕ
   pub calls : PlainCalls

@@ -2,7 +2,7 @@
 use Rattle.std.specs.Prelude.{ℕ, ◌<◌, ◌≤◌, List, Option, length, take, Result, IfOk, OnErr}
 use Rattle.std.specs.Io.KnownBytes.{Appends}
 
--- the bytes taken are those before, and then a prefix of the piece
+-- a write took a prefix of the piece: the bytes taken are those before, and then this prefix
 abbrev pub AppendsFront : Option (List ℕ) → Option (List ℕ) → List ℕ → Type 0
 AppendsFront before now piece = (count : ℕ) × Appends before now (take count piece)
 

@@ -2,12 +2,13 @@
 use Rattle.std.specs.Prelude.{◌≡◌, ℕ, ◌≤◌, ◌↔◌, List, [], length, take, Option, Some, None, Result, IfOk, OnErr}
 use Rattle.std.specs.Io.KnownBytes.{Consumes, IsAtEnd}
 
--- a count of bytes given is 0 exactly where no byte was left
+-- a read gives 0 bytes exactly where no byte was left
 abbrev pub IsZeroAtEnd : Option (List ℕ) → ℕ → Type 0
 IsZeroAtEnd None count = Unit {0}
 IsZeroAtEnd (Some left) count = (count ≡ 0) ↔ (left ≡ [])
 
--- the bytes left are those before, perhaps without some first ones, at most so many
+-- what a failed read may lose: the bytes left are those before, perhaps without some first ones, at
+-- most so many
 abbrev pub LosesAtMost : Option (List ℕ) → Option (List ℕ) → ℕ → Type 0
 LosesAtMost before now most = (lost : List ℕ) × (length lost ≤ most) × Consumes before now lost
 

@@ -23,7 +23,7 @@ impl Model for Calls {
 }
 
 impl Calls {
-    /// No call was made yet.
+    /// Calls of which none was made yet; those whose numbers, from 1, are in `fails` are to fail.
     pub fn new(fails: Vec<u64>) -> Self
         ensures { result ≡ record { fails = fails.items; made = 0; faults = 0 } }
     {

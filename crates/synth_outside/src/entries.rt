@@ -1,4 +1,4 @@
-//! Files by name in memory.
+//! The entries of files in memory: each name with its bytes.
 
 ghost use Rattle.std.specs.Prelude.{◌≡◌, [], ◌++◌, IfOk, IfErr, OnOk, OnErr, option_copied, option_map, bytes_eq, position};
 ghost use Rattle.std.specs.FinMap.{empty, get, insert};
@@ -8,7 +8,7 @@ ghost use Rattle.synth_outside.specs.Private.Entries.{is_named};
 use std::alloc::{AllocError, Global};
 use std::marker::Model;
 
-/// Files by name, in the order in which their names came.
+/// The entries of files in memory, in the order in which their names came.
 #[derive(Debug, Drop)]
 pub(crate) struct Entries {
     list: Vec<Entry>,
@@ -27,7 +27,7 @@ impl Model for Entries {
 }
 
 impl Entries {
-    /// No file.
+    /// No entry, so that there is no file.
     pub(crate) fn new(alloc: Global) -> Self
         ensures { result ≡ empty }
     {
@@ -36,7 +36,7 @@ impl Entries {
         }
     }
 
-    /// The bytes of the name, if there is such a file.
+    /// The bytes of the entry of the name, if there is such a file.
     #[tactic(auto, using(crate::proofs::ListedFiles::content_in_map))]
     pub(crate) fn content(&self, name: &[u8]) -> Option<&[u8]>
         ensures { option_copied result ≡ get self.now name.now }
@@ -44,7 +44,8 @@ impl Entries {
         content_of(self.list.as_slice(), name)
     }
 
-    /// Sets the file of the entry's name, or gives the entry back and changes nothing.
+    /// Puts an entry in place of the one of its name, or behind all; or gives it back and changes
+    /// nothing.
     #[tactic(auto, using(crate::proofs::ListedFiles::put_at_place, crate::proofs::ListedFiles::put_behind))]
     pub(crate) fn set(&mut self, entry: Entry) -> Result<(), Entry>
         ensures ok { OnOk result (self.new ≡ insert self.old entry.0 entry.1) }
@@ -64,7 +65,7 @@ impl Entries {
     }
 }
 
-/// A name with its bytes.
+/// An entry: a name with its bytes.
 #[derive(Debug, Drop)]
 pub(crate) struct Entry {
     name: Vec<u8>,
@@ -80,7 +81,7 @@ impl Model for Entry {
 }
 
 impl Entry {
-    /// The name with no byte yet.
+    /// The entry of a name with no byte yet.
     pub(crate) fn new(alloc: Global, name: &[u8]) -> Result<Self, AllocError>
         ensures { IfOk result (λ entry. entry ≡ (name.now, [])) }
     {
@@ -102,7 +103,7 @@ impl Entry {
         self.bytes.as_slice()
     }
 
-    /// Appends the piece, or changes nothing.
+    /// Appends the piece to the bytes of the entry, or changes nothing.
     pub(crate) fn extend(&mut self, piece: &[u8]) -> Result<(), AllocError>
         ensures ok { OnOk result (self.new ≡ (self.old.0, self.old.1 ++ piece.now)) }
         ensures err { OnErr result (self.new ≡ self.old) }
@@ -111,7 +112,7 @@ impl Entry {
     }
 }
 
-// The bytes of the first entry of the name, if there is one.
+// The bytes of the first one of these entries that has the name, if there is one.
 fn content_of<'a>(entries: &'a [Entry], name: &[u8]) -> Option<&'a [u8]>
     ensures { option_copied result ≡
         option_map (λ entry. entry.1) (find (is_named name.now) entries.now) }
@@ -122,7 +123,7 @@ fn content_of<'a>(entries: &'a [Entry], name: &[u8]) -> Option<&'a [u8]>
         .map(|entry| entry.bytes())
 }
 
-// Where the first entry of the name stands.
+// Where the first one of these entries stands that has the name, if there is one.
 fn place_of(entries: &[Entry], name: &[u8]) -> Option<usize>
     ensures { result ≡ position (is_named name.now) entries.now }
 {

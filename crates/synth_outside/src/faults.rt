@@ -1,4 +1,4 @@
-//! Why calls of the outside fail.
+//! Why a call on a source, a sink or files isn't `Ok`.
 
 use thiserror::Error;
 

@@ -1,4 +1,4 @@
-//! Files in memory.
+//! Files in memory, and the count of wants of memory.
 
 ghost use Rattle.std.specs.Prelude.{◌≡◌, ◌≢◌, ◌<◌, ◌≤◌, true, false, [], min, length, Some, None, Ok, Err, IsSome, is_some, option_copied, IfOk, IfSome, OnOk, OnErr, IsErrOf};
 ghost use Rattle.std.specs.FinMap.{empty, get};
@@ -49,7 +49,8 @@ impl Model for MemFiles {
 }
 
 impl MemFiles {
-    /// No file is there, and the calls whose numbers, from 1, are in `fails` are to fail.
+    /// Files in memory of which there is none yet; the calls whose numbers, from 1, are in `fails`
+    /// are to fail.
     pub fn new(alloc: Global, fails: Vec<u64>) -> Self
         ensures { result ≡ record {
           stored = empty;
@@ -69,7 +70,7 @@ impl MemFiles {
         }
     }
 
-    /// The bytes of the file of this name, if there is one.
+    /// The bytes of the file of this name in memory, if there is one.
     pub fn content(&self, name: &[u8]) -> Option<&[u8]>
         ensures { option_copied result ≡ get self.now.stored name.now }
     {
@@ -224,7 +225,7 @@ impl Files for MemFiles {
     }
 }
 
-// Counts one more want of memory, and answers it.
+// Counts one more want of memory in a call on files, and answers it.
 pub(crate) fn counted_want(wants: &mut u64) -> FilesFault
     ensures answer { result ≡ FilesFault.OutOfMemory }
     ensures counted { wants.new ≡ raised wants.old }

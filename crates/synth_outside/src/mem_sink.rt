@@ -27,7 +27,8 @@ impl Model for MemSink {
 }
 
 impl MemSink {
-    /// Nothing was taken yet, and the calls whose numbers, from 1, are in `fails` are to fail.
+    /// A sink in memory that took nothing yet; the calls whose numbers, from 1, are in `fails` are
+    /// to fail.
     pub fn new(alloc: Global, fails: Vec<u64>) -> Self
         ensures taken { result.taken ≡ [] }
         ensures calls { result.calls ≡ record { fails = fails.items; made = 0; faults = 0 } }
@@ -38,7 +39,7 @@ impl MemSink {
         }
     }
 
-    /// The bytes taken so far.
+    /// The bytes that the sink in memory took so far.
     pub fn bytes(&self) -> &[u8]
         ensures { result.now ≡ self.now.taken }
     {
@@ -51,7 +52,7 @@ impl Sink for MemSink {
 
     ghost faults = { λ sink. sink.calls.faults };
 
-    /// Takes the whole piece, or nothing of it.
+    /// Keeps the whole piece in memory, or nothing of it.
     fn write(&mut self, piece: &[u8]) -> Result<usize, SinkFault>
         requires { 0 < length piece.now }
         ensures bytes { TakesBytes (Some self.old.taken) (Some self.new.taken) piece.now result }

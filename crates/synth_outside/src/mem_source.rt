@@ -28,8 +28,8 @@ impl Model for MemSource {
 }
 
 impl MemSource {
-    /// All of `bytes` is left to read, and the calls whose numbers, from 1, are in `fails` are to
-    /// fail.
+    /// A source in memory of which all of `bytes` is left to read; the calls whose numbers, from 1,
+    /// are in `fails` are to fail.
     pub fn new(bytes: Vec<u8>, fails: Vec<u64>) -> Self
         ensures left { result.left ≡ bytes.items }
         ensures calls { result.calls ≡ record { fails = fails.items; made = 0; faults = 0 } }
@@ -54,7 +54,7 @@ impl Source for MemSource {
 
     ghost leads_to_itself = { λ _. tt };
 
-    /// Gives as many bytes as are left and fit. A call that fails loses none.
+    /// Gives as many of the bytes in memory as are left and fit. A call that fails loses none.
     fn read(&mut self, buf: &mut [u8]) -> Result<usize, SourceFault>
         requires { 0 < length buf.old }
         ensures bytes { GivesBytes (Some self.old.left) (Some self.new.left) buf.new result }

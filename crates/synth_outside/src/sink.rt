@@ -1,4 +1,4 @@
-//! The trait of what bytes are written to.
+//! The trait of sinks, which bytes are written to.
 
 ghost use Rattle.std.specs.Prelude.{ℕ, ◌<◌, List, length, Option};
 ghost use Rattle.synth_outside.specs.Cause.{HasCause};

@@ -1,4 +1,4 @@
-//! The trait of what bytes are read from.
+//! The trait of sources, which bytes are read from.
 
 ghost use Rattle.std.specs.Prelude.{◌≡◌, ℕ, ◌<◌, List, length, Option, IfOk, OnErr};
 ghost use Rattle.plcs_base.specs.Count.{raised};

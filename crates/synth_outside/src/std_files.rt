@@ -29,7 +29,7 @@ pub struct StdFiles<'a, R> {
 }
 
 impl<'a, R: rt::Files<File = File>> StdFiles<'a, R> {
-    /// No file is open and nothing is begun.
+    /// Files of the current folder, of which none is open and none is begun.
     pub fn new(rt: &'a R, alloc: Global) -> Self {
         StdFiles {
             rt,
@@ -90,7 +90,7 @@ impl<'a, R: rt::Files<File = File>> Files for StdFiles<'a, R> {
         }
     }
 
-    /// A write that takes no byte fails.
+    /// A write to a file of the system that takes no byte fails.
     fn write(&mut self, piece: &[u8]) -> Result<usize, FilesFault> {
         match &mut self.begun {
             Some(beside) => match beside.write(piece) {
@@ -115,7 +115,7 @@ impl<'a, R: rt::Files<File = File>> Files for StdFiles<'a, R> {
     }
 }
 
-/// A file that is written beside the one of the name.
+/// The file of a new content, which is written beside the one of the name.
 #[derive(Debug, Drop)]
 struct Beside {
     name: Vec<u8>,
@@ -124,7 +124,7 @@ struct Beside {
 }
 
 impl Beside {
-    /// One without bytes. There is none beside a folder.
+    /// The file of a new content without bytes. There is none beside a folder.
     fn create<R: rt::Files<File = File>>(
         rt: &R,
         alloc: Global,
@@ -150,7 +150,8 @@ impl Beside {
         }
     }
 
-    /// Appends the first bytes of the piece, at least one, and answers how many, if the system takes some.
+    /// Appends the first bytes of the piece to the file of a new content, at least one, and answers
+    /// how many, if the system takes some.
     fn write(&mut self, piece: &[u8]) -> Option<usize>
         ensures same_name { self.new.name ≡ self.old.name }
         ensures some { IfSome result (λ count. 0 < count) }
@@ -162,24 +163,25 @@ impl Beside {
         }
     }
 
-    /// It takes the place of the file of the name, once all of its bytes are on the disk.
+    /// The file of a new content takes the place of the file of the name, once all of its bytes are
+    /// on the disk.
     fn put_in_place<R: rt::Files>(&self, rt: &R) -> io::Result<()> {
         self.file.sync_all()?;
         fs::rename(rt, self.path.as_str(), text_of(self.name.as_slice())?)
     }
 
-    /// It goes, if it can.
+    /// Removes the file of a new content, if that can be done.
     fn remove<R: rt::Files>(self, rt: &R) {
         let _ = fs::remove_file(rt, self.path.as_str());
     }
 }
 
-/// The file of the name, for reading.
+/// The file of the name in the current folder, for reading.
 fn file_of<R: rt::Files<File = File>>(rt: &R, name: &[u8]) -> io::Result<File> {
     File::open(rt, text_of(name)?)
 }
 
-/// Whether a folder has the name.
+/// Whether a folder of the system has the name.
 fn is_folder<R: rt::Files>(rt: &R, name: &str) -> bool {
     match fs::metadata(rt, name) {
         Ok(metadata) => metadata.is_dir(),
@@ -187,7 +189,7 @@ fn is_folder<R: rt::Files>(rt: &R, name: &str) -> bool {
     }
 }
 
-/// The name as the text that a path is.
+/// The name of a file as the text that a path of the system is.
 fn text_of(name: &[u8]) -> io::Result<&str> {
     match str::from_utf8(name) {
         Ok(text) => Ok(text),
@@ -195,7 +197,7 @@ fn text_of(name: &[u8]) -> io::Result<&str> {
     }
 }
 
-/// Counts one more fault, and answers it.
+/// Counts one more fault of files of the system, and answers it.
 fn counted_fault(faults: &mut u64) -> FilesFault
     ensures answer { result ≡ FilesFault.Failed }
     ensures counted { faults.new ≡ raised faults.old }

@@ -28,7 +28,7 @@ impl<W> Model for StdSink<W> {
 }
 
 impl<W> StdSink<W> {
-    /// Writes to `inner`, with no fault so far.
+    /// A sink over the writer `inner`, with no fault so far.
     pub fn new(inner: W) -> Self
         ensures { result ≡ record { inner = inner; faults = 0 } }
     {

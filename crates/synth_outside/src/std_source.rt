@@ -30,7 +30,7 @@ impl<R> Model for StdSource<R> {
 }
 
 impl<R> StdSource<R> {
-    /// Reads from `inner`, with no read so far.
+    /// A source over the reader `inner`, with no read so far.
     pub fn new(inner: R) -> Self
         ensures { result ≡ record { inner = inner; reads = 0; faults = 0 } }
     {

@@ -1,10 +1,10 @@
-//! Bytes that are read from the front.
+//! Bytes in memory that are read from the front.
 
 ghost use Rattle.std.specs.Prelude.{◌≡◌, min, length, take, drop};
 
 use std::marker::Model;
 
-/// Bytes that are read from the front, seen as those that are left.
+/// Bytes in memory that are read from the front, seen as those that are left.
 #[derive(Debug, Drop)]
 pub(crate) struct Unread {
     bytes: Vec<u8>,
@@ -22,7 +22,7 @@ impl Model for Unread {
 }
 
 impl Unread {
-    /// All of `bytes` is left.
+    /// Bytes of which none was read yet: all of `bytes` is left.
     pub(crate) fn new(bytes: Vec<u8>) -> Self
         ensures { result ≡ bytes.items }
     {

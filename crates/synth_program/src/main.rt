@@ -6,7 +6,7 @@ use std::process::ExitCode;
 use synth_outside::{StdFiles, StdSink, StdSource};
 use synth_top::{Status, synth, words_of};
 
-/// Edits over the system's streams.
+/// Runs the editor over the system's streams and the files of the current folder, without a journal.
 fn run(rt: &HostRuntime) -> Status {
     let alloc = rt.alloc();
     let words = match words_of(rt, alloc) {

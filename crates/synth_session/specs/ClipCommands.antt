@@ -1,4 +1,4 @@
--- The commands of clips.
+-- The commands of clips, `.copy`, `.cut` and `.insert`.
 use Rattle.std.specs.Prelude.{ℕ, if◌then◌else◌, List, Option, Some, None, option_map}
 use Rattle.std.specs.Option.{option_map_or}
 use Rattle.template_tree.specs.Path.{node_at}
@@ -17,12 +17,12 @@ use Rattle.synth_session.specs.KeyOutcome.{KeyOutcome, line_acceptance_outcome, 
 use Rattle.synth_session.specs.PlainSession.{PlainSession}
 use Rattle.synth_session.specs.TypedLine.{cursor_phrase}
 
--- what stands at a stop: the phrase in a part, or else the node
+-- the fragment that stands at a stop, as a clip takes it: the phrase in a part, or else the node
 abbrev pub fragment_there : PlainTree → PlainStop → Option ℕ → Option PlainFragment
 fragment_there tree stop None = option_map PlainFragment.node (node_at tree.items stop.path)
 fragment_there tree stop (Some part) = option_map PlainFragment.phrase (cursor_phrase tree stop)
 
--- how many slots it has
+-- how many slots the fragment at a stop has
 abbrev pub slots_there : PlainTree → PlainStop → ℕ
 slots_there tree stop = option_map_or slots_of (fragment_there tree stop stop.part) 0
 

@@ -7,7 +7,7 @@ use Rattle.synth_session.specs.declared.answer.Refusal.TheVariants as why
 use Rattle.synth_session.specs.KeyOutcome.{KeyOutcome, line_acceptance_outcome, refusal_outcome}
 use Rattle.synth_session.specs.PlainSession.{PlainSession}
 
--- the refusal of an edit for this
+-- the refusal of a key where an edit of the program isn't made for this fault
 abbrev pub edit_refusal : TreeFault → Refusal
 edit_refusal TreeFault.NotHere = why.NotHere
 edit_refusal TreeFault.TooDeep = why.Tree TreeFault.TooDeep
@@ -20,6 +20,6 @@ abbrev pub edit_outcome : PlainSession → Edited → KeyOutcome
 edit_outcome s (Edited.became tree stop taken what slot) = line_acceptance_outcome (record s { tree = tree; stop = stop })
 edit_outcome s (Edited.refused fault) = refusal_outcome s (edit_refusal fault)
 
--- the program is edited at the cursor
+-- what comes of a command or of phrase text that edits the program: the edit is made at the cursor
 unfoldable pub edited_by : PlainSession → PlainEdit → KeyOutcome
 edited_by s edit = edit_outcome s (edited s.tree s.stop edit)

@@ -13,7 +13,7 @@ use Rattle.synth_session.specs.PlainSession.{PlainSession}
 unfoldable pub is_at_comment : PlainTree → PlainStop → Bool
 is_at_comment tree stop = option_map_or (λ node. is_comment node.label.kind) (node_at tree.items stop.path) false
 
--- the refinement of the comment at the cursor is hidden, or shown again
+-- what `.elide` does: the refinement of the comment at the cursor is hidden, or shown again
 abbrev pub comment_turned : PlainSession → KeyOutcome
 comment_turned s =
     if is_at_comment s.tree s.stop then line_acceptance_outcome (record s { tree = with_turn_at s.stop.path s.tree }) else refusal_outcome s why.NotHere

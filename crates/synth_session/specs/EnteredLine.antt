@@ -1,4 +1,4 @@
--- What the typed line asks for: a command, or phrase text.
+-- What Enter does with the typed line, which is a command or phrase text.
 use Rattle.std.specs.Prelude.{ℕ, ◌==◌, Bool, false, nat_lt, if◌then◌else◌, List, [], ◌∷◌, length, codes, Option, Some, None, Ok, Err}
 use Rattle.std.specs.List.{list_any}
 use Rattle.std.specs.Option.{option_map_or}
@@ -35,7 +35,7 @@ abbrev pub unbuilt_words : List (List ℕ)
 unbuilt_words =
     codes "run" ∷ codes "step" ∷ codes "resume" ∷ codes "back" ∷ codes "trace" ∷ codes "input" ∷ codes "code" ∷ []
 
--- whether a word is one of these
+-- whether a word is that of a command which isn't built yet
 abbrev pub is_unbuilt_word : List ℕ → Bool
 is_unbuilt_word word = list_any (bytes_eq word) unbuilt_words
 
@@ -43,7 +43,7 @@ is_unbuilt_word word = list_any (bytes_eq word) unbuilt_words
 unfoldable pub is_unbuilt : List ℕ → Bool
 is_unbuilt line = option_map_or is_unbuilt_word (command_word line) false
 
--- the session ends, and nothing is shown any more
+-- what `.quit` does: the session ends, and nothing is shown any more
 abbrev pub quit_outcome : PlainSession → KeyOutcome
 quit_outcome s = record { after = s; answer = Answer.Quit }
 
@@ -71,7 +71,7 @@ command_outcome s (PlainCommand.load file) reply = load_outcome s reply
 command_outcome s (PlainCommand.code n) reply = refusal_outcome s why.NotBuilt
 command_outcome s PlainCommand.quit reply = quit_outcome s
 
--- what a line does that is this command, or none for this reason
+-- what a command line does that reads as this command, or as none for this reason
 abbrev pub reading_outcome : PlainSession → PlainReading → Reply → KeyOutcome
 reading_outcome s (Ok command) reply = command_outcome s command reply
 reading_outcome s (Err line.UnknownCommand) reply = refusal_outcome s why.UnknownCommand
@@ -84,7 +84,7 @@ command_line_outcome s reply =
 
 -- ---- phrase text
 
--- what comes of phrase text that is this: a phrase is entered where its canonical text isn't too long
+-- what comes of entering phrase text that is this: a phrase is entered where its canonical text isn't too long
 abbrev pub standing_entered : PlainSession → Standing → KeyOutcome
 standing_entered s (Standing.phrase phrase) =
     if nat_lt longest_phrase (length (Canon phrase)) then refusal_outcome s why.PhraseFull else edited_by s (PlainEdit.enter phrase)

@@ -2,11 +2,11 @@
 use Rattle.std.specs.Prelude.{ℕ}
 use Rattle.screen_window.specs.Limit.{IsSize}
 
--- how many rows and columns a screen has
+-- the size of a screen: how many rows and columns it has
 pub record Extent : Type 0 where
   pub rows : ℕ
   pub cols : ℕ
 
--- a size within the bounds
+-- a size of a screen that is within the bounds
 abbrev pub IsScreenSize : Extent → Type 0
 IsScreenSize size = IsSize size.rows size.cols

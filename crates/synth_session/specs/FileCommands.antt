@@ -1,4 +1,4 @@
--- The commands of files.
+-- The commands of files, `.save` and `.load`.
 use Rattle.cursor_moves.specs.Move.{first_stop}
 use Rattle.session_words.specs.declared.message.Notice.{Notice}
 use Rattle.synth_session.specs.declared.answer.Answer.{Answer}
@@ -7,7 +7,7 @@ use Rattle.synth_session.specs.FileReply.{Reply}
 use Rattle.synth_session.specs.KeyOutcome.{KeyOutcome, line_acceptance_outcome, line_notice_outcome, refusal_outcome}
 use Rattle.synth_session.specs.PlainSession.{PlainSession}
 
--- what comes of a reply that nothing asked can have: no files reply so, and it may be anything
+-- what comes of `.save` or `.load` with a reply that it can't have: no files reply so, and it may be anything
 abbrev pub no_reply_outcome : PlainSession → KeyOutcome
 no_reply_outcome s = record { after = s; answer = Answer.Done }
 

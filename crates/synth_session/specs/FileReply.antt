@@ -1,4 +1,4 @@
--- What a key asks of the files, and what they do.
+-- What a key can ask of the files, what they can reply, and what they do then.
 use Rattle.std.specs.Prelude.{◌≡◌, ◌≢◌, ℕ, ◌≤◌, List, Option, Result, Ok, Err}
 use Rattle.plcs_base.specs.Count.{Rose}
 use Rattle.plcs_base.specs.declared.memory.OutOfMemory.{OutOfMemory}
@@ -13,13 +13,14 @@ use Rattle.synth_session.specs.declared.answer.Answer.{Answer}
 
 -- ---- what is asked, and what is replied
 
--- what a key asks of the files: nothing, to save bytes under a name, or to load the program of a name
+-- what a key can ask of the files: nothing, to save bytes under a name, or to load the program of a name
 pub data Request : Type 0 where
   Nothing : Request
   Save : (name bytes : List ℕ) → Request
   Load : (name : List ℕ) → Request
 
--- what the files did: they weren't asked, the bytes were saved, this program was loaded, or what was asked was refused for this
+-- what the files reply to a key: they weren't asked, the bytes were saved, this program was loaded, or what was asked was
+-- refused for this
 pub data Reply : Type 0 where
   NotAsked : Reply
   Saved : Reply
@@ -47,18 +48,20 @@ CanReply stored (Request.Load name) reply = IsLoadReply stored name reply
 
 -- ---- what the files do
 
--- what is seen of files: their map, where they tell it, and their counts of faults and of wants of memory
+-- what is seen of the files that a key asks: their map, where they tell it, and their counts of faults and of wants of
+-- memory
 pub record PlainFiles : Type 0 where
   pub stored : Option FileMap
   pub faults : ℕ
   pub wants : ℕ
 
--- the map behind a reply: where bytes were saved it has them under their name, and else it is as before
+-- what a reply makes of the map that the files tell: where bytes were saved it has them under their name, and else it is
+-- as before
 abbrev pub IsMapBehind : Request → Reply → Option FileMap → Option FileMap → Type 0
 IsMapBehind (Request.Save name bytes) Reply.Saved before now = IsSaved before now name bytes
 IsMapBehind request reply before now = now ≡ before
 
--- the count of faults behind a reply: it rose where a call failed, and else it is as before
+-- what a reply makes of the files' count of faults: it rose where a call failed, and else it is as before
 abbrev pub CountsFault : Reply → ℕ → ℕ → Type 0
 CountsFault (Reply.Refused refusal) before now = RisesWith (refusal ≡ FileRefusal.FileFault) before now
 CountsFault reply before now = now ≡ before
@@ -70,14 +73,14 @@ pub record HaveReplied (request : Request) (reply : Reply) (before now : PlainFi
   pub faults : CountsFault reply before.faults now.faults
   pub wants : now.wants ≡ before.wants
 
--- the count of wants where memory ran out: where nothing is asked it is as before, and a save takes no memory of its own, so
--- that the files wanted some in it
+-- the files' count of wants where memory ran out in a key: where nothing is asked it is as before, and a save takes no
+-- memory of its own, so that the files wanted some in it
 abbrev pub CountsWant : Request → ℕ → ℕ → Type 0
 CountsWant Request.Nothing before now = now ≡ before
 CountsWant (Request.Save name bytes) before now = Rose before now
 CountsWant (Request.Load name) before now = before ≤ now
 
--- memory ran out where this was asked: the map and the count of faults are as before
+-- memory ran out in a key that asked this of the files: their map and their count of faults are as before
 pub record HaveNoMemory (request : Request) (before now : PlainFiles) : Type 0 where
   pub stored : now.stored ≡ before.stored
   pub faults : now.faults ≡ before.faults

@@ -1,4 +1,4 @@
--- What a key comes to.
+-- What comes of a key: the session behind it, and the answer.
 use Rattle.std.specs.Prelude.{[]}
 use Rattle.session_words.specs.declared.message.Message.{Message}
 use Rattle.session_words.specs.declared.message.Notice.{Notice}
@@ -23,11 +23,11 @@ refusal_outcome s reason = record { after = record s { message = refusal_text re
 abbrev pub acceptance_outcome : PlainSession → KeyOutcome
 acceptance_outcome s = record { after = record (with_cursor_seen s) { message = [] }; answer = Answer.Done }
 
--- what comes of a line that is accepted: it is typed no more
+-- what comes of a key by which the typed line is accepted: the line is typed no more
 abbrev pub line_acceptance_outcome : PlainSession → KeyOutcome
 line_acceptance_outcome s = acceptance_outcome (record s { typed = [] })
 
--- what comes of a line that is accepted, where this is told
+-- what comes of a key by which the typed line is accepted, where this notice is told
 abbrev pub line_notice_outcome : PlainSession → Notice → KeyOutcome
 line_notice_outcome s notice =
     record {

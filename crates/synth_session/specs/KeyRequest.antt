@@ -1,4 +1,4 @@
--- What each key asks of the files.
+-- Which key asks what of the files.
 use Rattle.std.specs.Prelude.{◌==◌, if◌then◌else◌, length, Ok, Err}
 use Rattle.session_words.specs.CommandLine.{begins_with_point, command_of}
 use Rattle.session_words.specs.PlainCommand.{PlainCommand, PlainReading}
@@ -15,23 +15,23 @@ command_request s (PlainCommand.save name) = Request.Save name (Listing s.tree.i
 command_request s (PlainCommand.load name) = Request.Load name
 command_request s _ = Request.Nothing
 
--- what a line asks that is this command, or none
+-- what a command line asks of the files that reads as this command, or as none
 abbrev pub reading_request : PlainSession → PlainReading → Request
 reading_request s (Ok command) = command_request s command
 reading_request s (Err fault) = Request.Nothing
 
--- what a command line asks
+-- what a command line asks of the files
 abbrev pub command_line_request : PlainSession → Request
 command_line_request s = if is_unbuilt s.typed then Request.Nothing else reading_request s (command_of s.typed)
 
--- what the typed line asks where it is entered: phrase text asks nothing
+-- what the typed line asks of the files where it is entered: phrase text asks nothing
 abbrev pub line_request : PlainSession → Request
 line_request s =
     if length s.typed == 0
     then Request.Nothing
     else (if begins_with_point s.typed then command_line_request s else Request.Nothing)
 
--- what a key asks of the files: Enter may ask something
+-- what each key asks of the files: Enter may ask something, and no other key does
 abbrev pub request : PlainSession → Key → Request
 request s Enter = line_request s
 request s _ = Request.Nothing

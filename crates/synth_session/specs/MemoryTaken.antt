@@ -22,7 +22,7 @@ command_takes_memory (PlainCommand.save file) = true
 command_takes_memory (PlainCommand.load file) = true
 command_takes_memory _ = false
 
--- whether a line takes memory that is this command, or none
+-- whether a command line takes memory that reads as this command, or as none
 abbrev pub reading_takes_memory : PlainReading → Bool
 reading_takes_memory (Ok command) = command_takes_memory command
 reading_takes_memory (Err fault) = false

@@ -8,7 +8,8 @@ use Rattle.synth_session.specs.Extent.{Extent}
 use Rattle.synth_session.specs.PlainSession.{PlainSession}
 use Rattle.synth_session.specs.Window.{with_cursor_seen}
 
--- the new program: main with a hole for a declaration and one for a statement, and a hole for a procedure
+-- the new program with which a session is opened: main with a hole for a declaration and one for a statement, and a hole
+-- for a procedure
 abbrev pub new_tree : PlainTree
 new_tree = record { items = new_items; spare = 0; drawn = 4; live = 4 }
 

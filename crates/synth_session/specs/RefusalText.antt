@@ -1,4 +1,4 @@
--- The messages of refusals.
+-- The messages that are shown for refusals, and their texts.
 use Rattle.std.specs.Prelude.{ℕ, List, [], Option, Some, None}
 use Rattle.std.specs.Option.{option_map_or}
 use Rattle.phrase_parser.specs.declared.fault.PhraseFault.{PhraseFault}
@@ -29,7 +29,7 @@ file_message FileRefusal.TooLarge = Some (Message.Refusal words.FileTooLarge)
 file_message FileRefusal.TooLong = Some (Message.Refusal words.FileTooLong)
 file_message FileRefusal.OutOfMemory = None
 
--- the message for a program past a limit; want of memory has none
+-- the message for an edit of the program that is refused; want of memory has none
 abbrev pub tree_message : TreeFault → Option Message
 tree_message TreeFault.NotHere = Some (Message.Refusal words.NotHere)
 tree_message TreeFault.TooDeep = Some (Message.Refusal words.TreeTooDeep)
@@ -52,7 +52,7 @@ refusal_message why.FloatNotThere = Some (Message.Refusal words.FloatNotThere)
 refusal_message why.AtEdge = Some (Message.Refusal words.AtEdge)
 refusal_message why.NotBuilt = Some Message.NotBuilt
 
--- the text of a message, or nothing where there is none
+-- the text that is shown for a message, or nothing where there is none
 abbrev pub shown_message : Option Message → List ℕ
 shown_message message = option_map_or message_text message []
 

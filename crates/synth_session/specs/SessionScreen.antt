@@ -1,4 +1,4 @@
--- The screen of a session.
+-- The screen of a session: its view, with the prompt.
 use Rattle.std.specs.Prelude.{ℕ, List, [], ◌++◌, codes, Option, Some, None}
 use Rattle.std.specs.Option.{option_map_or}
 use Rattle.plcs_grammar.specs.declared.node_kind.Sort.{Sort}
@@ -16,25 +16,26 @@ use Rattle.synth_session.specs.PlainSession.{PlainSession}
 
 -- ---- the prompt
 
--- the word for a node of a sort, or a hole for one
+-- the prompt's word for a node of a sort, or a hole for one
 abbrev pub sort_word : Sort → List ℕ
 sort_word Sort.Main = codes "main"
 sort_word Sort.Procedure = codes "procedure"
 sort_word Sort.Declaration = codes "declaration"
 sort_word Sort.Statement = codes "statement"
 
--- the word for what stands at a stop: for a part that of the placeholder of its category, or else the one for the node
+-- the prompt's word for what stands at a stop: for a part that of the placeholder of its category, or else the one for
+-- the node
 abbrev pub word_at : PlainTree → PlainStop → Option ℕ → List ℕ
 word_at tree stop None = option_map_or (λ node. sort_word (sort_of node.label.kind)) (node_at tree.items stop.path) []
 word_at tree stop (Some part) = option_map_or placeholder_word (category_at tree stop) []
 
--- what is asked for at the cursor
+-- the prompt of a session: what is asked for at its cursor
 unfoldable pub prompt : PlainTree → PlainStop → List ℕ
 prompt tree stop = word_at tree stop stop.part ++ codes "> "
 
 -- ---- the screen
 
--- what the screen of a session shows, with the marks of its program; nothing runs yet
+-- the view of a session, which its screen shows, with the marks of its program; nothing runs yet
 abbrev pub view_of : PlainSession → PlainView
 view_of s = record {
   items = s.tree.items;

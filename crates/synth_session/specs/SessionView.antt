@@ -1,4 +1,4 @@
--- What a session is as plain data, and which conditions its parts keep.
+-- The session in the code: its plain form, the conditions between its parts, and what becomes of it in a key.
 use Rattle.std.specs.Prelude.{◌≡◌, ◌+◌, ◌*◌, ◌<◌, ◌≤◌, Bool, IsTrue, Result, Ok, Err}
 use Rattle.plcs_base.specs.declared.memory.OutOfMemory.{OutOfMemory}
 use Rattle.template_tree.specs.Limit.{most_slots}
@@ -20,7 +20,7 @@ use Rattle.synth_session.specs.KeyOutcome.{KeyOutcome}
 use Rattle.synth_session.specs.PlainSession.{PlainSession}
 use Rattle.synth_session.specs.RefusalText.{shown_message}
 
--- a session as plain data
+-- the plain form of a session in the code
 abbrev pub plain_session : {W : Type 0} → Session W → PlainSession
 plain_session s = record {
   size = record { rows = s.screens.shown.rows; cols = s.screens.shown.cols };
@@ -33,31 +33,31 @@ plain_session s = record {
   message = shown_message s.message;
 }
 
--- the screen that a session painted last
+-- the screen that a session in the code painted last
 abbrev pub shown_grid : {W : Type 0} → Session W → PlainGrid
 shown_grid s = s.screens.shown
 
--- the screen that a session paints next: the one that it drew
+-- the screen that a session in the code paints next: the one that it drew
 abbrev pub next_grid : {W : Type 0} → Session W → PlainGrid
 next_grid s = s.screens.next
 
--- what depends on a program is that of this tree
+-- what depends on the program of a session is that of this tree: its layout, its table of declarations and its verdicts
 pub record DependOn {W : Type 0} (dependents : Dependents W) (tree : PlainTree) : Type 0 where
   pub layout : IsLayoutOf dependents.layout tree
   pub decls : IsDeclsOf dependents.decls tree.items
   pub marks : dependents.marks ≡ Verdicts tree.items
 
--- the program is a tree, and what depends on it is that of this tree
+-- the program of a session is a tree, and what depends on it is that of this tree
 pub record Agrees {W : Type 0} (program : Program W) : Type 0 where
   pub tree : IsTree program.tree
   pub dependents : DependOn program.dependents program.tree
 
--- the cursor stands at a visible stop, and the window begins at a line that a program can have
+-- a condition of a session: the cursor stands at a visible stop, and the window begins at a line that a program can have
 pub record IsPlaced (s : PlainSession) : Type 0 where
   pub stop : IsStop s.tree.items s.stop
   pub top : s.top ≤ 4 * most_slots
 
--- the cursor's line is in the window
+-- a condition of a session: the cursor's line is in the window
 pub record IsSeen (s : PlainSession) : Type 0 where
   pub from : s.top ≤ line_at s.tree.items s.stop
   pub to : line_at s.tree.items s.stop < s.top + window_rows s.size.rows

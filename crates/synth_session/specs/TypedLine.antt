@@ -1,4 +1,4 @@
--- The keys that change the typed line.
+-- The keys that change the typed line, and the phrase at the cursor, which Tab takes into it.
 use Rattle.std.specs.Prelude.{ℕ, ◌-◌, ◌==◌, nat_lt, if◌then◌else◌, [], ◌∷◌, ◌++◌, length, take, Option, Some, None, option_and_then}
 use Rattle.plcs_grammar.specs.Canon.{Canon}
 use Rattle.plcs_grammar.specs.PlainPhrase.{PlainPhrase}
@@ -26,18 +26,19 @@ last_erased s =
 abbrev pub line_cleared : PlainSession → KeyOutcome
 line_cleared s = acceptance_outcome (record s { typed = [] })
 
--- the phrase at the cursor: the one in the part at which it stands, or of the assignment on which it stands
+-- the phrase at the cursor, which Tab takes into the typed line: the one in the part at which the cursor stands, or of
+-- the assignment on which it stands
 unfoldable pub cursor_phrase : PlainTree → PlainStop → Option PlainPhrase
 cursor_phrase tree stop =
     option_and_then (λ node. option_and_then (λ part. part_at node.label.parts part) (cursor_part node.label.kind stop.part))
     (node_at tree.items stop.path)
 
--- the canonical text of a phrase comes into the line, where there is a phrase and the line has room for it
+-- the canonical text of a phrase comes into the typed line, where there is a phrase and the line has room for it
 abbrev pub text_typed : PlainSession → Option PlainPhrase → KeyOutcome
 text_typed s None = refusal_outcome s why.NotHere
 text_typed s (Some phrase) =
     if nat_lt LINE_LIMIT (length (Canon phrase)) then refusal_outcome s why.PhraseFull else acceptance_outcome (record s { typed = Canon phrase })
 
--- the text of the phrase at the cursor comes into the line, where that is empty
+-- what Tab does: the text of the phrase at the cursor comes into the typed line, where that is empty
 abbrev pub phrase_typed : PlainSession → KeyOutcome
 phrase_typed s = if length s.typed == 0 then text_typed s (cursor_phrase s.tree s.stop) else refusal_outcome s why.NotHere

@@ -1,4 +1,4 @@
-//! What becomes of keys.
+//! Answers to keys, refusals with their messages, and whether steps of a run are to be made.
 ghost use Rattle.std.specs.Prelude.{◌≡◌};
 ghost use Rattle.synth_session.specs.RefusalText.{file_message, phrase_message, refusal_message, tree_message};
 
@@ -7,7 +7,7 @@ use phrase_parser::PhraseFault;
 use session_words::{Message, RefusalMessage};
 use template_tree::TreeFault;
 
-/// What became of a key.
+/// The answer to a key: what became of it.
 #[derive(Clone, Copy, Debug, PartialEq, Eq)]
 pub enum Answer {
     /// It was carried out.
@@ -64,7 +64,7 @@ pub enum ClipRefusal {
 }
 
 impl Refusal {
-    /// The message that is shown for it; want of memory has none.
+    /// The message that is shown for a refusal; want of memory has none.
     pub(crate) fn message(self) -> Option<Message>
         ensures { result ≡ refusal_message self }
     {
@@ -112,7 +112,7 @@ fn file_message(refusal: FileRefusal) -> Option<Message>
     }))
 }
 
-/// The message that is shown for a program past a limit; want of memory has none.
+/// The message that is shown for an edit of the program that is refused; want of memory has none.
 fn tree_message(fault: TreeFault) -> Option<Message>
     ensures { result ≡ tree_message fault }
 {

@@ -1,4 +1,4 @@
-//! The commands of clips.
+//! The commands of clips, `.copy`, `.cut` and `.insert`.
 ghost use Rattle.std.specs.Prelude.{◌≡◌, ◌≤◌, false, true, IfOk, IfSome, Option, Some, None, option_map, option_and_then};
 ghost use Rattle.plcs_grammar.specs.PlainPhrase.{plain_phrase};
 ghost use Rattle.template_tree.specs.PlainTree.{roomless_tree};
@@ -107,7 +107,7 @@ impl<W: Work> Session<W> {
     }
 }
 
-/// A copy of what stands at the stop, with nothing elided in it.
+/// A copy of what stands at the stop as a clip takes it, with nothing elided in it.
 fn copy_there(alloc: Global, tree: &Tree, at: &Stop) -> Result<Option<Fragment>, OutOfMemory>
     requires tree { IsTree tree.now }
     ensures copy { IfOk result (λ copy. option_map (λ fragment. roomless_fragment (plain_fragment fragment)) copy
@@ -129,7 +129,7 @@ fn copy_there(alloc: Global, tree: &Tree, at: &Stop) -> Result<Option<Fragment>,
     }
 }
 
-/// A copy of the phrase at the stop, if there is one.
+/// A copy of the phrase at the stop, as a clip takes it, if there is one.
 pub(crate) fn copy_phrase_at(
     alloc: Global,
     tree: &Tree,
@@ -146,7 +146,7 @@ pub(crate) fn copy_phrase_at(
     Ok(Some(copy_phrase(alloc, phrase)?))
 }
 
-/// How many slots it has that stands at the stop.
+/// How many slots the fragment at the stop has that a clip would take.
 fn slots_there(tree: &Tree, at: &Stop) -> u32
     requires { IsTree tree.now }
     ensures { result ≡ slots_there (roomless_tree tree.now) (plain_stop at.now) }

@@ -13,7 +13,7 @@ use cursor_moves::{Move, bottom, down, left, right, top, up};
 use plcs_base::Work;
 
 impl<W: Work> Session<W> {
-    /// Moves the cursor to an earlier line.
+    /// Does what Up asks for: moves the cursor to an earlier line.
     pub(crate) fn move_up(&mut self) -> Answer
         requires { IsSession self.old }
         ensures { HasOutcome (cursor_moved (plain_session self.old) stop_up) self.old self.new result }
@@ -22,7 +22,7 @@ impl<W: Work> Session<W> {
         self.go(to)
     }
 
-    /// Moves the cursor to a later line.
+    /// Does what Down asks for: moves the cursor to a later line.
     pub(crate) fn move_down(&mut self) -> Answer
         requires { IsSession self.old }
         ensures { HasOutcome (cursor_moved (plain_session self.old) stop_down) self.old self.new result }
@@ -31,7 +31,7 @@ impl<W: Work> Session<W> {
         self.go(to)
     }
 
-    /// Moves the cursor to the stop before.
+    /// Does what Left asks for: moves the cursor to the stop before.
     pub(crate) fn move_left(&mut self) -> Answer
         requires { IsSession self.old }
         ensures { HasOutcome (cursor_moved (plain_session self.old) stop_left) self.old self.new result }
@@ -40,7 +40,7 @@ impl<W: Work> Session<W> {
         self.go(to)
     }
 
-    /// Moves the cursor to the next stop.
+    /// Does what Right asks for: moves the cursor to the next stop.
     pub(crate) fn move_right(&mut self) -> Answer
         requires { IsSession self.old }
         ensures { HasOutcome (cursor_moved (plain_session self.old) stop_right) self.old self.new result }
@@ -49,7 +49,7 @@ impl<W: Work> Session<W> {
         self.go(to)
     }
 
-    /// Goes to the first stop.
+    /// Does what `.top` asks for: moves the cursor to the first stop.
     pub(crate) fn go_to_top(&mut self) -> Answer
         requires { IsSession self.old }
         ensures { HasOutcome (line_acceptance_outcome (record (plain_session self.old) { stop = first_stop (plain_session self.old).tree.items })) self.old self.new result }
@@ -58,7 +58,7 @@ impl<W: Work> Session<W> {
         self.accept_line()
     }
 
-    /// Goes to the last stop.
+    /// Does what `.bottom` asks for: moves the cursor to the last stop.
     pub(crate) fn go_to_bottom(&mut self) -> Answer
         requires { IsSession self.old }
         ensures { HasOutcome (line_acceptance_outcome (record (plain_session self.old) { stop = last_stop (plain_session self.old).tree.items })) self.old self.new result }

@@ -12,7 +12,7 @@ use std::alloc::Global;
 use template_tree::TreeFault;
 
 impl<W: Work> Session<W> {
-    /// Edits the program at the cursor, and takes the typed line.
+    /// Edits the program at the cursor, as a command or phrase text asks for, and takes the typed line.
     #[tactic(auto, unfolding(crate::specs::EditCommands::edited_by))]
     pub(crate) fn edit(
         &mut self,
@@ -39,7 +39,7 @@ impl<W: Work> Session<W> {
     }
 }
 
-/// The refusal of an edit for this.
+/// The refusal of a key where an edit of the program isn't made for this fault.
 pub(crate) fn edit_refusal(fault: TreeFault) -> Refusal
     ensures { result ≡ edit_refusal fault }
 {

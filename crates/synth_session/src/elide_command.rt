@@ -12,7 +12,7 @@ use plcs_grammar::{NodeKind, Template};
 use template_tree::room_is_not_shown;
 
 impl<W: Work> Session<W> {
-    /// Hides the refinement of the comment at the cursor, or shows it again.
+    /// Does what `.elide` asks for: hides the refinement of the comment at the cursor, or shows it again.
     pub(crate) fn turn_comment(&mut self) -> Answer
         requires { IsSession self.old }
         ensures { HasOutcome (comment_turned (plain_session self.old)) self.old self.new result }
@@ -38,7 +38,7 @@ impl<W: Work> Session<W> {
     }
 }
 
-/// Whether nodes of the kind are comments.
+/// Whether nodes of the kind are comments, whose refinement the command turns.
 fn is_comment(kind: NodeKind) -> bool
     ensures { result ≡ is_comment kind }
 {

@@ -1,4 +1,4 @@
-//! What the typed line asks for: a command, or phrase text.
+//! What Enter does with the typed line, which is a command or phrase text.
 ghost use Rattle.std.specs.Prelude.{◌≡◌, ◌≤◌, ◌<◌, ◌^◌, IfErr, IfOk, IsTrue, is_some, length, map};
 ghost use Rattle.std.specs.List.{list_any};
 ghost use Rattle.std.specs.Str.{bytes_eq};
@@ -30,7 +30,7 @@ use synth_outside::Files;
 use template_tree::{LONGEST_PHRASE, Side};
 
 impl<W: Work> Session<W> {
-    /// Does what the typed line asks for.
+    /// Does what Enter asks for with the typed line.
     pub(crate) fn enter<F: Files>(
         &mut self,
         alloc: Global,
@@ -149,7 +149,7 @@ impl<W: Work> Session<W> {
     }
 }
 
-/// The phrase that the text is in the category.
+/// The phrase that the typed text is in the category.
 fn read_phrase(alloc: Global, category: Category, text: &[u8]) -> Result<Phrase, PhraseFault>
     requires { length text.now < 2 ^ 32 }
     ensures phrase { IfOk result (λ phrase. standing_of category text.now ≡ Standing.phrase (plain_phrase phrase)) }
@@ -176,14 +176,14 @@ fn is_unbuilt(line: &[u8]) -> bool
     }
 }
 
-/// The words of the commands that aren't built yet.
+/// The words of the commands that aren't built yet, as the definition lists them.
 fn unbuilt_words() -> &'static [&'static [u8]]
     ensures { map (λ word. word.now) result.now ≡ unbuilt_words }
 {
     &UNBUILT_WORDS
 }
 
-/// Whether a word is one of these.
+/// Whether a word is among these words of commands.
 fn is_among(words: &[&[u8]], word: &[u8]) -> bool
     ensures { result ≡ list_any (bytes_eq word.now) (map (λ listed. listed.now) words.now) }
 {

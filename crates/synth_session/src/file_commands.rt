@@ -1,4 +1,4 @@
-//! The commands of files, and the copy that is saved where memory ran out.
+//! The commands of files, `.save` and `.load`, and the copy that is saved where memory ran out.
 ghost use Rattle.std.specs.Prelude.{◌≡◌, ◌≤◌, codes, true};
 ghost use Rattle.template_tree.specs.Listing.{Listing};
 ghost use Rattle.template_tree.specs.PlainTree.{roomless_tree};
@@ -20,7 +20,8 @@ use synth_outside::Files;
 use template_tree::{Tree, room_is_not_shown};
 
 impl<W: Work> Session<W> {
-    /// Saves the listing of the program under the name. It takes no memory of its own.
+    /// Does what `.save` asks for: saves the listing of the program under the name. It takes no memory of its
+    /// own.
     pub(crate) fn save<F: Files>(
         &mut self,
         name: &[u8],
@@ -42,7 +43,7 @@ impl<W: Work> Session<W> {
         }
     }
 
-    /// Loads the program of the name in place of the one that is edited.
+    /// Does what `.load` asks for: loads the program of the name in place of the one that is edited.
     pub(crate) fn load<F: Files>(
         &mut self,
         alloc: Global,
@@ -93,7 +94,8 @@ impl<W: Work> Session<W> {
         Ok(self.accept_line())
     }
 
-    /// Saves the listing of the program under the name `RESCUE`. It takes no memory of its own.
+    /// Saves the listing of the session's program under the name `RESCUE`, where memory ran out. It takes no
+    /// memory of its own.
     pub fn rescue<F: Files>(&self, files: &mut F) -> Result<(), FileRefusal>
         requires { IsSession self.now }
         ensures { Saves (codes "RESCUE") (Listing (plain_session self.now).tree.items) result (F.stored files.old) (F.stored files.new)

@@ -1,6 +1,6 @@
-//! Keys.
+//! The keys of a session.
 
-/// What a person presses.
+/// A key: what a person presses.
 #[derive(Clone, Copy, Debug, PartialEq, Eq)]
 pub enum Key {
     /// A printable byte, from 32 to 126.

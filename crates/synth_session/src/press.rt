@@ -1,4 +1,4 @@
-//! Keys pressed.
+//! Keys pressed in a session, and the laws of refused keys and of phrase text.
 ghost use Rattle.std.specs.Prelude.{◌≡◌, ◌≤◌};
 ghost use Rattle.synth_session.specs.KeyRequest.{request};
 ghost use Rattle.synth_session.specs.MemoryTaken.{key_takes_memory};

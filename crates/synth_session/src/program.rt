@@ -31,7 +31,7 @@ pub struct Program<W> {
     pub dependents: Dependents<W>,
 }
 
-/// All that depends on a program.
+/// All that depends on a program: its layout, its table of declarations, and its verdicts.
 #[derive(Drop)]
 pub struct Dependents<W> {
     pub layout: Layout<W>,
@@ -39,8 +39,8 @@ pub struct Dependents<W> {
     pub marks: Marks<W>,
 }
 
-/// What an edit leaves: where the cursor stands, the node that was taken out, if one was, and what was done
-/// in which slot.
+/// What an edit of the program leaves: where the cursor stands, the node that was taken out, if one was, and
+/// what was done in which slot.
 #[derive(Drop)]
 pub struct Changed {
     pub stop: Stop,
@@ -48,7 +48,7 @@ pub struct Changed {
     pub change: Change,
 }
 
-/// What taking something out leaves: where the cursor stands, and what was taken out.
+/// What taking something out of the program leaves: where the cursor stands, and what was taken out.
 #[derive(Drop)]
 pub struct Taken {
     pub stop: Stop,
@@ -56,7 +56,7 @@ pub struct Taken {
 }
 
 impl<W: Work> Program<W> {
-    /// A tree with all that depends on it.
+    /// A program: the tree with all that depends on it.
     pub(crate) fn new(alloc: Global, tree: Tree, work: &mut W) -> Result<Program<W>, OutOfMemory>
         requires tree { IsTree tree }
         ensures agrees { IfOk result (λ program. Agrees program) }
@@ -116,7 +116,7 @@ impl<W: Work> Program<W> {
         }
     }
 
-    /// Takes out what stands at the stop, which can be taken out. A phrase is copied first.
+    /// Takes what stands at the stop out of the program, from which it can be taken. A phrase is copied first.
     pub(crate) fn take(
         &mut self,
         alloc: Global,
@@ -138,7 +138,7 @@ impl<W: Work> Program<W> {
         }
     }
 
-    /// Takes out the node at the stop, which can be taken out.
+    /// Takes the node at the stop out of the program, from which it can be taken.
     fn take_node(&mut self, alloc: Global, at: &Stop, work: &mut W) -> Result<Taken, TreeFault>
         requires agrees { Agrees self.old }
         requires stop { IsStop (roomless_tree self.old.tree).items (plain_stop at.now) }
@@ -160,7 +160,7 @@ impl<W: Work> Program<W> {
         }
     }
 
-    /// Takes out the phrase at the stop, of which a copy is made first.
+    /// Takes the phrase at the stop out of the program; a copy of it is made first.
     fn take_phrase(&mut self, alloc: Global, at: &Stop, work: &mut W) -> Result<Taken, TreeFault>
         requires agrees { Agrees self.old }
         requires stop { IsStop (roomless_tree self.old.tree).items (plain_stop at.now) }
@@ -182,7 +182,8 @@ impl<W: Work> Program<W> {
         })
     }
 
-    /// Hides the refinement of the comment at the path, or shows it again. It takes no memory.
+    /// Hides the refinement of the comment at the path, or shows it again, in the tree and in what depends on
+    /// it. It takes no memory.
     pub(crate) fn turn(&mut self, path: &Path)
         requires agrees { Agrees self.old }
         ensures agrees { Agrees self.new }

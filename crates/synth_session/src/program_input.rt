@@ -4,7 +4,7 @@ ghost use Rattle.file_store.specs.Limit.{longest_input};
 
 use std::marker::Model;
 
-/// The bytes that the program may read, 1,048,576 at most. They are seen as a list.
+/// The input of the program: the bytes that it may read, 1,048,576 at most. They are seen as a list.
 #[derive(Drop)]
 pub struct ProgramInput {
     bytes: Vec<u8>,
@@ -22,7 +22,7 @@ impl Model for ProgramInput {
 }
 
 impl ProgramInput {
-    /// These bytes. It takes no memory.
+    /// The input of the program that is these bytes. It takes no memory.
     pub(crate) fn new(bytes: Vec<u8>) -> Self
         requires { length bytes.items ≤ longest_input }
         ensures { result ≡ bytes.items }

@@ -1,4 +1,4 @@
-//! The screen that is shown, and the one that is shown next.
+//! The two screens of a session: the one that is shown, and the one that is shown next.
 ghost use Rattle.std.specs.Prelude.{◌≡◌, ◌+◌, ◌≤◌, ◌<◌, ◌^◌, IfOk, OnErr, OnOk};
 ghost use Rattle.template_tree.specs.Tree.{IsTree};
 ghost use Rattle.unparse_layout.specs.Agreement.{IsLayoutOf};
@@ -17,7 +17,8 @@ use std::marker::Model;
 use std::mem;
 use synth_outside::{Sink, SinkFault};
 
-/// The screen that was painted last, and the one that is painted next; they have one size.
+/// The two screens of a session: the one that was painted last, and the one that is painted next; they have one
+/// size.
 #[derive(Drop)]
 pub struct Screens {
     shown: Grid,
@@ -35,7 +36,7 @@ impl Model for Screens {
 }
 
 impl Screens {
-    /// Two blank screens.
+    /// Two blank screens of this size.
     pub(crate) fn new(alloc: Global, size: ScreenSize) -> Result<Screens, OutOfMemory>
         ensures shown { IfOk result (λ screens. screens.shown ≡ blank_grid size.rows size.cols) }
         ensures next { IfOk result (λ screens. screens.next ≡ blank_grid size.rows size.cols) }
@@ -47,7 +48,7 @@ impl Screens {
         })
     }
 
-    /// How many rows the window has.
+    /// How many rows the window of both screens has.
     pub(crate) fn window_rows(&self) -> u16
         ensures rows { result ≡ window_rows self.now.shown.rows }
         ensures least { 1 ≤ result }
@@ -96,5 +97,5 @@ impl Screens {
     }
 }
 
-/// The rows that aren't the window's: dashes, three rows of output, the message and the input.
+/// How many rows of a screen aren't the window's: dashes, three rows of output, the message and the input.
 const OTHER_ROWS: u16 = 6;

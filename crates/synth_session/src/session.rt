@@ -30,8 +30,8 @@ use session_words::{Message, Notice};
 use std::alloc::Global;
 use template_tree::{Path, Stop, Tree, room_is_not_shown};
 
-/// The program that is edited, with all that its screen and the next key depend on. Contracts see it as
-/// plain data; the conditions between its parts are kept by each call.
+/// A session: the program that is edited, with all that its screen and the next key depend on. Contracts see it
+/// as plain data; the conditions between its parts are kept by each call.
 #[derive(Drop)]
 pub struct Session<W> {
     pub(crate) program: Program<W>,
@@ -118,7 +118,7 @@ impl<W: Work> Session<W> {
         Ok(session)
     }
 
-    /// How many slots of the program are live. It takes no memory.
+    /// How many slots of the session's program are live. It takes no memory.
     pub fn slots(&self) -> u32
         requires { IsSession self.now }
         ensures { result ≡ count (plain_session self.now).tree.items }
@@ -127,7 +127,7 @@ impl<W: Work> Session<W> {
         self.program.tree.slots()
     }
 
-    /// Puts the listing of the program, with elided refinements too. It takes no memory.
+    /// Puts the listing of the session's program, with elided refinements too. It takes no memory.
     pub fn listing<O: ByteOut>(&self, out: &mut O)
         requires { IsSession self.now }
         ensures { PutsAll O.puts out.old (Listing (plain_session self.now).tree.items) out.new }
@@ -136,7 +136,7 @@ impl<W: Work> Session<W> {
         self.program.tree.put_listing(out);
     }
 
-    /// Shows a refusal on the message row. It takes no memory.
+    /// Shows a refusal as the message of the session. It takes no memory.
     pub fn show_message(&mut self, refusal: Refusal)
         requires { IsSession self.old }
         ensures session { IsSession self.new }
@@ -168,7 +168,7 @@ impl<W: Work> Session<W> {
         Answer::Refused(why)
     }
 
-    /// Ends a key that was taken: no message is shown, and the window follows the cursor.
+    /// Accepts a key: no message is shown, and the window follows the cursor.
     pub(crate) fn accept(&mut self) -> Answer
         requires agrees { Agrees self.old.program }
         requires placed { IsPlaced (plain_session self.old) }
@@ -184,7 +184,7 @@ impl<W: Work> Session<W> {
         Answer::Done
     }
 
-    /// Ends a key that took the whole typed line.
+    /// Accepts a key that took the whole typed line.
     pub(crate) fn accept_line(&mut self) -> Answer
         requires agrees { Agrees self.old.program }
         requires placed { IsPlaced (plain_session self.old) }
@@ -194,7 +194,7 @@ impl<W: Work> Session<W> {
         self.accept()
     }
 
-    /// Ends a key that took the whole typed line, and tells this.
+    /// Accepts a key that took the whole typed line, and tells this notice.
     pub(crate) fn accept_line_with(&mut self, notice: Notice) -> Answer
         requires agrees { Agrees self.old.program }
         requires placed { IsPlaced (plain_session self.old) }
@@ -206,7 +206,7 @@ impl<W: Work> Session<W> {
     }
 }
 
-/// The new program.
+/// The new program with which a session is opened.
 fn new_tree(alloc: Global) -> Result<Tree, OutOfMemory>
     ensures tree { IfOk result IsTree }
     ensures new { IfOk result (λ tree. roomless_tree tree ≡ new_tree) }

@@ -1,4 +1,4 @@
-//! The screen of a session, drawn and painted.
+//! The screen of a session, with the prompt, drawn and painted.
 ghost use Rattle.std.specs.Prelude.{◌≡◌, ◌+◌, ◌*◌, ◌≤◌, [], None, length, OnErr, OnOk};
 ghost use Rattle.template_tree.specs.Marks.{Marks};
 ghost use Rattle.template_tree.specs.PlainTree.{roomless_tree};
@@ -25,8 +25,8 @@ use synth_outside::{Sink, SinkFault};
 use template_tree::{Stop, Tree, checks_ignore_room_and_elision, room_is_not_shown};
 
 impl<W: Work> Session<W> {
-    /// Draws the screen that is to be painted next. It takes no memory, and lays no more lines than the
-    /// window has rows.
+    /// Draws the session's screen that is to be painted next. It takes no memory, and lays no more lines than
+    /// the window has rows.
     #[tactic(auto, unfolding(crate::specs::SessionScreen::grid))]
     pub fn draw(&mut self, work: &mut W)
         requires { IsSession self.old }
@@ -54,7 +54,7 @@ impl<W: Work> Session<W> {
         );
     }
 
-    /// Paints the screen that was drawn last over the one that was painted last.
+    /// Paints the session's screen that was drawn last over the one that was painted last.
     pub fn paint<K: Sink>(&mut self, sink: &mut K) -> Result<(), SinkFault>
         requires { IsSession self.old }
         ensures session { IsSession self.new }
@@ -68,7 +68,7 @@ impl<W: Work> Session<W> {
     }
 }
 
-/// The text of a message, or none.
+/// The text that the screen shows for the message of a session, or none.
 fn shown_text(message: Option<Message>) -> MessageText
     ensures { result ≡ shown_message message }
 {
@@ -130,7 +130,7 @@ fn draw_on<'a, W: Work>(
 /// How many bytes a prompt has at most.
 const LONGEST_PROMPT: usize = 16;
 
-/// What is asked for at the cursor.
+/// The prompt of a session: what is asked for at its cursor.
 #[tactic(auto, unfolding(crate::specs::SessionScreen::prompt))]
 fn prompt(tree: &Tree, stop: &Stop) -> ArrayVec<u8, LONGEST_PROMPT>
     requires tree { IsTree tree.now }
@@ -144,7 +144,7 @@ fn prompt(tree: &Tree, stop: &Stop) -> ArrayVec<u8, LONGEST_PROMPT>
     text
 }
 
-/// The word for what stands at the stop.
+/// The prompt's word for what stands at the stop.
 fn prompt_word(tree: &Tree, stop: &Stop) -> &'static [u8]
     requires tree { IsTree tree.now }
     requires stop { IsStop (roomless_tree tree.now).items (plain_stop stop.now) }
@@ -164,7 +164,7 @@ fn prompt_word(tree: &Tree, stop: &Stop) -> &'static [u8]
     }
 }
 
-/// The word for a node of the sort.
+/// The prompt's word for a node of the sort.
 fn sort_word(sort: Sort) -> &'static [u8]
     ensures word { result.now ≡ sort_word sort }
     ensures short { length result.now ≤ 11 }

@@ -26,7 +26,7 @@ impl Model for ScreenSize {
 }
 
 impl ScreenSize {
-    /// The size with that many rows and columns.
+    /// The size of a screen with that many rows and columns.
     pub fn new(rows: u16, cols: u16) -> Self
         requires { IsScreenSize (record { rows = rows; cols = cols }) }
         ensures { result ≡ record { rows = rows; cols = cols } }
@@ -34,7 +34,7 @@ impl ScreenSize {
         ScreenSize { rows, cols }
     }
 
-    /// The number of rows.
+    /// The number of rows of a screen of this size.
     pub fn rows(self) -> u16
         ensures value { result ≡ self.rows }
         ensures least { FEWEST_ROWS ≤ result }
@@ -43,7 +43,7 @@ impl ScreenSize {
         self.rows
     }
 
-    /// The number of columns.
+    /// The number of columns of a screen of this size.
     pub fn cols(self) -> u16
         ensures value { result ≡ self.cols }
         ensures least { FEWEST_COLS ≤ result }

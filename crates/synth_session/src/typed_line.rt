@@ -1,4 +1,4 @@
-//! The typed line, and the keys that change it.
+//! The typed line, the keys that change it, and the phrase at the cursor, which Tab takes into it.
 ghost use Rattle.std.specs.Prelude.{◌≡◌, ◌≤◌, ◌<◌, length, option_map, IfNone, IfSome, None};
 ghost use Rattle.plcs_grammar.specs.Canon.{Canon};
 ghost use Rattle.plcs_grammar.specs.PlainPhrase.{plain_phrase};
@@ -21,7 +21,7 @@ use template_tree::{PhrasePlace, Stop, Tree, room_is_not_shown};
 pub const LINE_LIMIT: usize = 200;
 
 impl<W: Work> Session<W> {
-    /// Appends a byte to the typed line.
+    /// Appends a printable byte to the typed line.
     pub(crate) fn type_char(&mut self, byte: u8) -> Answer
         requires { IsSession self.old }
         ensures { HasOutcome (char_typed (plain_session self.old) byte) self.old self.new result }
@@ -54,7 +54,7 @@ impl<W: Work> Session<W> {
         self.accept()
     }
 
-    /// Takes the text of the phrase at the cursor into the empty line.
+    /// Does what Tab asks for: takes the text of the phrase at the cursor into the empty line.
     pub(crate) fn type_phrase(&mut self) -> Answer
         requires { IsSession self.old }
         ensures { HasOutcome (phrase_typed (plain_session self.old)) self.old self.new result }
@@ -73,7 +73,8 @@ impl<W: Work> Session<W> {
     }
 }
 
-/// The phrase in the part at which the stop is, or of the assignment at which it is.
+/// The phrase at a stop, as Tab takes it into the typed line: the one in the part at which the stop is, or of
+/// the assignment at which it is.
 #[tactic(auto, unfolding(crate::specs::TypedLine::cursor_phrase))]
 pub(crate) fn phrase_at<'a>(tree: &'a Tree, stop: &Stop) -> Option<&'a Phrase>
     requires { IsTree tree.now }

@@ -1,4 +1,4 @@
-//! Where the window begins.
+//! Where the window begins, so that a line is seen in it.
 ghost use Rattle.std.specs.Prelude.{◌≡◌, ◌+◌, ◌≤◌, ◌<◌, ◌^◌, ◌*◌};
 ghost use Rattle.template_tree.specs.Limit.{most_slots};
 ghost use Rattle.synth_session.specs.Window.{top_showing};

@@ -16,15 +16,15 @@ has_two_hyphens [] = false
 has_two_hyphens (byte ∷ []) = false
 has_two_hyphens (byte ∷ next ∷ rest) = byte == 45 && next == 45
 
--- whether a byte is `=`
+-- whether a byte is `=`, behind which an option's word has its value
 abbrev pub is_equals_sign : ℕ → Bool
 is_equals_sign byte = byte == 61
 
--- the name in a word with two hyphens: what stands behind them and before the first `=`
+-- the option's name in a word with two hyphens: what stands behind them and before the first `=`
 abbrev pub name_in_word : List ℕ → List ℕ
 name_in_word word = before_first is_equals_sign (drop 2 word)
 
--- the value in a word with two hyphens: what stands behind the first `=`, if there is one
+-- the option's value in a word with two hyphens: what stands behind the first `=`, if there is one
 abbrev pub value_in_word : List ℕ → Option (List ℕ)
 value_in_word word =
     if list_any is_equals_sign (drop 2 word) then Some (after_first is_equals_sign (drop 2 word)) else None
@@ -40,11 +40,11 @@ pub record NamedValue : Type 0 where
   pub name : List ℕ
   pub value : List ℕ
 
--- the value of a word that stands by itself
+-- the value that a word by itself gives, which is for `program`
 abbrev pub program_value : List ℕ → NamedValue
 program_value word = record { name = codes "program"; value = word }
 
--- a value in front of others
+-- the value that a word gives in front of those that the words behind it give
 abbrev pub value_before : NamedValue → Option (List NamedValue) → Option (List NamedValue)
 value_before value others = option_map (λ values. value ∷ values) others
 
@@ -70,12 +70,12 @@ values_in None (word ∷ rest) =
 
 -- ---- each value at most once
 
--- whether no name has two values
+-- whether words give each value once at most: no name has two
 abbrev pub has_each_once : List NamedValue → Bool
 has_each_once [] = true
 has_each_once (first ∷ rest) = not (list_any (λ value. bytes_eq value.name first.name) rest) && has_each_once rest
 
--- the value of a name, if it has one
+-- the value that words give for a name, if they give one
 abbrev pub value_named : List ℕ → List NamedValue → Option (List ℕ)
 value_named name values = option_map (λ value. value.value) (find (λ value. bytes_eq value.name name) values)
 
@@ -87,7 +87,7 @@ pub record PlainGiven : Type 0 where
   pub input : Option (List ℕ)
   pub program : Option (List ℕ)
 
--- what some values give
+-- what words give, by their values with names
 abbrev pub given_by : List NamedValue → PlainGiven
 given_by values = record {
   rows = value_named (codes "rows") values;

@@ -29,7 +29,7 @@ move_of byte =
     else (if byte == 68 then Left
     else Other)))
 
--- ESC and [, behind which one byte more makes a key
+-- whether two bytes begin a move: ESC and [, behind which one byte more makes a key
 abbrev pub begins_move : ℕ → ℕ → Bool
 begins_move byte next = byte == 27 && next == 91
 
@@ -55,13 +55,13 @@ completed (byte ∷ next ∷ last ∷ rest) =
 
 -- ---- the reader
 
--- the bytes that are read and are no key yet
+-- the bytes that the reader of keys holds back: they are read and are no key yet
 abbrev pub held_bytes : Held → List ℕ
 held_bytes Nothing = []
 held_bytes Escape = 27 ∷ []
 held_bytes Bracket = 27 ∷ 91 ∷ []
 
--- keys in the order in which they are pressed
+-- the keys that one byte completes, in the order in which they are pressed
 abbrev pub listed : Keys → List Key
 listed keys = option_to_list keys.first ++ option_to_list keys.second
 

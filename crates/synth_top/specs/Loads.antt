@@ -57,22 +57,22 @@ load_failures loads = failure loads.program + input_failure loads.input
 
 -- ---- the first session
 
--- the program that was loaded
+-- the program that was loaded before the first screen, if one was
 abbrev pub loaded_program : Reply → Option PlainTree
 loaded_program (Reply.Loaded tree) = Some tree
 loaded_program reply = None
 
--- the bytes of the input that was loaded, and else none
+-- the bytes of the input that was loaded before the first screen, and else none
 abbrev pub loaded_input : InputReply → List ℕ
 loaded_input (InputReply.Loaded bytes) = bytes
 loaded_input reply = []
 
--- why the program was refused
+-- why the file with the program was refused, if it was
 abbrev pub program_refusal : Reply → Option FileRefusal
 program_refusal (Reply.Refused refusal) = Some refusal
 program_refusal reply = None
 
--- why the input was refused
+-- why the file with the input was refused, if it was
 abbrev pub input_refusal : InputReply → Option FileRefusal
 input_refusal (InputReply.Refused refusal) = Some refusal
 input_refusal reply = None
@@ -81,7 +81,7 @@ input_refusal reply = None
 abbrev pub first_refusal : Loads → Option FileRefusal
 first_refusal loads = option_or (program_refusal loads.program) (input_refusal loads.input)
 
--- the session with the message of a refusal, if there was one
+-- the first session with the message of the refusal of a load, if there was one
 abbrev pub refusal_told : Option FileRefusal → PlainSession → PlainSession
 refusal_told None s = s
 refusal_told (Some refusal) s = record s { message = refusal_text (Refusal.File refusal) }

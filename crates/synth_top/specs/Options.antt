@@ -1,4 +1,4 @@
--- What the words that follow the program's name ask for.
+-- What the words that follow the program's name ask for: the options.
 use Rattle.std.specs.Prelude.{ℕ, Bool, true, ◌&&◌, nat_le, List, Option, None, Some, option_and_then, if◌then◌else◌}
 use Rattle.std.specs.Option.{option_map_or}
 use Rattle.screen_window.specs.declared.limit.TheConstants.{FEWEST_ROWS, MOST_ROWS, FEWEST_COLS, MOST_COLS}
@@ -8,25 +8,25 @@ use Rattle.synth_top.specs.declared.options.TheConstants.{FEWEST_KEYS, MOST_KEYS
 use Rattle.synth_top.specs.Given.{PlainGiven, given_in}
 use Rattle.synth_top.specs.Number.{number_in_digits}
 
--- what the words ask for: the size of the screen, how many bytes of keys are taken at most, and the names of the files with the
--- program and with its input, if there are any
+-- the options, which are what the words ask for: the size of the screen, how many bytes of keys are taken at most, and
+-- the names of the files with the program and with its input, if there are any
 pub record PlainOptions : Type 0 where
   pub size : Extent
   pub key_limit : ℕ
   pub program : Option (List ℕ)
   pub input : Option (List ℕ)
 
--- the number that a word is, where it is `least` or more and `most` or less
+-- the number that an option's word is, in its range: `least` or more and `most` or less
 abbrev pub count_between : ℕ → ℕ → List ℕ → Option ℕ
 count_between least most word =
     option_and_then (λ n. if nat_le least n then Some n else None) (number_in_digits most word)
 
--- the number that words give, in its range, or else the usual one
+-- the number that words ask for, in its range: the one that they give, or else the usual one
 abbrev pub count_given : ℕ → ℕ → (usual : ℕ) → Option (List ℕ) → Option ℕ
 count_given least most usual None = Some usual
 count_given least most usual (Some word) = count_between least most word
 
--- whether no file is named, or by a name that a file may have
+-- whether words name no file, or one by a name that a file may have
 abbrev pub is_name_given : Option (List ℕ) → Bool
 is_name_given name = option_map_or is_file_name name true
 
@@ -43,6 +43,6 @@ options_with given =
     (count_given FEWEST_COLS MOST_COLS USUAL_COLS given.cols))
     (count_given FEWEST_ROWS MOST_ROWS USUAL_ROWS given.rows)
 
--- what the words ask for, or none where they aren't words of the command
+-- the options that the words ask for, or none where they aren't words of the command
 unfoldable pub options_of : List (List ℕ) → Option PlainOptions
 options_of words = option_and_then options_with (given_in words)

@@ -24,24 +24,24 @@ use Rattle.synth_top.specs.Turn.{HaveReplies, IsToldAs, PressedKey, State, after
 abbrev pub clear_piece : List ℕ
 clear_piece = control (codes "0m") ++ control (codes "2J")
 
--- the opening screen
+-- the bytes of the opening screen, which is painted over a cleared one
 unfoldable pub opening : PlainSession → List ℕ
 opening s = clear_piece ++ Paint (blank_grid s.size.rows s.size.cols) (grid s)
 
--- each screen painted over the one before, the first over the one that is shown
+-- the bytes of screens in turn: each painted over the one before, the first over the one that is shown
 abbrev pub painted_over : PlainGrid → List PlainGrid → List ℕ
 painted_over shown [] = []
 painted_over shown (next ∷ rest) = Paint shown next ++ painted_over next rest
 
--- all that is written: the opening screen, and then turn by turn each screen over the one before
+-- all bytes that a run writes: the opening screen, and then turn by turn each screen over the one before
 unfoldable pub written : State → List PressedKey → List ℕ
 written state pressed =
     opening state.session ++ painted_over (grid state.session) (grids state pressed)
 
 -- ---- what a run begins with
 
--- what is told of keys and screens: the bytes that the source has left and how many reads it counted, the
--- bytes that the sink took, and how many lines were counted as laid
+-- what is told of keys and screens at a moment of a run: the bytes that the source has left and how many reads it
+-- counted, the bytes that the sink took, and how many lines were counted as laid
 pub record Told : Type 0 where
   pub left : Option (List ℕ)
   pub reads : ℕ
@@ -50,19 +50,19 @@ pub record Told : Type 0 where
 
 -- ---- what a run has done
 
--- the keys of pressed keys
+-- the keys that a run pressed, without what the files replied in them
 abbrev pub keys_pressed : List PressedKey → List Key
 keys_pressed pressed = map (λ p. p.key) pressed
 
--- some keys are the first of others
+-- some keys of a run are the first of others
 abbrev pub IsFront : List Key → List Key → Type 0
 IsFront front whole = (rest : List Key) × (whole ≡ front ++ rest)
 
--- a count rose by so much, or is at its last value
+-- over a run a count rose by so much, or is at its last value
 abbrev pub RoseBy : ℕ → ℕ → ℕ → Type 0
 RoseBy much before now = min (before + much) (2 ^ 64 - 1) ≤ now
 
--- a count raised so many times; at its last value it stays
+-- a count of a run, as that of reads, once it was raised so many times; at its last value it stays
 abbrev pub raised_by : ℕ → ℕ → ℕ
 raised_by much count = max count (min (count + much) (2 ^ 64 - 1))
 
@@ -77,7 +77,7 @@ pub record LimitTaken (options : PlainOptions) (bytes : List ℕ) (reads : ℕ) 
   pub one_each : reads ≡ length bytes
   pub many : length bytes ≡ options.key_limit
 
--- no byte comes behind these: the source's end was read, or the limit is met
+-- no byte of keys comes behind these: the source's end was read, or the limit is met
 abbrev pub IsOver : PlainOptions → Told → List ℕ → ℕ → Type 0
 IsOver options now bytes reads = EndRead options now bytes reads ⊎ LimitTaken options bytes reads
 
@@ -115,19 +115,19 @@ pub record Course (options : PlainOptions) (first : State) (before now : Told) :
 -- ---- why a run stopped
 
 module _ {options : PlainOptions} {first : State} {before now : Told} (course : Course options first before now) where
-  -- the state behind the keys pressed
+  -- the state behind all keys that a run pressed
   abbrev pub state_behind : State
   state_behind = after first course.pressed
 
-  -- the sink took all that is written
+  -- the sink took all that a run writes
   abbrev pub AllWritten : Type 0
   AllWritten = length (written first course.pressed) ≤ course.count
 
-  -- no byte was lost
+  -- a run lost no byte of its source
   abbrev pub NoneLost : Type 0
   NoneLost = course.lost ≡ []
 
-  -- just these keys were pressed, and none ended the session
+  -- a run pressed just these keys, and none ended the session
   pub record PressedAll (all : List Key) : Type 0 where
     pub pressed : keys_pressed course.pressed ≡ all
     pub going : ends first course.pressed ≡ false

@@ -4,7 +4,7 @@ use Rattle.plcs_base.specs.Count.{Rose}
 use Rattle.synth_top.specs.declared.status.Status.{Status}
 use Rattle.synth_top.specs.declared.status.Status.TheVariants.{Done, ReadFault, WriteFault, NoMemory, BadWords, KeyLimit}
 
--- the number that a program ends with
+-- the number with which the editor's program ends, by its status
 abbrev pub status_number : Status → ℕ
 status_number Done = 0
 status_number ReadFault = 1
@@ -21,7 +21,7 @@ pub record CausedBy (is_fault : Type 0) (before now : ℕ) : Type 0 where
   pub same : (is_fault → ⊥) → now ≡ before
   pub last : before ≡ 2 ^ 64 - 1 → now ≡ before
 
--- the source is as it is after reads that were Ok, or after such reads and one that wasn't
+-- how the source is left, by the status: as it is after reads that were Ok, or after such reads and one that wasn't
 abbrev pub LeftAs : Status → Type 0 → Type 0 → Type 0
 LeftAs Done after_reads after_fault = after_reads
 LeftAs ReadFault after_reads after_fault = after_fault

@@ -19,7 +19,7 @@ pub record State : Type 0 where
   pub session : PlainSession
   pub files : Option FileMap
 
--- files have the map that is claimed
+-- the map that is claimed of the files is the one that they tell; where there is none, nothing is claimed
 abbrev pub IsToldAs : (claimed told : Option FileMap) → Type 0
 IsToldAs None told = Unit {0}
 IsToldAs (Some map) told = told ≡ Some map
@@ -29,27 +29,28 @@ pub record PressedKey : Type 0 where
   pub key : Key
   pub reply : Reply
 
--- how many failures a reply is
+-- how many failures of calls on the files a reply in a key's turn is
 abbrev pub failure : Reply → ℕ
 failure (Reply.Refused FileRefusal.FileFault) = 1
 failure reply = 0
 
 -- ---- one turn
 
--- what the key asks of the files
+-- what a pressed key asks of the files in its turn
 abbrev pub asked : State → PressedKey → Request
 asked state pressed = request state.session pressed.key
 
--- the files can reply so in the key
+-- in the turn of a pressed key the files can reply so
 abbrev pub HasReply : State → PressedKey → Type 0
 HasReply state pressed = CanReply state.files (asked state pressed) pressed.reply
 
--- the map of the files behind a reply: where bytes were saved it has them under their name, and else it is as before
+-- the map that is claimed of the files behind a key's turn: where they reply that bytes were saved it has them under
+-- their name, and else it is as before
 abbrev pub files_behind : Request → Reply → Option FileMap → Option FileMap
 files_behind (Request.Save name bytes) Reply.Saved files = option_map (λ map. insert map name bytes) files
 files_behind request reply files = files
 
--- whether an answer ends the session
+-- whether a key's answer ends the session, so that its turn shows no screen
 abbrev pub is_quit : Answer → Bool
 is_quit Quit = true
 is_quit Done = false
@@ -77,27 +78,27 @@ turn state pressed =
 
 -- ---- one turn after the other
 
--- the state behind some keys
+-- the state behind the turns of some keys
 abbrev pub after : State → List PressedKey → State
 after state [] = state
 after state (first ∷ rest) = after (turn state first).after rest
 
--- the screens of some keys
+-- the screens that the turns of some keys show, in their order
 abbrev pub grids : State → List PressedKey → List PlainGrid
 grids state [] = []
 grids state (first ∷ rest) = (turn state first).grids ++ grids (turn state first).after rest
 
--- whether one of the keys ends the session
+-- whether one of the turns of some keys ends the session
 abbrev pub ends : State → List PressedKey → Bool
 ends state [] = false
 ends state (first ∷ rest) = (turn state first).ends || ends (turn state first).after rest
 
--- the files can reply so in each key
+-- in the turn of each of some keys the files can reply so
 abbrev pub HaveReplies : State → List PressedKey → Type 0
 HaveReplies state [] = Unit {0}
 HaveReplies state (first ∷ rest) = HasReply state first × HaveReplies (turn state first).after rest
 
--- in how many keys a call on the files failed
+-- in how many turns of some keys a call on the files failed
 abbrev pub failures : List PressedKey → ℕ
 failures [] = 0
 failures (first ∷ rest) = failure first.reply + failures rest

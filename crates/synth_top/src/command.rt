@@ -27,8 +27,8 @@ pub struct Given<'a> {
     pub program: Option<&'a str>,
 }
 
-/// What the words give. Words that aren't of the command are `BadWords`, and it is `NoMemory` where
-/// memory ran out.
+/// What the words give, as clap reads them. Words that aren't of the command are `BadWords`, and it is
+/// `NoMemory` where memory ran out.
 pub fn read_words<'a>(alloc: Global, words: &'a [String]) -> Result<Given<'a>, Status>
     ensures given { IfOk result (λ given. given_in (map string_bytes words.entry.now) ≡ Some (plain_given given)) }
     ensures bad { IfErr result (λ status. (status ≡ Status.NoMemory)
@@ -44,7 +44,7 @@ pub fn read_words<'a>(alloc: Global, words: &'a [String]) -> Result<Given<'a>, S
     }
 }
 
-/// The command: four options, and a word that stands by itself.
+/// The command as clap knows it: four options, and a word that stands by itself.
 fn synth_command<'a>(alloc: Global) -> Result<Command<'a>, AllocError>
     ensures { IfOk result (λ command. app_of command ≡ synth_app) }
 {
@@ -56,8 +56,8 @@ fn synth_command<'a>(alloc: Global) -> Result<Command<'a>, AllocError>
         .arg(program_word(alloc))
 }
 
-/// The command without its options: it knows neither help nor version, and its first word is the first
-/// behind the program's name.
+/// The command for clap without its options: it knows neither help nor version, and its first word is the
+/// first behind the program's name.
 fn bare_command<'a>(alloc: Global) -> Command<'a>
     ensures { app_of result ≡ bare_app }
 {
@@ -67,7 +67,7 @@ fn bare_command<'a>(alloc: Global) -> Command<'a>
         .disable_version_flag(true)
 }
 
-/// The option of this name, whose value is the next word or stands behind `=`.
+/// The option of this name for clap, whose value is the next word or stands behind `=`.
 fn option_named<'a>(alloc: Global, name: &'a str) -> Arg<'a>
     ensures rule { rule_of result ≡ option_rule name.entry.now }
     ensures local { result.global ≡ false }
@@ -75,7 +75,7 @@ fn option_named<'a>(alloc: Global, name: &'a str) -> Arg<'a>
     Arg::new(alloc, name).long(name)
 }
 
-/// The word that stands by itself.
+/// The word that stands by itself, for clap.
 fn program_word<'a>(alloc: Global) -> Arg<'a>
     ensures rule { rule_of result ≡ new_rule (codes "program") }
     ensures local { result.global ≡ false }
@@ -83,7 +83,7 @@ fn program_word<'a>(alloc: Global) -> Arg<'a>
     Arg::new(alloc, "program")
 }
 
-/// What the matches give.
+/// What clap's matches give.
 fn given_by<'a>(matches: &ArgMatches<'a>) -> Given<'a>
     ensures { plain_given result ≡ given_of_matches (found_of matches.now) }
 {

@@ -19,10 +19,10 @@ pub struct Keys {
     pub second: Option<Key>,
 }
 
-/// The byte with which a sequence begins.
+/// ESC, the byte with which the sequence of a move begins.
 const ESCAPE: u8 = 27;
 
-/// The bytes that are read and are no key yet.
+/// The bytes that the reader holds back: they are read and are no key yet.
 #[derive(Clone, Copy, Debug)]
 enum Held {
     /// None.
@@ -50,7 +50,7 @@ impl Model for KeyReader {
 }
 
 impl KeyReader {
-    /// A reader that has read nothing.
+    /// A reader of keys that has read nothing.
     pub fn new() -> Self
         ensures { result ≡ [] }
     {
@@ -86,7 +86,7 @@ impl KeyReader {
     }
 }
 
-/// What a byte gives, and what is held back behind it.
+/// What a byte gives to the reader: the keys that it completes, and what is held back behind it.
 #[derive(Clone, Copy)]
 struct Fed {
     keys: Keys,
@@ -94,7 +94,7 @@ struct Fed {
 }
 
 impl Fed {
-    /// No key yet.
+    /// A byte gives no key yet, and this is held back.
     fn held(held: Held) -> Self
         ensures { result ≡ record { keys = record { first = None; second = None }; held = held } }
     {
@@ -107,7 +107,7 @@ impl Fed {
         }
     }
 
-    /// One key, and nothing held back.
+    /// A byte gives one key, and nothing is held back.
     fn complete(key: Key) -> Self
         ensures { result ≡
             record { keys = record { first = Some key; second = None }; held = Nothing } }
@@ -121,7 +121,7 @@ impl Fed {
         }
     }
 
-    /// The same behind an ESC that is a key of its own.
+    /// What a byte gives behind an ESC that is a key of its own.
     fn behind_escape(self) -> Self
         ensures { result ≡ record {
           keys = record { first = Some Other; second = self.keys.first };
@@ -138,7 +138,7 @@ impl Fed {
     }
 }
 
-/// Takes a byte behind those held back.
+/// Takes a byte behind those that the reader holds back.
 #[tactic(auto, unfolding(crate::specs::Keys::keys, crate::specs::Keys::completed))]
 fn next_byte(held: Held, byte: u8) -> Fed
     ensures keys { Feeds (held_bytes held) byte result.keys (held_bytes result.held) }
@@ -151,7 +151,7 @@ fn next_byte(held: Held, byte: u8) -> Fed
     }
 }
 
-/// Takes a byte where nothing is held back.
+/// Takes a byte where the reader holds nothing back.
 #[tactic(auto, unfolding(crate::specs::Keys::keys, crate::specs::Keys::completed), using(crate::proofs::KeyLists::keys_first, crate::proofs::KeyLists::completed_first),)]
 fn first_byte(byte: u8) -> Fed
     ensures keys { Feeds [] byte result.keys (held_bytes result.held) }

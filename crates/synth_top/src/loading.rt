@@ -12,7 +12,7 @@ use std::alloc::Global;
 use synth_outside::Files;
 use template_tree::{Tree, room_is_not_shown};
 
-/// What came of a file that may be loaded.
+/// What came of a file that may be loaded before the first screen.
 #[derive(Drop)]
 pub enum FileLoad<T> {
     /// No file is named.
@@ -24,7 +24,7 @@ pub enum FileLoad<T> {
 }
 
 impl<T: Drop> FileLoad<T> {
-    /// What was loaded, if something was.
+    /// The content of the file that was loaded, if it was.
     pub fn loaded(self) -> Option<T>
         ensures { result ≡ load_content self }
     {
@@ -45,7 +45,7 @@ impl<T: Drop> FileLoad<T> {
     }
 }
 
-/// What came of the program and of its input.
+/// What came of the first loads, of the program and of its input.
 #[derive(Drop)]
 pub struct FirstLoads {
     /// The program.
@@ -87,7 +87,7 @@ pub fn load_first<F: Files>(
     Ok(FirstLoads { program, input })
 }
 
-/// Loads the program of the name, if there is one.
+/// Loads the program before the first screen, from the file of the name, if one is named.
 fn load_program<F: Files>(
     alloc: Global,
     name: Option<&str>,
@@ -114,7 +114,7 @@ fn load_program<F: Files>(
     }
 }
 
-/// Loads the input of the name, if there is one.
+/// Loads the program's input before the first screen, from the file of the name, if one is named.
 fn load_program_input<F: Files>(
     alloc: Global,
     name: Option<&str>,

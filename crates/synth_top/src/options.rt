@@ -1,4 +1,4 @@
-//! What the words that follow the program's name ask for.
+//! What the words that follow the program's name ask for: the options.
 
 ghost use Rattle.std.specs.Prelude.{◌≡◌, ◌⊎◌, ◌≤◌, None, Some, map, option_map, IfErr, IfOk, IfSome};
 ghost use Rattle.std.specs.String.{string_bytes};
@@ -25,7 +25,7 @@ const USUAL_ROWS: u16 = 24;
 /// How many columns a screen has where no words say it.
 const USUAL_COLS: u16 = 80;
 
-/// What the words ask for.
+/// The options: what the words ask for.
 #[derive(Clone, Copy, Debug)]
 pub struct Options<'a> {
     /// The size of the screen.
@@ -38,8 +38,8 @@ pub struct Options<'a> {
     pub input: Option<&'a str>,
 }
 
-/// What the words after the program's name ask for. Words that aren't of the command are `BadWords`, and
-/// it is `NoMemory` where memory ran out.
+/// The options that the words after the program's name ask for. Words that aren't of the command are
+/// `BadWords`, and it is `NoMemory` where memory ran out.
 #[tactic(auto, unfolding(crate::specs::Options::options_of))]
 pub fn options_of<'a>(alloc: Global, words: &'a [String]) -> Result<Options<'a>, Status>
     ensures options { IfOk result (λ options. options_of (map string_bytes words.entry.now) ≡ Some (plain_options options)) }
@@ -55,8 +55,8 @@ pub fn options_of<'a>(alloc: Global, words: &'a [String]) -> Result<Options<'a>,
     }
 }
 
-/// What is asked for by what the words give, if each number is in its range and each name one that a file
-/// may have.
+/// The options that are asked for by what the words give, if each number is in its range and each name one
+/// that a file may have.
 fn options_with<'a>(given: &Given<'a>) -> Option<Options<'a>>
     ensures { option_map plain_options result ≡ options_with (plain_given given.now) }
 {
@@ -84,7 +84,7 @@ fn options_with<'a>(given: &Given<'a>) -> Option<Options<'a>>
     })
 }
 
-/// The number that the words give, if it is in its range, which both bounds are part of; the usual one
+/// The number that the words ask for, if it is in its range, which both bounds are part of; the usual one
 /// where they give none.
 fn count_given(least: u32, most: u32, usual: u32, word: Option<&str>) -> Option<u32>
     requires least { least ≤ usual }
@@ -98,7 +98,7 @@ fn count_given(least: u32, most: u32, usual: u32, word: Option<&str>) -> Option<
     }
 }
 
-/// The number that a word is, where it lies between the two bounds, which are part of the range.
+/// The number that an option's word is, where it lies between the two bounds, which are part of the range.
 fn count_between(least: u32, most: u32, word: &str) -> Option<u32>
     ensures value { result ≡ count_between least most word.now }
     ensures range { IfSome result (λ n. (least ≤ n) × (n ≤ most)) }
@@ -110,7 +110,7 @@ fn count_between(least: u32, most: u32, word: &str) -> Option<u32>
     Some(count)
 }
 
-/// Whether no file is named, or by a name that a file may have.
+/// Whether the words name no file, or one by a name that a file may have.
 fn is_name_given(name: Option<&str>) -> bool
     ensures { result ≡ is_name_given (option_map (λ name. name.now) name.entry) }
 {

@@ -30,7 +30,7 @@ use std::alloc::Global;
 use synth_outside::{Files, Sink, SinkFault, Source, SourceFault};
 use synth_session::{Answer, Key, Refusal, Session};
 
-/// Whether the session goes on.
+/// Whether the session of a run goes on.
 #[derive(Clone, Copy, Debug)]
 pub enum Going {
     /// It goes on.
@@ -40,7 +40,7 @@ pub enum Going {
 }
 
 impl Going {
-    /// The status that ended the session, or this one.
+    /// The status with which the run ends: the one that ended the session, or else this one.
     fn ended_as(self, status: Status) -> Status
         ensures { result ≡ ended_as self status }
     {
@@ -51,7 +51,7 @@ impl Going {
     }
 }
 
-/// A session with the reader of its keys.
+/// The editor in a run: a session with the reader of its keys.
 #[derive(Drop)]
 pub struct Editor<W> {
     pub session: Session<W>,
@@ -86,7 +86,7 @@ impl<W: Work> Editor<W> {
         Ok(editor)
     }
 
-    /// Shows a refusal on the message row, if there is one.
+    /// Shows the refusal of a first load on the message row, if there was one.
     fn tell(&mut self, refusal: Option<FileRefusal>)
         requires { IsReady self.old }
         ensures session { plain_session self.new.session ≡ refusal_told refusal (plain_session self.old.session) }
@@ -186,7 +186,7 @@ impl<W: Work> Editor<W> {
         self.show(screen, work)
     }
 
-    /// Presses what isn't complete, where no byte comes any more.
+    /// Presses the key that isn't complete, where no byte comes any more.
     fn finish<K: Sink, F: Files>(
         &mut self,
         alloc: Global,
@@ -232,7 +232,7 @@ impl<W: Work> Editor<W> {
         self.press_if(alloc, keys.second, screen, files, work)
     }
 
-    /// Presses a key, if there is one.
+    /// Presses a key in a run, if there is one.
     fn press_if<K: Sink, F: Files>(
         &mut self,
         alloc: Global,
@@ -257,8 +257,8 @@ impl<W: Work> Editor<W> {
         }
     }
 
-    /// Presses a key and paints the screen behind it. A key that ends the session has none, and one that
-    /// wants memory does nothing.
+    /// Presses a key in a run and paints the screen behind it. A key that ends the session has none, and
+    /// one that wants memory does nothing.
     fn press<K: Sink, F: Files>(
         &mut self,
         alloc: Global,
@@ -311,7 +311,7 @@ impl<W: Work> Editor<W> {
     }
 }
 
-/// The bytes of the input that was loaded, and else none.
+/// The bytes of the input with which an editor is opened: those that were loaded, and else none.
 fn bytes_or_none(alloc: Global, input: FileLoad<Vec<u8>>) -> Vec<u8>
     ensures { result.items ≡ loaded_input (input_reply input) }
 {

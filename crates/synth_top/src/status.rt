@@ -2,7 +2,7 @@
 
 ghost use Rattle.std.specs.Prelude.{◌≡◌};
 
-/// How the editor ended. A program ends with the status's number.
+/// How the editor ended. Its program ends with the status's number.
 #[derive(Clone, Copy, Debug, PartialEq, Eq)]
 pub enum Status {
     /// A key ended the session, or the source of keys ended.
@@ -22,7 +22,7 @@ pub enum Status {
 impl Status {
     ghost use Rattle.synth_top.specs.Status.{status_number};
 
-    /// The number that a program ends with.
+    /// The number with which the editor's program ends.
     pub fn code(self) -> u8
         ensures { result ≡ status_number self }
     {

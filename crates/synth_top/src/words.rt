@@ -6,8 +6,8 @@ use std::env;
 use std::io::ErrorKind;
 use std::rt::Env;
 
-/// The words that follow the program's name. One that isn't text is no word of the command: then it is
-/// `BadWords`, and `NoMemory` where memory ran out.
+/// The words that follow the program's name, from the system. One that isn't text is no word of the
+/// command: then it is `BadWords`, and `NoMemory` where memory ran out.
 pub fn words_of<R: Env + AllocGlobal>(rt: &R, alloc: Global) -> Result<Vec<String>, Status> {
     let arguments = env::args(rt).map_err(|error| match error.kind() {
         ErrorKind::OutOfMemory => Status::NoMemory,

@@ -1,4 +1,4 @@
--- What the steps of a read do.
+-- What the steps of a read do: a kept key is looked for, and else a new one is taken and kept.
 use Rattle.std.specs.Prelude.{◌≡◌, ℕ, ◌+◌, ◌^◌, ◌≤◌, List, [], ◌∷◌, ◌++◌, Option, Some, None, Result, Ok, Err, IfOk, OnOk}
 use Rattle.std.specs.Io.KnownBytes.{Consumes, IsAtEnd}
 use Rattle.synth_outside.specs.Source.{LosesAtMost}
@@ -10,13 +10,13 @@ use Rattle.key_journal.specs.Private.Stages.{HoldsAt, IsAppending, IsReplaying}
 use Rattle.key_journal.specs.declared.stage.Stage.{Stage}
 use Rattle.key_journal.specs.declared.stage.Stage.TheVariants.{Replaying, Appending}
 
--- the source gave one byte or is at its end, or may have lost one
+-- the source of new keys gave one byte or is at its end, or may have lost one
 abbrev pub GivesByte : {E : Type 0} → Option (List ℕ) → Option (List ℕ) → Result (Option ℕ) E → Type 0
 GivesByte left left_after (Ok (Some byte)) = Consumes left left_after (byte ∷ [])
 GivesByte left left_after (Ok None) = Consumes left left_after [] × IsAtEnd left_after
 GivesByte left left_after (Err fault) = LosesAtMost left left_after 1
 
--- a key is kept behind those that are
+-- a new key is kept behind those that are
 pub record KeepsKey {E : Type 0} (given key : ℕ) (past past_after : List DiskState)
     (result : Result Unit E) : Type 0 where
   pub each : Throughout (LeavesOneOf (kept past) (key ∷ [])) past past_after
@@ -29,13 +29,13 @@ pub record ShutsGate {E : Type 0} (given : ℕ) (past past_after : List DiskStat
   pub each : Throughout (LeavesOnly (kept past)) past past_after
   pub holds : OnOk result (Newest (IsAppending given) past_after)
 
--- the next kept key was found, or none is left
+-- the next kept key was found, or none is left to give
 abbrev pub FindsKey : Option ℕ → ℕ → List ℕ → List DiskState → Type 0
 FindsKey (Some key) given keys past =
     Newest (Gave given key keys) past × Newest (IsReplaying (given + 1)) past
 FindsKey None given keys past = Newest (IsAppending given) past
 
--- a kept key is looked for
+-- a kept key is looked for, and a crash leaves the kept keys alone meanwhile
 pub record Replays {E : Type 0} (given : ℕ) (past past_after : List DiskState)
     (result : Result (Option ℕ) E) : Type 0 where
   pub each : Throughout (LeavesOnly (kept past)) past past_after
@@ -52,7 +52,7 @@ pub record ReplaysAt {E : Type 0} (stage : Stage) (given : ℕ) (past past_after
   pub replays : Replays given past past_after result
   pub stage_is : IfOk result (λ key. stage ≡ stage_behind key)
 
--- what holds of the disk after a read that gave this key, or the end
+-- what holds of the disk after a step that gave this key, or the end
 abbrev pub HoldsBehind : Stage → ℕ → Option ℕ → List DiskState → Type 0
 HoldsBehind stage given (Some key) past = HoldsAt stage (given + 1) past × (given + 1 ≤ 2 ^ 61)
 HoldsBehind stage given None past = HoldsAt stage given past

@@ -4,7 +4,7 @@ use Rattle.key_journal.specs.Disk.{bytes_of}
 use Rattle.key_journal.specs.MemDisk.{states}
 use Rattle.key_journal.specs.declared.mem_disk.DiskCall.{DiskCall}
 
--- the bytes are what the calls that were done left, and end where every disk does
+-- the bytes of a disk in memory are what the calls that were done left, and end where every disk does
 pub record HoldsBytes (bytes : List ℕ) (done : List DiskCall) : Type 0 where
   pub same : bytes ≡ bytes_of (states done)
   pub inside : length bytes ≤ 2 ^ 62

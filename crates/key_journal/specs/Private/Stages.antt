@@ -9,7 +9,7 @@ use Rattle.key_journal.specs.declared.stage.Block.TheVariants.{Open, Shut, Cut}
 use Rattle.key_journal.specs.declared.stage.Stage.{Stage}
 use Rattle.key_journal.specs.declared.stage.Stage.TheVariants.{Unsynced, Replaying, Appending}
 
--- open gates, each with its key
+-- keys as they stand on the disk: open gates, each with its key
 abbrev pub blocks : List ℕ → List ℕ
 blocks [] = []
 blocks (key ∷ keys) = 1 ∷ key ∷ blocks keys
@@ -31,22 +31,24 @@ pub record IsCut (count : ℕ) (bytes : List ℕ) : Type 0 where
   pub many : length keys ≡ count
   pub short : length rest ≤ 1
 
--- a crash leaves what a read gives, with at least so many keys
+-- at the stage at which kept keys are given: a crash leaves what a read gives, with at least so many
+-- keys
 pub record IsReplaying (given : ℕ) (state : DiskState) : Type 0 where
   pub synced : IsSynced state
   pub enough : given ≤ length (recovered state.bytes)
 
--- a crash leaves what a read gives, with so many keys and then no whole block
+-- where the bytes are cut: a crash leaves what a read gives, with so many keys and then no whole block
 pub record IsCutOff (given : ℕ) (state : DiskState) : Type 0 where
   pub synced : IsSynced state
   pub cut : IsCut given state.bytes
 
--- a crash leaves what a read gives, with so many keys and then a gate that isn't open
+-- at the stage at which new keys are kept: a crash leaves what a read gives, with so many keys and then
+-- a gate that isn't open
 pub record IsAppending (given : ℕ) (state : DiskState) : Type 0 where
   pub synced : IsSynced state
   pub shut : IsShut given state.bytes
 
--- what holds of the disk once so many keys were given
+-- what holds of the disk at each stage of a journal, once so many keys were given
 abbrev pub HoldsAt : Stage → ℕ → List DiskState → Type 0
 HoldsAt Unsynced given past = Newest (LeavesAtLeast given) past
 HoldsAt Replaying given past = Newest (IsReplaying given) past
@@ -59,7 +61,7 @@ Begins (Open key) bytes = (rest : List ℕ) × (bytes ≡ 1 ∷ key ∷ rest)
 Begins Shut bytes = (gate : ℕ) × (rest : List ℕ) × (bytes ≡ gate ∷ rest) × (gate ≢ 1)
 Begins Cut bytes = length bytes ≤ 1
 
--- what holds of the fields of a journal
+-- what holds of the fields of a journal: of its disk at its stage, and of how many keys were given
 pub record Stays (stage : Stage) (given : ℕ) (past : List DiskState) : Type 0 where
   pub holds : HoldsAt stage given past
   pub few : given ≤ 2 ^ 61

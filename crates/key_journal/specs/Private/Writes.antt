@@ -3,13 +3,13 @@ use Rattle.std.specs.Prelude.{◌≡◌, ℕ, List, [], length, Result, OnOk}
 use Rattle.key_journal.specs.Crash.{Throughout}
 use Rattle.key_journal.specs.Disk.{DiskState, MayLeave, Newest, Torn, bytes_of, written}
 
--- the state reads as these bytes, and a crash leaves them
+-- a disk is synced with these bytes: it reads as these, and a crash leaves them
 pub record IsSyncedAs (bytes : List ℕ) (state : DiskState) : Type 0 where
   pub none : state.pending ≡ []
   pub synced : state.synced ≡ bytes
   pub reads : state.bytes ≡ bytes
 
--- a crash leaves what a read gives
+-- a disk is synced: a crash leaves what it reads as
 abbrev pub IsSynced : DiskState → Type 0
 IsSynced state = IsSyncedAs state.bytes state
 
@@ -18,8 +18,8 @@ pub record IsTornFrom (at count : ℕ) (bytes : List ℕ) (state : DiskState) : 
   pub images : (image : List ℕ) → MayLeave state image → Torn at count bytes image
   pub reads : Torn at count bytes state.bytes
 
--- at each moment of the call a crash leaves the old bytes with the range torn, and the written ones
--- once it is Ok
+-- a write that is synced at once: at each moment of the call a crash leaves the old bytes with the range
+-- torn, and the written ones once it is Ok
 pub record WritesSynced {E : Type 0} (at : ℕ) (piece : List ℕ) (before now : List DiskState)
     (result : Result Unit E) : Type 0 where
   pub each : Throughout (IsTornFrom at (length piece) (bytes_of before)) before now

@@ -1,17 +1,17 @@
--- Which way of closing a journal the program takes.
+-- Where the program closes a journal by clearing it.
 use Rattle.std.specs.Prelude.{◌≡◌, ◌≢◌, ℕ, Bool, false}
 use Rattle.synth_kept.specs.Closing.{Closing}
 use Rattle.synth_kept.specs.Closing.Closing.{LeftStanding, Cleared, NotCleared}
 use Rattle.synth_top.specs.declared.status.Status.{Status}
 use Rattle.synth_top.specs.declared.status.Status.TheVariants.{Done}
 
--- the editor is done, some key was given, and the last answer wasn't the end
+-- a journal is to be cleared: the editor is done, some key was given, and the last answer wasn't the end
 pub record IsToClear (run : Status) (given : ℕ) (ended : Bool) : Type 0 where
   pub done : run ≡ Done
   pub some : given ≢ 0
   pub going : ended ≡ false
 
--- the journal is cleared exactly then
+-- a journal is cleared exactly where it is to be
 abbrev pub Agrees : Closing → Status → ℕ → Bool → Type 0
 Agrees LeftStanding run given ended = IsToClear run given ended → ⊥
 Agrees Cleared run given ended = IsToClear run given ended

@@ -8,6 +8,6 @@ use Rattle.synth_outside.specs.Files.{FileMap}
 abbrev pub file_map_code : Coded FileMap
 file_map_code = code (coded_list coded_ℕ) (coded_list coded_ℕ)
 
--- whether an entry has the name
+-- whether an entry of files in memory has the name
 abbrev pub is_named : List ℕ → List ℕ × List ℕ → Bool
 is_named name entry = bytes_eq entry.0 name

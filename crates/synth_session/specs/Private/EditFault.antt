@@ -5,12 +5,12 @@ use Rattle.template_tree.specs.Stop.{PlainStop}
 use Rattle.template_tree.specs.declared.tree_fault.TreeFault.{TreeFault}
 use Rattle.session_edit.specs.Edited.{Edited}
 
--- the edit of which this was to come is refused for this fault; want of memory says nothing of it
+-- this outcome of an edit of the program is a refusal for this fault; want of memory says nothing of it
 abbrev pub IsEditFault : Edited → TreeFault → Type 0
 IsEditFault outcome TreeFault.OutOfMemory = Unit {0}
 IsEditFault outcome fault = outcome ≡ Edited.refused fault
 
--- the edit of which this was to come made this tree, with the cursor at this stop
+-- this outcome of an edit of the program is this tree, with the cursor at this stop
 abbrev pub HasBecome : Edited → PlainTree → PlainStop → Type 0
 HasBecome (Edited.became tree stop taken what slot) after to = (tree ≡ after) × (stop ≡ to)
 HasBecome (Edited.refused fault) after to = ⊥

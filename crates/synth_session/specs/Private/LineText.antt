@@ -3,6 +3,6 @@ use Rattle.std.specs.Prelude.{◌≡◌, ℕ, [], ◌∷◌, ◌++◌, take}
 use Rattle.synth_session.specs.declared.typed_line.LineText.{LineText}
 use Rattle.synth_session.specs.declared.typed_line.TheConstants.{LINE_LIMIT}
 
--- a byte came behind a line's text, as far as the line has room
+-- a byte came behind the text that is put into a typed line, as far as the line has room
 abbrev pub PutsInLine : LineText → ℕ → LineText → Type 0
 PutsInLine before byte after = after.bytes.items ≡ take LINE_LIMIT (before.bytes.items ++ byte ∷ [])

@@ -5,15 +5,15 @@ use Rattle.clap.specs.Simple.{on_top}
 use Rattle.clap.specs.declared.parser.matches.Found.{Found}
 use Rattle.synth_top.specs.Given.{PlainGiven}
 
--- an option of a name, with a value
+-- clap's rule for an option of a name, with a value
 abbrev pub option_rule : Text → Rule
 option_rule name = record (new_rule name) { long = Some name }
 
--- a command with neither help nor version, whose first word is the first of its words
+-- a command of clap with neither help nor version, whose first word is the first of its words
 abbrev pub bare_app : App
 bare_app = on_top (λ shape. record shape { no_binary_name = true; disable_help_flag = true; disable_version_flag = true }) (new_app (codes "synth"))
 
--- the command: four options, and a word that stands by itself
+-- the command as clap knows it: four options, and a word that stands by itself
 abbrev pub synth_app : App
 synth_app =
     with_rule
@@ -36,7 +36,7 @@ given_of_matches found = record {
   program = first_value found (codes "program");
 }
 
--- the same by their rows
+-- what the rows of clap's matches give
 abbrev pub given_of_rows : List Row → PlainGiven
 given_of_rows rows = record {
   rows = first_of (codes "rows") rows;

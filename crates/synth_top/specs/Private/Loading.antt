@@ -14,24 +14,24 @@ use Rattle.synth_top.specs.Turn.{failure}
 
 -- ---- what the files did
 
--- files were read without want of memory, and so many calls failed
+-- files were only read by a load, without want of memory, and so many calls failed
 pub record OnlyRead (failures : ℕ) (before now : PlainFiles) : Type 0 where
   pub stored : now.stored ≡ before.stored
   pub later : before.faults ≤ now.faults
   pub faults : RoseBy failures before.faults now.faults
   pub wants : now.wants ≡ before.wants
 
--- the program was loaded so
+-- the program was loaded so before a session is opened, with this reply
 pub record ProgramLoads (name : Option (List ℕ)) (reply : Reply) (before now : PlainFiles) : Type 0 where
   pub can : CanReply before.stored (program_request name) reply
   pub read : OnlyRead (failure reply) before now
 
--- the input was loaded so
+-- the input was loaded so before a session is opened, with this reply
 pub record InputLoads (name : Option (List ℕ)) (reply : InputReply) (before now : PlainFiles) : Type 0 where
   pub can : IsInputReply before.stored name reply
   pub read : OnlyRead (input_failure reply) before now
 
--- both were loaded so
+-- program and input were both loaded so before a session is opened
 pub record BothLoad (options : PlainOptions) (loads : Loads) (before now : PlainFiles) : Type 0 where
   pub can : CanLoad options before.stored loads
   pub read : OnlyRead (load_failures loads) before now
@@ -44,7 +44,7 @@ pub record LoadsNothing (before now : PlainFiles) : Type 0 where
 
 -- ---- what was loaded
 
--- what was loaded, if something was
+-- the content of a file that was loaded, if it was
 abbrev pub load_content : {T : Type 0} → FileLoad T → Option T
 load_content (FileLoad.Loaded content) = Some content
 load_content load = None

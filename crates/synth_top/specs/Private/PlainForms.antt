@@ -1,4 +1,4 @@
--- The plain data of the types of this crate.
+-- The plain forms of the types of this crate: of what words give, of options, and of the first loads.
 use Rattle.std.specs.Prelude.{ℕ, Vec, option_map}
 use Rattle.std.specs.declared.alloc.Global.{Global}
 use Rattle.template_tree.specs.PlainTree.{PlainTree, roomless_tree}
@@ -11,7 +11,7 @@ use Rattle.synth_top.specs.Given.{PlainGiven}
 use Rattle.synth_top.specs.Loads.{InputReply, Loads}
 use Rattle.synth_top.specs.Options.{PlainOptions}
 
--- what words give, as plain data
+-- the plain form of what words give
 abbrev pub plain_given : Given → PlainGiven
 plain_given g = record {
   rows = option_map (λ text. text.now) g.rows;
@@ -21,7 +21,7 @@ plain_given g = record {
   program = option_map (λ text. text.now) g.program;
 }
 
--- options as plain data
+-- the plain form of options
 abbrev pub plain_options : Options → PlainOptions
 plain_options o = record {
   size = o.size;
@@ -30,18 +30,18 @@ plain_options o = record {
   input = option_map (λ name. name.now) o.input;
 }
 
--- what came of the program, as plain data: a tree without its room
+-- the plain form of what came of loading the program: a tree without its room
 abbrev pub program_reply : FileLoad PlainTree → Reply
 program_reply FileLoad.NotAsked = Reply.NotAsked
 program_reply (FileLoad.Loaded tree) = Reply.Loaded (roomless_tree tree)
 program_reply (FileLoad.Refused refusal) = Reply.Refused refusal
 
--- what came of the input, as plain data
+-- the plain form of what came of loading the input
 abbrev pub input_reply : FileLoad (Vec ℕ Global) → InputReply
 input_reply FileLoad.NotAsked = InputReply.NotAsked
 input_reply (FileLoad.Loaded bytes) = InputReply.Loaded bytes.items
 input_reply (FileLoad.Refused refusal) = InputReply.Refused refusal
 
--- both loads as plain data
+-- the plain form of both first loads
 abbrev pub plain_loads : FirstLoads → Loads
 plain_loads loads = record { program = program_reply loads.program; input = input_reply loads.input }

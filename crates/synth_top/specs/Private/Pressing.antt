@@ -24,7 +24,7 @@ use Rattle.synth_top.specs.Turn.{HaveReplies, IsToldAs, PressedKey, State, after
 
 -- ---- an editor
 
--- the parts of its session keep their conditions
+-- an editor is ready: the parts of its session keep their conditions
 abbrev pub IsReady : {W : Type 0} → Editor W → Type 0
 IsReady e = IsSession e.session
 
@@ -39,7 +39,7 @@ pub record IsOpened {W : Type 0} (options : PlainOptions) (loads : Loads) (e : E
   pub unshown : IsUnshown e
   pub session : plain_session e.session ≡ first_session options loads
 
--- the next byte was read, or nothing is left
+-- the next byte of keys was read, or nothing is left
 abbrev pub ReadsByte : Option ℕ → Option (List ℕ) → Option (List ℕ) → Type 0
 ReadsByte (Some byte) before now = Consumes before now (byte ∷ [])
 ReadsByte None before now = Consumes before now [] × IsAtEnd now

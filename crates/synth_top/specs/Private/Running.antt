@@ -1,4 +1,4 @@
--- What a run does from an editor's first screen on, before anything is saved.
+-- What a run does from an editor's first screen on, and what is then saved.
 use Rattle.std.specs.Prelude.{◌≡◌, ◌≤◌}
 use Rattle.synth_session.specs.FileReply.{PlainFiles}
 use Rattle.synth_session.specs.PlainSession.{PlainSession}
