@@ -1,4 +1,4 @@
--- What may stand behind a command's word.
+-- The argument of a command: what may stand behind its word, and the command that it makes.
 use Rattle.std.specs.Prelude.{ℕ, Bool, ◌&&◌, not, nat_le, List, [], ◌∷◌, length, codes, Option, None, Some, Ok, Err, if◌then◌else◌}
 use Rattle.std.specs.List.{list_all}
 use Rattle.plcs_base.specs.Byte.{is_blank, is_digit, is_printable}
@@ -25,12 +25,13 @@ pub data PlainArgumentRule : Type 0 where
 abbrev pub default_clip : List ℕ
 default_clip = codes "clip"
 
--- the name that the argument is, if it is one; no argument is the name of the clip
+-- the clip's name that the argument is, if it is one; no argument is the name of the clip that is meant
+-- where none is named
 abbrev pub name_in : List ℕ → Option (List ℕ)
 name_in [] = Some default_clip
 name_in (byte ∷ rest) = if is_name (byte ∷ rest) then Some (byte ∷ rest) else None
 
--- whether the bytes are digits, of which there is one or more
+-- whether an argument is digits, of which there is one or more
 abbrev pub is_numeral : List ℕ → Bool
 is_numeral bytes = nat_le 1 (length bytes) && list_all is_digit bytes
 
@@ -68,12 +69,12 @@ is_file_name bytes =
 abbrev pub file_name_in : List ℕ → Option (List ℕ)
 file_name_in argument = if is_file_name argument then Some argument else None
 
--- the command that is made of what the argument is, if it is what the command takes
+-- the command that is made of what the argument was read as, if it is what the command takes
 abbrev pub command_from : {X : Type 0} → (X → PlainCommand) → Option X → PlainReading
 command_from make (Some x) = Ok (make x)
 command_from make None = Err WrongArgument
 
--- the command that the argument makes
+-- the command that the argument makes, by what is taken behind the word
 abbrev pub command_with : PlainArgumentRule → List ℕ → PlainReading
 command_with (PlainArgumentRule.nothing command) [] = Ok command
 command_with (PlainArgumentRule.nothing command) (byte ∷ rest) = Err WrongArgument

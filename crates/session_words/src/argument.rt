@@ -1,4 +1,4 @@
-//! What an argument is read as.
+//! What the argument of a command is read as: a name, a number or a file name.
 ghost use Rattle.std.specs.Prelude.{◌≡◌};
 ghost use Rattle.std.specs.List.{list_all};
 ghost use Rattle.session_words.specs.Argument.{default_clip, name_in, number_between, number_in, is_file_byte, is_file_name};
@@ -11,7 +11,8 @@ use plcs_base::{Name, is_printable};
 /// The name of the clip that is meant where none is named.
 const DEFAULT_CLIP: &[u8] = b"clip";
 
-/// The name that the argument is, if it is one; no argument is the name of the clip.
+/// The clip's name that the argument is read as, if it is one; no argument is read as the name of the
+/// clip that is meant where none is named.
 pub fn name_in(argument: &[u8]) -> Option<Name>
     ensures { result ≡ name_in argument.now }
 {
@@ -30,8 +31,8 @@ fn default_clip() -> Option<Name>
     Name::read(DEFAULT_CLIP)
 }
 
-/// The number of the range that the argument is, if it is one; no argument is the one that is meant
-/// where none is given.
+/// The number of the range that the argument is read as, if it is one; no argument is the one that is
+/// meant where none is given.
 pub fn number_in(range: Range, argument: &[u8]) -> Option<u32>
     ensures { result ≡ number_in range.least range.most range.otherwise argument.now }
 {

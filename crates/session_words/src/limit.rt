@@ -1,4 +1,4 @@
-//! The limits of arguments.
+//! The limits of the arguments of commands.
 
 /// How many steps `.step` makes at most.
 pub const MOST_STEPS: u32 = 100;
