@@ -1,4 +1,4 @@
--- The limits of clips, and what is refused by them.
+-- The limits of clips and the room for new ones, and what is refused by them.
 use Rattle.std.specs.Prelude.{◌≡◌, ℕ, ◌+◌, ◌≤◌, Bool, true, false, ◌||◌, nat_le, nat_lt, List, length, All, is_some}
 use Rattle.std.specs.List.{IsDistinct}
 use Rattle.std.specs.Map.{keys_of, values_of}

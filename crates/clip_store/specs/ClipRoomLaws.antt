@@ -34,7 +34,7 @@ abbrev pub WholenessIgnoresRoom : Type 0
 WholenessIgnoresRoom =
     (fragment : PlainFragment) → whole_fragment (roomless_fragment fragment) ≡ roomless_fragment (whole_fragment fragment)
 
--- a fragment without room has none either as the whole fragment, with nothing elided
+-- a fragment without room gets none where it is made whole, with nothing elided
 abbrev pub WholenessBringsNoRoom : Type 0
 WholenessBringsNoRoom =
     (fragment : PlainFragment)

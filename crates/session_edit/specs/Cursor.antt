@@ -10,8 +10,8 @@ use Rattle.template_tree.specs.Section.{same_sort}
 use Rattle.template_tree.specs.Stop.{PlainStop}
 use Rattle.cursor_moves.specs.Move.{stop_right}
 
--- where the cursor goes from a stop that was filled, if this is the next one: to that, where it lies in the same node
--- or in a node inside it, and else it stays
+-- of a stop that was filled and the next one, that to which the cursor goes: the next, where it lies in the same node
+-- or in a node inside it
 abbrev pub stop_or_next : PlainStop → PlainStop → PlainStop
 stop_or_next stop next = if starts_with nat_eq next.path stop.path then next else stop
 

@@ -23,8 +23,8 @@ pub(crate) fn onward(tree: &Tree, at: &Stop) -> Stop
     }
 }
 
-/// The next stop, where it lies in the node of the stop that was filled or in a node inside that, or
-/// else the stop that was filled.
+/// The one of two stops, that which was filled and the next, to which the cursor goes: the next, where
+/// it lies in the node of the other or in a node inside that.
 fn next_within(at: &Stop, next: Stop) -> Stop
     ensures { plain_stop result ≡ stop_or_next (plain_stop at.now) (plain_stop next) }
 {

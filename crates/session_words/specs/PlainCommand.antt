@@ -5,7 +5,7 @@ use Rattle.session_words.specs.declared.command.Command.{Command}
 use Rattle.session_words.specs.declared.command.Command.TheVariants as asked
 use Rattle.session_words.specs.declared.command.CommandFault.{CommandFault}
 
--- a command: what a command line asks for
+-- a command as plain data, which is what a command line asks for
 pub data PlainCommand : Type 0 where
   template : Template → PlainCommand
   float : PlainCommand

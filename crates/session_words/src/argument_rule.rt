@@ -118,7 +118,7 @@ impl ArgumentRule {
 }
 
 impl Alone {
-    /// A command that takes no argument, where there is none.
+    /// A command that takes no argument, where none stands behind its word.
     fn command<'a>(self, argument: &[u8]) -> Result<Command<'a>, CommandFault>
         ensures { plain_reading result ≡
             command_with (PlainArgumentRule.nothing (alone_command self)) argument.now }
@@ -130,7 +130,7 @@ impl Alone {
         }
     }
 
-    /// Each command that takes no argument.
+    /// Each of the commands that take no argument.
     fn command_of<'a>(self) -> Command<'a>
         ensures { plain_command result ≡ alone_command self }
     {
@@ -163,7 +163,7 @@ impl Named {
         }
     }
 
-    /// Each command that takes a clip's name, with this name.
+    /// Each of the commands that take a clip's name, with this name.
     fn command_of<'a>(self, name: Name) -> Command<'a>
         ensures { plain_command result ≡ named_command self name }
     {
@@ -187,7 +187,7 @@ impl Numbered {
         }
     }
 
-    /// Each command that takes a number, with this number of its range.
+    /// Each of the commands that take a number, with this number of its range.
     fn command_of<'a>(self, number: u32) -> Command<'a>
         ensures { plain_command result ≡ numbered_command self number }
     {

@@ -9,7 +9,7 @@ use crate::command_table::argument_rule_of;
 use plcs_base::{Name, is_letter};
 use plcs_grammar::{Template, trimmed};
 
-/// What a command line asks for.
+/// A command, which is what a command line asks for.
 #[derive(Debug, Drop, PartialEq, Eq)]
 pub enum Command<'a> {
     /// Fill the hole at the cursor with the template.
@@ -57,7 +57,7 @@ pub enum Command<'a> {
     Quit,
 }
 
-/// Why a line is no command.
+/// Why a command line is no command.
 #[derive(Clone, Copy, Debug, PartialEq, Eq)]
 pub enum CommandFault {
     /// It isn't a point, letters, and then the end or a blank and an argument; or the letters are no

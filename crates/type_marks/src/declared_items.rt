@@ -123,7 +123,7 @@ fn has_such(items: &[Item], name: &Name, cells: u32) -> bool
     items.iter().any(|item| is_such(item, name, cells))
 }
 
-/// Whether the item of a declared list has the name and so many cells.
+/// Whether this item of a declared list has the name and so many cells.
 fn is_such(item: &Item, name: &Name, cells: u32) -> bool
     ensures { result ≡ is_such name.now cells (declared_as ItemType.Fixed item.now) }
 {

@@ -42,7 +42,7 @@ impl BuiltinRow {
     }
 }
 
-/// Whether two kinds are one.
+/// Whether two kinds are one, as the tables of kinds tell them apart.
 pub(crate) fn same_kind(one: Kind, other: Kind) -> bool
     ensures { result ≡ same_kind one other }
 {
