@@ -3,7 +3,7 @@ use Rattle.std.specs.Prelude.{◌≡◌, ◌≢◌, ◌↔◌, ◌⊎◌, ◌<�
 use Rattle.template_tree.specs.PlainTree.{Forest}
 use Rattle.template_tree.specs.Stop.{IsStop, PlainStop, Stops}
 
--- the cursor may stand at a stop exactly where it is one of the visible stops
+-- the cursor may stand at a stop exactly where that is one of the listed visible stops
 abbrev pub StopsAreListed : Type 0
 StopsAreListed = (items : Forest) (stop : PlainStop) → IsStop items stop ↔ Contains (map (λ listed. listed.stop) (Stops items)) stop
 

@@ -21,12 +21,11 @@ pub data PlainArgumentRule : Type 0 where
   -- the name of a file
   file : (List ℕ → PlainCommand) → PlainArgumentRule
 
--- the name of the clip that is meant where none is named
+-- the name of the clip that is meant where no argument names one
 abbrev pub default_clip : List ℕ
 default_clip = codes "clip"
 
--- the clip's name that the argument is, if it is one; no argument is the name of the clip that is meant
--- where none is named
+-- the clip's name that the argument is, if it is one; no argument is the name of the clip that is then meant
 abbrev pub name_in : List ℕ → Option (List ℕ)
 name_in [] = Some default_clip
 name_in (byte ∷ rest) = if is_name (byte ∷ rest) then Some (byte ∷ rest) else None
@@ -52,15 +51,15 @@ abbrev pub text_in : List ℕ → Option (List ℕ)
 text_in [] = None
 text_in (byte ∷ rest) = Some (byte ∷ rest)
 
--- whether the byte may stand in a file name: it is printable and no blank
+-- whether the byte may stand in an argument that is a file name: it is printable and no blank
 abbrev pub is_file_byte : ℕ → Bool
 is_file_byte byte = is_printable byte && not (is_blank byte)
 
--- how many bytes a file name may have
+-- how many bytes an argument may have that is a file name
 abbrev pub longest_file_name : ℕ
 longest_file_name = LONGEST_FILE_NAME
 
--- whether the bytes are a file name
+-- whether an argument is a file name
 abbrev pub is_file_name : List ℕ → Bool
 is_file_name bytes =
     nat_le 1 (length bytes) && (nat_le (length bytes) longest_file_name && list_all is_file_byte bytes)

@@ -8,11 +8,11 @@ use crate::limit::LONGEST_FILE_NAME;
 use crate::number::number_between;
 use plcs_base::{Name, is_printable};
 
-/// The name of the clip that is meant where none is named.
+/// The name of the clip that is meant where no argument names one.
 const DEFAULT_CLIP: &[u8] = b"clip";
 
 /// The clip's name that the argument is read as, if it is one; no argument is read as the name of the
-/// clip that is meant where none is named.
+/// clip that is then meant.
 pub fn name_in(argument: &[u8]) -> Option<Name>
     ensures { result ≡ name_in argument.now }
 {
@@ -23,7 +23,7 @@ pub fn name_in(argument: &[u8]) -> Option<Name>
     }
 }
 
-/// The name of the clip that is meant where none is named, as a name.
+/// The name of the clip that is meant where no argument names one, as a name.
 #[tactic(auto, using(crate::proofs::ClipName::clip_name_read))]
 fn default_clip() -> Option<Name>
     ensures { result ≡ Some default_clip }
@@ -43,14 +43,14 @@ pub fn number_in(range: Range, argument: &[u8]) -> Option<u32>
     }
 }
 
-/// Whether the bytes are a file name: 1 to 100 bytes from 33 to 126.
+/// Whether an argument is a file name: 1 to 100 bytes from 33 to 126.
 pub fn is_file_name(bytes: &[u8]) -> bool
     ensures { result ≡ is_file_name bytes.now }
 {
     !bytes.is_empty() && bytes.len() <= LONGEST_FILE_NAME && all_file_bytes(bytes)
 }
 
-/// Whether each byte may stand in a file name.
+/// Whether each byte of an argument may stand in a file name.
 fn all_file_bytes(bytes: &[u8]) -> bool
     ensures { result ≡ list_all is_file_byte bytes.now }
 {
