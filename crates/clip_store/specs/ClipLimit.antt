@@ -1,4 +1,4 @@
--- The limits of clips, and what is refused by them.
+-- The limits of clips and the room for new ones, and what is refused by them.
 use Rattle.std.specs.Prelude.{◌≡◌, ℕ, ◌+◌, ◌≤◌, Bool, true, false, ◌||◌, nat_le, nat_lt, List, length, All, is_some}
 use Rattle.std.specs.List.{IsDistinct}
 use Rattle.std.specs.Map.{keys_of, values_of}
@@ -8,11 +8,11 @@ use Rattle.clip_store.specs.declared.clips.ClipFault.{ClipFault}
 use Rattle.clip_store.specs.PlainFragment.{PlainFragment, IsFragment, slots_of}
 use Rattle.clip_store.specs.PlainClips.{Pair, PlainClips, clip_named, slots_held, without}
 
--- how many names may be held
+-- under how many names clips may be held
 abbrev pub most_clips : ℕ
 most_clips = MOST_CLIPS
 
--- how many slots the fragments may have together
+-- how many slots the fragments of all clips may have together
 abbrev pub most_clip_slots : ℕ
 most_clip_slots = MOST_CLIP_SLOTS
 
@@ -21,7 +21,7 @@ pub record IsClip (fragment : PlainFragment) : Type 0 where
   pub sound : IsFragment fragment
   pub few : slots_of fragment ≤ most_clip_slots
 
--- pairs within the limits: each name is held once, and each fragment may come into a program
+-- clips within the limits: each name is held once, and each fragment may come into a program
 pub record AreClips (pairs : List Pair) : Type 0 where
   pub once : IsDistinct bytes_eq (keys_of pairs)
   pub few : length pairs ≤ most_clips

@@ -8,7 +8,7 @@ use Rattle.template_tree.specs.Program.{IsPhrase, IsSubtree}
 use Rattle.template_tree.specs.Slots.{count}
 use Rattle.clip_store.specs.declared.fragment.Fragment.{Fragment}
 
--- a node with what stands inside it, or a phrase
+-- a fragment: a node with what stands inside it, or a phrase
 pub data PlainFragment : Type 0 where
   node : PlainNode → PlainFragment
   phrase : PlainPhrase → PlainFragment
@@ -28,12 +28,12 @@ abbrev pub whole_fragment : PlainFragment → PlainFragment
 whole_fragment (PlainFragment.node n) = PlainFragment.node (whole_node n)
 whole_fragment (PlainFragment.phrase p) = PlainFragment.phrase p
 
--- how many slots it counts as: those of its nodes, and one for a phrase
+-- how many slots a fragment counts as: those of its nodes, and one for a phrase
 abbrev pub slots_of : PlainFragment → ℕ
 slots_of (PlainFragment.node n) = count n.inner + 1
 slots_of (PlainFragment.phrase p) = 1
 
--- it may come into a program: a part of one, or a phrase that may stand in a part of its category
+-- a fragment that may come into a program: a part of one, or a phrase that may stand in a part of its category
 abbrev pub IsFragment : PlainFragment → Type 0
 IsFragment (PlainFragment.node n) = IsSubtree n
 IsFragment (PlainFragment.phrase p) = IsPhrase (category_of p) p

@@ -11,7 +11,7 @@ use plcs_base::{Name, OutOfMemory};
 use std::alloc::Global;
 use std::marker::Model;
 
-/// Why a fragment isn't taken.
+/// Why a fragment isn't put under a name.
 #[derive(Clone, Copy, Debug, PartialEq, Eq)]
 pub enum ClipFault {
     /// There would be more than 64 names, or more than 20,000 slots in all.
@@ -20,8 +20,8 @@ pub enum ClipFault {
     OutOfMemory,
 }
 
-/// Fragments under their names, which contracts see as a list of pairs in order, with how many new
-/// names it has room for.
+/// The clips: fragments under their names, which contracts see as a list of pairs in order, with how
+/// many new names they have room for.
 #[derive(Drop)]
 pub struct Clips {
     fragments: IndexMap<Name, Fragment>,
@@ -112,7 +112,7 @@ impl Clips {
         self.other_names(name) < MOST_CLIPS && slots <= MOST_CLIP_SLOTS - self.other_slots(name)
     }
 
-    /// Makes room, so that the next `put` under the name takes no memory.
+    /// Makes room for a clip, so that the next `put` under the name takes no memory.
     pub fn reserve(&mut self, name: &Name) -> Result<(), OutOfMemory>
         ensures same { self.new.pairs ≡ self.old.pairs }
         ensures room { OnOk result (has_room name.now self.new ≡ true) }
@@ -126,7 +126,7 @@ impl Clips {
         Ok(())
     }
 
-    /// How many names are held besides this one.
+    /// How many clips are held under other names.
     fn other_names(&self, name: &Name) -> usize
         ensures { result ≡ length (without name.now self.now.pairs) }
     {

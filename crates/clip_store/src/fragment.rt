@@ -1,4 +1,4 @@
-//! What a clip holds.
+//! The fragment that a clip holds: a node or a phrase.
 ghost use Rattle.std.specs.Prelude.{◌≡◌, ◌≤◌, IfOk};
 ghost use Rattle.clip_store.specs.PlainFragment.{IsFragment, plain_fragment, roomless_fragment, slots_of, whole_fragment};
 
@@ -7,7 +7,7 @@ use plcs_grammar::{Phrase, copy_phrase};
 use std::alloc::Global;
 use template_tree::Node;
 
-/// What was cut or copied.
+/// A fragment of a program, which was cut or copied.
 #[derive(Drop)]
 pub enum Fragment {
     /// A node with what stands inside it.
@@ -29,7 +29,8 @@ impl Fragment {
         }
     }
 
-    /// How many slots it counts as: those of its nodes, and one for a phrase. It takes no memory.
+    /// How many slots a fragment counts as: those of its nodes, and one for a phrase. It takes no
+    /// memory.
     pub fn slots(&self) -> u32
         requires few { slots_of (plain_fragment self.now) ≤ 4294967295 }
         ensures { result ≡ slots_of (plain_fragment self.now) }

@@ -1,6 +1,6 @@
 //! The limits of clips.
 
-/// How many names may be held.
+/// Under how many names clips may be held.
 pub const MOST_CLIPS: usize = 64;
 
 /// How many slots the fragments under all names may have together.

@@ -1,4 +1,4 @@
-//! The first and the last visible stop.
+//! Moves to the top and the bottom, which are the first and the last visible stop.
 ghost use Rattle.std.specs.Prelude.{◌≡◌};
 ghost use Rattle.template_tree.specs.PlainTree.{roomless_tree};
 ghost use Rattle.template_tree.specs.Stop.{IsStop, plain_stop};

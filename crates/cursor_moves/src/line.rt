@@ -1,4 +1,4 @@
-//! Moves to other lines.
+//! Moves down and up, to visible stops on other lines.
 ghost use Rattle.std.specs.Prelude.{◌≡◌, IfSome};
 ghost use Rattle.template_tree.specs.PlainTree.{roomless_tree};
 ghost use Rattle.template_tree.specs.Stop.{IsStop, plain_stop};

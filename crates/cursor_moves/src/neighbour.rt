@@ -1,4 +1,4 @@
-//! Moves to the next and the previous visible stop.
+//! Moves right and left, to the next and the previous visible stop.
 ghost use Rattle.std.specs.Prelude.{◌≡◌, IfSome};
 ghost use Rattle.template_tree.specs.PlainTree.{roomless_tree};
 ghost use Rattle.template_tree.specs.Stop.{IsStop, plain_stop};

@@ -24,7 +24,7 @@ pub(crate) fn next_node(tree: &Tree, path: &Path) -> Option<Path>
     node_behind(tree, next)
 }
 
-/// Whether a visible node stands inside the node.
+/// Whether a visible node stands inside the node, which is then the one behind it.
 fn shows_inside(node: &Node) -> bool
     ensures { result ≡ is_some (first_inside node.now) }
 {

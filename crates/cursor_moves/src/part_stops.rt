@@ -24,7 +24,8 @@ pub(crate) fn last_of_node(tree: &Tree, path: Path) -> Stop
     Stop { path, part }
 }
 
-/// The part behind a part of a node of the kind, or behind the node itself, if it is a stop.
+/// The next part of a node of the kind that is a stop, behind a part or behind the node itself, if
+/// there is one.
 pub(crate) fn next_part(kind: NodeKind, part: Option<u8>) -> Option<u8>
     requires { MayStand part kind }
     ensures { result ≡ next_number (number_of_part_stops kind) part }
@@ -50,7 +51,7 @@ fn part_stops(kind: NodeKind) -> u8
     parts_of(kind.row().line)
 }
 
-/// How many parts a line has.
+/// How many parts the line of a node has, each of them a stop unless the node is an assignment.
 fn parts_of(line: &[Segment]) -> u8
     requires { length (parts_of (map plain_segment line.now)) ≤ 255 }
     ensures { result ≡ length (parts_of (map plain_segment line.now)) }

@@ -1,9 +1,9 @@
-//! Copies of paths.
+//! Copies of the paths from which moves of the cursor go on.
 ghost use Rattle.std.specs.Prelude.{◌≡◌};
 
 use template_tree::Path;
 
-/// An equal path.
+/// A copy of the path from which a move of the cursor goes on.
 pub(crate) fn copy_of(path: &Path) -> Path
     ensures { result.items ≡ path.now.items }
 {

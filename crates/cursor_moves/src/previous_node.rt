@@ -34,7 +34,7 @@ pub(crate) fn previous_node(tree: &Tree, path: &Path) -> Option<Path>
     Some(previous)
 }
 
-/// Goes on from the node at the path to the last visible node in it, if there is one.
+/// Goes on from the node that the tree has at the path to the last visible node in it, if there is one.
 pub(crate) fn push_last(tree: &Tree, path: &mut Path)
     requires tree { IsTree tree.now }
     requires visible { IsSome (visible_at tree.now.items path.old.items) }
@@ -45,7 +45,7 @@ pub(crate) fn push_last(tree: &Tree, path: &mut Path)
     }
 }
 
-/// Goes on from the node to the last visible node in it, if there is one.
+/// Goes on from this node, last item by last item, to the last visible node in it, if there is one.
 fn push_last_below(node: &Node, path: &mut Path)
     requires few { count node.now.inner ≤ most_slots }
     requires room { length path.old.items + depth node.now.inner ≤ deepest_path }
@@ -61,7 +61,7 @@ fn push_last_below(node: &Node, path: &mut Path)
     push_last_below(item, path);
 }
 
-/// The number of the last visible item of the node, if there is one.
+/// The number of the last visible item inside the node, if there is one.
 fn last_shown(node: &Node) -> Option<u32>
     requires few { count node.now.inner ≤ most_slots }
     ensures { result ≡ (if node.now.label.elided then None else last_number (length (nodes node.now.inner))) }

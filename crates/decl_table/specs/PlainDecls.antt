@@ -6,11 +6,11 @@ use Rattle.plcs_base.specs.Scope.{ItemMap}
 use Rattle.plcs_base.specs.declared.declared.Declared.{Declared}
 use Rattle.plcs_base.specs.declared.place.PhraseAt.{PhraseAt}
 
--- names with the slots of their headings
+-- the effective headings in a table: names with the slots of their headings
 abbrev pub HeadingList : Type 0
 HeadingList = List (List ℕ × ℕ)
 
--- names with the places of the phrases that mention them
+-- the uses of names in a table: names with the places of the phrases that mention them
 abbrev pub UseList : Type 0
 UseList = List (List ℕ × List PhraseAt)
 
@@ -21,14 +21,14 @@ pub record PlainDecls : Type 0 where
   pub headings : HeadingList
   pub uses : UseList
 
--- the items of the procedure in the slot
+-- the items that a table has of the procedure in the slot
 abbrev pub items_in : ItemMap → ℕ → List Declared
 items_in items slot = unwrap_or (get items slot) []
 
--- the slot of the heading under the name
+-- the slot of the heading that a table has under the name
 abbrev pub slot_of : List ℕ → HeadingList → Option ℕ
 slot_of name headings = lookup (bytes_eq name) headings
 
--- the places under the name
+-- the places that a table has under the name, of the phrases that mention it
 abbrev pub places_of : List ℕ → UseList → List PhraseAt
 places_of name uses = unwrap_or (lookup (bytes_eq name) uses) []

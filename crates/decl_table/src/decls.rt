@@ -18,8 +18,8 @@ use std::alloc::Global;
 use std::marker::Model;
 use template_tree::{Node, Path, Tree};
 
-/// The effective items of each procedure, the effective headings, and the phrases that mention each
-/// name. Contracts see the items as a finite map, and the others as pairs.
+/// The table of declarations: the effective items of each procedure, the effective headings, and the
+/// phrases that mention each name. Contracts see the items as a finite map, and the others as pairs.
 #[derive(Drop)]
 pub struct Decls {
     scopes: Scopes,
@@ -39,7 +39,8 @@ impl Model for Decls {
 }
 
 impl Decls {
-    /// The table of the tree. It takes time in proportion to the tree, but for the sorting of the uses.
+    /// The table of declarations of the tree. It takes time in proportion to the tree, but for the
+    /// sorting of the uses.
     pub fn new(alloc: Global, tree: &Tree) -> Result<Decls, OutOfMemory>
         requires tree { IsTree tree.now }
         ensures { IfOk result (λ decls. IsDeclsOf decls tree.now.items) }
@@ -61,30 +62,32 @@ impl Decls {
         Ok(decls)
     }
 
-    /// The procedure's effective item of the name, or `None` exactly where none has it. It takes no
-    /// memory.
+    /// What the table says of a name in a procedure: the effective item that the procedure has of the
+    /// name, or `None` exactly where it has none. It takes no memory.
     pub fn type_of(&self, procedure: Slot, name: &Name) -> Option<Declared>
         ensures { result ≡ item_named name.now (items_in self.now.items procedure.0) }
     {
         self.scopes.named(procedure, name)
     }
 
-    /// The slot of the effective heading of the name, or `None` exactly where none has it. It takes no
-    /// memory.
+    /// What the table says of a name that is called: the slot of the effective heading of the name, or
+    /// `None` exactly where none has it. It takes no memory.
     pub fn signature(&self, name: &Name) -> Option<Slot>
         ensures { option_map (λ slot. slot.0) result ≡ slot_of name.now self.now.headings }
     {
         self.headings.named(name)
     }
 
-    /// The places of the phrases that mention the name, in order of slot and part. It takes no memory.
+    /// What the table says of where a name is mentioned: the places of the phrases that mention it, in
+    /// order of slot and part. It takes no memory.
     pub fn uses(&self, name: &Name) -> &[PhraseAt]
         ensures { result.now ≡ places_of name.now self.now.uses }
     {
         self.uses.under(name)
     }
 
-    /// Takes main or a procedure that stands before those that are taken.
+    /// Takes main or a procedure into the table, with its items, its heading and what it mentions.
+    /// Those that stand behind it were taken before.
     fn take(&mut self, alloc: Global, procedure: &Node) -> Result<(), OutOfMemory>
         requires subtree { IsSubtree procedure.now }
         requires few { count procedure.now.inner < most_slots }
@@ -105,7 +108,7 @@ impl Scope for Decls {
     }
 }
 
-/// The path of the item of this number.
+/// The path of main or of the procedure that is to be taken into the table, by its number: main is 0.
 fn path_of_item(k: u32) -> Path
     ensures { result.items ≡ k ∷ [] }
 {

@@ -1,4 +1,4 @@
-//! The effective headings.
+//! The effective headings: the slot of each, under its name.
 ghost use Rattle.std.specs.Prelude.{◌≡◌, [], OnOk, option_map};
 ghost use Rattle.decl_table.specs.PlainDecls.{slot_of};
 ghost use Rattle.decl_table.specs.Private.DeclsView.{TakesHeading};
@@ -29,7 +29,7 @@ impl Model for Headings {
 }
 
 impl Headings {
-    /// No headings.
+    /// No effective headings.
     pub(crate) fn new(alloc: Global) -> Headings
         ensures { result ≡ [] }
     {
@@ -38,7 +38,8 @@ impl Headings {
         }
     }
 
-    /// Takes the heading of the procedure, if it may be effective, in place of another one of its name.
+    /// Takes the heading of the procedure among these, if it may be effective, in place of another one
+    /// of its name.
     pub(crate) fn take(&mut self, procedure: &Node) -> Result<(), OutOfMemory>
         ensures { OnOk result (TakesHeading procedure.now self.old self.new) }
     {
@@ -52,7 +53,7 @@ impl Headings {
         Ok(())
     }
 
-    /// The slot of the heading of the name, or `None` where there is none.
+    /// The slot of the heading that is kept here under the name, or `None` where none is.
     pub(crate) fn named(&self, name: &Name) -> Option<Slot>
         ensures { option_map (λ slot. slot.0) result ≡ slot_of name.now self.now }
     {

@@ -1,4 +1,4 @@
-//! The effective items of one procedure.
+//! The effective items of one procedure, as they are taken one after the other and found again.
 ghost use Rattle.std.specs.Prelude.{◌≡◌, ◌<◌, [], IfOk, OnOk, is_some, option_map, Some, slice_get};
 ghost use Rattle.plcs_base.specs.declared.declared.Declared.{Declared};
 ghost use Rattle.template_tree.specs.Environment.{all_declared, cells_of, declares, effective, item_named, item_offence, declared_as, items_inside, with_type, with_item};
@@ -15,14 +15,15 @@ use std::alloc::Global;
 use std::marker::Model;
 use template_tree::{MOST_CELLS, Node};
 
-/// The type of a declared name and its number of cells as an array, or 0 for a scalar.
+/// What is kept of an effective item beside its name: its type, and its number of cells as an array, or
+/// 0 for a scalar.
 #[derive(Clone, Copy, Debug, PartialEq, Eq)]
 pub(crate) struct Shape {
     pub(crate) ty: ItemType,
     pub(crate) size: u32,
 }
 
-/// The effective items of a procedure in listing order, which contracts see as a list.
+/// The effective items of one procedure in listing order, which contracts see as a list.
 #[derive(Drop)]
 pub(crate) struct Items {
     shapes: IndexMap<Name, Shape>,
@@ -44,7 +45,7 @@ impl Model for Items {
 }
 
 impl Items {
-    /// No items.
+    /// No items, before any of the procedure is taken.
     fn new(alloc: Global) -> Items
         ensures { result ≡ [] }
     {
@@ -54,7 +55,7 @@ impl Items {
         }
     }
 
-    /// The effective items of the procedure.
+    /// The effective items of the procedure, taken from its nodes one after the other.
     pub(crate) fn of(alloc: Global, procedure: &Node) -> Result<Items, OutOfMemory>
         requires few { count procedure.now.inner < most_slots }
         ensures { IfOk result (λ items. items ≡ items_inside procedure.now.inner) }
@@ -68,7 +69,7 @@ impl Items {
         Ok(items)
     }
 
-    /// Takes what the node declares, as far as it is effective.
+    /// Takes the items that the node declares, as far as they are effective.
     fn declare_all(&mut self, node: &Node) -> Result<(), OutOfMemory>
         ensures { OnOk result (self.new ≡ effective self.old (declares node.now.label)) }
     {
@@ -78,7 +79,7 @@ impl Items {
         self.declare_list(ty, list_items(node))
     }
 
-    /// Takes the items of a list with the type, as far as they are effective.
+    /// Takes the items of a declared list with the type, as far as they are effective.
     fn declare_list(&mut self, ty: ItemType, list: &[Item]) -> Result<(), OutOfMemory>
         ensures { OnOk result (self.new ≡ effective self.old (with_type (Some ty) list.now)) }
     {
@@ -88,7 +89,7 @@ impl Items {
         Ok(())
     }
 
-    /// Takes the item, where it is effective.
+    /// Takes one more item, where it is effective behind those that are taken.
     fn declare(&mut self, name: &Name, shape: Shape) -> Result<(), OutOfMemory>
         ensures { OnOk result (self.new ≡ with_item self.old (shaped name.now shape)) }
     {
@@ -101,7 +102,7 @@ impl Items {
         Ok(())
     }
 
-    /// Why the item is not effective behind these, or `None` where it is.
+    /// Why one more item is not effective behind those that are taken, or `None` where it is.
     fn offence(&self, name: &Name, shape: Shape) -> Option<MarkKind>
         ensures { result ≡ item_offence self.now (shaped name.now shape) }
     {
@@ -119,7 +120,7 @@ impl Items {
 }
 
 impl Items {
-    /// The item of the name, or `None` where no item has it.
+    /// The item of the name among those of the one procedure, or `None` where no item has it.
     pub(crate) fn named(&self, name: &Name) -> Option<Declared>
         ensures { result ≡ item_named name.now self.now }
     {
@@ -129,7 +130,8 @@ impl Items {
         Some(declared(name, *shape))
     }
 
-    /// The item of this number, counted from 0, or `None` where there are not so many.
+    /// The item of this number among those of the one procedure, counted from 0, or `None` where there
+    /// are not so many.
     pub(crate) fn numbered(&self, k: usize) -> Option<Declared>
         ensures { result ≡ slice_get self.now k }
     {
@@ -141,7 +143,7 @@ impl Items {
 }
 
 impl Shape {
-    /// How many cells it has.
+    /// How many cells an item has of which this type and size are kept.
     fn cells(self) -> u32
         ensures { result ≡ cells_of (shaped [] self) }
     {
@@ -149,7 +151,7 @@ impl Shape {
     }
 }
 
-/// The type and the number of cells of an item.
+/// What is to be kept of an item that is declared with the type.
 fn shape_of(ty: ItemType, item: &Item) -> Shape
     ensures { shaped item.now.name result ≡ declared_as ty item.now }
 {
@@ -160,7 +162,7 @@ fn shape_of(ty: ItemType, item: &Item) -> Shape
     Shape { ty, size }
 }
 
-/// The name with its type and number of cells.
+/// The effective item of the name, from the type and size that are kept of it.
 fn declared(name: &Name, shape: Shape) -> Declared
     ensures { result ≡ shaped name.now shape }
 {

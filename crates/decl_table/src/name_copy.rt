@@ -3,7 +3,7 @@ ghost use Rattle.std.specs.Prelude.{◌≡◌};
 
 use plcs_base::Name;
 
-/// A copy of the name.
+/// A copy of the name, made without memory.
 pub(crate) fn name_copy(name: &Name) -> Name
     ensures { result ≡ name.now }
 {

@@ -1,4 +1,4 @@
-//! What declarations and headings say, read from the parts of their nodes.
+//! What declarations and headings say, read from the parts of their nodes, and which names may be called.
 ghost use Rattle.std.specs.Prelude.{◌≡◌, option_map};
 ghost use Rattle.plcs_base.specs.declared.declared.ItemType.{ItemType};
 ghost use Rattle.plcs_grammar.specs.PlainPhrase.{plain_phrase};
@@ -9,7 +9,8 @@ use plcs_base::{ItemType, Name};
 use plcs_grammar::{Builtin, Item, NodeKind, Phrase, Template};
 use template_tree::{Node, PhrasePlace};
 
-/// The phrase in the part of this number; `None` where there is no such part, or an empty one.
+/// The phrase that is read from the part of this number of the node; `None` where there is no such
+/// part, or an empty one.
 pub fn phrase_in(node: &Node, part: u8) -> Option<&Phrase>
     ensures { option_map (λ phrase. plain_phrase phrase.now) result ≡ part_at node.now.label.parts part }
 {
@@ -42,7 +43,7 @@ fn template_type(template: Template, node: &Node) -> Option<ItemType>
     }
 }
 
-/// The type of texts of at most this length, if it is there.
+/// The type that a declaration of texts gives by their greatest length, if that is there.
 fn text_type(length: Option<u16>) -> Option<ItemType>
     ensures { result ≡ option_map ItemType.Text length }
 {
@@ -52,7 +53,7 @@ fn text_type(length: Option<u16>) -> Option<ItemType>
     }
 }
 
-/// The greatest length in the second part, if it is there.
+/// The greatest length of texts in the second part of a declaration, if it is there.
 fn length_given(node: &Node) -> Option<u16>
     ensures { result ≡ length_given node.now.label.parts }
 {
@@ -62,7 +63,7 @@ fn length_given(node: &Node) -> Option<u16>
     number_of_length(phrase)
 }
 
-/// The number of a length.
+/// The number that the phrase in a declaration says, if it is a length.
 fn number_of_length(phrase: &Phrase) -> Option<u16>
     ensures { result ≡ number_of_length (plain_phrase phrase.now) }
 {
@@ -72,7 +73,7 @@ fn number_of_length(phrase: &Phrase) -> Option<u16>
     }
 }
 
-/// The items in the first part: none where no declared list stands there.
+/// The items in the first part of a declaration: none where no declared list stands there.
 pub fn list_items(node: &Node) -> &[Item]
     ensures { result.now ≡ list_items node.now.label.parts }
 {
@@ -82,7 +83,7 @@ pub fn list_items(node: &Node) -> &[Item]
     items_of_list(phrase)
 }
 
-/// The items of a declared list.
+/// The items of the phrase in a declaration, if it is a declared list, and else none.
 fn items_of_list(phrase: &Phrase) -> &[Item]
     ensures { result.now ≡ items_of_list (plain_phrase phrase.now) }
 {
@@ -92,7 +93,7 @@ fn items_of_list(phrase: &Phrase) -> &[Item]
     }
 }
 
-/// The name in the first part, if it is there.
+/// The name of a procedure in the first part of its heading, if it is there.
 pub(crate) fn name_given(node: &Node) -> Option<&Name>
     ensures { option_map (λ name. name.now) result ≡ name_given node.now.label.parts }
 {
@@ -102,7 +103,7 @@ pub(crate) fn name_given(node: &Node) -> Option<&Name>
     name_of_procedure(phrase)
 }
 
-/// The name that a procedure is given.
+/// The name that the phrase in a heading gives to the procedure, if it is a name for one.
 fn name_of_procedure(phrase: &Phrase) -> Option<&Name>
     ensures { option_map (λ name. name.now) result ≡ name_of_procedure (plain_phrase phrase.now) }
 {
@@ -112,7 +113,7 @@ fn name_of_procedure(phrase: &Phrase) -> Option<&Name>
     }
 }
 
-/// The parameters in the second part, or `None` where no list of them stands there.
+/// The parameters in the second part of a heading, or `None` where no list of them stands there.
 pub fn parameters_given(node: &Node) -> Option<&[Name]>
     ensures { option_map (λ names. names.now) result ≡ parameters_given node.now.label.parts }
 {
@@ -122,7 +123,7 @@ pub fn parameters_given(node: &Node) -> Option<&[Name]>
     names_of_list(phrase)
 }
 
-/// The names of a list of parameters.
+/// The parameters that the phrase in a heading lists, if it is a list of parameters.
 fn names_of_list(phrase: &Phrase) -> Option<&[Name]>
     ensures { option_map (λ names. names.now) result ≡ names_of_list (plain_phrase phrase.now) }
 {
@@ -154,7 +155,7 @@ fn template_heading_name(template: Template, node: &Node) -> Option<&Name>
     }
 }
 
-/// The name in the first part, if parameters stand in the second.
+/// The name in a heading with parameters, if both parts of it are filled.
 fn long_heading_name(node: &Node) -> Option<&Name>
     ensures { option_map (λ name. name.now) result ≡ option_map (λ heading. heading.name) (heading_with (name_given node.now.label.parts) (parameters_given node.now.label.parts)) }
 {
@@ -164,7 +165,8 @@ fn long_heading_name(node: &Node) -> Option<&Name>
     name_given(node)
 }
 
-/// Whether a procedure of the name may be called: it is neither a built-in function's nor that of main.
+/// Whether a procedure may be called by the name that its heading says: the name is neither a built-in
+/// function's nor that of main.
 #[tactic(auto, unfolding(plcs_grammar::specs::Builtin::is_builtin_name))]
 pub fn may_be_called(name: &Name) -> bool
     ensures { result ≡ may_be_called name.now }

@@ -1,4 +1,4 @@
-//! Places of phrases.
+//! A list of places of phrases, which is put in order.
 ghost use Rattle.std.specs.Prelude.{◌≡◌, ◌∷◌, ◌++◌, [], IfOk, OnOk, Contains, ◌↔◌};
 ghost use Rattle.std.specs.List.Sorted.{IsStrictlySortedBy};
 ghost use Rattle.plcs_base.specs.Mark.{phrase_cmp};
@@ -8,7 +8,7 @@ use plcs_base::{OutOfMemory, PhraseAt};
 use std::alloc::Global;
 use std::marker::Model;
 
-/// Places of phrases, which contracts see as a list.
+/// A list of places of phrases, which contracts see as a list.
 #[derive(Drop)]
 pub(crate) struct Places {
     list: Vec<PhraseAt>,
@@ -27,7 +27,7 @@ impl Model for Places {
 }
 
 impl Places {
-    /// The one place.
+    /// A list of this one place.
     pub(crate) fn of(alloc: Global, at: PhraseAt) -> Result<Places, OutOfMemory>
         ensures { IfOk result (λ places. places ≡ at ∷ []) }
     {
@@ -36,7 +36,7 @@ impl Places {
         Ok(Places { list })
     }
 
-    /// Puts a place behind the others.
+    /// Puts a place behind the others in the list.
     pub(crate) fn push(&mut self, at: PhraseAt) -> Result<(), OutOfMemory>
         ensures { OnOk result (self.new ≡ self.old ++ (at ∷ [])) }
     {
@@ -44,7 +44,7 @@ impl Places {
         Ok(())
     }
 
-    /// Puts the places in order of slot and part, each once.
+    /// Puts the list of places in order of slot and part, each once.
     pub(crate) fn settle(&mut self)
         ensures { IsSettled self.old self.new }
     {
@@ -52,7 +52,7 @@ impl Places {
         self.list.dedup();
     }
 
-    /// All of them.
+    /// All places in the list.
     pub(crate) fn as_slice(&self) -> &[PhraseAt]
         ensures { result.now ≡ self.now }
     {

@@ -1,4 +1,4 @@
-//! The effective items of all procedures.
+//! The effective items of all procedures, those of each under its slot.
 ghost use Rattle.std.specs.Prelude.{◌≡◌, OnOk};
 ghost use Rattle.std.specs.FinMap.{empty, insert};
 ghost use Rattle.plcs_base.specs.Scope.{item_at};
@@ -30,7 +30,7 @@ impl Model for Scopes {
 }
 
 impl Scopes {
-    /// No procedures.
+    /// No procedures, and so no items of them.
     pub(crate) fn new(alloc: Global) -> Scopes
         ensures { result ≡ empty }
     {
@@ -39,7 +39,7 @@ impl Scopes {
         }
     }
 
-    /// Puts the items under the slot of their procedure.
+    /// Puts the items of a procedure under its slot.
     pub(crate) fn put(&mut self, slot: Slot, items: Items) -> Result<(), OutOfMemory>
         ensures { OnOk result (self.new ≡ insert self.old slot.0 items) }
     {
@@ -47,7 +47,8 @@ impl Scopes {
         Ok(())
     }
 
-    /// The procedure's item of the name, or `None` where no item of it has the name.
+    /// The item of the name among those under the procedure's slot, or `None` where none of them has
+    /// the name.
     pub(crate) fn named(&self, procedure: Slot, name: &Name) -> Option<Declared>
         ensures { result ≡ item_named name.now (items_in self.now procedure.0) }
     {
@@ -57,7 +58,8 @@ impl Scopes {
         items.named(name)
     }
 
-    /// The procedure's item of this number, counted from 0, or `None` where there are not so many.
+    /// The item of this number among those under the procedure's slot, counted from 0, or `None` where
+    /// there are not so many.
     pub(crate) fn numbered(&self, procedure: Slot, k: usize) -> Option<Declared>
         ensures { result ≡ item_at self.now procedure.0 k }
     {

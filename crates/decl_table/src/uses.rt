@@ -1,4 +1,4 @@
-//! The phrases that mention each name.
+//! The phrases that mention each name, noted node by node.
 ghost use Rattle.std.specs.Prelude.{◌≡◌, ◌+◌, ◌<◌, ◌≤◌, ◌∷◌, ◌++◌, [], OnOk, IfOk, Some, length, map, flat_map, option_map};
 ghost use Rattle.plcs_grammar.specs.PlainPhrase.{plain_expr, plain_exprs, plain_phrase, plain_var_ref};
 ghost use Rattle.template_tree.specs.Limit.{most_slots};
@@ -37,7 +37,7 @@ impl Model for Uses {
 }
 
 impl Uses {
-    /// No name is mentioned.
+    /// Nothing is noted: no name is mentioned.
     pub(crate) fn new(alloc: Global) -> Uses
         ensures { result ≡ [] }
     {
@@ -46,7 +46,7 @@ impl Uses {
         }
     }
 
-    /// The places under the name.
+    /// The places that are noted under the name, of the phrases that mention it.
     pub(crate) fn under(&self, name: &Name) -> &[PhraseAt]
         ensures { result.now ≡ places_of name.now self.now }
     {
@@ -56,7 +56,7 @@ impl Uses {
         }
     }
 
-    /// Puts the places under each name in order of slot and part, each once.
+    /// Puts the places that are noted under each name in order of slot and part, each once.
     pub(crate) fn settle(&mut self)
         ensures { AreSettled self.old self.new }
     {
@@ -69,7 +69,7 @@ impl Uses {
 }
 
 impl Uses {
-    /// Notes the phrases in the node and inside it.
+    /// Notes the phrases in the node and inside it under the names that they mention.
     pub(crate) fn note_node(&mut self, alloc: Global, node: &Node) -> Result<(), OutOfMemory>
         requires subtree { IsSubtree node.now }
         requires few { count node.now.inner < most_slots }
@@ -84,7 +84,7 @@ impl Uses {
         Ok(())
     }
 
-    /// Notes the phrases in the parts of the node.
+    /// Notes the phrases in the parts of the node under the names that they mention.
     fn note_parts(&mut self, alloc: Global, node: &Node) -> Result<(), OutOfMemory>
         requires few { length node.now.label.parts < 256 }
         ensures { OnOk result (AddsParts node.now.label.slot 0 node.now.label.parts self.old self.new) }
@@ -98,7 +98,7 @@ impl Uses {
         Ok(())
     }
 
-    /// Notes what stands in a part.
+    /// Notes what stands in one part, a phrase or nothing, under the names that it mentions.
     fn note_place(
         &mut self,
         alloc: Global,
@@ -186,7 +186,7 @@ impl Uses {
         }
     }
 
-    /// Notes the names in expressions.
+    /// Notes the names in a list of expressions.
     #[cycle(note_expr)]
     fn note_exprs(&mut self, alloc: Global, exprs: &[Expr], at: PhraseAt) -> Result<(), OutOfMemory>
         ensures { OnOk result (AddsNames (names_in_all (plain_exprs exprs.now)) at self.old self.new) }
@@ -197,7 +197,7 @@ impl Uses {
         Ok(())
     }
 
-    /// Notes the names in variables.
+    /// Notes the names in a list of variables, and those in their subscripts.
     fn note_variables(
         &mut self,
         alloc: Global,
@@ -212,7 +212,7 @@ impl Uses {
         Ok(())
     }
 
-    /// Notes the names of declared items.
+    /// Notes the names that a declared list mentions.
     fn note_items(&mut self, alloc: Global, items: &[Item], at: PhraseAt) -> Result<(), OutOfMemory>
         ensures { OnOk result (AddsNames (map (λ item. item.name) items.now) at self.old self.new) }
     {
@@ -222,7 +222,7 @@ impl Uses {
         Ok(())
     }
 
-    /// Notes the names.
+    /// Notes each of the names, which are those of parameters.
     fn note_names(&mut self, alloc: Global, names: &[Name], at: PhraseAt) -> Result<(), OutOfMemory>
         ensures { OnOk result (AddsNames names.now at self.old self.new) }
     {
@@ -232,7 +232,7 @@ impl Uses {
         Ok(())
     }
 
-    /// Notes that the phrase at the place mentions the name.
+    /// Notes the place of a phrase under one name that it mentions.
     fn note(&mut self, alloc: Global, name: &Name, at: PhraseAt) -> Result<(), OutOfMemory>
         ensures { OnOk result (AddsNames (name.now ∷ []) at self.old self.new) }
     {

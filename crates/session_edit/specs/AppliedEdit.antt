@@ -1,4 +1,4 @@
--- What is answered to an edit.
+-- What is answered to an edit at the stop of the cursor.
 use Rattle.std.specs.Prelude.{◌≡◌, Bool, true, false, IsTrue, IfSome, is_none, option_map, Result, Ok, Err}
 use Rattle.template_tree.specs.declared.tree_fault.TreeFault.{TreeFault}
 use Rattle.template_tree.specs.Edit.{Differs}
@@ -32,19 +32,19 @@ takes_memory (PlainEdit.enter phrase) stop = is_none stop.part
 takes_memory (PlainEdit.beside side) stop = true
 takes_memory other stop = false
 
--- whether an edit isn't refused
+-- whether an edit is made, and not refused
 abbrev pub is_made : Edited → Bool
 is_made (Edited.became tree stop taken what slot) = true
 is_made (Edited.refused fault) = false
 
--- why an edit is refused, of which this was to come, and of which it is told whether it takes memory; where memory is
--- wanting, nothing else refuses the edit
+-- why an edit at a stop is refused, of which this was to come, and of which it is told whether it takes memory; where
+-- memory is wanting, nothing else refuses the edit
 abbrev pub IsRefused : Bool → Edited → TreeFault → Type 0
 IsRefused takes_memory outcome TreeFault.OutOfMemory = IsTrue takes_memory × IsTrue (is_made outcome)
 IsRefused takes_memory outcome fault = outcome ≡ Edited.refused fault
 
--- what is answered to an edit, of which it is told whether it takes memory and what was to come of it: it was made, or it is
--- refused and the tree is as before
+-- what is answered to an edit at a stop, of which it is told whether it takes memory and what was to come of it: it was
+-- made, or it is refused and the tree is as before
 abbrev pub IsAnswer : Bool → Edited → (before after : PlainTree) → Result Applied TreeFault → Type 0
 IsAnswer takes_memory outcome before after (Ok applied) = IsApplied outcome before after applied
 IsAnswer takes_memory outcome before after (Err fault) = IsRefused takes_memory outcome fault × (after ≡ before)

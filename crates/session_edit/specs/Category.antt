@@ -1,4 +1,4 @@
--- Categories told apart.
+-- Categories told apart: which are the same.
 use Rattle.std.specs.Prelude.{ℕ, Bool, ◌==◌}
 use Rattle.plcs_grammar.specs.declared.category.Category.{Category}
 use Rattle.plcs_grammar.specs.declared.category.Category.TheVariants.{Assignment, Condition, Expression, ExpressionList, VariableList, Variable, CallRef, DeclaredList, ProcedureName, NameList, Length, CommentText}

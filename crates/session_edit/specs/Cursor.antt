@@ -10,7 +10,8 @@ use Rattle.template_tree.specs.Section.{same_sort}
 use Rattle.template_tree.specs.Stop.{PlainStop}
 use Rattle.cursor_moves.specs.Move.{stop_right}
 
--- the next stop, where it lies in the same node or in a node inside it, and else the stop itself
+-- of a stop that was filled and the next one, that to which the cursor goes: the next, where it lies in the same node
+-- or in a node inside it
 abbrev pub stop_or_next : PlainStop → PlainStop → PlainStop
 stop_or_next stop next = if starts_with nat_eq next.path stop.path then next else stop
 
@@ -19,7 +20,7 @@ stop_or_next stop next = if starts_with nat_eq next.path stop.path then next els
 abbrev pub onward : Forest → PlainStop → PlainStop
 onward items stop = option_map_or (stop_or_next stop) (stop_right items stop) stop
 
--- whether a node of the sort stands at the path
+-- whether a node of the sort of an item that was dropped stands at the path
 abbrev pub has_sort : Sort → Forest → List ℕ → Bool
 has_sort sort items path = option_map_or (λ node. same_sort (sort_of node.label.kind) sort) (node_at items path) false
 

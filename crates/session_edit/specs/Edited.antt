@@ -27,7 +27,7 @@ pub data Edited : Type 0 where
   became : (tree : PlainTree) (stop : PlainStop) (taken : Option PlainNode) (what : What) (slot : ℕ) → Edited
   refused : TreeFault → Edited
 
--- the first limit that the tree is over
+-- the first limit that the tree after an edit is over, if it is over one
 abbrev pub limit_reached : PlainTree → Option TreeFault
 limit_reached tree =
     if nat_lt deepest_path (depth tree.items)
@@ -52,66 +52,67 @@ comes edit tree slot stop taken =
 abbrev pub comes_onward : TreeEdit → PlainTree → ℕ → PlainStop → Edited
 comes_onward edit tree slot stop = comes edit tree slot (onward (roomless_tree (tree_after edit tree slot)).items stop) None
 
--- what an edit needs isn't there
+-- an edit is refused, since what it needs doesn't stand at the cursor
 abbrev pub not_here : Edited
 not_here = Edited.refused TreeFault.NotHere
 
--- a template: it fills the hole of its sort at the cursor, and the cursor goes onward
+-- what comes of a template: it fills the hole of its sort at the cursor, and the cursor goes onward
 abbrev pub outcome_of_fill : PlainTree → PlainStop → Template → PlainNode → Edited
 outcome_of_fill tree stop template node =
     if takes_nodes (NodeKind.Filled template) stop.part node
     then comes_onward (TreeEdit.put (fresh_node (NodeKind.Filled template))) tree node.label.slot stop
     else not_here
 
--- how phrase text is put in: as an assignment at a node, or into a part
+-- the edit of the tree by which phrase text is entered: as an assignment at a node, or into a part
 abbrev pub entry : Option ℕ → PlainPhrase → TreeEdit
 entry None phrase = TreeEdit.put (assignment_node phrase)
 entry (Some part) phrase = TreeEdit.set_part part (Some phrase)
 
--- phrase text: it comes where its category is wanted, and the cursor goes onward
+-- what comes of phrase text: it comes where its category is wanted, and the cursor goes onward
 abbrev pub outcome_of_entry : PlainTree → PlainStop → PlainPhrase → PlainNode → Edited
 outcome_of_entry tree stop phrase node =
     if is_wanted phrase (category_in stop.part node.label.kind) then comes_onward (entry stop.part phrase) tree node.label.slot stop else not_here
 
--- a phrase inserted: it comes into an empty part of its category, and the cursor stays there
+-- what comes of a phrase inserted: it comes into an empty part of its category, and the cursor stays there
 abbrev pub outcome_of_phrase_insertion : PlainTree → PlainStop → PlainPhrase → Option ℕ → PlainNode → Edited
 outcome_of_phrase_insertion tree stop phrase None node = not_here
 outcome_of_phrase_insertion tree stop phrase (Some part) node =
     if takes_phrase phrase part node then comes (TreeEdit.set_part part (Some phrase)) tree node.label.slot stop None else not_here
 
--- a fragment inserted: a node comes into a hole of its sort, a phrase into a part, and the cursor stays on it
+-- what comes of a fragment inserted: a node comes into a hole of its sort, a phrase into a part, and the cursor stays
+-- on it
 abbrev pub outcome_of_insertion : PlainTree → PlainStop → PlainFragment → PlainNode → Edited
 outcome_of_insertion tree stop (PlainFragment.node new) node =
     if takes_nodes new.label.kind stop.part node then comes (TreeEdit.put new) tree node.label.slot stop None else not_here
 outcome_of_insertion tree stop (PlainFragment.phrase phrase) node = outcome_of_phrase_insertion tree stop phrase stop.part node
 
--- a node taken out: a hole stays in its place, if it may be taken out
+-- what comes of a node taken out: a hole of this kind stays in its place, and where there is none it is refused
 abbrev pub outcome_of_node_taking : PlainTree → PlainStop → Option NodeKind → PlainNode → Edited
 outcome_of_node_taking tree stop None node = not_here
 outcome_of_node_taking tree stop (Some hole) node = comes (TreeEdit.put (lone 0 hole)) tree node.label.slot stop (Some node)
 
--- what stands at the cursor taken out: a node other than main and no hole, or a phrase; the cursor stays
+-- what comes of taking out what stands at the cursor: a node other than main and no hole, or a phrase; the cursor stays
 abbrev pub outcome_of_taking : PlainTree → PlainStop → Option ℕ → PlainNode → Edited
 outcome_of_taking tree stop None node = outcome_of_node_taking tree stop (hole_left node.label.kind) node
 outcome_of_taking tree stop (Some part) node =
     if can_take (Some part) node then comes (TreeEdit.set_part part None) tree node.label.slot stop None else not_here
 
--- a hole dropped from its list
+-- what comes of a hole dropped from its list: the cursor goes to an item of that list
 abbrev pub outcome_of_drop : PlainTree → PlainStop → PlainNode → Edited
 outcome_of_drop tree stop node =
     let left : PlainTree = roomless_tree (tree_after TreeEdit.drop tree node.label.slot) in
     comes TreeEdit.drop tree node.label.slot (node_stop (path_after_drop (sort_of node.label.kind) left.items stop.path)) None
 
--- what stands at the cursor deleted: a hole in a list of two or more is dropped, all else is taken out
+-- what comes of deleting what stands at the cursor: a hole in a list of two or more is dropped, all else is taken out
 abbrev pub outcome_of_deletion : PlainTree → PlainStop → PlainNode → Edited
 outcome_of_deletion tree stop node = if is_spare_hole tree.items stop node then outcome_of_drop tree stop node else outcome_of_taking tree stop stop.part node
 
--- what comes of an edit at the node that stands there, if one does
+-- what comes of an edit at the node that stands at a path, if one does, and else it is refused
 abbrev pub at_node : (PlainNode → Edited) → Option PlainNode → Edited
 at_node edit None = not_here
 at_node edit (Some node) = edit node
 
--- a hole beside the item at the path, if there is one; the cursor goes to it
+-- what comes of a hole put beside the item at the path, if there is one: the cursor goes to it
 abbrev pub outcome_of_hole_beside : PlainTree → Side → Option (List ℕ) → Edited
 outcome_of_hole_beside tree side None = not_here
 outcome_of_hole_beside tree side (Some path) =

@@ -1,4 +1,4 @@
--- What may be done at a stop: which phrase text is wanted there, what can be taken out, and what can be put in.
+-- What may be done at a stop: which phrase text is wanted there, what can be taken out or put in, and beside what.
 use Rattle.std.specs.Prelude.{ℕ, zero, suc, Bool, true, false, ◌&&◌, nat_lt, if◌then◌else◌, List, length, take, Option, Some, None, is_some, is_none, option_and_then}
 use Rattle.std.specs.Option.{option_map_or}
 use Rattle.plcs_grammar.specs.Template.{program_sections}
@@ -30,7 +30,7 @@ category_in (Some part) kind = part_category kind part
 unfoldable pub category_at : PlainTree → PlainStop → Option Category
 category_at tree stop = option_and_then (λ node. category_in stop.part node.label.kind) (node_at tree.items stop.path)
 
--- whether the phrase is of the category that phrase text has there, if it has one
+-- whether the phrase is wanted at a stop: it is of the category that phrase text has there, if it has one
 abbrev pub is_wanted : PlainPhrase → Option Category → Bool
 is_wanted phrase None = false
 is_wanted phrase (Some category) = same_category (category_of phrase) category
@@ -45,15 +45,15 @@ can_take (Some part) node = is_some (part_at node.label.parts part)
 unfoldable pub takes_at : PlainTree → PlainStop → Bool
 takes_at tree stop = option_map_or (can_take stop.part) (node_at tree.items stop.path) false
 
--- whether nodes of the kind come into the node: the cursor stands on it, and it is a hole of their sort
+-- whether nodes of the kind can be put in at the node: the cursor stands on it, and it is a hole of their sort
 abbrev pub takes_nodes : NodeKind → Option ℕ → PlainNode → Bool
 takes_nodes kind part node = is_none part && (is_hole node.label.kind && same_sort (sort_of node.label.kind) (sort_of kind))
 
--- whether the part of a node is empty and of the category of the phrase
+-- whether the phrase can be put in at the part of the node: the part is empty and of the category of the phrase
 abbrev pub takes_phrase : PlainPhrase → ℕ → PlainNode → Bool
 takes_phrase phrase part node = is_none (part_at node.label.parts part) && is_wanted phrase (part_category node.label.kind part)
 
--- whether the node at the path is an item of a list
+-- whether the node at the path is an item of a list, so that a hole can come beside it
 abbrev pub is_item : Forest → List ℕ → Bool
 is_item items path =
     option_map_or (λ node. is_listed (sort_of node.label.kind) (sections_at program_sections items path)) (node_at items path) false
@@ -64,11 +64,13 @@ is_spare_hole items stop node =
     (is_none stop.part && is_hole node.label.kind)
     && (is_item items stop.path && nat_lt 1 (how_many (sort_of node.label.kind) (sorts (siblings_at items stop.path))))
 
--- the longest of the first so many numbers of a path that leads to an item of a list
+-- the path of the nearest item of a list beside which a hole can come: the longest of the first so many numbers of a
+-- path that leads to one
 abbrev pub nearest_item : Forest → List ℕ → ℕ → Option (List ℕ)
 nearest_item items path zero = None
 nearest_item items path (suc n) = if is_item items (take (suc n) path) then Some (take (suc n) path) else nearest_item items path n
 
--- the path of the nearest item of a list that the node at the path is, or in which it stands
+-- the path of the item of a list beside which a hole comes: the nearest one that the node at the path is, or in which
+-- it stands
 abbrev pub enclosing_item : Forest → List ℕ → Option (List ℕ)
 enclosing_item items path = nearest_item items path (length path)

@@ -27,7 +27,7 @@ plain_edit Edit.Delete = PlainEdit.delete
 plain_edit Edit.Take = PlainEdit.take
 plain_edit (Edit.Beside side) = PlainEdit.beside side
 
--- what an edit brings may stand in a program
+-- the phrase or fragment that an edit brings may stand in a program
 abbrev pub BringsWhatMayStand : Edit → Type 0
 BringsWhatMayStand (Edit.Enter phrase) = IsPlace (Some (plain_phrase phrase))
 BringsWhatMayStand (Edit.Insert fragment) = IsFragment (plain_fragment fragment)

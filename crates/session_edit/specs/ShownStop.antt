@@ -1,4 +1,4 @@
--- Where the cursor goes for a slot.
+-- The stop at which a slot is shown, to which the cursor goes for it.
 use Rattle.std.specs.Prelude.{ℕ, ◌+◌, if◌then◌else◌, ◌==◌, List, [], ◌∷◌, Option, Some, None, option_map}
 use Rattle.std.specs.Option.{option_or}
 use Rattle.template_tree.specs.PlainTree.{Forest, PlainTree}

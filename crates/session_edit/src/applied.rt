@@ -14,7 +14,8 @@ use crate::removal::{delete, take_out};
 use std::alloc::Global;
 use template_tree::{Node, Receipt, Stop, Tree, TreeFault};
 
-/// What an edit answers: what it takes to undo it, and where the cursor stands.
+/// What an edit at the stop of the cursor answers: what it takes to undo it, and where the cursor
+/// stands.
 #[derive(Drop)]
 pub struct Applied {
     /// What the edit changed, for `Tree::undo`.

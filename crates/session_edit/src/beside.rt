@@ -32,7 +32,7 @@ pub(crate) fn add_hole(
 }
 
 /// A hole comes on this side of the nearest list item that the node at the path is, or in which it
-/// stands; the cursor goes to it.
+/// stands; the cursor goes to the hole.
 fn add_beside(alloc: Global, tree: &mut Tree, path: Path, side: Side) -> Result<Applied, TreeFault>
     requires tree { IsTree tree.old }
     requires seen { IsShown tree.old.items path.items }
@@ -62,7 +62,8 @@ fn add_beside(alloc: Global, tree: &mut Tree, path: Path, side: Side) -> Result<
     }
 }
 
-/// Whether the fault says that what is wanted isn't there.
+/// Whether the fault says that no hole can come beside the node itself, so that the one round it is
+/// tried.
 fn is_not_here(fault: TreeFault) -> bool
     ensures { IsTrue result ↔ (fault ≡ TreeFault.NotHere) }
 {

@@ -4,7 +4,7 @@ use clip_store::Fragment;
 use plcs_grammar::{Phrase, Template};
 use template_tree::Side;
 
-/// What is done at the stop of the cursor.
+/// An edit at the stop of the cursor.
 #[derive(Drop)]
 pub enum Edit {
     /// The hole at the cursor becomes the template.

@@ -42,7 +42,7 @@ pub(crate) fn fill(
     }
 }
 
-/// The phrase comes where its category is wanted, and the cursor goes onward.
+/// The phrase text that was entered comes where its category is wanted, and the cursor goes onward.
 pub(crate) fn enter(
     alloc: Global,
     tree: &mut Tree,
@@ -60,7 +60,7 @@ pub(crate) fn enter(
     }
 }
 
-/// The node at the cursor becomes the assignment.
+/// The node at the cursor becomes the assignment that was entered.
 fn enter_assignment(
     alloc: Global,
     tree: &mut Tree,
@@ -85,7 +85,7 @@ fn enter_assignment(
     }
 }
 
-/// The phrase comes into the part at the cursor.
+/// The phrase that was entered comes into the part at the cursor, in place of what stands there.
 fn enter_in_part(tree: &mut Tree, at: &Stop, phrase: Phrase) -> Result<Applied, TreeFault>
     requires tree { IsTree tree.old }
     requires stop { IsStop (roomless_tree tree.old).items (plain_stop at.now) }

@@ -38,7 +38,8 @@ pub fn takes(tree: &Tree, at: &Stop) -> bool
     can_take(node, at.part)
 }
 
-/// The category that phrase text has at the part of a node of the kind, or at the node itself.
+/// The category that phrase text has at the part of a node of the kind, or at the node itself, where it
+/// is an assignment.
 fn category_in(kind: NodeKind, part: Option<u8>) -> Option<Category>
     ensures { result ≡ category_in part kind }
 {
@@ -66,7 +67,7 @@ fn can_take(node: &Node, part: Option<u8>) -> bool
     }
 }
 
-/// Whether a phrase stands in the part, if there is such a part.
+/// Whether a phrase that can be taken out stands in the part, if there is such a part.
 fn is_filled(place: Option<&PhrasePlace>) -> bool
     ensures { result ≡ is_some (option_and_then (λ there. plain_place there.now) place.entry) }
 {

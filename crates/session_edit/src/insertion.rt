@@ -19,8 +19,8 @@ use clip_store::Fragment;
 use plcs_grammar::Phrase;
 use template_tree::{Node, PhrasePlace, Stop, Tree, TreeFault, slot_edit_is_path_edit};
 
-/// A node comes into the hole of its sort at the cursor, a phrase into the empty part of its category;
-/// the cursor stays on it. It takes no memory.
+/// The fragment is inserted: a node comes into the hole of its sort at the cursor, a phrase into the
+/// empty part of its category; the cursor stays on it. It takes no memory.
 pub(crate) fn insert(tree: &mut Tree, at: &Stop, fragment: Fragment) -> Result<Applied, TreeFault>
     requires tree { IsTree tree.old }
     requires stop { IsStop (roomless_tree tree.old).items (plain_stop at.now) }
@@ -33,7 +33,7 @@ pub(crate) fn insert(tree: &mut Tree, at: &Stop, fragment: Fragment) -> Result<A
     }
 }
 
-/// The node comes into the hole at the cursor.
+/// The node that is inserted comes into the hole at the cursor.
 fn insert_node(tree: &mut Tree, at: &Stop, node: Node) -> Result<Applied, TreeFault>
     requires tree { IsTree tree.old }
     requires stop { IsStop (roomless_tree tree.old).items (plain_stop at.now) }
@@ -55,7 +55,7 @@ fn insert_node(tree: &mut Tree, at: &Stop, node: Node) -> Result<Applied, TreeFa
     }
 }
 
-/// The phrase comes into the part at the cursor.
+/// The phrase that is inserted comes into the part at the cursor, if that is empty.
 fn insert_phrase(tree: &mut Tree, at: &Stop, phrase: Phrase) -> Result<Applied, TreeFault>
     requires tree { IsTree tree.old }
     requires stop { IsStop (roomless_tree tree.old).items (plain_stop at.now) }

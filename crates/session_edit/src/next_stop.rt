@@ -1,4 +1,4 @@
-//! Where the cursor goes from what was filled.
+//! Where the cursor goes from a stop that was filled.
 ghost use Rattle.std.specs.Prelude.{◌≡◌};
 ghost use Rattle.template_tree.specs.PlainTree.{roomless_tree};
 ghost use Rattle.template_tree.specs.Stop.{IsStop, plain_stop};
@@ -9,7 +9,8 @@ use crate::path_copy::stop_copy;
 use cursor_moves::{Move, right};
 use template_tree::{Stop, Tree};
 
-/// The next stop, where it lies in the same node or in a node inside it, or else the stop itself.
+/// Where the cursor goes from a stop that was filled: to the next stop, where that lies in the same
+/// node or in a node inside it. Else it stays.
 pub(crate) fn onward(tree: &Tree, at: &Stop) -> Stop
     requires tree { IsTree tree.now }
     requires stop { IsStop (roomless_tree tree.now).items (plain_stop at.now) }
@@ -22,7 +23,8 @@ pub(crate) fn onward(tree: &Tree, at: &Stop) -> Stop
     }
 }
 
-/// The next stop, where it lies in the node of a stop or in a node inside it, or else that stop itself.
+/// The one of two stops, that which was filled and the next, to which the cursor goes: the next, where
+/// it lies in the node of the other or in a node inside that.
 fn next_within(at: &Stop, next: Stop) -> Stop
     ensures { plain_stop result ≡ stop_or_next (plain_stop at.now) (plain_stop next) }
 {

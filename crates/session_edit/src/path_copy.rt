@@ -1,10 +1,10 @@
-//! Copies of paths and stops.
+//! Copies of paths and stops, for edits at the stop of the cursor.
 ghost use Rattle.std.specs.Prelude.{◌≡◌};
 ghost use Rattle.template_tree.specs.Stop.{plain_stop};
 
 use template_tree::{Path, Stop};
 
-/// An equal stop.
+/// A copy of the stop at which the cursor stands.
 pub(crate) fn stop_copy(stop: &Stop) -> Stop
     ensures { plain_stop result ≡ plain_stop stop.now }
 {
@@ -14,7 +14,7 @@ pub(crate) fn stop_copy(stop: &Stop) -> Stop
     }
 }
 
-/// An equal path.
+/// A copy of the path of a stop of the cursor.
 pub(crate) fn copy_of(path: &Path) -> Path
     ensures { result.items ≡ path.now.items }
 {

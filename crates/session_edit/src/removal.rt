@@ -20,7 +20,8 @@ use template_tree::{
     Path, PhrasePlace, Stop, Tree, TreeFault, path_before, slot_edit_is_path_edit,
 };
 
-/// A hole in a list of two or more is dropped; all else is taken out. It takes no memory.
+/// What stands at the cursor is deleted: a hole in a list of two or more is dropped, all else is taken
+/// out. It takes no memory.
 pub(crate) fn delete(alloc: Global, tree: &mut Tree, at: &Stop) -> Result<Applied, TreeFault>
     requires tree { IsTree tree.old }
     requires stop { IsStop (roomless_tree tree.old).items (plain_stop at.now) }
@@ -32,7 +33,7 @@ pub(crate) fn delete(alloc: Global, tree: &mut Tree, at: &Stop) -> Result<Applie
     take_out(alloc, tree, at)
 }
 
-/// Drops the hole at the cursor, if one is there in a list of two or more.
+/// The hole at the cursor is dropped, if one is there in a list of two or more.
 fn drop_hole(tree: &mut Tree, at: &Stop) -> Option<Applied>
     requires tree { IsTree tree.old }
     requires stop { IsStop (roomless_tree tree.old).items (plain_stop at.now) }
@@ -59,7 +60,7 @@ fn drop_hole(tree: &mut Tree, at: &Stop) -> Option<Applied>
     })
 }
 
-/// The sort of the node at the path, if there is one.
+/// The sort of the node at the path, if there is one, by which the list of a dropped hole is told.
 fn sort_at(tree: &Tree, path: &Path) -> Option<Sort>
     requires tree { IsTree tree.now }
     ensures { result ≡ option_map (λ node. sort_of node.label.kind) (node_at tree.now.items path.now.items) }
@@ -70,7 +71,8 @@ fn sort_at(tree: &Tree, path: &Path) -> Option<Sort>
     Some(node.kind().row().sort)
 }
 
-/// The path of the item of the sort that is now at the path, or else of the one before it.
+/// Where the cursor goes from a dropped hole: the path of the item of its sort that is now at its path,
+/// or else of the one before it.
 fn path_after_drop(tree: &Tree, sort: Sort, path: &Path) -> Path
     requires tree { IsTree tree.now }
     ensures { result.items ≡ path_after_drop sort tree.now.items path.now.items }

@@ -1,4 +1,4 @@
-//! The stop at which a slot is shown.
+//! The stop at which a slot is shown, found by the path of its node.
 ghost use Rattle.std.specs.Prelude.{◌≡◌, ◌+◌, ◌++◌, ◌≤◌, IfSome, length, option_map};
 ghost use Rattle.template_tree.specs.Limit.{deepest_path};
 ghost use Rattle.template_tree.specs.PlainTree.{roomless_tree};
@@ -28,7 +28,8 @@ pub fn shown_stop(tree: &Tree, slot: Slot) -> Option<Stop>
     })
 }
 
-/// The first numbers of the path of a node, up to the first elided comment on it.
+/// The part of the path of a slot's node that is shown: its first numbers, up to the first elided
+/// comment on it.
 fn shown_part(tree: &Tree, path: &Path) -> Path
     requires tree { IsTree tree.now }
     ensures { result.items ≡ shown_numbers tree.now.items path.now.items }
@@ -45,7 +46,8 @@ fn shown_part(tree: &Tree, path: &Path) -> Path
     shown
 }
 
-/// Puts the numbers of the path below the node behind others, up to the first elided comment on it.
+/// Puts the numbers of the path below the node behind those that are shown, up to the first elided
+/// comment on it.
 fn push_shown(node: &Node, path: &[u32], shown: &mut Path)
     requires room { length shown.old.items + length path.now ≤ deepest_path }
     ensures { shown.new.items ≡ shown.old.items ++ shown_below node.now path.now }

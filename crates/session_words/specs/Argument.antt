@@ -1,4 +1,4 @@
--- What may stand behind a command's word.
+-- The argument of a command: what may stand behind its word, and the command that it makes.
 use Rattle.std.specs.Prelude.{ℕ, Bool, ◌&&◌, not, nat_le, List, [], ◌∷◌, length, codes, Option, None, Some, Ok, Err, if◌then◌else◌}
 use Rattle.std.specs.List.{list_all}
 use Rattle.plcs_base.specs.Byte.{is_blank, is_digit, is_printable}
@@ -21,16 +21,16 @@ pub data PlainArgumentRule : Type 0 where
   -- the name of a file
   file : (List ℕ → PlainCommand) → PlainArgumentRule
 
--- the name of the clip that is meant where none is named
+-- the name of the clip that is meant where no argument names one
 abbrev pub default_clip : List ℕ
 default_clip = codes "clip"
 
--- the name that the argument is, if it is one; no argument is the name of the clip
+-- the clip's name that the argument is, if it is one; no argument is the name of the clip that is then meant
 abbrev pub name_in : List ℕ → Option (List ℕ)
 name_in [] = Some default_clip
 name_in (byte ∷ rest) = if is_name (byte ∷ rest) then Some (byte ∷ rest) else None
 
--- whether the bytes are digits, of which there is one or more
+-- whether an argument is digits, of which there is one or more
 abbrev pub is_numeral : List ℕ → Bool
 is_numeral bytes = nat_le 1 (length bytes) && list_all is_digit bytes
 
@@ -51,15 +51,15 @@ abbrev pub text_in : List ℕ → Option (List ℕ)
 text_in [] = None
 text_in (byte ∷ rest) = Some (byte ∷ rest)
 
--- whether the byte may stand in a file name: it is printable and no blank
+-- whether the byte may stand in an argument that is a file name: it is printable and no blank
 abbrev pub is_file_byte : ℕ → Bool
 is_file_byte byte = is_printable byte && not (is_blank byte)
 
--- how many bytes a file name may have
+-- how many bytes an argument may have that is a file name
 abbrev pub longest_file_name : ℕ
 longest_file_name = LONGEST_FILE_NAME
 
--- whether the bytes are a file name
+-- whether an argument is a file name
 abbrev pub is_file_name : List ℕ → Bool
 is_file_name bytes =
     nat_le 1 (length bytes) && (nat_le (length bytes) longest_file_name && list_all is_file_byte bytes)
@@ -68,12 +68,12 @@ is_file_name bytes =
 abbrev pub file_name_in : List ℕ → Option (List ℕ)
 file_name_in argument = if is_file_name argument then Some argument else None
 
--- the command that is made of what the argument is, if it is what the command takes
+-- the command that is made of what the argument was read as, if it is what the command takes
 abbrev pub command_from : {X : Type 0} → (X → PlainCommand) → Option X → PlainReading
 command_from make (Some x) = Ok (make x)
 command_from make None = Err WrongArgument
 
--- the command that the argument makes
+-- the command that the argument makes, by what is taken behind the word
 abbrev pub command_with : PlainArgumentRule → List ℕ → PlainReading
 command_with (PlainArgumentRule.nothing command) [] = Ok command
 command_with (PlainArgumentRule.nothing command) (byte ∷ rest) = Err WrongArgument

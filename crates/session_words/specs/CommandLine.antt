@@ -9,11 +9,11 @@ use Rattle.session_words.specs.PlainCommand.{PlainReading}
 use Rattle.session_words.specs.Argument.{PlainArgumentRule, command_with}
 use Rattle.session_words.specs.CommandTable.{argument_rule_of}
 
--- whether the first byte is the point with which command lines begin
+-- whether the first byte of a line is the point with which command lines begin
 abbrev pub begins_with_point : List ℕ → Bool
 begins_with_point line = begins_with (λ byte. byte == 46) line
 
--- how many letters stand behind the point
+-- how many letters stand behind the point of a command line
 abbrev pub word_length : List ℕ → ℕ
 word_length line = prefix_len is_letter (drop 1 line)
 
@@ -30,7 +30,7 @@ abbrev pub is_word_end : List ℕ → Bool
 is_word_end [] = true
 is_word_end (byte ∷ rest) = is_blank byte
 
--- the word of a line that has the form of a command
+-- the word of a line, if it has the form of a command line
 abbrev pub command_word : List ℕ → Option (List ℕ)
 command_word line = if is_word_end (behind_word line) then Some (word_of line) else None
 

@@ -8,16 +8,16 @@ use Rattle.session_words.specs.PlainCommand as command
 use Rattle.session_words.specs.Argument as argument
 use Rattle.session_words.specs.Argument.{PlainArgumentRule}
 
--- a command's word, and what it takes
+-- a row of the table of commands: a command's word, and what it takes
 pub record PlainCommandRow : Type 0 where
   pub word : List ℕ
   pub rule : PlainArgumentRule
 
--- the row of a word and what its command takes
+-- the row of the table of commands for a word and what its command takes
 abbrev pub row : List ℕ → PlainArgumentRule → PlainCommandRow
 row word rule = record { word = word; rule = rule }
 
--- the commands that fill in no template
+-- the table of the commands that fill in no template
 abbrev pub other_commands : List PlainCommandRow
 other_commands =
     row (codes "float") (argument.nothing command.float)
@@ -42,11 +42,11 @@ other_commands =
     ∷ row (codes "quit") (argument.nothing command.quit)
     ∷ []
 
--- what the row of the word among these takes, if there is one
+-- what the row of the word among these of the table says that its command takes, if there is one
 abbrev pub argument_rule_in : List PlainCommandRow → List ℕ → Option PlainArgumentRule
 argument_rule_in rows word = option_map (λ r. r.rule) (find (λ r. bytes_eq word r.word) rows)
 
--- what a template's command takes
+-- what the command of a template takes: no argument
 abbrev pub template_rule : Template → PlainArgumentRule
 template_rule t = argument.nothing (command.template t)
 

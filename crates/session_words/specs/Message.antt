@@ -7,22 +7,22 @@ use Rattle.session_words.specs.declared.message.RefusalMessage.TheVariants as re
 use Rattle.session_words.specs.declared.message.Notice.{Notice as NoticeKind}
 use Rattle.session_words.specs.declared.message.Notice.TheVariants as notice
 
--- the number of a kind of refusal, the words of a message, and the number behind them, if there is one: a
--- place, a line or a slot
+-- the row of a refusal: the number of its kind, the words of the message, and the number behind them, if
+-- there is one: a place, a line or a slot
 pub record PlainRefusalRow : Type 0 where
   pub number : ℕ
   pub words : List ℕ
   pub value : Option ℕ
 
--- the row of a message without a number behind its words
+-- a refusal's row, of which the words have no number behind them
 abbrev pub row : ℕ → List ℕ → PlainRefusalRow
 row number words = record { number = number; words = words; value = None }
 
--- the row of a message with a number behind its words
+-- a refusal's row, of which the words have this number behind them
 abbrev pub with_number : ℕ → List ℕ → ℕ → PlainRefusalRow
 with_number number words n = record { number = number; words = words; value = Some n }
 
--- the messages of refusals
+-- the row of each refusal, with the words of its message
 abbrev pub refusal_row : RefusalMessage → PlainRefusalRow
 refusal_row refusal.UnknownCommand = row 1 (codes "UNKNOWN COMMAND")
 refusal_row refusal.NotHere = row 2 (codes "NOT HERE")
@@ -51,7 +51,7 @@ refusal_row refusal.PhraseFull = row 12 (codes "PHRASE FULL")
 refusal_row refusal.FloatNotThere = row 13 (codes "FLOAT NOT THERE")
 refusal_row refusal.AtEdge = row 14 (codes "AT EDGE")
 
--- the words of what came of a key that was taken
+-- the words of each notice, which says what came of a key that was taken
 abbrev pub notice_words : NoticeKind → List ℕ
 notice_words notice.Placeholder = codes "PLACEHOLDER"
 notice_words notice.MarkedPhrase = codes "MARKED PHRASE"
@@ -71,23 +71,23 @@ notice_words notice.Saved = codes "SAVED"
 notice_words notice.TraceOn = codes "TRACE ON"
 notice_words notice.TraceOff = codes "TRACE OFF"
 
--- the words of a message
+-- the words of any message
 abbrev pub message_words : Message → List ℕ
 message_words (Refusal r) = (refusal_row r).words
 message_words (Notice n) = notice_words n
 message_words NotBuilt = codes "NOT BUILT"
 
--- the number that stands behind the words, if there is one
+-- the number that stands behind the words of a message, if there is one
 abbrev pub message_value : Message → Option ℕ
 message_value (Refusal r) = (refusal_row r).value
 message_value (Notice n) = None
 message_value NotBuilt = None
 
--- words, and a number behind a blank, if there is one
+-- the words of a message and the number behind a blank, if there is one
 abbrev pub with_value : List ℕ → Option ℕ → List ℕ
 with_value words None = words
 with_value words (Some n) = words ++ (32 ∷ decimal n)
 
--- the text of a message
+-- the text of a message: its words, and the number behind them
 unfoldable pub message_text : Message → List ℕ
 message_text message = with_value (message_words message) (message_value message)

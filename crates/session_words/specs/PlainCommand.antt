@@ -5,7 +5,7 @@ use Rattle.session_words.specs.declared.command.Command.{Command}
 use Rattle.session_words.specs.declared.command.Command.TheVariants as asked
 use Rattle.session_words.specs.declared.command.CommandFault.{CommandFault}
 
--- what a command line asks for
+-- a command as plain data, which is what a command line asks for
 pub data PlainCommand : Type 0 where
   template : Template → PlainCommand
   float : PlainCommand
@@ -53,7 +53,7 @@ plain_command (asked.Load file) = PlainCommand.load file.now
 plain_command (asked.Code n) = PlainCommand.code n
 plain_command asked.Quit = PlainCommand.quit
 
--- a plain command, or why there is none
+-- what a line is read as: a plain command, or why there is none
 abbrev pub PlainReading : Type 0
 PlainReading = Result PlainCommand CommandFault
 

@@ -1,4 +1,4 @@
-//! What an argument is read as.
+//! What the argument of a command is read as: a name, a number or a file name.
 ghost use Rattle.std.specs.Prelude.{◌≡◌};
 ghost use Rattle.std.specs.List.{list_all};
 ghost use Rattle.session_words.specs.Argument.{default_clip, name_in, number_between, number_in, is_file_byte, is_file_name};
@@ -8,10 +8,11 @@ use crate::limit::LONGEST_FILE_NAME;
 use crate::number::number_between;
 use plcs_base::{Name, is_printable};
 
-/// The name of the clip that is meant where none is named.
+/// The name of the clip that is meant where no argument names one.
 const DEFAULT_CLIP: &[u8] = b"clip";
 
-/// The name that the argument is, if it is one; no argument is the name of the clip.
+/// The clip's name that the argument is read as, if it is one; no argument is read as the name of the
+/// clip that is then meant.
 pub fn name_in(argument: &[u8]) -> Option<Name>
     ensures { result ≡ name_in argument.now }
 {
@@ -22,7 +23,7 @@ pub fn name_in(argument: &[u8]) -> Option<Name>
     }
 }
 
-/// The name of the clip that is meant where none is named, as a name.
+/// The name of the clip that is meant where no argument names one, as a name.
 #[tactic(auto, using(crate::proofs::ClipName::clip_name_read))]
 fn default_clip() -> Option<Name>
     ensures { result ≡ Some default_clip }
@@ -30,8 +31,8 @@ fn default_clip() -> Option<Name>
     Name::read(DEFAULT_CLIP)
 }
 
-/// The number of the range that the argument is, if it is one; no argument is the one that is meant
-/// where none is given.
+/// The number of the range that the argument is read as, if it is one; no argument is the one that is
+/// meant where none is given.
 pub fn number_in(range: Range, argument: &[u8]) -> Option<u32>
     ensures { result ≡ number_in range.least range.most range.otherwise argument.now }
 {
@@ -42,14 +43,14 @@ pub fn number_in(range: Range, argument: &[u8]) -> Option<u32>
     }
 }
 
-/// Whether the bytes are a file name: 1 to 100 bytes from 33 to 126.
+/// Whether an argument is a file name: 1 to 100 bytes from 33 to 126.
 pub fn is_file_name(bytes: &[u8]) -> bool
     ensures { result ≡ is_file_name bytes.now }
 {
     !bytes.is_empty() && bytes.len() <= LONGEST_FILE_NAME && all_file_bytes(bytes)
 }
 
-/// Whether each byte may stand in a file name.
+/// Whether each byte of an argument may stand in a file name.
 fn all_file_bytes(bytes: &[u8]) -> bool
     ensures { result ≡ list_all is_file_byte bytes.now }
 {

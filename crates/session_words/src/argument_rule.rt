@@ -9,7 +9,7 @@ use crate::command::{Command, CommandFault};
 use plcs_base::Name;
 use plcs_grammar::Template;
 
-/// What a command takes behind its word.
+/// What a command takes behind its word, and the command that it makes of it.
 #[derive(Clone, Copy)]
 pub enum ArgumentRule {
     /// No argument.
@@ -103,7 +103,7 @@ pub enum Filed {
 }
 
 impl ArgumentRule {
-    /// The command that the argument makes; no bytes are no argument.
+    /// The command that the argument makes, by what is taken behind the word; no bytes are no argument.
     pub fn command<'a>(self, argument: &'a [u8]) -> Result<Command<'a>, CommandFault>
         ensures { plain_reading result ≡ command_with (plain_argument_rule self) argument.entry.now }
     {
@@ -118,7 +118,7 @@ impl ArgumentRule {
 }
 
 impl Alone {
-    /// A command that takes no argument, where there is none.
+    /// A command that takes no argument, where none stands behind its word.
     fn command<'a>(self, argument: &[u8]) -> Result<Command<'a>, CommandFault>
         ensures { plain_reading result ≡
             command_with (PlainArgumentRule.nothing (alone_command self)) argument.now }
@@ -130,7 +130,7 @@ impl Alone {
         }
     }
 
-    /// The command that takes no argument.
+    /// Each of the commands that take no argument.
     fn command_of<'a>(self) -> Command<'a>
         ensures { plain_command result ≡ alone_command self }
     {
@@ -163,7 +163,7 @@ impl Named {
         }
     }
 
-    /// The command with the clip's name.
+    /// Each of the commands that take a clip's name, with this name.
     fn command_of<'a>(self, name: Name) -> Command<'a>
         ensures { plain_command result ≡ named_command self name }
     {
@@ -187,7 +187,7 @@ impl Numbered {
         }
     }
 
-    /// The command with a number of its range.
+    /// Each of the commands that take a number, with this number of its range.
     fn command_of<'a>(self, number: u32) -> Command<'a>
         ensures { plain_command result ≡ numbered_command self number }
     {

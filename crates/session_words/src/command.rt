@@ -9,7 +9,7 @@ use crate::command_table::argument_rule_of;
 use plcs_base::{Name, is_letter};
 use plcs_grammar::{Template, trimmed};
 
-/// What a command line asks for.
+/// A command, which is what a command line asks for.
 #[derive(Debug, Drop, PartialEq, Eq)]
 pub enum Command<'a> {
     /// Fill the hole at the cursor with the template.
@@ -57,7 +57,7 @@ pub enum Command<'a> {
     Quit,
 }
 
-/// Why a line is no command.
+/// Why a command line is no command.
 #[derive(Clone, Copy, Debug, PartialEq, Eq)]
 pub enum CommandFault {
     /// It isn't a point, letters, and then the end or a blank and an argument; or the letters are no
@@ -86,8 +86,8 @@ pub fn read_command<'a>(line: &'a [u8]) -> Result<Command<'a>, CommandFault>
     }
 }
 
-/// The word of the line, or `None` where the line has not the form of a command: a point, letters, and
-/// then the end or a blank.
+/// The word of a command line, or `None` where the line has not the form of a command: a point,
+/// letters, and then the end or a blank.
 pub fn command_word<'a>(line: &'a [u8]) -> Option<&'a [u8]>
     requires point { IsTrue (begins_with_point line.now) }
     ensures word { option_map (λ word. word.now) result ≡ command_word line.entry.now }
@@ -111,7 +111,7 @@ pub fn begins_with_point(line: &[u8]) -> bool
     }
 }
 
-/// How many letters the bytes begin with.
+/// How many letters the word of a command has that these bytes begin with.
 fn word_length(bytes: &[u8]) -> usize
     ensures counted { result ≡ prefix_len is_letter bytes.now }
     ensures within { result ≤ length bytes.now }
@@ -123,7 +123,7 @@ fn word_length(bytes: &[u8]) -> usize
     count
 }
 
-/// Whether a word ends before these bytes: there are none, or they begin with a blank.
+/// Whether the word of a command ends before these bytes: there are none, or they begin with a blank.
 fn is_word_end(rest: &[u8]) -> bool
     ensures { result ≡ is_word_end rest.now }
 {

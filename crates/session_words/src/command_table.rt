@@ -9,35 +9,35 @@ use crate::argument_rule::{Alone, ArgumentRule, Filed, Named, Numbered, Range, T
 use crate::limit::{GREATEST_CODE_NUMBER, MOST_STEPS, MOST_STEPS_BACK};
 use plcs_grammar::Template;
 
-/// A command's word, and what it takes.
+/// A row of the table of commands: a command's word, and what it takes.
 #[derive(Clone, Copy)]
 struct CommandRow {
     word: &'static [u8],
     rule: ArgumentRule,
 }
 
-/// The steps of `.step`.
+/// The numbers that `.step` takes in the table of commands.
 const STEPS: Range = Range {
     least: 1,
     most: MOST_STEPS,
     otherwise: 1,
 };
 
-/// The steps of `.back`.
+/// The numbers that `.back` takes in the table of commands.
 const STEPS_BACK: Range = Range {
     least: 1,
     most: MOST_STEPS_BACK,
     otherwise: 1,
 };
 
-/// The instructions of `.code`.
+/// The numbers that `.code` takes in the table of commands.
 const INSTRUCTIONS: Range = Range {
     least: 0,
     most: GREATEST_CODE_NUMBER,
     otherwise: 0,
 };
 
-/// The commands that fill in no template.
+/// The table of the commands that fill in no template.
 const COMMANDS: [CommandRow; 20] = [
     CommandRow {
         word: b"float",
@@ -121,7 +121,8 @@ const COMMANDS: [CommandRow; 20] = [
     },
 ];
 
-/// What the command of the word takes behind it, or `None` where the word is no command's.
+/// What the table of commands says that the command of the word takes, or `None` where the word is no
+/// command's.
 #[tactic(auto, unfolding(crate::specs::CommandTable::argument_rule_of))]
 pub fn argument_rule_of(word: &[u8]) -> Option<ArgumentRule>
     ensures { option_map plain_argument_rule result ≡ argument_rule_of word.now }
@@ -132,7 +133,7 @@ pub fn argument_rule_of(word: &[u8]) -> Option<ArgumentRule>
     }
 }
 
-/// What the command of the word takes behind it, among the commands that fill in no template.
+/// What the table says that the command of the word takes, among the commands that fill in no template.
 fn other_argument_rule_of(word: &[u8]) -> Option<ArgumentRule>
     ensures { option_map plain_argument_rule result ≡ argument_rule_in other_commands word.now }
 {
@@ -146,7 +147,7 @@ fn other_rows() -> &'static [CommandRow]
     &COMMANDS
 }
 
-/// What the first of the rows with the word takes.
+/// What the first row of the table with the word says that its command takes.
 fn argument_rule_among(rows: &[CommandRow], word: &[u8]) -> Option<ArgumentRule>
     ensures { result ≡ option_map (λ row. row.rule)
         (find (λ row. bytes_eq word.now row.word.now) rows.now) }

@@ -1,4 +1,4 @@
-//! The limits of arguments.
+//! The limits of the arguments of commands.
 
 /// How many steps `.step` makes at most.
 pub const MOST_STEPS: u32 = 100;
@@ -9,5 +9,5 @@ pub const MOST_STEPS_BACK: u32 = 500;
 /// The greatest number that `.code` takes.
 pub const GREATEST_CODE_NUMBER: u32 = 4_294_967_295;
 
-/// How many bytes a file name may have.
+/// How many bytes an argument may have that is a file name.
 pub const LONGEST_FILE_NAME: usize = 100;

@@ -4,7 +4,7 @@ ghost use Rattle.session_words.specs.Message.{refusal_row, notice_words, message
 
 use crate::message_text::MessageText;
 
-/// What the message row says of a key.
+/// A message, which answers a key: what the message row says of it.
 #[derive(Clone, Copy, Debug, PartialEq, Eq)]
 pub enum Message {
     /// The key was refused.
@@ -15,7 +15,8 @@ pub enum Message {
     NotBuilt,
 }
 
-/// Why a key was refused. Places are counted from 0, lines from 1, and slots by their numbers.
+/// The messages of refusals: why a key was refused. Places are counted from 0, lines from 1, and slots
+/// by their numbers.
 #[derive(Clone, Copy, Debug, PartialEq, Eq)]
 pub enum RefusalMessage {
     /// The key or the line is no command.
@@ -72,7 +73,7 @@ pub enum RefusalMessage {
     AtEdge,
 }
 
-/// What came of a key that was taken.
+/// The messages that are notices: what came of a key that was taken.
 #[derive(Clone, Copy, Debug, PartialEq, Eq)]
 pub enum Notice {
     /// The run has come to a placeholder.
@@ -111,8 +112,8 @@ pub enum Notice {
     TraceOff,
 }
 
-/// The number of a kind of refusal, the words of the message, and the number behind them, if there is
-/// one.
+/// The row of a refusal: the number of its kind, the words of the message, and the number behind them,
+/// if there is one.
 #[derive(Clone, Copy)]
 struct RefusalRow {
     number: u8,
@@ -121,7 +122,7 @@ struct RefusalRow {
 }
 
 impl Message {
-    /// The text of the message row.
+    /// The text of a message, its words with the number behind them, as the message row shows it.
     #[tactic(auto, unfolding(crate::specs::Message::message_text))]
     pub fn text(self) -> MessageText
         ensures { result ≡ message_text self }
@@ -129,7 +130,7 @@ impl Message {
         MessageText::new(self.words(), self.value())
     }
 
-    /// The words of the message.
+    /// The words of any message, a refusal, a notice or that something isn't built.
     fn words(self) -> &'static [u8]
         ensures words { result.now ≡ message_words self }
         ensures short { length result.now ≤ 20 }
@@ -141,7 +142,7 @@ impl Message {
         }
     }
 
-    /// The number behind the words, if there is one.
+    /// The number behind the words of a message, if there is one.
     fn value(self) -> Option<u32>
         ensures { result ≡ message_value self }
     {
@@ -153,14 +154,14 @@ impl Message {
 }
 
 impl RefusalMessage {
-    /// The number of the kind of refusal, from 1 to 14.
+    /// The number of the kind of a refusal, from 1 to 14.
     pub fn number(self) -> u8
         ensures { result ≡ (refusal_row self).number }
     {
         self.row().number
     }
 
-    /// The row of the message.
+    /// The row of each refusal.
     fn row(self) -> RefusalRow
         ensures number { result.number ≡ (refusal_row self).number }
         ensures words { result.words.now ≡ (refusal_row self).words }
@@ -199,7 +200,7 @@ impl RefusalMessage {
 }
 
 impl Notice {
-    /// The words of the message.
+    /// The words of each notice.
     fn words(self) -> &'static [u8]
         ensures words { result.now ≡ notice_words self }
         ensures short { length result.now ≤ 20 }
@@ -226,7 +227,7 @@ impl Notice {
     }
 }
 
-/// The row of a message without a number behind its words.
+/// A refusal's row, of which the words have no number behind them.
 fn row_of(number: u8, words: &'static [u8]) -> RefusalRow
     ensures number { result.number ≡ number }
     ensures words { result.words.now ≡ words.entry.now }
@@ -239,7 +240,7 @@ fn row_of(number: u8, words: &'static [u8]) -> RefusalRow
     }
 }
 
-/// The row of a message with a number behind its words.
+/// A refusal's row, of which the words have this number behind them.
 fn with_number(number: u8, words: &'static [u8], value: u32) -> RefusalRow
     ensures number { result.number ≡ number }
     ensures words { result.words.now ≡ words.entry.now }

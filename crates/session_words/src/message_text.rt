@@ -1,4 +1,4 @@
-//! The text of a message.
+//! The text of a message: the bytes of its words, with a number behind them.
 ghost use Rattle.std.specs.Prelude.{◌≡◌, [], ◌≤◌, ◌+◌, ◌++◌, length};
 ghost use Rattle.arrayvec.specs.ArrayVec.{array_vec_len};
 ghost use Rattle.session_words.specs.Message.{with_value};
@@ -6,7 +6,7 @@ ghost use Rattle.session_words.specs.Message.{with_value};
 use arrayvec::ArrayVec;
 use std::marker::Model;
 
-/// How many bytes a text of a message may have.
+/// How many bytes the text of a message may have.
 const LONGEST_MESSAGE: usize = 80;
 
 /// The text of a message, which contracts see as its bytes.
@@ -24,7 +24,7 @@ impl Model for MessageText {
 }
 
 impl MessageText {
-    /// No text.
+    /// The text where there is no message: no bytes.
     pub fn none() -> MessageText
         ensures { result ≡ [] }
     {
@@ -33,7 +33,7 @@ impl MessageText {
         }
     }
 
-    /// The words, and the number behind a blank, if there is one.
+    /// The text of a message of these words, with the number behind a blank, if there is one.
     pub(crate) fn new(words: &[u8], value: Option<u32>) -> MessageText
         requires { length words.now ≤ 20 }
         ensures { result ≡ with_value words.now value }
@@ -47,7 +47,7 @@ impl MessageText {
         MessageText { bytes }
     }
 
-    /// Its bytes.
+    /// The bytes of the text of a message.
     pub fn as_bytes(&self) -> &[u8]
         ensures { result.now ≡ self.now }
     {
@@ -55,7 +55,7 @@ impl MessageText {
     }
 }
 
-/// Appends bytes to a text that has room for them.
+/// Appends bytes to the text of a message that has room for them.
 fn put(text: &mut ArrayVec<u8, LONGEST_MESSAGE>, bytes: &[u8])
     requires { array_vec_len text.old + length bytes.now ≤ LONGEST_MESSAGE }
     ensures { text.new.items ≡ text.old.items ++ bytes.now }

@@ -1,4 +1,4 @@
-//! Numbers in decimal digits.
+//! Arguments that are numbers in decimal digits.
 ghost use Rattle.std.specs.Prelude.{◌≡◌};
 ghost use Rattle.std.specs.List.{list_all};
 ghost use Rattle.plcs_base.specs.Byte.{is_digit};
@@ -7,8 +7,8 @@ ghost use Rattle.session_words.specs.Argument.{number_between};
 use plcs_base::is_digit;
 use plcs_grammar::numeral_value;
 
-/// The number that the text is, with any count of digits, where it lies between the two bounds, which
-/// are part of the range.
+/// The number that the argument is, with any count of digits, where it lies between the two bounds,
+/// which are part of the range.
 #[tactic(auto, unfolding(crate::specs::Argument::number_between))]
 pub fn number_between(least: u32, most: u32, text: &[u8]) -> Option<u32>
     ensures { result ≡ number_between least most text.now }
@@ -23,7 +23,7 @@ pub fn number_between(least: u32, most: u32, text: &[u8]) -> Option<u32>
     Some(value as u32)
 }
 
-/// Whether each byte is a digit.
+/// Whether each byte of the argument is a digit.
 fn all_digits(text: &[u8]) -> bool
     ensures { result ≡ list_all is_digit text.now }
 {

@@ -12,7 +12,7 @@ use Rattle.decl_table.specs.PlainDecls.{PlainDecls, items_in, slot_of}
 
 -- ---- where a phrase stands
 
--- the phrase stands at the place, in main or the procedure
+-- the phrase that is checked stands at the place, in main or the procedure
 pub record Stands (program : Forest) (at : PhraseAt) (procedure : PlainNode) (phrase : PlainPhrase) : Type 0 where
   pub number : ℕ
   pub path : List ℕ
@@ -24,39 +24,39 @@ pub record Stands (program : Forest) (at : PhraseAt) (procedure : PlainNode) (ph
 
 -- ---- what a table knows
 
--- the table has the items of these names in the procedure in the slot
+-- the table of declarations has the items that the program has of these names in the procedure in the slot
 abbrev pub KnowsItems : PlainDecls → (program : Forest) → (slot : ℕ) → (names : List (List ℕ)) → Type 0
 KnowsItems decls program slot names =
     (name : List ℕ) → list_any (bytes_eq name) names ≡ true
     → item_named name (items_in decls.items slot) ≡ item_named name (Items program slot)
 
--- the table has the effective heading of the name, or none where the program has none
+-- the table of declarations has the effective heading of the name, or none where the program has none
 abbrev pub KnowsHeading : PlainDecls → (program : Forest) → (name : List ℕ) → Type 0
 KnowsHeading decls program name =
     slot_of name decls.headings ≡ option_map (λ signature. signature.slot) (Sig program name)
 
--- the name that a phrase calls, if it is a call
+-- the name of the procedure whose parameters a table has to know, if the phrase that is checked is a call
 abbrev pub called_name : PlainPhrase → Option (List ℕ)
 called_name (PlainPhrase.call name arguments) = Some name
 called_name other = None
 
--- the parameters in a procedure's heading: none where it isn't whole
+-- the parameters in a procedure's heading, which a table has to know where it is called: none where it isn't whole
 abbrev pub heading_parameters : PlainNode → List (List ℕ)
 heading_parameters node =
     unwrap_or (option_map (λ heading. heading.parameters) (heading_of node.label.kind node.label.parts)) []
 
--- the names of the parameters of the procedure in the slot
+-- the names of the parameters of the procedure in the slot, of which a table has to know the items
 abbrev pub parameter_names : (program : Forest) → (slot : ℕ) → List (List ℕ)
 parameter_names program slot = unwrap_or (option_map heading_parameters (procedure_at program slot)) []
 
--- the table has the items of the parameters of the procedure that is called by the name
+-- the table of declarations has the items of the parameters of the procedure that is called by the name
 abbrev pub KnowsParameters : PlainDecls → (program : Forest) → (name : List ℕ) → Type 0
 KnowsParameters decls program name =
     (signature : Signature) → Sig program name ≡ Some signature
     → KnowsItems decls program signature.slot (parameter_names program signature.slot)
 
--- the table agrees with the program on the phrase's procedure and names and, where the phrase is a call, on the
--- procedure that it calls and the names of its parameters
+-- the table of declarations agrees with the program on the phrase's procedure and names and, where the phrase is a
+-- call, on the procedure that it calls and the names of its parameters
 pub record Knows (decls : PlainDecls) (program : Forest) (procedure : PlainNode) (phrase : PlainPhrase) : Type 0 where
   pub items : KnowsItems decls program procedure.label.slot (mentioned phrase)
   pub headings : (name : List ℕ) → list_any (bytes_eq name) (mentioned phrase) ≡ true → KnowsHeading decls program name

@@ -1,4 +1,4 @@
-//! Calls of procedures, and their names.
+//! Offences of calls, whose arguments are held against parameters, and of the names of procedures.
 ghost use Rattle.std.specs.Prelude.{◌≡◌, [], None, bytes_eq, length};
 ghost use Rattle.std.specs.List.{list_any};
 ghost use Rattle.plcs_grammar.specs.PlainPhrase.{plain_exprs};
@@ -48,8 +48,8 @@ pub(crate) fn call_offence(
     arguments_offence(arguments, parameters, slot, decls, procedure)
 }
 
-/// The first argument that its parameter doesn't take, where no argument has an offence of its own and
-/// there are as many of both.
+/// The first argument of a call that its parameter doesn't take, where no argument has an offence of
+/// its own and there are as many of both.
 fn arguments_offence(
     arguments: &[Expr],
     parameters: &[Name],
@@ -70,7 +70,8 @@ fn arguments_offence(
     None
 }
 
-/// The kind of a parameter behind earlier ones: one that is named a second time has none.
+/// The kind of a parameter of the procedure that is called, which the call's argument has to have: that
+/// of its scalar there, and none where it has no scalar or an earlier parameter has its name.
 fn parameter_kind(name: &Name, earlier: &[Name], called: Slot, decls: &Decls) -> Option<Kind>
     ensures { result ≡ parameter_kind (items_in decls.now.items called.0) earlier.now name.now }
 {
@@ -80,14 +81,14 @@ fn parameter_kind(name: &Name, earlier: &[Name], called: Slot, decls: &Decls) ->
     scalar_named(name, decls, called)
 }
 
-/// Whether the name stands among names.
+/// Whether a parameter's name stands among those of earlier ones.
 fn is_among(name: &Name, names: &[Name]) -> bool
     ensures { result ≡ list_any (bytes_eq name.now) names.now }
 {
     names.iter().any(|other| name == other)
 }
 
-/// Whether the parameter's kind is that of the argument.
+/// Whether what is found in an argument of a call is the kind that its parameter takes.
 fn is_taken(taken: Option<Kind>, found: Result<Kind, MarkKind>) -> bool
     ensures { result ≡ is_taken taken found }
 {
@@ -97,7 +98,8 @@ fn is_taken(taken: Option<Kind>, found: Result<Kind, MarkKind>) -> bool
     }
 }
 
-/// What is wrong with the name of a procedure, if something is.
+/// What is wrong with the name of a procedure in its heading, if something is: it is reserved, or that
+/// of main or of an earlier effective heading.
 #[tactic(auto, unfolding(plcs_grammar::specs::Builtin::is_builtin_name))]
 pub(crate) fn procedure_offence(tree: &Tree, slot: Slot, name: &Name) -> Option<MarkKind>
     requires tree { IsTree tree.now }

@@ -13,7 +13,7 @@ use crate::kind_table::{infix_gives, infix_takes, same_kind};
 use plcs_base::{Kind, MarkKind};
 use plcs_grammar::InfixOp;
 
-/// An operator with what is found in its right operand.
+/// An operator of a chain, with what is found in its right operand.
 #[derive(Clone, Copy)]
 pub(crate) struct Link {
     op: InfixOp,
@@ -30,7 +30,7 @@ pub(crate) struct Chain {
 }
 
 impl Chain {
-    /// No operators.
+    /// A chain of which no operator was gone through.
     pub(crate) fn new() -> Chain
         ensures { (found : Result Kind MarkKind) → chain_end result found ≡ found }
     {
@@ -41,7 +41,8 @@ impl Chain {
         }
     }
 
-    /// With an operator before these, and what is found in its right operand.
+    /// The chain with one more operator before those that were gone through, and what is found in its
+    /// right operand.
     pub(crate) fn before(self, op: InfixOp, right: Result<Kind, MarkKind>) -> Chain
         ensures { EndsBefore self op right result }
     {
@@ -78,7 +79,8 @@ impl Chain {
 }
 
 impl Link {
-    /// What is found in the operator with both operands, where this is found in the left one.
+    /// What is found in one operator of a chain with both operands, where this is found in the left
+    /// one.
     fn found(self, left: Result<Kind, MarkKind>) -> Result<Kind, MarkKind>
         ensures { result ≡ both_found left self.right (infix_found self.op) }
     {
@@ -90,7 +92,8 @@ impl Link {
     }
 }
 
-/// The kind that an infix operator gives for two kinds.
+/// What is found in an operator of a chain for operands of two kinds: the kind that it gives, where it
+/// takes them.
 fn infix_found(op: InfixOp, left: Kind, right: Kind) -> Result<Kind, MarkKind>
     ensures { result ≡ infix_found op left right }
 {
@@ -101,7 +104,8 @@ fn infix_found(op: InfixOp, left: Kind, right: Kind) -> Result<Kind, MarkKind>
     }
 }
 
-/// Whether two kinds are right where two of this kind are taken, or two of any one kind.
+/// Whether the kinds of both operands of an operator in a chain are right, where it takes two of this
+/// kind, or two of any one kind.
 fn is_pair(taken: Option<Kind>, left: Kind, right: Kind) -> bool
     ensures { result ≡ is_pair taken left right }
 {
@@ -111,7 +115,7 @@ fn is_pair(taken: Option<Kind>, left: Kind, right: Kind) -> bool
     }
 }
 
-/// The offence that is found, or else the later one.
+/// The first offence in a chain: the one that is found in an operator, or else the later one behind it.
 fn first_offence(found: Result<Kind, MarkKind>, later: Option<MarkKind>) -> Option<MarkKind>
     ensures { result ≡ option_or (offence_in found) later }
 {
@@ -121,7 +125,8 @@ fn first_offence(found: Result<Kind, MarkKind>, later: Option<MarkKind>) -> Opti
     }
 }
 
-/// The kind of the whole, or the later offence.
+/// What is found in a whole chain whose operator furthest to the left has no offence: the later one, or
+/// else the kind that the last operator gives.
 fn whole(later: Option<MarkKind>, gives: Kind) -> Result<Kind, MarkKind>
     ensures { result ≡ with_later later gives (Ok gives) }
 {

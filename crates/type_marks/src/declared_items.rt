@@ -1,4 +1,4 @@
-//! Declared items, and which of them are effective.
+//! Offences of declared lists: which of their items aren't effective, and why.
 ghost use Rattle.std.specs.Prelude.{◌≡◌, ◌++◌, ◌<◌, [], map};
 ghost use Rattle.plcs_base.specs.declared.declared.ItemType.{ItemType};
 ghost use Rattle.template_tree.specs.Environment.{cells_of, declared_as, declares, effective, with_type};
@@ -14,7 +14,8 @@ use plcs_base::{Declared, ItemType, MarkKind, Name, Slot};
 use plcs_grammar::{Builtin, Item};
 use template_tree::Node;
 
-/// The first offence in the list of the declaration in the slot, if the procedure has one there.
+/// The first offence of a declared list, that of the declaration in the slot, if the procedure has one
+/// there.
 pub(crate) fn declared_offence(
     items: &[Item],
     procedure: &Node,
@@ -39,7 +40,7 @@ pub(crate) fn declared_offence(
     None
 }
 
-/// The type that the declaration in the slot gives to its names, if the procedure has one there.
+/// The type that a declared list has from the declaration in the slot, if the procedure has one there.
 fn type_in(procedure: &Node, slot: Slot) -> Option<ItemType>
     requires few { count procedure.now.inner < most_slots }
     ensures { result ≡ type_in procedure.now.inner slot.0 }
@@ -54,8 +55,8 @@ fn type_in(procedure: &Node, slot: Slot) -> Option<ItemType>
     None
 }
 
-/// What is wrong with an item behind earlier ones of its list and the declarations before it, where this
-/// is the effective item of its name.
+/// What is wrong with an item of a declared list behind earlier ones of the list and the declarations
+/// before it, where this is the effective item of its name.
 ///
 /// The effective one is the first of the name that takes as many cells: an earlier one would have been
 /// effective too, since no more cells were taken before it.
@@ -115,21 +116,21 @@ fn declares_such(node: &Node, name: &Name, cells: u32) -> bool
     has_such(list_items(node), name, cells)
 }
 
-/// Whether one of the items has the name and so many cells.
+/// Whether one of the items of a declared list has the name and so many cells.
 fn has_such(items: &[Item], name: &Name, cells: u32) -> bool
     ensures { (ty : ItemType) → result ≡ has_such name.now cells (map (declared_as ty) items.now) }
 {
     items.iter().any(|item| is_such(item, name, cells))
 }
 
-/// Whether the item has the name and so many cells.
+/// Whether this item of a declared list has the name and so many cells.
 fn is_such(item: &Item, name: &Name, cells: u32) -> bool
     ensures { result ≡ is_such name.now cells (declared_as ItemType.Fixed item.now) }
 {
     name == &item.name && cells_of_item(item) == cells
 }
 
-/// How many cells an item has: one as a scalar, and as an array its size.
+/// How many cells an item of a declared list has: one as a scalar, and as an array its size.
 fn cells_of_item(item: &Item) -> u32
     ensures { result ≡ cells_of (declared_as ItemType.Fixed item.now) }
 {
@@ -139,7 +140,7 @@ fn cells_of_item(item: &Item) -> u32
     }
 }
 
-/// How many cells what has the size has: one where it is 0, which stands for a scalar.
+/// How many cells an effective item of this size has: one where it is 0, which stands for a scalar.
 fn cells_of(size: u32) -> u32
     ensures { result ≡ cells_of record { name = []; ty = ItemType.Fixed; size = size } }
 {

@@ -1,4 +1,4 @@
-//! What operators and built-in functions take and give.
+//! The tables of kinds: what operators and built-in functions take and give.
 ghost use Rattle.std.specs.Prelude.{◌≡◌, length, slice_get};
 ghost use Rattle.template_tree.specs.Verdict.{is_count};
 ghost use Rattle.type_marks.specs.Private.Arguments.{taken_of};
@@ -8,7 +8,7 @@ ghost use Rattle.type_marks.specs.Private.PlainRow.{plain_row};
 use plcs_base::Kind;
 use plcs_grammar::{Builtin, InfixOp, PrefixOp};
 
-/// What a built-in function takes and gives.
+/// A row of the table of built-in functions: the kinds that a function takes and gives.
 #[derive(Clone, Copy, Debug)]
 pub(crate) struct BuiltinRow {
     /// The kinds of its arguments.
@@ -20,7 +20,8 @@ pub(crate) struct BuiltinRow {
 }
 
 impl BuiltinRow {
-    /// The kind that is taken as the argument of this number, counted from 0, if so many are taken.
+    /// The kind that the row of a built-in function has for the argument of this number, counted from
+    /// 0, if it takes so many.
     pub(crate) fn taken(&self, i: usize) -> Option<Kind>
         ensures { result ≡ slice_get (taken_of self.now) i }
     {
@@ -30,7 +31,7 @@ impl BuiltinRow {
         self.takes.get(i).copied()
     }
 
-    /// Whether so many arguments are right.
+    /// Whether the row of a built-in function allows so many arguments.
     pub(crate) fn is_count(&self, count: usize) -> bool
         ensures { result ≡ is_count (length self.now.takes.now) self.now.perhaps count }
     {
@@ -41,7 +42,7 @@ impl BuiltinRow {
     }
 }
 
-/// Whether two kinds are one.
+/// Whether two kinds are one, as the tables of kinds tell them apart.
 pub(crate) fn same_kind(one: Kind, other: Kind) -> bool
     ensures { result ≡ same_kind one other }
 {
@@ -81,7 +82,7 @@ pub(crate) fn infix_takes(op: InfixOp) -> Option<Kind>
     }
 }
 
-/// The kind that an infix operator gives.
+/// The kind that an infix operator gives, whatever it takes.
 pub(crate) fn infix_gives(op: InfixOp) -> Kind
     ensures { result ≡ infix_gives op }
 {
@@ -99,7 +100,7 @@ pub(crate) fn infix_gives(op: InfixOp) -> Kind
     }
 }
 
-/// The row of a built-in function.
+/// The row that a built-in function has in the table of what they take and give.
 pub(crate) fn builtin_row(function: Builtin) -> BuiltinRow
     ensures { plain_row result ≡ builtin_row function }
 {
@@ -114,35 +115,35 @@ pub(crate) fn builtin_row(function: Builtin) -> BuiltinRow
     }
 }
 
-/// A number of a number.
+/// The row of functions that give a number for a number.
 const ONE_NUMBER: BuiltinRow = BuiltinRow {
     takes: &[Kind::Fixed],
     perhaps: None,
     gives: Kind::Fixed,
 };
 
-/// A number of two.
+/// The row of functions that give a number for two.
 const TWO_NUMBERS: BuiltinRow = BuiltinRow {
     takes: &[Kind::Fixed, Kind::Fixed],
     perhaps: None,
     gives: Kind::Fixed,
 };
 
-/// A number of a text.
+/// The row of functions that give a number for a text.
 const ONE_TEXT: BuiltinRow = BuiltinRow {
     takes: &[Kind::Text],
     perhaps: None,
     gives: Kind::Fixed,
 };
 
-/// A number of two texts.
+/// The row of functions that give a number for two texts.
 const TWO_TEXTS: BuiltinRow = BuiltinRow {
     takes: &[Kind::Text, Kind::Text],
     perhaps: None,
     gives: Kind::Fixed,
 };
 
-/// A part of a text, from a place on, perhaps of a length.
+/// The row of the function that gives a part of a text, from a place on, perhaps of a length.
 const PART_OF_TEXT: BuiltinRow = BuiltinRow {
     takes: &[Kind::Text, Kind::Fixed],
     perhaps: Some(Kind::Fixed),

@@ -1,4 +1,4 @@
-//! The kinds of expressions.
+//! The kinds of expressions: of variables, operators and calls of built-in functions.
 ghost use Rattle.std.specs.Prelude.{◌≡◌, Ok, length, option_to_list, ◌++◌};
 ghost use Rattle.plcs_grammar.specs.PlainPhrase.{plain_expr, plain_exprs, plain_var_ref};
 ghost use Rattle.decl_table.specs.PlainDecls.{items_in};
@@ -72,8 +72,8 @@ pub(crate) fn reference_kind(
     }
 }
 
-/// Whether the kinds of arguments are those that are taken, as far as there are both, or the first
-/// offence in them.
+/// Whether the kinds of the arguments of a built-in function are those that it takes, as far as there
+/// are both, or the first offence in them.
 #[cycle(kind_of)]
 fn fit_arguments(
     arguments: &[Expr],
@@ -93,7 +93,7 @@ fn fit_arguments(
     Ok(fits)
 }
 
-/// The first offence in expressions.
+/// The first offence in a list of expressions, whose kinds are found one after the other.
 pub(crate) fn exprs_offence(exprs: &[Expr], decls: &Decls, procedure: Slot) -> Option<MarkKind>
     ensures { result ≡ offence_in (kinds_of (items_in decls.now.items procedure.0) (plain_exprs exprs.now)) }
 {
@@ -105,7 +105,7 @@ pub(crate) fn exprs_offence(exprs: &[Expr], decls: &Decls, procedure: Slot) -> O
     None
 }
 
-/// What is found where this kind is wanted.
+/// What is found in an expression where this kind is wanted: the kind, or else the offence.
 pub(crate) fn found_wanted(kind: Kind, found: Result<Kind, MarkKind>) -> Result<Kind, MarkKind>
     ensures { result ≡ then_found found (of_kind kind) }
 {
@@ -121,7 +121,8 @@ pub(crate) fn found_wanted(kind: Kind, found: Result<Kind, MarkKind>) -> Result<
     }
 }
 
-/// Whether an argument of the kind is right where this is taken, or nothing is.
+/// Whether an argument of a built-in function may have the kind, where this kind is taken there, or
+/// none is.
 fn takes_kind(taken: Option<Kind>, kind: Kind) -> bool
     ensures { result ≡ takes_kind taken kind }
 {
@@ -131,7 +132,8 @@ fn takes_kind(taken: Option<Kind>, kind: Kind) -> bool
     }
 }
 
-/// The kind that a built-in function gives for so many arguments, where their kinds fit or not.
+/// The kind of the call of a built-in function with so many arguments, where their kinds fit or not, or
+/// its first offence.
 fn judged(row: BuiltinRow, count: usize, found: Result<bool, MarkKind>) -> Result<Kind, MarkKind>
     ensures { result ≡ judged row count found }
 {

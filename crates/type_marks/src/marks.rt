@@ -38,8 +38,8 @@ impl<W> Model for Marks<W> {
 }
 
 impl<W> Marks<W> {
-    /// The verdict of the phrase at the place, or `None` exactly where no phrase stands there. It takes no
-    /// memory.
+    /// The verdict that was made of the phrase at the place, or `None` exactly where no phrase stands
+    /// there. It takes no memory.
     pub fn verdict(&self, at: PhraseAt) -> Option<&Verdict<W>>
         ensures { option_map (λ verdict. verdict.now) result ≡ get self.now at }
     {
@@ -160,7 +160,7 @@ impl<W: Work> Marks<W> {
         self.note(at, verdict)
     }
 
-    /// Notes the verdict of the phrase at the place.
+    /// Notes the verdict of the one phrase at the place.
     fn note(&mut self, at: PhraseAt, verdict: Verdict<W>) -> Result<(), OutOfMemory>
         ensures { OnOk result (self.new ≡ insert self.old at verdict) }
     {

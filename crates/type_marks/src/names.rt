@@ -1,4 +1,4 @@
-//! Names where variables are used.
+//! The kinds of names where variables are used, as scalars and as arrays.
 ghost use Rattle.std.specs.Prelude.{◌≡◌, option_and_then};
 ghost use Rattle.decl_table.specs.PlainDecls.{items_in};
 ghost use Rattle.template_tree.specs.Environment.{item_named, kind_of_type, scalar_kind};
@@ -28,7 +28,8 @@ pub(crate) fn array_kind(decls: &Decls, procedure: Slot, name: &Name) -> Result<
     }
 }
 
-/// The effective item of the name. A reserved name comes before one that isn't declared.
+/// The effective item of a name where a variable is used, or what is wrong with the name: a reserved
+/// name comes before one that isn't declared.
 #[tactic(auto, unfolding(plcs_grammar::specs::Builtin::is_builtin_name))]
 fn item_found(decls: &Decls, procedure: Slot, name: &Name) -> Result<Declared, MarkKind>
     ensures { result ≡ item_found (items_in decls.now.items procedure.0) name.now }
@@ -42,7 +43,7 @@ fn item_found(decls: &Decls, procedure: Slot, name: &Name) -> Result<Declared, M
     }
 }
 
-/// The kind of an item that stands without a subscript.
+/// The kind of a name whose item stands without a subscript, or that an array needs one.
 fn scalar_found(item: &Declared) -> Result<Kind, MarkKind>
     ensures { result ≡ scalar_found item.now }
 {
@@ -53,7 +54,7 @@ fn scalar_found(item: &Declared) -> Result<Kind, MarkKind>
     }
 }
 
-/// The kind of an item that stands with a subscript.
+/// The kind of a name whose item stands with a subscript, or that the item is no array.
 fn cell_found(item: &Declared) -> Result<Kind, MarkKind>
     ensures { result ≡ cell_found item.now }
 {
@@ -64,7 +65,7 @@ fn cell_found(item: &Declared) -> Result<Kind, MarkKind>
     }
 }
 
-/// The kind of the scalar of the name, or `None` where no effective item of the name is one.
+/// The kind of a name as a scalar, or `None` where no effective item of the name is one.
 pub(crate) fn scalar_named(name: &Name, decls: &Decls, procedure: Slot) -> Option<Kind>
     ensures { result ≡ option_and_then scalar_kind (item_named name.now (items_in decls.now.items procedure.0)) }
 {
@@ -74,7 +75,7 @@ pub(crate) fn scalar_named(name: &Name, decls: &Decls, procedure: Slot) -> Optio
     }
 }
 
-/// The kind of a scalar, or `None` where the item is an array.
+/// The kind of a name whose item is a scalar, or `None` where the item is an array.
 fn scalar_kind(item: &Declared) -> Option<Kind>
     ensures { result ≡ scalar_kind item.now }
 {
@@ -85,7 +86,7 @@ fn scalar_kind(item: &Declared) -> Option<Kind>
     }
 }
 
-/// The kind of the values of a type.
+/// The kind of a name whose item has the type.
 pub(crate) fn kind_of_type(ty: ItemType) -> Kind
     ensures { result ≡ kind_of_type ty }
 {

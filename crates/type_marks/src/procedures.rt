@@ -1,4 +1,4 @@
-//! Main and the procedures of a program, by number, slot and name.
+//! Main and the procedures of a program, found by number, slot and name, and their parameters.
 ghost use Rattle.std.specs.Prelude.{◌≡◌, ◌∷◌, ◌+◌, ◌≤◌, [], IfSome, is_some, nat_eq, option_map, slice_get};
 ghost use Rattle.template_tree.specs.Environment.{Sig, procedure_at, signature_for};
 ghost use Rattle.template_tree.specs.Limit.{most_slots};
@@ -50,7 +50,8 @@ pub(crate) fn is_named_before(tree: &Tree, slot: Slot, name: &Name) -> bool
     false
 }
 
-/// Whether the heading is whole and has the name, and a procedure of the name may be called.
+/// Whether a procedure is found by the name: its heading is whole and has the name, and a procedure of
+/// the name may be called.
 fn may_be_called_by(node: &Node, name: &Name) -> bool
     ensures { result ≡ is_some (signature_for name.now node.now) }
 {
@@ -60,7 +61,7 @@ fn may_be_called_by(node: &Node, name: &Name) -> bool
     name == other && may_be_called(name)
 }
 
-/// The parameters in the heading of a procedure: none where it isn't whole.
+/// The parameters of main or of a procedure that was found: none where its heading isn't whole.
 pub(crate) fn heading_parameters(node: &Node) -> &[Name]
     ensures { result.now ≡ heading_parameters node.now }
 {
@@ -76,7 +77,7 @@ pub(crate) fn heading_parameters(node: &Node) -> &[Name]
     }
 }
 
-/// Whether it is the kind of a procedure with parameters.
+/// Whether a node of the kind is a procedure with parameters.
 fn takes_parameters(kind: NodeKind) -> bool
     ensures { result ≡ takes_parameters kind }
 {
@@ -86,7 +87,7 @@ fn takes_parameters(kind: NodeKind) -> bool
     }
 }
 
-/// Whether it is the template of a procedure with parameters.
+/// Whether the template is that of a procedure with parameters.
 fn has_parameters(template: Template) -> bool
     ensures { result ≡ has_parameters template }
 {
@@ -96,14 +97,14 @@ fn has_parameters(template: Template) -> bool
     }
 }
 
-/// Whether it is the node in the slot.
+/// Whether the node is the one in the slot, by which main and procedures are found.
 pub(crate) fn stands_in(node: &Node, slot: Slot) -> bool
     ensures { result ≡ nat_eq node.now.label.slot slot.0 }
 {
     node.slot().0 == slot.0
 }
 
-/// The item of this number: main is 0, and then come the procedures.
+/// Main or a procedure by its number: main is 0, and then come the procedures.
 pub(crate) fn item(tree: &Tree, k: u32) -> Option<&Node>
     requires tree { IsTree tree.now }
     ensures item { option_map (λ node. node.now) result ≡ slice_get (nodes tree.now.items) k }
@@ -113,7 +114,7 @@ pub(crate) fn item(tree: &Tree, k: u32) -> Option<&Node>
     tree.node(&path_of_item(k))
 }
 
-/// Main or the procedure in which the path leads to a node, or is it.
+/// Main or the procedure on the path, which leads to it or to a node in it.
 pub(crate) fn item_on<'a>(tree: &'a Tree, path: &Path) -> Option<&'a Node>
     requires tree { IsTree tree.now }
     ensures item { option_map (λ node. node.now) result ≡ item_on tree.now.items path.now.items }
@@ -126,7 +127,7 @@ pub(crate) fn item_on<'a>(tree: &'a Tree, path: &Path) -> Option<&'a Node>
     item(tree, *k)
 }
 
-/// The path of the item of this number.
+/// The path of main or of a procedure, by its number.
 fn path_of_item(k: u32) -> Path
     ensures { result.items ≡ k ∷ [] }
 {

@@ -1,4 +1,4 @@
-//! Phrases in statements, and lists of parameters.
+//! Offences of phrases in statements, but for calls, and of lists of parameters.
 ghost use Rattle.std.specs.Prelude.{◌≡◌, count_by, map, bytes_eq};
 ghost use Rattle.plcs_base.specs.declared.value.Kind.{Kind};
 ghost use Rattle.plcs_grammar.specs.PlainPhrase.{plain_expr, plain_var_ref};
@@ -26,7 +26,7 @@ pub(crate) fn assignment_offence(
     }
 }
 
-/// The first offence of an expression that has to be of the kind.
+/// The first offence of an expression in a statement, which has to be of the kind.
 pub(crate) fn expr_offence(
     expr: &Expr,
     kind: Kind,
@@ -38,14 +38,14 @@ pub(crate) fn expr_offence(
     offence_in(found_wanted(kind, kind_of(expr, decls, procedure)))
 }
 
-/// The first offence of a name that a loop counts with.
+/// The first offence of a name that a loop statement counts with.
 pub(crate) fn counter_offence(name: &Name, decls: &Decls, procedure: Slot) -> Option<MarkKind>
     ensures { result ≡ offence_in (then_found (name_kind (items_in decls.now.items procedure.0) name.now) (of_kind Kind.Fixed)) }
 {
     offence_in(found_wanted(Kind::Fixed, name_kind(decls, procedure, name)))
 }
 
-/// The first offence in variables.
+/// The first offence in a list of variables in a statement.
 pub(crate) fn references_offence(
     references: &[VarRef],
     decls: &Decls,
@@ -73,7 +73,7 @@ pub(crate) fn parameters_offence(names: &[Name], decls: &Decls, procedure: Slot)
     None
 }
 
-/// What is wrong with a parameter of the list, if something is.
+/// What is wrong with one parameter of the list, if something is.
 #[tactic(auto, unfolding(plcs_grammar::specs::Builtin::is_builtin_name))]
 fn parameter_offence(
     name: &Name,
@@ -95,14 +95,14 @@ fn parameter_offence(
     None
 }
 
-/// How often the name stands among names.
+/// How often the name stands in a list of parameters.
 fn times_named(name: &Name, names: &[Name]) -> usize
     ensures { result ≡ count_by (bytes_eq name.now) names.now }
 {
     names.iter().filter(|other| name == *other).count()
 }
 
-/// The offence that was found, if one was.
+/// The offence of a phrase in a statement, if one was found in it.
 fn offence_in(found: Result<Kind, MarkKind>) -> Option<MarkKind>
     ensures { result ≡ offence_in found }
 {

@@ -1,4 +1,4 @@
-//! Verdicts, each of which is counted as a check.
+//! Verdicts of single phrases, each of which is counted as a check.
 ghost use Rattle.std.specs.Prelude.{◌≡◌, ◌<◌, Some, true, is_some};
 ghost use Rattle.std.specs.FinMap.{get};
 ghost use Rattle.plcs_base.specs.Count.{raised};
@@ -49,7 +49,7 @@ impl<W> Model for Verdict<W> {
 }
 
 impl<W> Verdict<W> {
-    /// What is wrong with the phrase, or `None` where nothing is. It takes no memory.
+    /// What the verdict says is wrong with its phrase, or `None` where nothing is. It takes no memory.
     pub fn kind(&self) -> Option<MarkKind>
         ensures { result ≡ self.now }
     {
@@ -116,8 +116,8 @@ pub(crate) fn checked<W: Work>(
     }
 }
 
-/// The first offence of a phrase of the node in the slot, which stands in main or the procedure or is
-/// it.
+/// The first offence of a phrase, by its category: it is one of the node in the slot, which stands in
+/// main or the procedure or is it.
 fn phrase_offence(
     tree: &Tree,
     decls: &Decls,

@@ -5,7 +5,7 @@ use Rattle.template_tree.specs.PlainTree.{PlainNode, forest}
 use Rattle.template_tree.specs.Program.{AreNodes, sorts}
 use Rattle.template_tree.specs.Slots.{count}
 
--- so many statements with nothing inside
+-- so many statements with nothing inside, as tests put them
 pub record AreHoles (number : ℕ) (items : List PlainNode) : Type 0 where
   pub nodes : AreNodes (forest items)
   pub sorts_are : sorts (forest items) ≡ replicate number Sort.Statement

@@ -4,7 +4,7 @@ use Rattle.std.specs.Option.{option_map_or, option_or}
 use Rattle.template_tree.specs.PlainTree.{Forest, PlainNode, nodes}
 use Rattle.template_tree.specs.Stop.{visible_at}
 
--- what stands in the item of this number
+-- the nodes that stand inside the item of this number
 abbrev pub inner_of : Forest → ℕ → Forest
 inner_of items k = option_map_or (λ item. item.inner) (slice_get (nodes items) k) Forest.nil
 
@@ -23,7 +23,7 @@ next_with inside items [] = inside
 next_with inside items (k ∷ path) =
     option_or (option_map (λ way. k ∷ way) (next_with inside (inner_of items k) path)) (item_behind items k)
 
--- the path of the visible node that comes next
+-- the path of the visible node that comes next in listing order behind the one at the path
 abbrev pub next_of : Forest → List ℕ → Option (List ℕ)
 next_of items path = option_and_then (λ node. next_with (first_inside node) items path) (visible_at items path)
 

@@ -26,12 +26,12 @@ decls_code =
     (λ t. record { items = t.0; headings = t.1.0; uses = t.1.1 })
     (λ _. refl)
 
--- the heading of a procedure comes before those of later ones
+-- the heading of a procedure was taken, and comes before those of later ones
 abbrev pub TakesHeading : PlainNode → HeadingList → HeadingList → Type 0
 TakesHeading node old new =
     (name : List ℕ) → slot_of name new ≡ option_or (option_map (λ signature. signature.slot) (signature_for name node)) (slot_of name old)
 
--- a procedure comes before later ones
+-- a procedure was taken into the table, and comes before later ones
 pub record TakesProcedure (node : PlainNode) (old new : PlainDecls) : Type 0 where
   pub items : new.items ≡ insert old.items node.label.slot (items_inside node.inner)
   pub headings : TakesHeading node old.headings new.headings

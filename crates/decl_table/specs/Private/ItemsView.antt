@@ -10,15 +10,15 @@ use Rattle.template_tree.specs.Limit.{most_cells}
 use Rattle.decl_table.specs.declared.items.Shape.{Shape}
 use Rattle.decl_table.specs.declared.items.Items.TheInside.{Inside}
 
--- the name with its type and size
+-- the item of the name, with the type and size that are kept of it
 abbrev pub shaped : List ℕ → Shape → Declared
 shaped name shape = record { name = name; ty = shape.ty; size = shape.size }
 
--- entries of the map as items
+-- the items of the entries of the map
 abbrev pub items_of : List (List ℕ × Shape) → List Declared
 items_of entries = map (λ entry. shaped entry.0 entry.1) entries
 
--- the items in the map's order
+-- the items that are seen, in the order of the map
 abbrev pub seen : Inside → List Declared
 seen a = items_of a.shapes.entries
 

@@ -20,32 +20,32 @@ places_code = coded_list place_row.the_row.coded
 abbrev pub uses_code : Coded UseList
 uses_code = coded_list (coded× (coded_list coded_ℕ) places_code)
 
--- whether the place is among these
+-- whether the place is among those that are noted
 abbrev pub is_among : PhraseAt → List PhraseAt → Bool
 is_among at places = list_any (eq_by_cmp phrase_cmp at) places
 
--- under each name there are more places: those for which the test of the name and the place holds
+-- under each name more places are noted: those for which the test of the name and the place holds
 abbrev pub Adds : (List ℕ → PhraseAt → Bool) → UseList → UseList → Type 0
 Adds test old new =
     (name : List ℕ) (at : PhraseAt) → is_among at (places_of name new) ≡ (is_among at (places_of name old) || test name at)
 
--- one place came under each of the names
+-- one place was noted under each of the names
 abbrev pub AddsNames : List (List ℕ) → PhraseAt → UseList → UseList → Type 0
 AddsNames names place = Adds (λ name at. list_any (bytes_eq name) names && eq_by_cmp phrase_cmp at place)
 
--- what stands in a part was noted
+-- what stands in one part was noted under the names that it mentions
 abbrev pub AddsPart : PhraseAt → Option PlainPhrase → UseList → UseList → Type 0
 AddsPart place phrase = Adds (λ name at. is_among at (mention name place phrase))
 
--- the phrases in parts were noted
+-- the phrases in parts were noted under the names that they mention
 abbrev pub AddsParts : (slot part : ℕ) → List (Option PlainPhrase) → UseList → UseList → Type 0
 AddsParts slot part parts = Adds (λ name at. is_among at (part_mentions name slot part parts))
 
--- the phrases in nodes were noted
+-- the phrases in nodes were noted under the names that they mention
 abbrev pub AddsNodes : Forest → UseList → UseList → Type 0
 AddsNodes nodes = Adds (λ name at. is_among at (mentions name nodes))
 
--- the places in order, each once
+-- the new places are the old ones in order of slot and part, each once
 pub record IsSettled (old new : List PhraseAt) : Type 0 where
   pub increasing : IsStrictlySortedBy phrase_cmp new
   pub each : (at : PhraseAt) → Contains new at ↔ Contains old at

@@ -6,20 +6,20 @@ use Rattle.template_tree.specs.KindTable.{same_kind}
 use Rattle.template_tree.specs.Verdict.{fit, is_count, then_found}
 use Rattle.type_marks.specs.declared.kind_table.BuiltinRow.{BuiltinRow}
 
--- the kinds that are taken, with the one that perhaps is
+-- the kinds that a built-in function takes, with the one that it perhaps takes
 abbrev pub taken_of : BuiltinRow → List Kind
 taken_of row = row.takes.now ++ option_to_list row.perhaps
 
--- whether a kind is right where this is taken, or nothing is
+-- whether the kind of an argument is right where a built-in function takes this, or nothing
 abbrev pub takes_kind : Option Kind → Kind → Bool
 takes_kind None kind = true
 takes_kind (Some wanted) kind = same_kind wanted kind
 
--- whether the kinds that are found fit
+-- whether the kinds that are found in the arguments of a built-in function fit, or the offence that is found
 abbrev pub fit_found : List Kind → Result (List Kind) MarkKind → Result Bool MarkKind
 fit_found taken found = then_found found (λ kinds. Ok (fit taken kinds))
 
--- the kind of the value for so many arguments
+-- what is found in the call of a built-in function with so many arguments, where their kinds fit or not
 abbrev pub judged : BuiltinRow → ℕ → Result Bool MarkKind → Result Kind MarkKind
 judged row count found =
     then_found found

@@ -7,13 +7,14 @@ use Rattle.template_tree.specs.Verdict.{both_found, infix_found}
 use Rattle.type_marks.specs.declared.chain.Chain.{Chain}
 use Rattle.type_marks.specs.declared.chain.Link.{Link}
 
--- what is found in the whole, where this is found in the front: an offence there comes before a later one
+-- what is found in a whole chain, where this is found in its front: an offence there comes before a later one
 abbrev pub with_later : (later : Option MarkKind) → (gives : Kind) → Result Kind MarkKind → Result Kind MarkKind
 with_later later gives (Err offence) = Err offence
 with_later None gives (Ok kind) = Ok gives
 with_later (Some offence) gives (Ok kind) = Err offence
 
--- the same with the operator that is furthest to the left, if there is one
+-- what is found in a whole chain whose operator furthest to the left is this, if it has one, where this is found to the
+-- left of it
 abbrev pub ended : Option Link → Option MarkKind → Kind → Result Kind MarkKind → Result Kind MarkKind
 ended None later gives found = found
 ended (Some link) later gives found = with_later later gives (both_found found link.right (infix_found link.op))

@@ -27,7 +27,8 @@ judged_as earlier item (Some known) =
     if has_such item.name (cells_of known) earlier then Some MarkKind.Duplicate
     else (if cells_of item == cells_of known then None else Some MarkKind.TooManyCells)
 
--- the same with reserved names
+-- what is wrong with an item that is declared behind these, where this is the effective item of its name: that the name
+-- is reserved comes first
 abbrev pub judged_item : (earlier : List Declared) → Declared → (effective : Option Declared) → Option MarkKind
 judged_item earlier item effective =
     if is_builtin_name item.name then Some MarkKind.Reserved else judged_as earlier item effective

@@ -26,7 +26,7 @@ verdict_code = coded_option mark_row.the_row.coded
 abbrev pub verdicts_code : Coded VerdictMap
 verdicts_code = code place_row.the_row.coded verdict_code
 
--- the map with these before what it has
+-- the map of verdicts with these before what it has
 abbrev pub with_all : VerdictList → VerdictMap → VerdictMap
 with_all [] verdicts = verdicts
 with_all (entry ∷ entries) verdicts = insert (with_all entries verdicts) entry.0 entry.1
