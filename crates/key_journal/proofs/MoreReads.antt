@@ -3,8 +3,8 @@ use Rattle.std.proofs.Common.{◌≡◌, ℕ, ◌+◌, ◌≤◌, ◌<◌, ◌�
 use Rattle.std.specs.Prelude.{◌≢◌, IsSome}
 use Rattle.plcs_base.specs.Count.{raised}
 use Rattle.std.specs.Io.KnownBytes.{Consumes, IsAtEnd}
-use Rattle.key_journal.specs.AfterReads.{BreaksAt, CountsEnds, CountsFault, KeepsAll, KeepsAllButLast, LeadsTo, LeavesBetween}
-use Rattle.key_journal.specs.Crash.{LeavesOnly, LeavesOneOf, Throughout}
+use Rattle.key_journal.specs.AfterReads.{BreaksAt, CountsEnds, CountsFault, KeepsAll, KeepsAllButLast, LeadsTo}
+use Rattle.key_journal.specs.Crash.{LeavesBetween, LeavesOneOf, LeavesOnly, Throughout}
 use Rattle.key_journal.specs.Disk.{DiskState, Newest}
 use Rattle.key_journal.specs.Journal.{PlainJournal}
 use Rattle.key_journal.specs.JournalRead.{Ends, Gave, ReadsKey}

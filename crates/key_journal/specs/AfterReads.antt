@@ -5,16 +5,10 @@ use Rattle.std.proofs.Common.{◌∙◌, inl, subst, sym, append-nil}
 use Rattle.std.proofs.lemmas.Bool.{true≢false}
 use Rattle.std.proofs.Math.Nat.{add-zero, le_refl}
 use Rattle.std.specs.Io.KnownBytes.{Consumes, IsAtEnd}
-use Rattle.key_journal.specs.Crash.{EachRecovers, LeavesOnly, LeavesOneOf, Throughout}
+use Rattle.key_journal.specs.Crash.{EachRecovers, LeavesBetween, LeavesOneOf, LeavesOnly, Throughout}
 use Rattle.key_journal.specs.Disk.{DiskState, Newest}
 use Rattle.key_journal.specs.Journal.{PlainJournal}
 use Rattle.key_journal.specs.Recovered.{kept}
-
--- what a crash leaves over some reads: the first keys, and then some of those that followed them, in
--- their order
-abbrev pub LeavesBetween : List ℕ → List ℕ → DiskState → Type 0
-LeavesBetween first all = EachRecovers (λ found. (more : List ℕ) × (rest : List ℕ) ×
-    (found ≡ first ++ more) × (all ≡ found ++ rest))
 
 -- what holds over reads that were Ok, where a crash before them left the kept keys alone: at each
 -- moment a crash leaves these and some of the taken ones, and at the end all of them; so many were

@@ -36,3 +36,9 @@ abbrev pub Throughout : (DiskState → Type 0) → List DiskState → List DiskS
 Throughout P [] now = now ≡ []
 Throughout P (state ∷ past) now =
     (added : List DiskState) × (now ≡ added ++ state ∷ past) × EachState P added
+
+-- what a crash leaves over some reads: the first keys, and then some of those that followed them, in
+-- their order
+abbrev pub LeavesBetween : List ℕ → List ℕ → DiskState → Type 0
+LeavesBetween first all = EachRecovers (λ found. (more : List ℕ) × (rest : List ℕ) ×
+    (found ≡ first ++ more) × (all ≡ found ++ rest))

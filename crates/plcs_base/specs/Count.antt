@@ -1,4 +1,4 @@
--- Counts that are raised by one and stop at the greatest number that a u64 holds.
+-- Counts that are raised by one, once or many times, and stop at the greatest number that a u64 holds.
 use Rattle.std.specs.Prelude.{ℕ, ◌+◌, ◌-◌, ◌^◌, ◌≤◌, min, max}
 
 -- the count after one more; at its last value it stays
@@ -8,3 +8,11 @@ raised count = max count (min (count + 1) (2 ^ 64 - 1))
 -- the count rose between two moments, or was at its last value already
 abbrev pub Rose : ℕ → ℕ → Type 0
 Rose before now = raised before ≤ now
+
+-- the count rose by so much between two moments, or is at its last value
+abbrev pub RoseBy : ℕ → ℕ → ℕ → Type 0
+RoseBy much before now = min (before + much) (2 ^ 64 - 1) ≤ now
+
+-- the count once it was raised so many times; at its last value it stays
+abbrev pub raised_by : ℕ → ℕ → ℕ
+raised_by much count = max count (min (count + much) (2 ^ 64 - 1))

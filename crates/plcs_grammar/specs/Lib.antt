@@ -1,5 +1,6 @@
 -- ---- phrases as plain data, and the plain form of the code's
 pub mod PlainPhrase
+pub mod Category
 -- ---- tokens
 pub mod Sign
 pub mod Builtin

@@ -1,7 +1,6 @@
 -- ---- edits as plain data
 pub mod PlainEdit
 -- ---- what may be done at a stop
-pub mod Category
 pub mod Here
 -- ---- where the cursor goes
 pub mod Cursor

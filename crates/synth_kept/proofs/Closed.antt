@@ -1,6 +1,7 @@
 -- A journal that is closed behind the editor's run.
 use Rattle.std.proofs.Common.{◌≡◌, ℕ, Bool, false, ◌⊎◌, inl, inr, List, [], ◌∷◌, ◌++◌, refl, sym, ap, ◌∙◌, subst, Option, append-nil}
 use Rattle.std.specs.Prelude.{IsTrue}
+use Rattle.synth_outside.specs.Files.{PlainFiles}
 use Rattle.key_journal.specs.ClearedJournal.{LeavesNothingOr}
 use Rattle.key_journal.specs.Crash.{LeavesOnly, LeavesOneOf}
 use Rattle.key_journal.specs.Disk.{DiskState, Newest}
@@ -13,7 +14,6 @@ use Rattle.synth_kept.specs.Private.Agreement.{Agrees, IsToClear}
 use Rattle.synth_kept.specs.Private.Clearing.{ClearsKeys}
 use Rattle.synth_kept.specs.declared.status.KeptStatus.{KeptStatus}
 use Rattle.synth_kept.specs.declared.status.KeptStatus.TheVariants.{Run}
-use Rattle.synth_session.specs.FileReply.{PlainFiles}
 use Rattle.synth_top.specs.declared.status.Status.{Status}
 use Rattle.synth_top.specs.declared.status.Status.TheVariants.{Done}
 use Rattle.synth_top.specs.Options.{PlainOptions}

@@ -3,15 +3,15 @@ use Rattle.std.proofs.Common.{◌≡◌, ℕ, ◌+◌, ◌≤◌, ◌⊎◌, inl
 use Rattle.std.specs.Prelude.{◌≢◌, IfSome, IsSome}
 use Rattle.std.proofs.KnownBytes.{Consumes-nil}
 use Rattle.std.specs.Io.KnownBytes.{Consumes}
-use Rattle.key_journal.specs.AfterReads.{BreaksAt, KeepsAll, KeepsAllButLast, LeadsTo, LeavesBetween}
-use Rattle.key_journal.specs.Crash.{LeavesOnly, LeavesOneOf, Throughout}
+use Rattle.synth_outside.specs.Files.{PlainFiles}
+use Rattle.key_journal.specs.AfterReads.{BreaksAt, KeepsAll, KeepsAllButLast, LeadsTo}
+use Rattle.key_journal.specs.Crash.{LeavesBetween, LeavesOneOf, LeavesOnly, Throughout}
 use Rattle.key_journal.specs.Disk.{DiskState, Newest}
 use Rattle.key_journal.specs.Journal.{PlainJournal, left_of_both}
 use Rattle.key_journal.specs.Recovered.{kept, recovered}
 use Rattle.synth_kept.specs.Closing.{Closing}
 use Rattle.synth_kept.specs.KeptRun.{AreKeys, JournalRun, KeptTold, TellsBoth, told_editor}
 use Rattle.synth_kept.specs.Private.Agreement.{Agrees}
-use Rattle.synth_session.specs.FileReply.{PlainFiles}
 use Rattle.synth_top.specs.declared.status.Status.{Status}
 use Rattle.synth_top.specs.declared.status.Status.TheVariants.{Done, ReadFault, WriteFault, NoMemory, BadWords, KeyLimit}
 use Rattle.synth_top.specs.Run.{Ended, LeavesSource, NoneLost, NotOpened, QuitPressed, Ran, ReadCut, Told}

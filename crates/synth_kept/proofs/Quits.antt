@@ -6,9 +6,9 @@ use Rattle.synth_kept.specs.Closing.Closing.{LeftStanding, Cleared, NotCleared}
 use Rattle.synth_kept.specs.Private.Agreement.{IsToClear, Agrees}
 use Rattle.synth_top.specs.declared.status.Status.{Status}
 use Rattle.synth_top.specs.declared.status.Status.TheVariants.{Done}
-use Rattle.synth_top.specs.Keys.{keys}
-use Rattle.synth_top.specs.Run.{Told, Course, IsFront, QuitPressed, SourceEnded, Stopped, keys_pressed}
-use Rattle.synth_top.specs.Turn.{PressedKey, State}
+use Rattle.synth_top.specs.Keys.{IsFront, keys}
+use Rattle.synth_top.specs.Run.{Told, Course, QuitPressed, SourceEnded, Stopped}
+use Rattle.synth_top.specs.Turn.{PressedKey, State, keys_pressed}
 use Rattle.synth_top.specs.Options.{PlainOptions}
 use Rattle.synth_kept.proofs.Limits.{IsLimited}
 

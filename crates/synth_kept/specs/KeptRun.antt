@@ -2,8 +2,8 @@
 use Rattle.std.proofs.Common.{inl, inr}
 use Rattle.std.specs.Prelude.{◌≡◌, ◌≢◌, ◌⊎◌, ℕ, ◌≤◌, List, [], ◌++◌, length, Option, Some, None, IsSome}
 use Rattle.std.specs.Io.KnownBytes.{Consumes}
-use Rattle.key_journal.specs.AfterReads.{LeavesBetween}
-use Rattle.key_journal.specs.Crash.{LeavesAllOf, LeavesOneOf, Throughout}
+use Rattle.synth_outside.specs.Files.{PlainFiles}
+use Rattle.key_journal.specs.Crash.{LeavesAllOf, LeavesBetween, LeavesOneOf, Throughout}
 use Rattle.key_journal.specs.Disk.{DiskState, Newest}
 use Rattle.key_journal.specs.Journal.{left_of_both}
 use Rattle.key_journal.specs.Recovered.{kept}
@@ -11,7 +11,6 @@ use Rattle.key_journal.specs.declared.disk.DiskFault.{DiskFault}
 use Rattle.synth_kept.specs.Closing.{Closing, Closes, ClearsWhere}
 use Rattle.synth_kept.specs.KeptStatus.{fault_status}
 use Rattle.synth_kept.specs.declared.status.KeptStatus.{KeptStatus}
-use Rattle.synth_session.specs.FileReply.{PlainFiles}
 use Rattle.synth_top.specs.declared.status.Status.{Status}
 use Rattle.synth_top.specs.declared.status.Status.TheVariants.{Done, ReadFault, NoMemory, BadWords}
 use Rattle.synth_top.specs.Run.{Ended, QuitPressed, Told}

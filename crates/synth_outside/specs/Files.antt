@@ -61,3 +61,9 @@ OwnContentIsSet = (map : FileMap) (name bytes : List ℕ) → get (insert map na
 abbrev pub OtherContentsStay : Type 0
 OtherContentsStay = (map : FileMap) (name bytes other : List ℕ) → other ≢ name →
     get (insert map name bytes) other ≡ get map other
+
+-- files as plain data: their map, where they tell it, and their counts of faults and of wants of memory
+pub record PlainFiles : Type 0 where
+  pub stored : Option FileMap
+  pub faults : ℕ
+  pub wants : ℕ

@@ -1,7 +1,7 @@
 -- What the files did in a save and in a load.
 use Rattle.std.proofs.Common.{◌≡◌, ◌⊎◌, inl, inr, ℕ, ◌+◌, false, List, Option, Some, None, Result, Ok, Err, refl, sym, ap, ◌∙◌}
 use Rattle.synth_outside.specs.Cause.{HasCause}
-use Rattle.synth_outside.specs.Files.{FileMap, NewContent}
+use Rattle.synth_outside.specs.Files.{FileMap, NewContent, PlainFiles}
 use Rattle.template_tree.specs.Edit.{whole}
 use Rattle.template_tree.specs.PlainTree.{Forest, PlainTree, roomless, roomless_tree}
 use Rattle.template_tree.specs.RoomLaws.{CountsIgnoreRoom, ListingIgnoresRoom, TreesIgnoreRoom}
@@ -13,7 +13,7 @@ use Rattle.file_store.specs.Loaded.{IsListingOf}
 use Rattle.file_store.specs.Saved.{Saves}
 use Rattle.plcs_base.specs.declared.memory.OutOfMemory.{OutOfMemory}
 use Rattle.synth_session.specs.declared.answer.Answer.{Answer}
-use Rattle.synth_session.specs.FileReply.{CountsFault, FilesDo, HaveReplied, PlainFiles, Reply, Request}
+use Rattle.synth_session.specs.FileReply.{CountsFault, FilesDo, HaveReplied, Reply, Request}
 
 -- ---- refusals
 

@@ -3,7 +3,7 @@ use Rattle.std.specs.Prelude.{◌≡◌, ◌≢◌, ℕ, ◌≤◌, List, Option
 use Rattle.plcs_base.specs.Count.{Rose}
 use Rattle.plcs_base.specs.declared.memory.OutOfMemory.{OutOfMemory}
 use Rattle.synth_outside.specs.Cause.{RisesWith}
-use Rattle.synth_outside.specs.Files.{FileMap}
+use Rattle.synth_outside.specs.Files.{FileMap, PlainFiles}
 use Rattle.template_tree.specs.PlainTree.{PlainTree}
 use Rattle.template_tree.specs.Tree.{IsTree}
 use Rattle.file_store.specs.declared.refusal.FileRefusal.{FileRefusal}
@@ -47,13 +47,6 @@ CanReply stored (Request.Save name bytes) reply = IsSaveReply reply
 CanReply stored (Request.Load name) reply = IsLoadReply stored name reply
 
 -- ---- what the files do
-
--- what is seen of the files that a key asks: their map, where they tell it, and their counts of faults and of wants of
--- memory
-pub record PlainFiles : Type 0 where
-  pub stored : Option FileMap
-  pub faults : ℕ
-  pub wants : ℕ
 
 -- what a reply makes of the map that the files tell: where bytes were saved it has them under their name, and else it is
 -- as before

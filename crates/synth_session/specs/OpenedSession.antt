@@ -1,17 +1,12 @@
 -- The session with which an editor is opened.
 use Rattle.std.specs.Prelude.{ℕ, List, [], ◌∷◌, Option, Some, None}
-use Rattle.template_tree.specs.NewTree.{new_items}
+use Rattle.template_tree.specs.NewTree.{new_tree}
 use Rattle.template_tree.specs.PlainTree.{PlainTree}
 use Rattle.template_tree.specs.Stop.{PlainStop, node_stop}
 use Rattle.cursor_moves.specs.Move.{first_stop}
 use Rattle.synth_session.specs.Extent.{Extent}
 use Rattle.synth_session.specs.PlainSession.{PlainSession}
 use Rattle.synth_session.specs.Window.{with_cursor_seen}
-
--- the new program with which a session is opened: main with a hole for a declaration and one for a statement, and a hole
--- for a procedure
-abbrev pub new_tree : PlainTree
-new_tree = record { items = new_items; spare = 0; drawn = 4; live = 4 }
 
 -- the program with which a session begins: the one that is given, or the new one
 abbrev pub tree_at_first : Option PlainTree → PlainTree

@@ -1,6 +1,7 @@
 -- The session in the code: its plain form, the conditions between its parts, and what becomes of it in a key.
 use Rattle.std.specs.Prelude.{◌≡◌, ◌+◌, ◌*◌, ◌<◌, ◌≤◌, Bool, IsTrue, Result, Ok, Err}
 use Rattle.plcs_base.specs.declared.memory.OutOfMemory.{OutOfMemory}
+use Rattle.synth_outside.specs.Files.{PlainFiles}
 use Rattle.template_tree.specs.Limit.{most_slots}
 use Rattle.template_tree.specs.Marks.{Verdicts}
 use Rattle.template_tree.specs.PlainTree.{PlainTree, roomless_tree}
@@ -15,7 +16,7 @@ use Rattle.synth_session.specs.declared.answer.Answer.{Answer}
 use Rattle.synth_session.specs.declared.program.Dependents.{Dependents}
 use Rattle.synth_session.specs.declared.program.Program.{Program}
 use Rattle.synth_session.specs.declared.session.Session.{Session}
-use Rattle.synth_session.specs.FileReply.{FilesDo, PlainFiles, Reply, Request}
+use Rattle.synth_session.specs.FileReply.{FilesDo, Reply, Request}
 use Rattle.synth_session.specs.KeyOutcome.{KeyOutcome}
 use Rattle.synth_session.specs.PlainSession.{PlainSession}
 use Rattle.synth_session.specs.RefusalText.{shown_message}

@@ -1,5 +1,6 @@
 -- Turns of a state that claims no more of the files than another.
 use Rattle.std.proofs.Common.{◌≡◌, ℕ, Bool, ◌||◌, List, [], ◌∷◌, ◌++◌, Option, Some, None, refl, sym, ap, ◌∙◌, subst, arith}
+use Rattle.plcs_base.specs.Count.{RoseBy}
 use Rattle.synth_outside.specs.Files.{FileMap}
 use Rattle.screen_window.specs.PlainGrid.{PlainGrid}
 use Rattle.file_store.specs.declared.refusal.FileRefusal.{FileRefusal}
@@ -8,7 +9,6 @@ use Rattle.synth_session.specs.FileReply.{CanReply, CountsFault, IsMapBehind, Re
 use Rattle.synth_session.specs.PlainSession.{PlainSession}
 use Rattle.synth_session.specs.KeyRequest.{request}
 use Rattle.synth_session.specs.Press.{press}
-use Rattle.synth_top.specs.Run.{RoseBy}
 use Rattle.synth_top.specs.Turn.{HasReply, HaveReplies, IsToldAs, PressedKey, State, after, asked, ends, failure, files_behind, grids, turn}
 
 -- ---- maps

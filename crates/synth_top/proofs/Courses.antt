@@ -4,22 +4,24 @@ use Rattle.std.proofs.lemmas.List.{take_all}
 use Rattle.std.proofs.Math.Seq.{take-append-add}
 use Rattle.std.proofs.KnownBytes.{Appends-trans, Consumes-nil}
 use Rattle.std.specs.Io.KnownBytes.{Appends, Consumes}
+use Rattle.plcs_base.specs.Count.{RoseBy, raised_by}
 use Rattle.synth_outside.specs.Sink.{AppendsFront}
+use Rattle.synth_outside.specs.Files.{PlainFiles}
 use Rattle.synth_session.specs.declared.key.Key.{Key}
-use Rattle.synth_session.specs.FileReply.{CountsWant, PlainFiles}
+use Rattle.synth_session.specs.FileReply.{CountsWant}
 use Rattle.synth_session.specs.KeyRequest.{request}
 use Rattle.synth_session.specs.MemoryTaken.{key_takes_memory}
 use Rattle.synth_session.specs.PlainSession.{PlainSession}
 use Rattle.synth_session.specs.SessionScreen.{grid}
 use Rattle.synth_top.specs.declared.status.Status.{Status}
 use Rattle.synth_top.specs.declared.status.Status.TheVariants.{WriteFault, NoMemory}
-use Rattle.synth_top.specs.Keys.{completed, keys}
+use Rattle.synth_top.specs.Keys.{IsFront, completed, keys}
 use Rattle.synth_top.specs.Laid.{LaysFor}
 use Rattle.synth_top.specs.Options.{PlainOptions}
 use Rattle.synth_top.specs.Private.Pressing.{AllShown, Moment, UpToLast, state_at}
 use Rattle.synth_top.specs.Private.Running.{Runs}
-use Rattle.synth_top.specs.Run.{AtLastKey, Course, IsFront, IsOver, LeavesSource, OpeningCut, ReadsInTurn, RoseBy, Stopped, Told, keys_pressed, opening, painted_over, raised_by, written}
-use Rattle.synth_top.specs.Turn.{HaveReplies, IsToldAs, PressedKey, State, after, ends, failures, grids}
+use Rattle.synth_top.specs.Run.{AtLastKey, Course, IsOver, LeavesSource, OpeningCut, ReadsInTurn, Stopped, Told, opening, painted_over, written}
+use Rattle.synth_top.specs.Turn.{HaveReplies, IsToldAs, PressedKey, State, after, ends, failures, grids, keys_pressed}
 use Rattle.synth_top.proofs.LaidInTurn.{lays_then}
 
 -- what is told at a moment

@@ -17,11 +17,12 @@ use Rattle.synth_top.specs.declared.status.Status.{Status}
 use Rattle.synth_top.specs.declared.status.Status.TheVariants.{Done, ReadFault, WriteFault, NoMemory, BadWords, KeyLimit}
 use Rattle.synth_top.specs.Private.Pressing.{Moment, AllShown, UpToLast, KeysShown, KeysQuit, KeysCut, KeysWanted, Pressed, last_shown, state_at}
 use Rattle.synth_top.specs.Laid.{LaysFor}
-use Rattle.synth_top.specs.Run.{IsFront, keys_pressed, painted_over}
-use Rattle.synth_top.specs.Turn.{HaveReplies, IsToldAs, PressedKey, after, ends, failures, grids}
+use Rattle.synth_top.specs.Run.{painted_over}
+use Rattle.synth_top.specs.Turn.{HaveReplies, IsToldAs, PressedKey, after, ends, failures, grids, keys_pressed}
 use Rattle.synth_top.proofs.ClaimedFiles.{ClaimsNoMore, after_less, replies_less, same_ends, same_grids, told_through}
 use Rattle.synth_top.proofs.LaidInTurn.{lays_both}
 use Rattle.synth_top.proofs.TurnsInOrder.{after-append, ends-going, grids-append, HaveReplies-append, failures-append, painted_over-append, last_shown-append}
+use Rattle.synth_top.specs.Keys.{IsFront}
 
 -- the keys of some and of others
 pub keys_pressed-append : (ps qs : List PressedKey) → keys_pressed (ps ++ qs) ≡ keys_pressed ps ++ keys_pressed qs

@@ -2,6 +2,7 @@
 use Rattle.std.proofs.Common.{◌≡◌, IsTrue, ℕ, Bool, true, false, ◌||◌, cond, List, [], ◌∷◌, ◌++◌, length, take, Option, refl, sym, ap, ◌∙◌, subst, append-nil, arith}
 use Rattle.std.proofs.KnownBytes.{Appends-nil}
 use Rattle.std.specs.Io.KnownBytes.{Appends}
+use Rattle.plcs_base.specs.Count.{RoseBy}
 use Rattle.synth_outside.specs.Files.{FileMap}
 use Rattle.synth_outside.specs.Sink.{AppendsFront}
 use Rattle.screen_window.specs.Paint.{Paint}
@@ -17,7 +18,7 @@ use Rattle.synth_session.specs.Press.{press}
 use Rattle.synth_session.specs.SessionScreen.{grid}
 use Rattle.synth_top.specs.Laid.{LaysFor}
 use Rattle.synth_top.specs.Private.Pressing.{AllShown, IsPressed, KeysCut, KeysQuit, KeysShown, KeysWanted, Moment, last_shown, state_at}
-use Rattle.synth_top.specs.Run.{RoseBy, painted_over}
+use Rattle.synth_top.specs.Run.{painted_over}
 use Rattle.synth_top.specs.Turn.{IsToldAs, PressedKey, Turn, after, ends, failures, files_behind, grids, is_quit, turn, turn_with}
 use Rattle.synth_top.proofs.ClaimedFiles.{fault_counted, told_behind, told_same}
 use Rattle.synth_top.proofs.LaidInTurn.{lays_nothing}

@@ -4,10 +4,11 @@ use Rattle.std.proofs.lemmas.Bool.{true≢false}
 use Rattle.std.proofs.lemmas.List.{same_from_push}
 use Rattle.std.proofs.KnownBytes.{Consumes-nil, Consumes-trans}
 use Rattle.std.specs.Io.KnownBytes.{Consumes, IsAtEnd}
-use Rattle.plcs_base.specs.Count.{raised}
+use Rattle.plcs_base.specs.Count.{raised, raised_by}
+use Rattle.synth_outside.specs.Files.{PlainFiles}
 use Rattle.synth_session.specs.declared.key.Key.{Key}
 use Rattle.synth_session.specs.declared.key.Key.TheVariants.{Other}
-use Rattle.synth_session.specs.FileReply.{CountsWant, PlainFiles, Reply, Request}
+use Rattle.synth_session.specs.FileReply.{CountsWant, Reply, Request}
 use Rattle.synth_session.specs.KeyRequest.{request}
 use Rattle.synth_session.specs.Press.{press}
 use Rattle.synth_top.specs.declared.key.Keys.{Keys}
@@ -15,11 +16,11 @@ use Rattle.synth_top.specs.declared.run.Going.{Going}
 use Rattle.synth_top.specs.declared.run.Going.TheVariants.{On, Over}
 use Rattle.synth_top.specs.declared.status.Status.{Status}
 use Rattle.synth_top.specs.declared.status.Status.TheVariants.{Done, ReadFault, WriteFault, NoMemory, BadWords, KeyLimit}
-use Rattle.synth_top.specs.Keys.{Feeds, IsHeld, completed, keys, listed}
+use Rattle.synth_top.specs.Keys.{Feeds, IsFront, IsHeld, completed, keys, listed}
 use Rattle.synth_top.specs.Private.Pressing.{AllShown, KeysCut, KeysQuit, KeysShown, KeysWanted, Moment, Pressed, UpToLast, ended_as, state_at}
 use Rattle.synth_top.specs.Private.Running.{Runs}
-use Rattle.synth_top.specs.Run.{AtLastKey, Course, EndRead, IsFront, IsOver, KeyWanted, LimitTaken, PressedAll, ReadCut, ReadsInTurn, ScreenCut, Stopped, Told, keys_pressed, painted_over, raised_by, written}
-use Rattle.synth_top.specs.Turn.{PressedKey, State, after, ends, grids, turn}
+use Rattle.synth_top.specs.Run.{AtLastKey, Course, EndRead, IsOver, KeyWanted, LimitTaken, PressedAll, ReadCut, ReadsInTurn, ScreenCut, Stopped, Told, painted_over, written}
+use Rattle.synth_top.specs.Turn.{PressedKey, State, after, ends, grids, keys_pressed, turn}
 use Rattle.synth_top.specs.Options.{PlainOptions}
 use Rattle.synth_top.proofs.Courses.{InTurn, Opened, all_counts, all_course, all_going, all_runs, all_takes, at_last, last_all, last_course, last_ends, last_runs, one_byte, told_at}
 use Rattle.synth_top.proofs.KeysInOrder.{keys_pressed-append, counts_more, takes_more, both_shown, then_up_to, front_behind, wanted_behind, ends_more, painted_more}

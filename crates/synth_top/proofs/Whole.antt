@@ -2,9 +2,8 @@
 use Rattle.std.proofs.Common.{◌≡◌, inl, ℕ, List, Option, Some, None, codes, refl, ap, ◌∙◌, subst, arith}
 use Rattle.std.specs.Prelude.{option_map}
 use Rattle.std.specs.FinMap.{insert}
-use Rattle.synth_outside.specs.Files.{FileMap}
+use Rattle.synth_outside.specs.Files.{FileMap, PlainFiles}
 use Rattle.template_tree.specs.Listing.{Listing}
-use Rattle.synth_session.specs.FileReply.{PlainFiles}
 use Rattle.synth_session.specs.PlainSession.{PlainSession}
 use Rattle.synth_top.specs.declared.status.Status.{Status}
 use Rattle.synth_top.specs.declared.status.Status.TheVariants.{NoMemory}

@@ -75,3 +75,7 @@ pub record Feeds (held : List ℕ) (byte : ℕ) (given : Keys) (now : List ℕ) 
 -- bytes that a reader may hold back: none, ESC, or ESC and [
 abbrev pub IsHeld : List ℕ → Type 0
 IsHeld bytes = (bytes ≡ []) ⊎ ((bytes ≡ 27 ∷ []) ⊎ (bytes ≡ 27 ∷ 91 ∷ []))
+
+-- some keys are the first ones of others
+abbrev pub IsFront : List Key → List Key → Type 0
+IsFront front whole = (rest : List Key) × (whole ≡ front ++ rest)

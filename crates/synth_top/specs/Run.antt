@@ -1,22 +1,24 @@
 -- A whole run: from the bytes of keys to the bytes of screens.
-use Rattle.std.specs.Prelude.{◌≡◌, ◌⊎◌, ℕ, ◌+◌, ◌-◌, ◌^◌, ◌<◌, ◌≤◌, min, max, true, false, IsTrue, List, [], ◌∷◌, ◌++◌, length, map, take, Option, codes}
+use Rattle.std.specs.Prelude.{◌≡◌, ◌⊎◌, ℕ, ◌+◌, ◌<◌, ◌≤◌, true, false, IsTrue, List, [], ◌∷◌, ◌++◌, length, take, Option, codes}
 use Rattle.std.specs.Io.KnownBytes.{Appends, Consumes, IsAtEnd}
+use Rattle.plcs_base.specs.Count.{RoseBy, raised_by}
+use Rattle.synth_outside.specs.Files.{PlainFiles}
 use Rattle.screen_window.specs.Paint.{Paint, control}
 use Rattle.screen_window.specs.PlainGrid.{PlainGrid, blank_grid}
 use Rattle.synth_session.specs.declared.key.Key.{Key}
-use Rattle.synth_session.specs.FileReply.{CountsWant, PlainFiles}
+use Rattle.synth_session.specs.FileReply.{CountsWant}
 use Rattle.synth_session.specs.KeyRequest.{request}
 use Rattle.synth_session.specs.MemoryTaken.{key_takes_memory}
 use Rattle.synth_session.specs.PlainSession.{PlainSession}
 use Rattle.synth_session.specs.SessionScreen.{grid}
 use Rattle.synth_top.specs.declared.status.Status.{Status}
 use Rattle.synth_top.specs.declared.status.Status.TheVariants.{Done, ReadFault, WriteFault, NoMemory, BadWords, KeyLimit}
-use Rattle.synth_top.specs.Keys.{completed, keys}
+use Rattle.synth_top.specs.Keys.{IsFront, completed, keys}
 use Rattle.synth_top.specs.Laid.{LaysFor}
 use Rattle.synth_top.specs.Loads.{CanLoad, Loads, first_state, load_failures}
 use Rattle.synth_top.specs.Options.{PlainOptions}
 use Rattle.synth_top.specs.Rescue.{CountsRescueWant, IsRescue, Rescue, files_with, rescue_failure}
-use Rattle.synth_top.specs.Turn.{HaveReplies, IsToldAs, PressedKey, State, after, ends, failures, grids}
+use Rattle.synth_top.specs.Turn.{HaveReplies, IsToldAs, PressedKey, State, after, ends, failures, grids, keys_pressed}
 
 -- ---- what is written
 
@@ -49,22 +51,6 @@ pub record Told : Type 0 where
   pub laid : ℕ
 
 -- ---- what a run has done
-
--- the keys that a run pressed, without what the files replied in them
-abbrev pub keys_pressed : List PressedKey → List Key
-keys_pressed pressed = map (λ p. p.key) pressed
-
--- some keys of a run are the first of others
-abbrev pub IsFront : List Key → List Key → Type 0
-IsFront front whole = (rest : List Key) × (whole ≡ front ++ rest)
-
--- over a run a count rose by so much, or is at its last value
-abbrev pub RoseBy : ℕ → ℕ → ℕ → Type 0
-RoseBy much before now = min (before + much) (2 ^ 64 - 1) ≤ now
-
--- a count of a run, as that of reads, once it was raised so many times; at its last value it stays
-abbrev pub raised_by : ℕ → ℕ → ℕ
-raised_by much count = max count (min (count + much) (2 ^ 64 - 1))
 
 -- below the limit one read was made behind these bytes, and it found the source's end
 pub record EndRead (options : PlainOptions) (now : Told) (bytes : List ℕ) (reads : ℕ) : Type 0 where

@@ -1,5 +1,5 @@
 -- The turns of keys: what each makes of the session and the files, and the screens that it shows.
-use Rattle.std.specs.Prelude.{◌≡◌, ℕ, ◌+◌, Bool, true, false, ◌||◌, List, [], ◌∷◌, ◌++◌, Option, Some, None, option_map, if◌then◌else◌}
+use Rattle.std.specs.Prelude.{◌≡◌, ℕ, ◌+◌, Bool, true, false, ◌||◌, List, [], ◌∷◌, ◌++◌, map, Option, Some, None, option_map, if◌then◌else◌}
 use Rattle.std.specs.FinMap.{insert}
 use Rattle.synth_outside.specs.Files.{FileMap}
 use Rattle.file_store.specs.declared.refusal.FileRefusal.{FileRefusal}
@@ -102,3 +102,7 @@ HaveReplies state (first ∷ rest) = HasReply state first × HaveReplies (turn s
 abbrev pub failures : List PressedKey → ℕ
 failures [] = 0
 failures (first ∷ rest) = failure first.reply + failures rest
+
+-- the keys that a run pressed, without what the files replied in them
+abbrev pub keys_pressed : List PressedKey → List Key
+keys_pressed pressed = map (λ p. p.key) pressed

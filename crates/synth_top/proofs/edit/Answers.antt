@@ -1,5 +1,5 @@
 use Rattle.std.proofs.Common.{ℕ, ap, inr, subst}
-use Rattle.synth_session.specs.FileReply.{PlainFiles}
+use Rattle.synth_outside.specs.Files.{PlainFiles}
 use Rattle.synth_session.specs.SessionView.{plain_session}
 use Rattle.synth_top.specs.Private.PlainForms.{plain_loads, plain_options}
 use Rattle.synth_top.specs.Private.Running.{Runs}

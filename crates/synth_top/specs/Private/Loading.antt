@@ -1,15 +1,16 @@
 -- What loading a file does, before a session is opened.
 use Rattle.std.specs.Prelude.{◌≡◌, ℕ, ◌≤◌, List, Option, Some, None, Vec, length}
 use Rattle.std.specs.declared.alloc.Global.{Global}
+use Rattle.plcs_base.specs.Count.{RoseBy}
+use Rattle.synth_outside.specs.Files.{PlainFiles}
 use Rattle.template_tree.specs.PlainTree.{PlainTree}
 use Rattle.template_tree.specs.Tree.{IsTree}
 use Rattle.file_store.specs.declared.refusal.FileRefusal.{FileRefusal}
 use Rattle.file_store.specs.Limit.{longest_input}
-use Rattle.synth_session.specs.FileReply.{CanReply, PlainFiles, Reply}
+use Rattle.synth_session.specs.FileReply.{CanReply, Reply}
 use Rattle.synth_top.specs.declared.loading.FileLoad.{FileLoad}
 use Rattle.synth_top.specs.Loads.{CanLoad, InputReply, IsInputReply, Loads, input_failure, load_failures, program_request}
 use Rattle.synth_top.specs.Options.{PlainOptions}
-use Rattle.synth_top.specs.Run.{RoseBy}
 use Rattle.synth_top.specs.Turn.{failure}
 
 -- ---- what the files did

@@ -1,10 +1,12 @@
 -- What pressing some keys does, between two moments of a run.
 use Rattle.std.specs.Prelude.{◌≡◌, ◌⊎◌, ℕ, ◌≤◌, true, false, IsTrue, List, [], ◌∷◌, ◌++◌, length, take, Option, Some, None}
 use Rattle.std.specs.Io.KnownBytes.{Appends, Consumes, IsAtEnd}
+use Rattle.plcs_base.specs.Count.{RoseBy}
+use Rattle.synth_outside.specs.Files.{PlainFiles}
 use Rattle.screen_window.specs.PlainGrid.{PlainGrid, blank_grid}
 use Rattle.synth_session.specs.declared.answer.Answer.{Answer}
 use Rattle.synth_session.specs.declared.key.Key.{Key}
-use Rattle.synth_session.specs.FileReply.{CountsWant, HaveReplied, PlainFiles, Reply}
+use Rattle.synth_session.specs.FileReply.{CountsWant, HaveReplied, Reply}
 use Rattle.synth_session.specs.KeyRequest.{request}
 use Rattle.synth_session.specs.MemoryTaken.{key_takes_memory}
 use Rattle.synth_session.specs.PlainSession.{PlainSession}
@@ -18,9 +20,10 @@ use Rattle.synth_top.specs.declared.status.Status.TheVariants.{Done, ReadFault, 
 use Rattle.synth_top.specs.Laid.{LaysFor}
 use Rattle.synth_top.specs.Loads.{Loads, first_session}
 use Rattle.synth_top.specs.Options.{PlainOptions}
-use Rattle.synth_top.specs.Run.{IsFront, RoseBy, keys_pressed, painted_over}
+use Rattle.synth_top.specs.Run.{painted_over}
 use Rattle.synth_top.specs.Status.{CausedBy}
-use Rattle.synth_top.specs.Turn.{HaveReplies, IsToldAs, PressedKey, State, after, ends, failures, grids}
+use Rattle.synth_top.specs.Turn.{HaveReplies, IsToldAs, PressedKey, State, after, ends, failures, grids, keys_pressed}
+use Rattle.synth_top.specs.Keys.{IsFront}
 
 -- ---- an editor
 

@@ -1,11 +1,12 @@
 -- What a run does from an editor's first screen on, and what is then saved.
 use Rattle.std.specs.Prelude.{◌≡◌, ◌≤◌}
-use Rattle.synth_session.specs.FileReply.{PlainFiles}
+use Rattle.plcs_base.specs.Count.{RoseBy}
+use Rattle.synth_outside.specs.Files.{PlainFiles}
 use Rattle.synth_session.specs.PlainSession.{PlainSession}
 use Rattle.synth_top.specs.declared.status.Status.{Status}
 use Rattle.synth_top.specs.Options.{PlainOptions}
 use Rattle.synth_top.specs.Rescue.{CountsRescueWant, IsRescue, Rescue, files_with, rescue_failure}
-use Rattle.synth_top.specs.Run.{Course, LeavesSource, RoseBy, Stopped, Told, state_behind}
+use Rattle.synth_top.specs.Run.{Course, LeavesSource, Stopped, Told, state_behind}
 use Rattle.synth_top.specs.Turn.{IsToldAs, State, failures}
 
 -- a run from this state of the opening screen did this, stopped so, and left source, files and session so

@@ -1,5 +1,5 @@
 use Rattle.std.proofs.Common.{IfErr, Ok, Err}
-use Rattle.synth_session.specs.FileReply.{PlainFiles}
+use Rattle.synth_outside.specs.Files.{PlainFiles}
 use Rattle.synth_top.specs.Turn.{failure}
 use Rattle.synth_top.specs.Private.Loading.{LoadsNothing}
 use Rattle.synth_top.specs.Private.PlainForms.{program_reply}

@@ -1,4 +1,4 @@
-use Rattle.synth_session.specs.FileReply.{PlainFiles}
+use Rattle.synth_outside.specs.Files.{PlainFiles}
 use Rattle.synth_top.proofs.FirstLoads.{program_loaded}
 use Rattle.synth_top.proofs.loading.load_program.Goals as goal
 
