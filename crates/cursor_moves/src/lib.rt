@@ -7,7 +7,6 @@ mod line;
 mod neighbour;
 mod next_node;
 mod part_stops;
-mod path_copy;
 mod previous_node;
 mod stop_laws;
 #[cfg(test)]

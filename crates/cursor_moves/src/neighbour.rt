@@ -8,9 +8,8 @@ ghost use Rattle.cursor_moves.specs.Move.{moved_to, stop_left, stop_right};
 use crate::cursor_move::Move;
 use crate::next_node::next_node;
 use crate::part_stops::{last_of_node, next_part};
-use crate::path_copy::copy_of;
 use crate::previous_node::previous_node;
-use template_tree::{Stop, Tree, room_is_not_shown};
+use template_tree::{Stop, Tree, copy_path, room_is_not_shown};
 
 /// Goes to the next visible stop, in listing order. It takes no memory.
 pub fn right(tree: &Tree, at: &Stop) -> Move
@@ -25,7 +24,7 @@ pub fn right(tree: &Tree, at: &Stop) -> Move
     };
     if let Some(part) = next_part(node.kind(), at.part) {
         return Move::Moved(Stop {
-            path: copy_of(&at.path),
+            path: copy_path(&at.path),
             part: Some(part),
         });
     }
@@ -42,7 +41,7 @@ pub fn left(tree: &Tree, at: &Stop) -> Move
     room_is_not_shown();
     if let Some(part) = at.part {
         return Move::Moved(Stop {
-            path: copy_of(&at.path),
+            path: copy_path(&at.path),
             part: part.checked_sub(1),
         });
     }

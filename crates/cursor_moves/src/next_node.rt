@@ -4,8 +4,7 @@ ghost use Rattle.template_tree.specs.Stop.{visible_at};
 ghost use Rattle.template_tree.specs.Tree.{IsTree};
 ghost use Rattle.cursor_moves.specs.Private.NextPath.{LeadsOn, first_inside, next_of, next_with};
 
-use crate::path_copy::copy_of;
-use template_tree::{Node, Path, Tree};
+use template_tree::{Node, Path, Tree, copy_path};
 
 /// The path of the visible node behind the one at the path, if there is one.
 pub(crate) fn next_node(tree: &Tree, path: &Path) -> Option<Path>
@@ -16,7 +15,7 @@ pub(crate) fn next_node(tree: &Tree, path: &Path) -> Option<Path>
     let Some(node) = tree.node(path) else {
         return None;
     };
-    let mut next = copy_of(path);
+    let mut next = copy_path(path);
     if shows_inside(node) {
         next.push(0);
         return Some(next);

@@ -8,8 +8,7 @@ ghost use Rattle.template_tree.specs.Tree.{IsTree};
 ghost use Rattle.cursor_moves.specs.Private.Number.{last_number};
 ghost use Rattle.cursor_moves.specs.Private.NextPath.{IsLastBelow, next_of};
 
-use crate::path_copy::copy_of;
-use template_tree::{Node, Path, Tree};
+use template_tree::{Node, Path, Tree, copy_path};
 
 /// The path of the visible node before the one at the path, if there is one.
 pub(crate) fn previous_node(tree: &Tree, path: &Path) -> Option<Path>
@@ -18,7 +17,7 @@ pub(crate) fn previous_node(tree: &Tree, path: &Path) -> Option<Path>
     ensures none { IfNone result (path.now.items ≡ 0 ∷ []) }
     ensures next { IfSome result (λ previous. next_of tree.now.items previous.items ≡ Some path.now.items) }
 {
-    let mut previous = copy_of(path);
+    let mut previous = copy_path(path);
     let Some(k) = previous.pop() else {
         return None;
     };

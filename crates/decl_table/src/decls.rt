@@ -1,5 +1,5 @@
 //! The table of declarations.
-ghost use Rattle.std.specs.Prelude.{◌≡◌, ◌∷◌, ◌<◌, [], IfOk, OnOk, option_map};
+ghost use Rattle.std.specs.Prelude.{◌≡◌, ◌<◌, IfOk, OnOk, option_map};
 ghost use Rattle.template_tree.specs.Environment.{item_named};
 ghost use Rattle.template_tree.specs.Limit.{most_slots};
 ghost use Rattle.template_tree.specs.Program.{IsSubtree};
@@ -16,7 +16,7 @@ use crate::uses::Uses;
 use plcs_base::{Declared, Name, OutOfMemory, PhraseAt, Scope, Slot};
 use std::alloc::Global;
 use std::marker::Model;
-use template_tree::{Node, Path, Tree};
+use template_tree::{Node, Tree, path_of_item};
 
 /// The table of declarations: the effective items of each procedure, the effective headings, and the
 /// phrases that mention each name. Contracts see the items as a finite map, and the others as pairs.
@@ -106,13 +106,4 @@ impl Scope for Decls {
     fn declared(&self, procedure: Slot, k: u32) -> Option<Declared> {
         self.scopes.numbered(procedure, k as usize)
     }
-}
-
-/// The path of main or of the procedure that is to be taken into the table, by its number: main is 0.
-fn path_of_item(k: u32) -> Path
-    ensures { result.items ≡ k ∷ [] }
-{
-    let mut path = Path::new();
-    path.push(k);
-    path
 }

@@ -11,10 +11,11 @@ ghost use Rattle.session_edit.specs.PlainEdit.{PlainEdit};
 ghost use Rattle.session_edit.specs.Private.ShownPath.{IsShown};
 
 use crate::applied::Applied;
-use crate::path_copy::copy_of;
 use crate::room_laws::room_laws;
 use std::alloc::Global;
-use template_tree::{Path, Side, Stop, Tree, TreeFault, added_path, slot_edit_is_path_edit};
+use template_tree::{
+    Path, Side, Stop, Tree, TreeFault, added_path, copy_path, slot_edit_is_path_edit,
+};
 
 /// A hole comes on this side of the nearest list item that stands round the cursor, which goes to it.
 pub(crate) fn add_hole(
@@ -28,7 +29,7 @@ pub(crate) fn add_hole(
     ensures { IsAnswer true (edited (roomless_tree tree.old) (plain_stop at.now) (PlainEdit.beside side)) tree.old tree.new result }
 {
     room_laws();
-    add_beside(alloc, tree, copy_of(&at.path), side)
+    add_beside(alloc, tree, copy_path(&at.path), side)
 }
 
 /// A hole comes on this side of the nearest list item that the node at the path is, or in which it

@@ -13,11 +13,10 @@ ghost use Rattle.session_edit.specs.PlainEdit.{PlainEdit};
 
 use crate::applied::Applied;
 use crate::here::takes;
-use crate::path_copy::stop_copy;
 use crate::room_laws::room_laws;
 use clip_store::Fragment;
 use plcs_grammar::Phrase;
-use template_tree::{Node, PhrasePlace, Stop, Tree, TreeFault, slot_edit_is_path_edit};
+use template_tree::{Node, PhrasePlace, Stop, Tree, TreeFault, copy_stop, slot_edit_is_path_edit};
 
 /// The fragment is inserted: a node comes into the hole of its sort at the cursor, a phrase into the
 /// empty part of its category; the cursor stays on it. It takes no memory.
@@ -49,7 +48,7 @@ fn insert_node(tree: &mut Tree, at: &Stop, node: Node) -> Result<Applied, TreeFa
         Ok(receipt) => Ok(Applied {
             receipt,
             taken: None,
-            stop: stop_copy(at),
+            stop: copy_stop(at),
         }),
         Err((fault, _)) => Err(fault),
     }
@@ -71,7 +70,7 @@ fn insert_phrase(tree: &mut Tree, at: &Stop, phrase: Phrase) -> Result<Applied, 
         Ok(receipt) => Ok(Applied {
             receipt,
             taken: None,
-            stop: stop_copy(at),
+            stop: copy_stop(at),
         }),
         Err((fault, _)) => Err(fault),
     }

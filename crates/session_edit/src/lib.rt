@@ -16,7 +16,6 @@ mod insertion;
 #[cfg(test)]
 mod insertion_tests;
 mod next_stop;
-mod path_copy;
 #[cfg(test)]
 mod program_tests;
 mod removal;

@@ -5,9 +5,8 @@ ghost use Rattle.template_tree.specs.Stop.{IsStop, plain_stop};
 ghost use Rattle.template_tree.specs.Tree.{IsTree};
 ghost use Rattle.session_edit.specs.Cursor.{onward, stop_or_next};
 
-use crate::path_copy::stop_copy;
 use cursor_moves::{Move, right};
-use template_tree::{Stop, Tree};
+use template_tree::{Stop, Tree, copy_stop};
 
 /// Where the cursor goes from a stop that was filled: to the next stop, where that lies in the same
 /// node or in a node inside it. Else it stays.
@@ -19,7 +18,7 @@ pub(crate) fn onward(tree: &Tree, at: &Stop) -> Stop
 {
     match right(tree, at) {
         Move::Moved(next) => next_within(at, next),
-        Move::AtEdge => stop_copy(at),
+        Move::AtEdge => copy_stop(at),
     }
 }
 
@@ -31,5 +30,5 @@ fn next_within(at: &Stop, next: Stop) -> Stop
     if next.path.starts_with(at.path.as_slice()) {
         return next;
     }
-    stop_copy(at)
+    copy_stop(at)
 }

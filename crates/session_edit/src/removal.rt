@@ -12,12 +12,12 @@ ghost use Rattle.session_edit.specs.PlainEdit.{PlainEdit};
 
 use crate::applied::Applied;
 use crate::here::takes;
-use crate::path_copy::{copy_of, stop_copy};
 use crate::room_laws::room_laws;
 use plcs_grammar::Sort;
 use std::alloc::Global;
 use template_tree::{
-    Path, PhrasePlace, Stop, Tree, TreeFault, path_before, slot_edit_is_path_edit,
+    Path, PhrasePlace, Stop, Tree, TreeFault, copy_path, copy_stop, path_before,
+    slot_edit_is_path_edit,
 };
 
 /// What stands at the cursor is deleted: a hole in a list of two or more is dropped, all else is taken
@@ -78,7 +78,7 @@ fn path_after_drop(tree: &Tree, sort: Sort, path: &Path) -> Path
     ensures { result.items ≡ path_after_drop sort tree.now.items path.now.items }
 {
     if sort_at(tree, path) == Some(sort) {
-        return copy_of(path);
+        return copy_path(path);
     }
     path_before(path)
 }
@@ -99,7 +99,7 @@ pub(crate) fn take_out(alloc: Global, tree: &mut Tree, at: &Stop) -> Result<Appl
         Ok((node, receipt)) => Ok(Applied {
             receipt,
             taken: Some(node),
-            stop: stop_copy(at),
+            stop: copy_stop(at),
         }),
         Err(fault) => Err(fault),
     }
@@ -121,7 +121,7 @@ fn empty_part(tree: &mut Tree, at: &Stop) -> Result<Applied, TreeFault>
         Ok(receipt) => Ok(Applied {
             receipt,
             taken: None,
-            stop: stop_copy(at),
+            stop: copy_stop(at),
         }),
         Err((fault, _)) => Err(fault),
     }

@@ -3,8 +3,7 @@ ghost use Rattle.std.specs.Prelude.{◌≡◌, ◌<◌, pred, suc};
 ghost use Rattle.template_tree.specs.Path.{added_path, last_of, with_last};
 ghost use Rattle.template_tree.specs.Private.Beside.{side_of};
 
-use crate::exchange::copied;
-use crate::path::Path;
+use crate::path::{Path, copy_path};
 use crate::side::Side;
 
 /// The path beside a path: where a node stands that came on this side of the item there.
@@ -13,7 +12,7 @@ pub fn added_path(side: Side, path: &Path) -> Path
     ensures { result.items ≡ added_path side path.now.items }
 {
     match side {
-        Side::Before => copied(path),
+        Side::Before => copy_path(path),
         Side::After => next_path(path),
     }
 }
@@ -23,7 +22,7 @@ fn next_path(path: &Path) -> Path
     requires small { last_of path.now.items < 4294967295 }
     ensures { result.items ≡ with_last suc path.now.items }
 {
-    let mut next = copied(path);
+    let mut next = copy_path(path);
     if let Some(last) = next.pop() {
         next.push(last + 1);
     }
@@ -35,7 +34,7 @@ fn next_path(path: &Path) -> Path
 pub fn path_before(path: &Path) -> Path
     ensures { result.items ≡ with_last pred path.now.items }
 {
-    let mut before = copied(path);
+    let mut before = copy_path(path);
     if let Some(last) = before.pop() {
         before.push(last.saturating_sub(1));
     }
@@ -46,7 +45,7 @@ pub fn path_before(path: &Path) -> Path
 pub(crate) fn side_left(path: &Path) -> Side
     ensures { result ≡ side_of (last_of path.now.items) }
 {
-    let mut front = copied(path);
+    let mut front = copy_path(path);
     let Some(last) = front.pop() else {
         return Side::Before;
     };

@@ -14,7 +14,7 @@ ghost use Rattle.template_tree.specs.declared.change.What.{What};
 use crate::build::draw_slots;
 use crate::change::{Change, What};
 use crate::node::{Node, Nodes};
-use crate::path::Path;
+use crate::path::{Path, copy_path};
 use crate::receipt::{Receipt, Undoing};
 use crate::tree::Tree;
 use plcs_base::Slot;
@@ -32,7 +32,7 @@ impl Tree {
         let (old, change) = self.exchange(path, node);
         Receipt {
             change,
-            path: copied(path),
+            path: copy_path(path),
             undoing: Undoing::Put(old),
             drawn,
             live,
@@ -117,13 +117,4 @@ fn reveal(list: &mut Nodes)
         node.elided = false;
         reveal(&mut node.inner);
     }
-}
-
-/// A copy of the path of an edit.
-pub(crate) fn copied(path: &Path) -> Path
-    ensures { result.items ≡ path.now.items }
-{
-    let mut copy = Path::new();
-    if let Err(_) = copy.try_extend_from_slice(path) {}
-    copy
 }

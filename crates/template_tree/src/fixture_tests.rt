@@ -9,7 +9,6 @@ ghost use Rattle.template_tree.specs.Receipt.{CanUndo, NeedsNoRoom, undone};
 ghost use Rattle.template_tree.specs.Tree.{IsTree};
 
 use super::*;
-use crate::exchange::copied;
 use plcs_base::{ByteOut, Name, Slot};
 use plcs_grammar::{Category, Expr, Item, Phrase, Template, VarRef};
 use std::alloc::Global;
@@ -339,7 +338,7 @@ fn set(tree: &mut Tree, at: &Path, part: u8, place: PhrasePlace) -> Result<Recei
     ensures unchanged { IfErr result (λ _. tree.new ≡ tree.old) }
 {
     let stop = Stop {
-        path: copied(at),
+        path: copy_path(at),
         part: Some(part),
     };
     match tree.set_phrase(&stop, place) {

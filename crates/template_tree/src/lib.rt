@@ -72,14 +72,14 @@ pub use hole::hole_left;
 pub use limit::{DEEPEST_PATH, LONGEST_PHRASE, MOST_CELLS, MOST_DRAWN_SLOTS, MOST_SLOTS};
 pub use listing::listing_splits_in_lines;
 pub use node::{Node, Nodes};
-pub use path::Path;
+pub use path::{Path, copy_path, path_of_item};
 pub use phrase_place::PhrasePlace;
 pub use put_part::part_category;
 pub use receipt::Receipt;
 pub use room_laws::{edits_ignore_room, room_is_not_shown};
 pub use sections_left::SectionsLeft;
 pub use side::Side;
-pub use stop::Stop;
+pub use stop::{Stop, copy_stop};
 pub use tree::Tree;
 pub use tree_fault::TreeFault;
 pub use tree_laws::{

@@ -1,4 +1,5 @@
-//! Paths to nodes.
+//! Paths to nodes, their copies, and the path of an item of the program.
+ghost use Rattle.std.specs.Prelude.{◌≡◌, ◌∷◌, []};
 
 use crate::limit::DEEPEST_PATH;
 use arrayvec::ArrayVec;
@@ -6,3 +7,21 @@ use arrayvec::ArrayVec;
 /// A path, the way to a node: the number of the item of the program, 0 for main and then the procedures,
 /// and at each further level the number of the node inside, counted from 0 in listing order.
 pub type Path = ArrayVec<u32, DEEPEST_PATH>;
+
+/// The path of the item of the program with this number: main is 0, and the procedures follow.
+pub fn path_of_item(k: u32) -> Path
+    ensures { result.items ≡ k ∷ [] }
+{
+    let mut path = Path::new();
+    path.push(k);
+    path
+}
+
+/// A copy of the path, which takes no memory.
+pub fn copy_path(path: &Path) -> Path
+    ensures { result.items ≡ path.now.items }
+{
+    let mut copy = Path::new();
+    if let Err(_) = copy.try_extend_from_slice(path.as_slice()) {}
+    copy
+}

@@ -10,8 +10,8 @@ ghost use Rattle.template_tree.specs.TreeEdit.{TreeEdit};
 ghost use Rattle.template_tree.specs.declared.tree_fault.TreeFault.{TreeFault};
 
 use crate::change::{Change, What};
-use crate::exchange::copied;
 use crate::hole::is_assignment;
+use crate::path::copy_path;
 use crate::phrase_place::PhrasePlace;
 use crate::receipt::{Receipt, Undoing};
 use crate::stop::Stop;
@@ -58,7 +58,7 @@ impl Tree {
         };
         Ok(Receipt {
             change,
-            path: copied(&stop.path),
+            path: copy_path(&stop.path),
             undoing: Undoing::SetPart(part, old),
             drawn,
             live,

@@ -8,10 +8,9 @@ ghost use Rattle.template_tree.specs.Receipt.{NeedsNoRoom};
 ghost use Rattle.template_tree.specs.Tree.{IsTree};
 ghost use Rattle.template_tree.specs.declared.tree_fault.TreeFault.{TreeFault};
 
-use crate::exchange::copied;
 use crate::hole::hole_left;
 use crate::node::Node;
-use crate::path::Path;
+use crate::path::{Path, copy_path};
 use crate::receipt::{Receipt, Undoing};
 use crate::tree::Tree;
 use crate::tree_fault::TreeFault;
@@ -42,7 +41,7 @@ impl Tree {
         let (node, change) = self.exchange(path, hole);
         let receipt = Receipt {
             change,
-            path: copied(path),
+            path: copy_path(path),
             undoing: Undoing::PutBack,
             drawn,
             live,

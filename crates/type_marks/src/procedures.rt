@@ -1,5 +1,5 @@
 //! Main and the procedures of a program, found by number, slot and name, and their parameters.
-ghost use Rattle.std.specs.Prelude.{◌≡◌, ◌∷◌, ◌+◌, ◌≤◌, [], IfSome, is_some, nat_eq, option_map, slice_get};
+ghost use Rattle.std.specs.Prelude.{◌≡◌, ◌+◌, ◌≤◌, [], IfSome, is_some, nat_eq, option_map, slice_get};
 ghost use Rattle.template_tree.specs.Environment.{Sig, procedure_at, signature_for};
 ghost use Rattle.template_tree.specs.Limit.{most_slots};
 ghost use Rattle.template_tree.specs.Marks.{procedures_before};
@@ -14,7 +14,7 @@ ghost use Rattle.type_marks.specs.Private.MarksView.{item_on};
 use decl_table::{heading_name, may_be_called, parameters_given};
 use plcs_base::{Name, Slot};
 use plcs_grammar::{NodeKind, Template};
-use template_tree::{Node, Path, Tree};
+use template_tree::{Node, Path, Tree, path_of_item};
 
 /// Main or the procedure in the slot, or `None` where none of them has it.
 pub(crate) fn procedure_in(tree: &Tree, slot: Slot) -> Option<&Node>
@@ -125,13 +125,4 @@ pub(crate) fn item_on<'a>(tree: &'a Tree, path: &Path) -> Option<&'a Node>
         return None;
     };
     item(tree, *k)
-}
-
-/// The path of main or of a procedure, by its number.
-fn path_of_item(k: u32) -> Path
-    ensures { result.items ≡ k ∷ [] }
-{
-    let mut path = Path::new();
-    path.push(k);
-    path
 }

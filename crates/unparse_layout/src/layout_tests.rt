@@ -5,13 +5,12 @@ ghost use Rattle.template_tree.specs.Tree.{IsTree};
 ghost use Rattle.unparse_layout.specs.Agreement.{IsLayoutOf};
 
 use super::*;
-use crate::new::path_of_item;
 use plcs_base::{Counts, MarkKind, Marked, Name, PhraseAt, Slot};
 use plcs_grammar::{Expr, Phrase, Template, VarRef};
 use std::alloc::Global;
 use std::cmp::Ordering;
 use std::test::Fail;
-use template_tree::{Path, Stop, Tree};
+use template_tree::{Path, Stop, Tree, path_of_item};
 
 /// A hole, and the template that it becomes.
 type Filling = (&'static [u32], Template);

@@ -1,5 +1,5 @@
 //! Layouts made anew.
-ghost use Rattle.std.specs.Prelude.{◌≡◌, ◌<◌, ◌∷◌, [], IfOk};
+ghost use Rattle.std.specs.Prelude.{◌≡◌, ◌<◌, IfOk};
 ghost use Rattle.template_tree.specs.Limit.{most_slots};
 ghost use Rattle.template_tree.specs.Slots.{count};
 ghost use Rattle.template_tree.specs.Tree.{IsTree};
@@ -12,7 +12,7 @@ use plcs_base::{OutOfMemory, Slot, Work};
 use plcs_grammar::{NodeKind, program_sections};
 use std::alloc::Global;
 use std::marker::PhantomData;
-use template_tree::{Node, Path, SectionsLeft, Tree};
+use template_tree::{Node, SectionsLeft, Tree, path_of_item};
 
 impl<W: Work> Layout<W> {
     /// The layout of the tree.
@@ -34,15 +34,6 @@ impl<W: Work> Layout<W> {
             of: PhantomData,
         })
     }
-}
-
-/// The path of the item of this number.
-pub(crate) fn path_of_item(k: u32) -> Path
-    ensures { result.items ≡ k ∷ [] }
-{
-    let mut path = Path::new();
-    path.push(k);
-    path
 }
 
 impl NodeLayout {

@@ -12,10 +12,9 @@ ghost use Rattle.unparse_layout.specs.Private.PlainPlan.{planned};
 ghost use Rattle.template_tree.specs.PlainTree.{PlainTree, roomless};
 
 use crate::line::LineKind;
-use crate::new::path_of_item;
 use crate::node_layout::NodeLayout;
 use plcs_base::Slot;
-use template_tree::{Node, SectionsLeft, Tree};
+use template_tree::{Node, SectionsLeft, Tree, path_of_item};
 
 /// A line that is found but not laid.
 #[derive(Drop)]

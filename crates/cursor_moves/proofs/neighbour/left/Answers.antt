@@ -10,8 +10,8 @@ returns-in-Some-clause-moved c =
     let items = c.args.tree.now.items in
     let stop = plain_stop c.args.at.now in
     goes_left c.room_is_not_shown.ensures.stops items stop _
-    (left_from_part items stop c.in-Some.part c.copy_of.result.items c.checked_sub.result
-    ((c.room_is_not_shown.ensures.standing items stop).0 c.requires.stop) c.in-Some.is c.copy_of.ensures c.checked_sub.ensures)
+    (left_from_part items stop c.in-Some.part c.copy_path.result.items c.checked_sub.result
+    ((c.room_is_not_shown.ensures.standing items stop).0 c.requires.stop) c.in-Some.is c.copy_path.ensures c.checked_sub.ensures)
 
 pub previous_node-requires-clause-visible : goal.previous_node-requires-clause-visible
 previous_node-requires-clause-visible c =

@@ -30,10 +30,10 @@ returns-in-Some-next_part-clause-moved c =
     let stop = plain_stop c.args.at.now in
     let part : Option ℕ = Some c.in-Some-next_part.part in
     let h = (c.room_is_not_shown.ensures.standing items stop).0 c.requires.stop in
-    goes_right c.room_is_not_shown.ensures.stops items stop (Some record { path = c.copy_of.result.items; part = part })
+    goes_right c.room_is_not_shown.ensures.stops items stop (Some record { path = c.copy_path.result.items; part = part })
     (right_moved items stop c.in-Some.node.now part _ h c.in-Some.ensures.found
     (c.in-Some-next_part.ensures ∙ ap (λ kind. next_number (part_stops kind) stop.part) c.kind.ensures)
-    (ap (λ way. Some record { path = way; part = part }) c.copy_of.ensures))
+    (ap (λ way. Some record { path = way; part = part }) c.copy_path.ensures))
 
 pub returns-in-Some-next_part-clause-stop : goal.returns-in-Some-next_part-clause-stop
 returns-in-Some-next_part-clause-stop c =
@@ -41,9 +41,9 @@ returns-in-Some-next_part-clause-stop c =
     let stop = plain_stop c.args.at.now in
     let h = (c.room_is_not_shown.ensures.standing items stop).0 c.requires.stop in
     let part : Option ℕ = Some c.in-Some-next_part.part in
-    (c.room_is_not_shown.ensures.standing items record { path = c.copy_of.result.items; part = part }).1
-    (part_stands items stop c.in-Some.node.now c.copy_of.result.items c.in-Some-next_part.part h c.in-Some.ensures.found
-    c.copy_of.ensures (c.in-Some-next_part.ensures ∙ ap (λ kind. next_number (part_stops kind) stop.part) c.kind.ensures))
+    (c.room_is_not_shown.ensures.standing items record { path = c.copy_path.result.items; part = part }).1
+    (part_stands items stop c.in-Some.node.now c.copy_path.result.items c.in-Some-next_part.part h c.in-Some.ensures.found
+    c.copy_path.ensures (c.in-Some-next_part.ensures ∙ ap (λ kind. next_number (part_stops kind) stop.part) c.kind.ensures))
 
 pub next_node-requires-clause-visible : goal.next_node-requires-clause-visible
 next_node-requires-clause-visible c =

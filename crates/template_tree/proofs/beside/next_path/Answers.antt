@@ -5,9 +5,9 @@ use Rattle.template_tree.proofs.beside.next_path.Goals as goal
 
 pub overflow_add-last : goal.overflow_add-last
 overflow_add-last c =
-    omega (arith, c.requires.small, last_is c.pop.new.self.items c.args.path.now.items c.in-Some.last (sym c.copied-next.ensures ∙ c.in-Some.ensures.items))
+    omega (arith, c.requires.small, last_is c.pop.new.self.items c.args.path.now.items c.in-Some.last (sym c.copy_path-next.ensures ∙ c.in-Some.ensures.items))
 
 pub returns-in-Some : goal.returns-in-Some
 returns-in-Some c =
     other_last suc c.pop.new.self.items c.args.path.now.items c.push.new.self.items c.in-Some.last _
-    (sym c.copied-next.ensures ∙ c.in-Some.ensures.items) c.push.ensures.items (add-one c.in-Some.last)
+    (sym c.copy_path-next.ensures ∙ c.in-Some.ensures.items) c.push.ensures.items (add-one c.in-Some.last)

@@ -10,4 +10,4 @@ less_one (suc n) = omega arith
 pub returns-in-Some : goal.returns-in-Some
 returns-in-Some c =
     other_last pred c.pop.new.self.items c.args.path.now.items c.push.new.self.items c.in-Some.last _
-    (sym c.copied-before.ensures ∙ c.in-Some.ensures.items) c.push.ensures.items (c.saturating_sub.ensures ∙ less_one c.in-Some.last)
+    (sym c.copy_path-before.ensures ∙ c.in-Some.ensures.items) c.push.ensures.items (c.saturating_sub.ensures ∙ less_one c.in-Some.last)

@@ -44,7 +44,7 @@ returns-clause-edited c =
     c.procedure_at-procedure.ensures
     (λ i. record {
       change = record { slot = c.node.inside.slot; procedure = c.procedure_at-procedure.result; what = What.Part c.in-Some.part };
-      path = c.copied.ensures i;
+      path = c.copy_path.ensures i;
       undoing = PlainUndoing.set_part c.in-Some.part (plain_place c.in-Ok.old);
       drawn = drawn i;
       live = live i;
