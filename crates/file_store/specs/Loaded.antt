@@ -79,7 +79,7 @@ Refused x FileRefusal.NoFile = ⊥
 Refused x FileRefusal.FileFault = ⊥
 Refused x FileRefusal.OutOfMemory = ⊥
 
--- what a refusal says of the bytes; want of memory says nothing
+-- what a refusal says of the bytes of a listing file; want of memory says nothing
 abbrev pub RefusalSays : List ℕ → FileRefusal → Type 0
 RefusalSays x FileRefusal.OutOfMemory = Unit {0}
 RefusalSays x refusal = Refused x refusal

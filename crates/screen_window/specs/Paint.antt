@@ -19,7 +19,7 @@ image_change true false = control (codes "0m")
 image_change false true = control (codes "7m")
 image_change false false = []
 
--- cells as bytes, each in its image; at the end the image is the default one
+-- the bytes that paint cells, each in its image; at the end the image is the default one
 abbrev pub spelled : Bool → List ℕ → List ℕ
 spelled image [] = image_change image false
 spelled image (cell ∷ cells) = image_change image (is_negative cell) ++ (cell % 256 ∷ spelled (is_negative cell) cells)

@@ -23,7 +23,7 @@ pub enum RowText<'a> {
     Input(&'a [u8], &'a [u8]),
 }
 
-/// Shows what is written in a row of cells.
+/// Shows what is written in a row by the row's cells.
 pub fn show_row(line: &mut Vec<u16>, text: RowText<'_>)
     ensures { line.new.items ≡ shown_row (length line.old.items) (text_cells (length line.old.items) text.entry) }
 {

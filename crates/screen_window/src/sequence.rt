@@ -8,7 +8,7 @@ ghost use Rattle.screen_window.specs.Terminal.{longer, with_digit, with_separato
 pub enum Sequence {
     /// Nothing: no sequence has begun.
     Absent,
-    /// ESC.
+    /// ESC, with which a sequence begins.
     Escape,
     /// `ESC [`, and these bytes behind it.
     Behind(Gathered),

@@ -48,7 +48,7 @@ IsCut (PlainSegment.part category ∷ (PlainSegment.part other ∷ segments)) = 
 IsCut (PlainSegment.part category ∷ (PlainSegment.words w ∷ [])) = Unit {0}
 IsCut (PlainSegment.part category ∷ (PlainSegment.words w ∷ (segment ∷ segments))) = Divides category w × IsCut (segment ∷ segments)
 
--- a part stands at the front of a text for these segments: what is left for those that are left makes the whole, and
+-- a part is read at the front of a text for these segments: what is left for those that are left makes the whole, and
 -- nothing else does
 pub record IsFront (category : Category) (segments : List PlainSegment) (x : List ℕ) (part : Option PlainPhrase)
     (later : List PlainSegment) (rest : List ℕ) : Type 0 where

@@ -44,7 +44,7 @@ IsSaying (head kind parts) = (shape kind ≡ kind) × AreParts (parts_of (row_of
 IsSaying (lead text) = text ≡ codes "ELSE"
 IsSaying (last text) = text ≡ codes "END;"
 
--- a line: its level, and what it says
+-- what the reader has of a line: its level, and what it says
 pub record Said : Type 0 where
   pub level : ℕ
   pub saying : Saying
