@@ -1,4 +1,4 @@
--- What a file is read as.
+-- What the file of a name is loaded as, or why it isn't loaded.
 use Rattle.std.specs.Prelude.{◌≡◌, ◌⊎◌, ℕ, ◌<◌, List, length, Option, Some, None, Result, Ok, Err, IsErrOf}
 use Rattle.std.specs.FinMap.{get}
 use Rattle.synth_outside.specs.declared.faults.FilesFault.{FilesFault}
@@ -10,12 +10,12 @@ use Rattle.template_tree.specs.Bare.{Bare}
 use Rattle.file_store.specs.Loaded.{IsListingOf, Refused}
 use Rattle.file_store.specs.Want.{MayRiseWith}
 
--- where the map is told, it has a content under the name, and this holds of it
+-- where the map is told, the file that is loaded has a content under the name, and this holds of it
 abbrev pub Holds : Option FileMap → List ℕ → (List ℕ → Type 0) → Type 0
 Holds None name P = Unit {0}
 Holds (Some map) name P = (x : List ℕ) × (get map name ≡ Some x) × P x
 
--- why a file is refused that may have so many bytes; a call that failed and want of memory say nothing of it
+-- why a file is not loaded that may have so many bytes; a call that failed and want of memory say nothing of it
 abbrev pub IsFileRefused : ℕ → Option FileMap → List ℕ → FileRefusal → Type 0
 IsFileRefused most stored name FileRefusal.NoFile = Lacks stored name
 IsFileRefused most stored name FileRefusal.TooLong = Holds stored name (λ x. most < length x)
@@ -23,34 +23,34 @@ IsFileRefused most stored name FileRefusal.FileFault = Unit {0}
 IsFileRefused most stored name FileRefusal.OutOfMemory = Unit {0}
 IsFileRefused most stored name refusal = ⊥
 
--- why a listing file is refused
+-- why a listing file is not loaded
 abbrev pub IsLoadRefused : Option FileMap → List ℕ → FileRefusal → Type 0
 IsLoadRefused stored name FileRefusal.NoFile = Lacks stored name
 IsLoadRefused stored name FileRefusal.FileFault = Unit {0}
 IsLoadRefused stored name FileRefusal.OutOfMemory = Unit {0}
 IsLoadRefused stored name refusal = Holds stored name (λ x. Refused x refusal)
 
--- what an answer says of the file of the name
+-- what the answer of a load says of the file of the name
 abbrev pub LoadingSays : Option FileMap → List ℕ → Result PlainTree FileRefusal → Type 0
 LoadingSays stored name (Ok tree) = Holds stored name (λ x. IsListingOf x tree)
 LoadingSays stored name (Err refusal) = IsLoadRefused stored name refusal
 
--- the map is told, and has these bytes under the name
+-- the map of files is told, and has these bytes under the name that is loaded
 abbrev pub HasContent : Option FileMap → List ℕ → List ℕ → Type 0
 HasContent None name x = ⊥
 HasContent (Some map) name x = get map name ≡ Some x
 
--- the map is told, and has no content under the name
+-- the map of files is told, and has no content under the name that is loaded
 abbrev pub HasNoContent : Option FileMap → List ℕ → Type 0
 HasNoContent None name = ⊥
 HasNoContent (Some map) name = get map name ≡ None
 
--- the program is answered, unless a call failed or memory ran out
+-- a load answers the program, unless a call failed or memory ran out
 abbrev pub LoadsOnly : Result PlainTree FileRefusal → Forest → Type 0
 LoadsOnly (Ok tree) items = Bare tree.items ≡ Bare items
 LoadsOnly (Err own) items = (own ≡ FileRefusal.FileFault) ⊎ (own ≡ FileRefusal.OutOfMemory)
 
--- the refusal is answered, unless a call failed or memory ran out
+-- a load answers the refusal, unless a call failed or memory ran out
 abbrev pub RefusesLoad : Result PlainTree FileRefusal → FileRefusal → Type 0
 RefusesLoad (Ok tree) refusal = ⊥
 RefusesLoad (Err own) refusal = (own ≡ refusal) ⊎ ((own ≡ FileRefusal.FileFault) ⊎ (own ≡ FileRefusal.OutOfMemory))
@@ -64,7 +64,7 @@ pub record OnlyReads {T : Type 0} (result : Result T FileRefusal) (stored_before
   pub fault : HasCause FileRefusal.FileFault faults_before faults_now result
   pub want : MayRiseWith (IsErrOf result FileRefusal.OutOfMemory) wants_before wants_now
 
--- the refusal that a fault of the files is
+-- the refusal that a load or a save answers where this fault of the files came
 abbrev pub refusal_of : FilesFault → FileRefusal
 refusal_of FilesFault.NoFile = FileRefusal.NoFile
 refusal_of FilesFault.Failed = FileRefusal.FileFault

@@ -7,16 +7,17 @@ use Rattle.template_tree.specs.PlainTree.{Forest}
 use Rattle.template_tree.specs.Program.{sort_of}
 use Rattle.template_tree.specs.Section.{left_for, left_after, next_lead}
 
--- a line, and whether a node begins in it
+-- a line of a listing, and whether a node begins in it
 pub record ListedLine : Type 0 where
   pub line : Line
   pub opens : Bool
 
--- a line that the table of templates has as it stands, or none where it has none: no node begins in it
+-- a line of a listing that the table of templates has as it stands, or none where it has none: no node begins in it
 abbrev pub listed_fixed : ℕ → Option (List ℕ) → List ListedLine
 listed_fixed level text = map (λ line. record { line = line; opens = false }) (fixed_line level text)
 
--- the lines of nodes in order at a level, where these sections are left for them; nothing is elided in them
+-- the lines of a listing that nodes in order have at a level, each with whether a node begins in it, where these
+-- sections are left for the nodes; nothing is elided in them
 abbrev pub listed : (level : ℕ) (left : List PlainSection) → Forest → List ListedLine
 listed level left Forest.nil = []
 listed level left (Forest.cons label inner rest) =
@@ -27,10 +28,10 @@ listed level left (Forest.cons label inner rest) =
     ++ (listed_fixed level (row_of label.kind).last
     ++ listed level (left_after here) rest)))
 
--- the lines of a program's listing
+-- the lines of a program's listing, each with whether a node begins in it
 abbrev pub listed_program : Forest → List ListedLine
 listed_program = listed 0 program_sections
 
--- the bytes of lines, each with its line end
+-- the bytes of these lines of a listing, each with its line end
 abbrev pub text_of_lines : List ListedLine → List ℕ
 text_of_lines rows = bytes_of (map (λ row. row.line) rows)

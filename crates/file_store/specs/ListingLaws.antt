@@ -20,7 +20,7 @@ OneListing = (a b : Forest) (x : List ℕ) → Spells a x → Spells b x → Bar
 abbrev pub OneRefusal : Type 0
 OneRefusal = (x : List ℕ) (a b : FileRefusal) → Refused x a → Refused x b → a ≡ b
 
--- the listing of a program within the limits is refused for none
+-- the listing of a program within the limits is refused for no reason
 abbrev pub ListingsAreNotRefused : Type 0
 ListingsAreNotRefused =
     (items : Forest) (x : List ℕ) (refusal : FileRefusal) → Spells items x → depth items ≤ deepest_path → count items ≤ most_slots
@@ -30,10 +30,10 @@ ListingsAreNotRefused =
 abbrev pub ListingsAreShort : Type 0
 ListingsAreShort = (items : Forest) → IsProgram items → depth items ≤ deepest_path → count items ≤ most_slots → length (Listing items) ≤ longest_listing
 
--- the lines that are told apart by the nodes that begin in them are those of the listing
+-- the lines of which it is told whether a node begins in them are those of the listing
 abbrev pub ListedLinesAreLines : Type 0
 ListedLinesAreLines = (items : Forest) → map (λ row. row.line) (listed_program items) ≡ listing_lines items
 
--- as many nodes begin in them as there are
+-- in the lines of a program's listing as many nodes begin as the program has
 abbrev pub NodesBeginInLines : Type 0
 NodesBeginInLines = (items : Forest) → opened (listed_program items) ≡ count items

@@ -25,16 +25,16 @@ pub record IsListingOf (x : List ℕ) (tree : PlainTree) : Type 0 where
 abbrev pub BeginsListing : List ListedLine → Type 0
 BeginsListing rows = (items : Forest) × (more : List ListedLine) × IsProgram items × (listed_program items ≡ rows ++ more)
 
--- in how many of the lines a node begins
+-- in how many of these lines a node begins; bytes are refused where such lines are too many
 abbrev pub opened : List ListedLine → ℕ
 opened [] = 0
 opened (row ∷ rows) = (if row.opens then 1 else 0) + opened rows
 
--- a node begins in the line whose path has too many numbers: one more than the line's level
+-- trouble in a line: a node begins in it whose path has too many numbers, one more than the line's level
 abbrev pub OpensTooDeep : ListedLine → Type 0
 OpensTooDeep row = (row.opens ≡ true) × (deepest_path ≤ row.line.level)
 
--- a node begins in the line, and as many as may be begin before it
+-- trouble in a line: a node begins in it, and as many as may be begin before it
 abbrev pub OpensTooMany : List ListedLine → ListedLine → Type 0
 OpensTooMany before row = (row.opens ≡ true) × (most_slots ≤ opened before)
 
@@ -46,7 +46,7 @@ pub record Fine (x : List ℕ) (rows : List ListedLine) (rest : List ℕ) : Type
   pub shallow : All (λ row. ¬ (OpensTooDeep row)) rows
   pub few : opened rows ≤ most_slots
 
--- no byte ends a line
+-- none of these bytes ends a line
 abbrev pub HasNoEnd : List ℕ → Type 0
 HasNoEnd [] = Unit {0}
 HasNoEnd (byte ∷ rest) = ¬ (byte ≡ 10) × HasNoEnd rest
@@ -79,7 +79,7 @@ Refused x FileRefusal.NoFile = ⊥
 Refused x FileRefusal.FileFault = ⊥
 Refused x FileRefusal.OutOfMemory = ⊥
 
--- what a refusal says of the bytes; want of memory says nothing
+-- what a refusal says of the bytes of a listing file; want of memory says nothing
 abbrev pub RefusalSays : List ℕ → FileRefusal → Type 0
 RefusalSays x FileRefusal.OutOfMemory = Unit {0}
 RefusalSays x refusal = Refused x refusal
@@ -89,12 +89,12 @@ abbrev pub Loaded : List ℕ → Result PlainTree FileRefusal → Type 0
 Loaded x (Ok tree) = IsListingOf x tree
 Loaded x (Err refusal) = RefusalSays x refusal
 
--- the answer is the program, unless memory ran out
+-- the program is what the bytes are read as, unless memory ran out
 abbrev pub ReadsOnly : Result PlainTree FileRefusal → Forest → Type 0
 ReadsOnly (Ok tree) items = Bare tree.items ≡ Bare items
 ReadsOnly (Err refusal) items = refusal ≡ FileRefusal.OutOfMemory
 
--- the refusal is answered, unless memory ran out
+-- the bytes are refused for this, unless memory ran out
 abbrev pub RefusesOnly : Result PlainTree FileRefusal → FileRefusal → Type 0
 RefusesOnly (Ok tree) refusal = ⊥
 RefusesOnly (Err own) refusal = (own ≡ refusal) ⊎ (own ≡ FileRefusal.OutOfMemory)

@@ -4,7 +4,7 @@ use Rattle.synth_outside.specs.Cause.{HasCause}
 use Rattle.synth_outside.specs.Files.{FileMap, IsSet}
 use Rattle.file_store.specs.declared.refusal.FileRefusal.{FileRefusal}
 
--- where the map is told, it has the bytes under the name, and all else as before
+-- what a save made of the map of files: where that is told, it has the bytes under the name, and all else as before
 abbrev pub IsSaved : Option FileMap → Option FileMap → List ℕ → List ℕ → Type 0
 IsSaved None now name bytes = Unit {0}
 IsSaved (Some map) now name bytes = IsSet map now name (Some bytes)

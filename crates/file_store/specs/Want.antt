@@ -1,7 +1,8 @@
--- How a count rises in a call that can want memory of its own too.
+-- How a count of wants rises in a call that can want memory of its own too.
 use Rattle.std.specs.Prelude.{◌≡◌, ℕ, ◌-◌, ◌^◌, ◌≤◌}
 
--- the count never falls in a call; where this isn't answered it is as before, and at its last value it stays
+-- how a count of wants rises: it never falls in a call; where want of memory isn't answered it is as before, and at its
+-- last value it stays
 pub record MayRiseWith (answered : Type 0) (before now : ℕ) : Type 0 where
   pub later : before ≤ now
   pub same : (answered → ⊥) → now ≡ before

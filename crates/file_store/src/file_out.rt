@@ -39,7 +39,7 @@ impl<'a, F: Files> ByteOut for FileOut<'a, F> {
 }
 
 impl<'a, F: Files> FileOut<'a, F> {
-    /// Writes the listing, or keeps the fault that came.
+    /// Passes the whole listing on to the file, or keeps the fault that came.
     pub(crate) fn write_listing(&mut self, tree: &Tree)
         requires tree { IsTree tree.now }
         requires none { self.old.wait.items ≡ [] }
@@ -54,7 +54,7 @@ impl<'a, F: Files> FileOut<'a, F> {
         self.flush();
     }
 
-    /// Puts the listing.
+    /// Puts the listing into the sink.
     fn put_listing(&mut self, tree: &Tree)
         requires tree { IsTree tree.now }
         ensures sent { Sent
@@ -66,7 +66,7 @@ impl<'a, F: Files> FileOut<'a, F> {
         tree.put_listing(self);
     }
 
-    /// Room for one more byte.
+    /// Makes room in the sink for one more byte that waits.
     fn make_room(&mut self)
         ensures sent { Sent
             (desk (F.stored self.old.files.now) (F.begun self.old.files.now) (F.faults self.old.files.now) (F.wants self.old.files.now) self.old.wait.items self.old.fault)
@@ -81,7 +81,7 @@ impl<'a, F: Files> FileOut<'a, F> {
         self.flush();
     }
 
-    /// Passes on what waits.
+    /// Passes on the bytes that wait, after which none waits.
     pub(crate) fn flush(&mut self)
         ensures sent { Sent
             (desk (F.stored self.old.files.now) (F.begun self.old.files.now) (F.faults self.old.files.now) (F.wants self.old.files.now) self.old.wait.items self.old.fault)
@@ -94,7 +94,7 @@ impl<'a, F: Files> FileOut<'a, F> {
         self.wait.clear();
     }
 
-    /// Passes on what waits, and leaves it there.
+    /// Passes on the bytes that wait, and leaves them there.
     fn pass_on(&mut self)
         ensures sent { Sent
             (desk (F.stored self.old.files.now) (F.begun self.old.files.now) (F.faults self.old.files.now) (F.wants self.old.files.now) self.old.wait.items self.old.fault)
@@ -112,7 +112,7 @@ impl<'a, F: Files> FileOut<'a, F> {
     }
 }
 
-/// Appends the whole piece to what is begun.
+/// Passes a whole piece of bytes on to the file that is begun.
 fn write_all<F: Files>(files: &mut F, piece: &[u8]) -> Result<(), FilesFault>
     requires { IsSome (F.begun files.old) }
     ensures told { OnOk result (Appends (begun_bytes (F.begun files.old)) (begun_bytes (F.begun files.new)) piece.now) }

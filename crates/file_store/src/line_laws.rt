@@ -7,7 +7,7 @@ use phrase_parser::{
 };
 use plcs_grammar::canonical_texts_show;
 
-/// The laws of phrases and of parts of lines.
+/// All the laws of phrases and of parts of lines on which reading listings stands.
 pub(crate) fn line_laws()
     ensures { LineLaws }
 {

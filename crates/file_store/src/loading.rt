@@ -40,7 +40,7 @@ pub fn load<F: Files>(alloc: Global, name: &[u8], files: &mut F) -> Result<Tree,
     load_listing(alloc, name, files)
 }
 
-/// What the file of the name is read as.
+/// Loads the file of the name and has its bytes read as a listing.
 fn load_listing<F: Files>(alloc: Global, name: &[u8], files: &mut F) -> Result<Tree, FileRefusal>
     ensures says { LoadingSays (F.stored files.old) name.now result }
     ensures tree { IfOk result IsTree }
@@ -54,7 +54,7 @@ fn load_listing<F: Files>(alloc: Global, name: &[u8], files: &mut F) -> Result<T
     read_listing(alloc, &bytes)
 }
 
-/// The bytes of the file of the name.
+/// The bytes of a program's input, which is loaded from the file of the name.
 pub fn load_input<F: Files>(
     alloc: Global,
     name: &[u8],
@@ -69,7 +69,7 @@ pub fn load_input<F: Files>(
     read_file(alloc, name, files, LONGEST_INPUT)
 }
 
-/// The bytes of the file of the name, if they are no more than so many.
+/// Loads the bytes of the file of the name, if they are no more than so many.
 fn read_file<F: Files>(
     alloc: Global,
     name: &[u8],
@@ -96,7 +96,7 @@ fn read_file<F: Files>(
     }
 }
 
-/// Appends the next bytes of the open file, if any are left, and says whether there were some.
+/// Appends the next bytes of the file that is loaded, if any are left, and says whether there were some.
 fn read_chunk<F: Files>(
     files: &mut F,
     bytes: &mut Vec<u8>,
@@ -126,7 +126,7 @@ fn read_chunk<F: Files>(
     Ok(true)
 }
 
-/// The refusal that a fault of the files is.
+/// The refusal that a load or a save answers where this fault of the files came.
 pub(crate) fn refusal_of(fault: FilesFault) -> FileRefusal
     ensures { result ≡ refusal_of fault }
 {

@@ -51,7 +51,7 @@ pub fn read_listing(alloc: Global, bytes: &[u8]) -> Result<Tree, FileRefusal>
     read_lines(alloc, bytes)
 }
 
-/// What the bytes are read as, line after line.
+/// Reads the bytes as a listing, line after line.
 fn read_lines(alloc: Global, bytes: &[u8]) -> Result<Tree, FileRefusal>
     ensures { Loaded bytes.now result }
 {
@@ -83,7 +83,7 @@ fn read_lines(alloc: Global, bytes: &[u8]) -> Result<Tree, FileRefusal>
     }
 }
 
-/// How far the reader has come.
+/// How far the reader of a listing has come.
 #[derive(Drop)]
 struct Reader {
     stack: Stack,
@@ -94,7 +94,7 @@ struct Reader {
 }
 
 impl Reader {
-    /// The reader behind the line.
+    /// The reader once it has taken the line.
     fn taken(self, alloc: Global, line: &[u8]) -> Result<Reader, FileRefusal>
         requires few { (come_of self).lines < longest_listing }
         requires opened { (come_of self).opened ≤ most_slots }
@@ -131,7 +131,8 @@ impl Reader {
     }
 }
 
-/// The limit that a node is past which begins in a line of the level, if one does, behind so many others.
+/// The limit that a node is past which begins in a line of the level, if one does, where the reader
+/// counted so many before.
 fn past_limit(opens: bool, level: usize, opened: u32) -> Option<FileRefusal>
     ensures { IsPast opens level opened result }
 {
@@ -147,7 +148,7 @@ fn past_limit(opens: bool, level: usize, opened: u32) -> Option<FileRefusal>
     None
 }
 
-/// In how many lines a node began, with one more in which it may.
+/// In how many lines the reader saw a node begin, with one more line in which one may.
 fn counted(opens: bool, opened: u32) -> u32
     requires { opened ≤ most_slots }
     ensures { result ≡ (if opens then 1 else 0) + opened }
@@ -155,14 +156,14 @@ fn counted(opens: bool, opened: u32) -> u32
     if opens { opened + 1 } else { opened }
 }
 
-/// Whether a node begins in the line.
+/// Whether a node begins in the line that the reader takes.
 fn opens(saying: &Saying) -> bool
     ensures { result ≡ opens (saying_of saying.now) }
 {
     matches!(saying, Saying::Head(_, _))
 }
 
-/// Whether something is left.
+/// Whether the reader has bytes left.
 fn is_left(bytes: &[u8]) -> bool
     ensures left { result ≡ true → bytes.now ≡ [] → ⊥ }
     ensures none { result ≡ false → bytes.now ≡ [] }
@@ -170,7 +171,7 @@ fn is_left(bytes: &[u8]) -> bool
     bytes.len() > 0
 }
 
-/// The first line of the text, and what stands behind its end.
+/// The first line of what is left of a listing's text, and what stands behind its end.
 fn split_line(text: &[u8]) -> Option<(&[u8], &[u8])>
     ensures { MatchOption result (HasNoEnd text.now)
         (λ parts. (text.now ≡ parts.0.now ++ (10 ∷ parts.1.now)) × HasNoEnd parts.0.now) }
@@ -185,7 +186,7 @@ fn split_line(text: &[u8]) -> Option<(&[u8], &[u8])>
     None
 }
 
-/// The tree of a program within the limits.
+/// The tree of the program that the reader found, which is within the limits.
 fn tree_of(items: Nodes) -> Tree
     requires program { IsProgram (forest items.items) }
     requires shallow { depth (forest items.items) ≤ deepest_path }

@@ -15,7 +15,7 @@ use arrayvec::ArrayVec;
 use synth_outside::{Files, FilesFault};
 use template_tree::Tree;
 
-/// Saves the tree's listing under the name. It takes no memory of its own.
+/// Saves a tree as the listing file of the name, all of it or nothing. It takes no memory of its own.
 pub fn save<F: Files>(tree: &Tree, name: &[u8], files: &mut F) -> Result<(), FileRefusal>
     requires tree { IsTree tree.now }
     ensures { Saves name.now (Listing tree.now.items) result (F.stored files.old) (F.stored files.new)
@@ -35,7 +35,7 @@ pub fn save<F: Files>(tree: &Tree, name: &[u8], files: &mut F) -> Result<(), Fil
     }
 }
 
-/// Saves the tree's listing under the name `RESCUE`.
+/// Saves a tree as the listing file of the name `RESCUE`.
 pub fn rescue<F: Files>(tree: &Tree, files: &mut F) -> Result<(), FileRefusal>
     requires tree { IsTree tree.now }
     ensures { Saves (codes "RESCUE") (Listing tree.now.items) result (F.stored files.old) (F.stored files.new)
@@ -44,7 +44,7 @@ pub fn rescue<F: Files>(tree: &Tree, files: &mut F) -> Result<(), FileRefusal>
     save(tree, b"RESCUE", files)
 }
 
-/// Writes the listing behind what is begun.
+/// Writes the listing of the tree that is saved behind what is begun.
 #[tactic(auto, using(crate::proofs::Sending::cause_ok, crate::proofs::Sending::cause_err))]
 fn write_listing<F: Files>(tree: &Tree, files: &mut F) -> Result<(), FilesFault>
     requires tree { IsTree tree.now }

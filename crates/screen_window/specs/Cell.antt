@@ -2,11 +2,11 @@
 use Rattle.std.specs.Prelude.{ℕ, ◌+◌, ◌-◌, Bool, nat_le, ◌||◌, if◌then◌else◌}
 use Rattle.plcs_base.specs.Byte.{is_printable}
 
--- a blank in default image
+-- the cell of a blank in default image
 abbrev pub blank : ℕ
 blank = 32
 
--- a byte as a cell: in negative image 256 more than the byte
+-- a byte as a cell of the screen: in negative image 256 more than the byte
 abbrev pub cell_of : Bool → ℕ → ℕ
 cell_of negative byte = if negative then byte + 256 else byte
 

@@ -12,29 +12,29 @@ use Rattle.screen_window.specs.LowerRows.{input_row}
 use Rattle.screen_window.specs.PlainView.{PlainView}
 use Rattle.screen_window.specs.Window.{window_line}
 
--- a row and a column, which count from 1
+-- a place of the cursor on the screen: a row and a column, which count from 1
 pub record CursorPlace : Type 0 where
   pub row : ℕ
   pub col : ℕ
 
--- the column, or the last but one where it lies beyond
+-- the column of the cursor, or the last but one where it lies beyond
 abbrev pub cut_col : ℕ → ℕ → ℕ
 cut_col cols col = min col (cols - 1)
 
 -- ---- behind the typed line
 
--- behind the typed line, in the last row
+-- the place of the cursor behind the typed line, in the last row
 abbrev pub typed_place : ℕ → ℕ → PlainView → CursorPlace
 typed_place rows cols view = record { row = rows; col = cut_col cols (length (input_row cols view) + 1) }
 
 -- ---- at the stop
 
--- whether the part of a stretch is that of the number
+-- whether a stretch of the cursor's line stands in the part of the number, at which the cursor is
 abbrev pub is_part : ℕ → Option ℕ → Bool
 is_part part None = false
 is_part part (Some own) = own == part
 
--- how many bytes of a line stand before its part of the number
+-- how many bytes of the cursor's line stand before the part of the number, at which the cursor is
 abbrev pub bytes_before : ℕ → List Stretch → ℕ
 bytes_before part [] = 0
 bytes_before part (stretch ∷ stretches) = if is_part part stretch.part then 0 else length stretch.bytes + bytes_before part stretches
@@ -44,25 +44,29 @@ abbrev pub stop_offset : PlainNode → Option ℕ → ℕ
 stop_offset node None = 0
 stop_offset node (Some part) = bytes_before part (stretches_of 0 (row_of node.label.kind).line node.label.parts)
 
--- the column of the stop: behind the margin and the blanks of the node's level, which is one less than its path is long
+-- the column of the cursor at its stop: behind the margin and the blanks of the node's level, which is one less than
+-- its path is long
 abbrev pub stop_col : List ℕ → Option ℕ → PlainNode → ℕ
 stop_col path part node = 3 + 2 * (length path - 1) + stop_offset node part
 
--- whether a line of the program, if there is one in a row, is the first of the node in the slot
+-- whether the program's line in a row of the window, if there is one, is that of the cursor's stop: the first of the
+-- node in the slot
 abbrev pub begins_node : ℕ → Option LaidLine → Bool
 begins_node slot None = false
 begins_node slot (Some laid) = is_line record { slot = slot; kind = First } laid
 
--- the first row of the window, which has so many, that shows the node's first line; rows count from 0
+-- the row of the window in which the cursor is at its stop: the first, of so many, that shows the node's first line;
+-- rows count from 0
 abbrev pub node_row : ℕ → PlainView → ℕ → Option ℕ
 node_row window view slot = find (λ row. begins_node slot (window_line view row)) (range_with_len 0 window)
 
--- at the stop in this row of the window; where the window doesn't show its line, in the first place
+-- the place of the cursor at its stop in this row of the window; where the window doesn't show its line, the first
+-- place
 abbrev pub place_in_row : ℕ → ℕ → Option ℕ → CursorPlace
 place_in_row cols col None = record { row = 1; col = 1 }
 place_in_row cols col (Some row) = record { row = row + 1; col = cut_col cols col }
 
--- at the stop in the node; where there is no such node, in the first place
+-- the place of the cursor at its stop in the node; where there is no such node, the first place
 abbrev pub stop_place : (rows cols : ℕ) → PlainView → Option PlainNode → CursorPlace
 stop_place rows cols view None = record { row = 1; col = 1 }
 stop_place rows cols view (Some node) =
@@ -70,7 +74,7 @@ stop_place rows cols view (Some node) =
 
 -- ---- the cursor
 
--- behind the typed line, or where it is empty at the stop
+-- the place of the cursor: behind the typed line, or where that is empty at its stop
 abbrev pub cursor_place : ℕ → ℕ → PlainView → CursorPlace
 cursor_place rows cols view =
     if length view.typed == 0 then stop_place rows cols view (node_at view.items view.stop.path) else typed_place rows cols view

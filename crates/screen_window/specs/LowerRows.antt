@@ -1,4 +1,4 @@
--- The rows below the window: the output, the message, the prompt and the typed line.
+-- The rows below the window: the output, the message or mark, the prompt and the typed line.
 use Rattle.std.specs.Prelude.{ℕ, ◌-◌, List, [], ◌∷◌, ◌++◌, length, drop, slice_index_or, Option, Some, None, codes}
 use Rattle.std.specs.FinMap.{get}
 use Rattle.plcs_base.specs.declared.mark.MarkKind.{MarkKind}
@@ -18,11 +18,11 @@ abbrev pub output_lines : List ℕ → List (List ℕ)
 output_lines [] = []
 output_lines (byte ∷ bytes) = split_at_ends [] (byte ∷ bytes)
 
--- the last ones, at most as many as there is room for
+-- the last ones of the output's lines, or of the typed line's bytes, at most as many as there is room for
 abbrev pub last_ones : {X : Type 0} → ℕ → List X → List X
 last_ones room items = drop (length items - room) items
 
--- how many rows show the output
+-- how many rows below the window show the output
 abbrev pub output_rows : ℕ
 output_rows = OUTPUT_ROWS
 
@@ -32,7 +32,7 @@ output_row output row = slice_index_or (last_ones output_rows (output_lines outp
 
 -- ---- the message
 
--- the text of each mark
+-- the text of each mark in the row of the message
 abbrev pub mark_text : MarkKind → List ℕ
 mark_text Undeclared = codes "UNDECLARED"
 mark_text TypeMismatch = codes "TYPE MISMATCH"
@@ -46,12 +46,13 @@ mark_text ParameterUndeclared = codes "PARAMETER UNDECLARED"
 mark_text TooManyCells = codes "TOO MANY CELLS"
 mark_text Reserved = codes "RESERVED"
 
--- the text of a mark, if there is one
+-- the text of a mark in the row of the message, if there is a mark
 abbrev pub marked_text : Option MarkKind → List ℕ
 marked_text None = []
 marked_text (Some mark) = mark_text mark
 
--- the part whose phrase is the one at the cursor: that of the stop, or at the node of an assignment its only one
+-- the number of the part at the cursor, whose mark the row of the message shows: that of the stop, or at the node of an
+-- assignment its only part
 abbrev pub cursor_part : NodeKind → Option ℕ → Option ℕ
 cursor_part kind (Some part) = Some part
 cursor_part NodeKind.Assign None = Some 0
@@ -61,22 +62,22 @@ cursor_part NodeKind.ProcedureHole None = None
 cursor_part NodeKind.Main None = None
 cursor_part (NodeKind.Filled template) None = None
 
--- the mark of a part of the node, if it has one
+-- the mark of a part of the node at the cursor, if it has one
 abbrev pub part_mark : MarkMap → ℕ → Option ℕ → Option MarkKind
 part_mark marks slot None = None
 part_mark marks slot (Some part) = get marks record { slot = record { 0 = slot }; part = part }
 
--- the mark of the cursor's phrase or assignment, if it has one
+-- the mark of the phrase or the assignment at the cursor, if it has one
 abbrev pub cursor_mark : MarkMap → Option ℕ → Option PlainNode → Option MarkKind
 cursor_mark marks part None = None
 cursor_mark marks part (Some node) = part_mark marks node.label.slot (cursor_part node.label.kind part)
 
--- the message, or where it is empty the mark at the cursor
+-- the message, or where it is empty the text of the mark at the cursor
 abbrev pub message_or : List ℕ → List ℕ → List ℕ
 message_or [] mark = mark
 message_or (byte ∷ bytes) mark = byte ∷ bytes
 
--- the row of the message
+-- the row of the message of a view, in which the mark at the cursor may stand
 abbrev pub message_row : PlainView → List ℕ
 message_row view = message_or view.message (marked_text (cursor_mark view.marks view.stop.part (node_at view.items view.stop.path)))
 

@@ -10,7 +10,7 @@ use Rattle.unparse_layout.specs.declared.line.LineKind.TheVariants.{First, Lead,
 use Rattle.unparse_layout.specs.LaidLine.{LaidLine}
 use Rattle.screen_window.specs.declared.node_line.NodeLine.{NodeLine}
 
--- whether two kinds of line are the same
+-- whether two kinds of a node's lines are the same
 abbrev pub same_kind : LineKind → LineKind → Bool
 same_kind First First = true
 same_kind First Lead = false
@@ -29,38 +29,40 @@ same_kind Last Lead = false
 same_kind Last Elision = false
 same_kind Last Last = true
 
--- whether a laid line is that line
+-- whether a laid line is this line, which is told by its node
 abbrev pub is_line : NodeLine → LaidLine → Bool
 is_line line laid = (laid.slot == line.slot) && same_kind line.kind laid.kind
 
 -- ---- the line of a place of a run
 
--- main, or a procedure or a hole for one
+-- for the line of a point of a run: whether the sort is that of main, or of a procedure or a hole for one
 abbrev pub is_outer : Sort → Bool
 is_outer Main = true
 is_outer Procedure = true
 is_outer Declaration = false
 is_outer Statement = false
 
--- whether a node is a procedure, which has a last line
+-- whether a node is a procedure, which has a last line on which a point of a run may be shown
 abbrev pub is_procedure : NodeKind → Bool
 is_procedure kind = is_outer (row_of kind).sort && is_some (row_of kind).last
 
--- the line of a node on which a point of it is shown: point 1 of a procedure on its last line, every other on its first
+-- the line of a node on which a point of a run is shown: point 1 of a procedure on its last line, every other on its
+-- first
 abbrev pub point_line : Label → ℕ → NodeLine
 point_line label point = record { slot = label.slot; kind = if is_procedure label.kind && (point == 1) then Last else First }
 
--- the line of what stands inside a node: where the node is elided, the line that stands for its refinement
+-- the line on which a place of a run inside a node is shown: where the node is elided, the line that stands for its
+-- refinement
 abbrev pub line_inside : Label → Option NodeLine → Option NodeLine
 line_inside label None = None
 line_inside label (Some line) = Some (if label.elided then record { slot = label.slot; kind = Elision } else line)
 
--- the one, or else the other
+-- the line that was found for a place of a run, or where none was the other one
 abbrev pub first_line : Option NodeLine → Option NodeLine → Option NodeLine
 first_line None other = other
 first_line (Some line) other = Some line
 
--- the line on which a point of what stands in a slot is shown, if the slot is live
+-- the line on which a place of a run is shown, a point of what stands in a slot, if the slot is live
 abbrev pub place_line : (slot point : ℕ) → Forest → Option NodeLine
 place_line slot point Forest.nil = None
 place_line slot point (Forest.cons label inner rest) =

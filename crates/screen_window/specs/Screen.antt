@@ -1,4 +1,4 @@
--- The grid on which a view is shown.
+-- The grid on which a view is shown, row by row, and how many of its rows the window has.
 use Rattle.std.specs.Prelude.{ℕ, ◌+◌, ◌-◌, ◌==◌, nat_lt, if◌then◌else◌, List, map, replicate}
 use Rattle.std.specs.List.{range_with_len}
 use Rattle.screen_window.specs.Cursor.{cursor_place}
@@ -10,12 +10,12 @@ use Rattle.screen_window.specs.Window.{window_row}
 
 -- ---- the rows
 
--- how many rows of the screen the window has
+-- how many of a screen's rows are the window's: all but the six below it
 abbrev pub window_rows : ℕ → ℕ
 window_rows rows = rows - 6
 
--- what stands in each row, which counts from 0: the window, a row of dashes, three rows of output, the message, and the
--- prompt with the typed line
+-- what stands in each row of the screen, which counts from 0: the window, a row of dashes, three rows of output, the
+-- message, and the prompt with the typed line
 unfoldable pub screen_row : (rows cols : ℕ) → PlainView → ℕ → List ℕ
 screen_row rows cols view row =
     if nat_lt row (window_rows rows) then window_row view row
@@ -26,7 +26,7 @@ screen_row rows cols view row =
 
 -- ---- the grid
 
--- the grid of so many rows and columns on which the view is shown
+-- the whole grid of so many rows and columns on which the view is shown
 unfoldable pub Screen : (rows cols : ℕ) → PlainView → PlainGrid
 Screen rows cols view =
     let cursor = cursor_place rows cols view in

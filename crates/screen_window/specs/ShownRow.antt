@@ -3,7 +3,7 @@ use Rattle.std.specs.Prelude.{ℕ, ◌+◌, Bool, nat_lt, if◌then◌else◌, L
 use Rattle.std.specs.List.{range_with_len}
 use Rattle.screen_window.specs.Cell.{blank, is_cell}
 
--- what is no cell is shown as a blank
+-- the cell that a row of a grid shows: what is no cell is shown as a blank
 abbrev pub shown_cell : ℕ → ℕ
 shown_cell cell = if is_cell cell then cell else blank
 

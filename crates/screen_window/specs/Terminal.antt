@@ -11,11 +11,11 @@ use Rattle.screen_window.specs.PlainTerminal.{PlainTerminal}
 
 -- ---- digits and `;` behind `ESC [`
 
--- a number with one more digit; one past 9999, which is past any screen, counts as 9999
+-- a number in a control sequence with one more digit; one past 9999, which is past any screen, counts as 9999
 abbrev pub longer : ℕ → ℕ → ℕ
 longer value digit = min (value * 10 + digit) 9999
 
--- what was gathered, and then a digit of this value
+-- what a terminal gathered of a sequence, and then a digit of this value
 abbrev pub with_digit : Gathered → ℕ → Gathered
 with_digit Nothing digit = Digit digit
 with_digit (Digit value) digit = Number (longer value digit)
@@ -24,7 +24,7 @@ with_digit (Row row) digit = Position row digit
 with_digit (Position row col) digit = Position row (longer col digit)
 with_digit Other digit = Other
 
--- what was gathered, and then a `;`
+-- what a terminal gathered of a sequence, and then a `;`
 abbrev pub with_separator : Gathered → Gathered
 with_separator Nothing = Other
 with_separator (Digit value) = Row value
@@ -39,16 +39,16 @@ with_separator Other = Other
 abbrev pub with_sequence : PlainTerminal → Sequence → PlainTerminal
 with_sequence z sequence = record z { sequence = sequence }
 
--- of so many rows or columns, how many are before the one of this number, which counts from 1; a number outside is cut
--- to the nearest
+-- where a terminal's cursor is moved: of so many rows or columns, how many are before the one of this number, which
+-- counts from 1; a number outside is cut to the nearest
 abbrev pub nearest : ℕ → ℕ → ℕ
 nearest count number = min (number - 1) (count - 1)
 
--- the cursor at a row and a column, which count from 1
+-- the terminal with its cursor moved to a row and a column, which count from 1
 abbrev pub moved : PlainTerminal → ℕ → ℕ → PlainTerminal
 moved z row col = record z { above = nearest z.rows row; before = nearest z.cols col }
 
--- the row of the cursor
+-- the cells of the terminal's row in which its cursor is
 abbrev pub cursor_line : PlainTerminal → List ℕ
 cursor_line z = slice_index_or z.lines z.above []
 
@@ -56,33 +56,34 @@ cursor_line z = slice_index_or z.lines z.above []
 abbrev pub with_line : PlainTerminal → List ℕ → PlainTerminal
 with_line z line = record z { lines = slice_set z.lines z.above line }
 
--- the cell at the cursor is set in the current image, and the cursor moves right, but at the last column
+-- the terminal after a printable byte: the cell at the cursor is set in the current image, and the cursor moves right,
+-- but at the last column
 abbrev pub typed : PlainTerminal → ℕ → PlainTerminal
 typed z byte = record (with_line z (slice_set (cursor_line z) z.before (cell_of z.negative byte))) { before = min (z.before + 1) (z.cols - 1) }
 
--- blanks from the cursor to the row's end
+-- the terminal with blanks from the cursor to the row's end
 abbrev pub tail_blanked : PlainTerminal → PlainTerminal
 tail_blanked z = with_line z (take z.before (cursor_line z) ++ replicate (z.cols - z.before) blank)
 
--- blanks everywhere
+-- the terminal with blanks everywhere
 abbrev pub cleared : PlainTerminal → PlainTerminal
 cleared z = record z { lines = blank_lines z.rows z.cols }
 
--- the image set
+-- the terminal with the image set
 abbrev pub with_image : PlainTerminal → Bool → PlainTerminal
 with_image z negative = record z { negative = negative }
 
 -- ---- what ends a sequence
 
--- one digit and then the byte that ends the sequence: `2J`, `7m` and `0m`
+-- what a terminal makes of one digit and then the byte that ends the sequence: `2J`, `7m` and `0m`
 abbrev pub ended_behind_digit : PlainTerminal → ℕ → ℕ → PlainTerminal
 ended_behind_digit z digit byte =
     if byte == 74 then (if digit == 2 then cleared z else z)
     else (if byte == 109 then (if digit == 7 then with_image z true else (if digit == 0 then with_image z false else z))
     else z)
 
--- what was gathered and then the byte that ends the sequence: `K`, a position and `H`, or what stands behind one digit;
--- any other does nothing
+-- what a terminal makes of what it gathered and then the byte that ends the sequence: `K`, a position and `H`, or what
+-- stands behind one digit; any other does nothing
 abbrev pub ended : PlainTerminal → Gathered → ℕ → PlainTerminal
 ended z Nothing byte = if byte == 75 then tail_blanked z else z
 ended z (Digit digit) byte = ended_behind_digit z digit byte
@@ -93,7 +94,7 @@ ended z Other byte = z
 
 -- ---- bytes
 
--- one byte, by what was taken of a sequence
+-- what a terminal makes of one byte, by what was taken of a sequence
 abbrev pub step_in : Sequence → PlainTerminal → ℕ → PlainTerminal
 step_in Absent z byte = if byte == 27 then with_sequence z Escape else (if is_printable byte then typed z byte else z)
 step_in Escape z byte = with_sequence z (if byte == 91 then Behind Nothing else Absent)
@@ -102,7 +103,7 @@ step_in (Behind gathered) z byte =
     else (if byte == 59 then with_sequence z (Behind (with_separator gathered))
     else with_sequence (ended z gathered byte) Absent)
 
--- one byte
+-- what a terminal makes of one byte
 abbrev pub step : PlainTerminal → ℕ → PlainTerminal
 step z byte = step_in z.sequence z byte
 

@@ -1,4 +1,4 @@
--- Views as plain data.
+-- The plain form of a view of the code.
 use Rattle.std.specs.Prelude.{map, option_map}
 use Rattle.plcs_base.specs.Mark.{MarkMap}
 use Rattle.template_tree.specs.PlainTree.{roomless}
@@ -6,7 +6,7 @@ use Rattle.template_tree.specs.Stop.{plain_stop}
 use Rattle.screen_window.specs.declared.view.View.{View}
 use Rattle.screen_window.specs.PlainView.{PlainView}
 
--- a view as plain data, where the marks are told so; the room of the program's lists is no part of it
+-- the plain form of a view of the code, where the marks are told so; the room of the program's lists is no part of it
 abbrev pub plain_view : {W M : Type 0} → (M → MarkMap) → View W M → PlainView
 plain_view marks view = record {
   items = roomless view.tree.now.items;

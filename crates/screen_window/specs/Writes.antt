@@ -5,8 +5,8 @@ use Rattle.synth_outside.specs.Cause.{HasCause}
 use Rattle.synth_outside.specs.Sink.{AppendsFront}
 use Rattle.synth_outside.specs.declared.faults.SinkFault.{SinkFault}
 
--- the sink took all the bytes, or where a write gave no answer a front of them; and a failure was
--- counted
+-- where some bytes are written, the sink took all of them, or where a write gave no answer a front of them; and a
+-- failure was counted
 pub record Writes {T : Type 0} (bytes : List ℕ) (result : Result T SinkFault)
     (taken_before taken_now : Option (List ℕ)) (faults_before faults_now : ℕ) : Type 0 where
   pub all : OnOk result (Appends taken_before taken_now bytes)

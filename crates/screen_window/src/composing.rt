@@ -80,7 +80,8 @@ fn draw_rows<W: Work, M: Marked>(
     found
 }
 
-/// The program's line in a row of the screen, where that lies in the window, which has so many rows.
+/// The program's line in a row of the screen that is drawn, where that lies in the window, which has so
+/// many rows.
 fn laid_line<W: Work, M: Marked>(
     view: &View<'_, W, M>,
     window: u16,
@@ -105,7 +106,8 @@ fn laid_line<W: Work, M: Marked>(
     }
 }
 
-/// The slot of the node at which the cursor stands, if there is one.
+/// The slot of the node whose first line is looked for while a view is drawn: the one at which the cursor
+/// stands, if there is one.
 fn stop_slot(tree: &Tree, stop: &Stop) -> Option<u32>
     requires { IsTree tree.now }
     ensures { result ≡ slot_at (roomless tree.now.items) stop.now.path.items }
@@ -114,7 +116,8 @@ fn stop_slot(tree: &Tree, stop: &Stop) -> Option<u32>
     Some(node.slot().0)
 }
 
-/// Whether a line is the first of the node in the slot, where there is one.
+/// Whether a line that is drawn is that of the cursor's stop: the first of the node in the slot, where
+/// there is a slot.
 fn begins_stop<W>(slot: Option<u32>, laid: Option<&Line<W>>) -> bool
     ensures { result ≡ begins_stop slot (option_map (λ line. line.now) laid.entry) }
 {
@@ -124,7 +127,7 @@ fn begins_stop<W>(slot: Option<u32>, laid: Option<&Line<W>>) -> bool
     }
 }
 
-/// Whether a line is the first of the node in the slot.
+/// Whether a line that is drawn, if there is one, is the first of the node in the slot.
 fn begins_node<W>(slot: u32, laid: Option<&Line<W>>) -> bool
     ensures { result ≡ begins_node slot (option_map (λ line. line.now) laid.entry) }
 {
@@ -140,7 +143,7 @@ fn begins_node<W>(slot: u32, laid: Option<&Line<W>>) -> bool
     }
 }
 
-/// The row that was found, or else this one where it is the one that is looked for.
+/// The row of the cursor's stop that was found while a view is drawn, or else this one where it is that.
 fn found_or(found: Option<u16>, here: bool, row: u16) -> Option<u16>
     ensures { result ≡ found_or found here row }
 {
@@ -151,8 +154,8 @@ fn found_or(found: Option<u16>, here: bool, row: u16) -> Option<u16>
     }
 }
 
-/// The row and the column of the cursor, which count from 1, where the line of its stop is in this row of
-/// the window, which counts from 0.
+/// The row and the column of the cursor on the grid of a view, which count from 1, where the line of its
+/// stop was found in this row of the window, which counts from 0.
 fn cursor_place<W: Work, M: Marked>(
     rows: u16,
     cols: u16,
@@ -178,7 +181,8 @@ fn cursor_place<W: Work, M: Marked>(
     }
 }
 
-/// The column behind the prompt and the end of the typed line, or the last but one where it lies beyond.
+/// The column of the cursor of a view with a typed line: behind the prompt and the line's end, or the
+/// last but one where it lies beyond.
 fn typed_col(cols: u16, prompt: &[u8], typed: &[u8]) -> u16
     requires least { 40 ≤ cols }
     requires most { cols ≤ 160 }
@@ -219,7 +223,7 @@ fn draw_row<W: Work, M: Marked>(
     }
 }
 
-/// What is written in a row below the window.
+/// What is drawn of a view in a row below the window: the dashes, or one of the lower rows.
 #[tactic(auto, unfolding(crate::specs::Screen::screen_row))]
 fn lower_text<'a, W: Work, M: Marked>(
     view: &View<'a, W, M>,
@@ -249,7 +253,8 @@ fn lower_text<'a, W: Work, M: Marked>(
     }
 }
 
-/// An instruction, or nothing below the last.
+/// The instruction that is drawn in a row of a view's window, where code is shown, or nothing below the
+/// last.
 fn code_text(rows: &[Vec<u8>], row: u16) -> &[u8]
     ensures { result.now ≡ slice_index_or (map (λ text. text.items) rows.now) row [] }
 {
@@ -259,7 +264,8 @@ fn code_text(rows: &[Vec<u8>], row: u16) -> &[u8]
     }
 }
 
-/// A line of the program, or nothing below the last.
+/// What is drawn in a row of a view's window, where the program is shown: its line, or nothing below the
+/// last.
 fn line_text<'a, W>(run: Option<NodeLine>, laid: Option<&'a Line<W>>) -> RowText<'a>
     ensures { (cols : ℕ) → text_cells cols result ≡ line_row run (option_map (λ line. line.now) laid.entry) }
 {
@@ -269,7 +275,7 @@ fn line_text<'a, W>(run: Option<NodeLine>, laid: Option<&'a Line<W>>) -> RowText
     }
 }
 
-/// Whether a laid line is that of the run's place.
+/// Whether a line that is drawn is that of the run's place, if there is one.
 fn is_run_line<W>(run: Option<NodeLine>, laid: &Line<W>) -> bool
     ensures { result ≡ is_run_line run laid.now }
 {
@@ -279,7 +285,8 @@ fn is_run_line<W>(run: Option<NodeLine>, laid: &Line<W>) -> bool
     }
 }
 
-/// The line of the run's place, if a run stands and its slot is live.
+/// The line in whose margin a view's run is drawn: that of its place, if a run stands and its slot is
+/// live.
 fn run_line(tree: &Tree, place: Option<Place>) -> Option<NodeLine>
     requires { IsTree tree.now }
     ensures { result ≡ run_line (roomless tree.now.items) place }

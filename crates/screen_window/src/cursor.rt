@@ -11,7 +11,8 @@ ghost use Rattle.screen_window.specs.Private.Capped.{capped};
 use plcs_grammar::{Category, Segment, shown_len};
 use template_tree::{Node, PhrasePlace, Stop};
 
-/// The column of a stop in the node, which counts from 1, or the last but one where it lies beyond.
+/// The column of the cursor at a stop in the node, which counts from 1, or the last but one where it lies
+/// beyond.
 pub fn stop_col(cols: u16, stop: &Stop, node: &Node) -> u16
     ensures { result ≡ cut_col cols (stop_col stop.now.path.items stop.now.part node.now) }
 {
@@ -31,7 +32,8 @@ fn stop_offset(node: &Node, part: Option<u8>) -> u32
     }
 }
 
-/// How many bytes of these segments, of which the next part has this number, stand before a part.
+/// How many bytes of these segments, of which the next part has this number, stand before the part at
+/// which the cursor is.
 fn bytes_before(node: &Node, part: u8, segments: &[Segment], next: u8) -> u32
     requires { next + length segments.now ≤ 100 }
     ensures { result ≡ capped (bytes_before part (stretches_of next (map plain_segment segments.now) node.now.label.parts)) }
@@ -52,14 +54,14 @@ fn bytes_before(node: &Node, part: u8, segments: &[Segment], next: u8) -> u32
     }
 }
 
-/// A number, or the greatest one that is kept.
+/// A number of bytes before the cursor, or the greatest one that is kept in 32 bits.
 fn capped(number: usize) -> u32
     ensures { result ≡ capped number }
 {
     number.min(4_294_967_295) as u32
 }
 
-/// How many bytes are written for the part of this number.
+/// How many bytes of the cursor's line are written for the part of this number.
 fn part_len(node: &Node, category: Category, part: u8) -> u32
     ensures { result ≡ capped (length (part_text category (part_at node.now.label.parts part))) }
 {

@@ -65,7 +65,7 @@ impl Grid {
         })
     }
 
-    /// The number of rows.
+    /// The number of the grid's rows.
     pub fn rows(&self) -> u16
         ensures value { result ≡ self.now.rows }
         ensures lines { length self.now.lines ≡ result }
@@ -75,7 +75,7 @@ impl Grid {
         self.lines.len() as u16
     }
 
-    /// The number of columns.
+    /// The number of the grid's columns.
     pub fn cols(&self) -> u16
         ensures value { result ≡ self.now.cols }
         ensures least { FEWEST_COLS ≤ result }
@@ -85,7 +85,7 @@ impl Grid {
         self.cols
     }
 
-    /// The cells of a row, which counts from 1.
+    /// The cells of a row of the grid, which counts from 1.
     pub fn cells(&self, row: u16) -> &[u16]
         requires least { 1 ≤ row }
         requires most { row ≤ self.now.rows }
@@ -95,7 +95,7 @@ impl Grid {
         self.lines[usize::from(row - 1)].as_slice()
     }
 
-    /// The row and the column of the cursor.
+    /// The row and the column of the grid's cursor.
     pub fn cursor(&self) -> (u16, u16)
         ensures row { result.0 ≡ self.now.row }
         ensures col { result.1 ≡ self.now.col }
@@ -105,7 +105,7 @@ impl Grid {
 }
 
 impl Grid {
-    /// Shows what is written in a row, which counts from 0.
+    /// Shows on the grid what is written in a row, which counts from 0.
     pub(crate) fn show(&mut self, row: u16, text: RowText<'_>)
         requires { row < self.old.rows }
         ensures { self.new ≡ with_row self.old row (shown_row self.old.cols (text_cells self.old.cols text.entry)) }
@@ -113,7 +113,7 @@ impl Grid {
         show_row(&mut self.lines[usize::from(row)], text);
     }
 
-    /// Places the cursor.
+    /// Places the grid's cursor.
     pub(crate) fn place_cursor(&mut self, row: u16, col: u16)
         requires least_row { 1 ≤ row }
         requires most_row { row ≤ self.old.rows }

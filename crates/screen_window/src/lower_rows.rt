@@ -1,4 +1,4 @@
-//! The rows below the window: the output, the message, the prompt and the typed line.
+//! The rows below the window: the output, the message or mark, the prompt and the typed line.
 
 ghost use Rattle.std.specs.Prelude.{◌≡◌, ◌+◌, ◌≤◌, [], length, slice_index_or};
 ghost use Rattle.template_tree.specs.Listing.{split_at_ends};
@@ -26,7 +26,7 @@ pub fn output_row(output: &[u8], row: usize) -> &[u8]
     line_at(output, line_count(output).saturating_sub(OUTPUT_ROWS) + row)
 }
 
-/// How many lines there are.
+/// How many lines the bytes of the output are split into.
 fn line_count(bytes: &[u8]) -> usize
     ensures lines { result ≡ length (split_at_ends [] bytes.now) }
     ensures few { result ≤ length bytes.now + 1 }
@@ -41,7 +41,7 @@ fn line_count(bytes: &[u8]) -> usize
     ends + 1
 }
 
-/// The line of the number, which counts from 0, or nothing behind the last.
+/// The output's line of the number, which counts from 0, or nothing behind the last.
 fn line_at(bytes: &[u8], number: usize) -> &[u8]
     ensures { result.now ≡ slice_index_or (split_at_ends [] bytes.now) number [] }
 {
@@ -60,7 +60,7 @@ fn line_at(bytes: &[u8], number: usize) -> &[u8]
     if left == 0 { &bytes[start..] } else { &[] }
 }
 
-/// The message, or where it is empty the mark at the cursor.
+/// The row of the message: the message, or where it is empty the mark at the cursor.
 pub fn message_row<'a, M: Marked>(
     message: &'a [u8],
     tree: &Tree,
@@ -79,7 +79,7 @@ pub fn message_row<'a, M: Marked>(
     }
 }
 
-/// The mark of the cursor's phrase or assignment, if it has one.
+/// The mark of the phrase or the assignment at the cursor, if it has one.
 fn cursor_mark<M: Marked>(tree: &Tree, stop: &Stop, marks: &M) -> Option<MarkKind>
     requires { IsTree tree.now }
     ensures { result ≡ cursor_mark (M.marks marks.now) stop.now.part (node_at (roomless tree.now.items) stop.now.path.items) }
@@ -92,8 +92,8 @@ fn cursor_mark<M: Marked>(tree: &Tree, stop: &Stop, marks: &M) -> Option<MarkKin
     })
 }
 
-/// The part of a node of the kind whose phrase is the one at the cursor: the part at which the cursor stands,
-/// or at the node of an assignment its only one. It takes no memory.
+/// The number of the part at the cursor in a node of the kind, whose mark the row of the message shows:
+/// the part at which the cursor stands, or at the node of an assignment its only one. It takes no memory.
 pub fn cursor_part(kind: NodeKind, part: Option<u8>) -> Option<u8>
     ensures { result ≡ cursor_part kind part }
 {
@@ -106,7 +106,7 @@ pub fn cursor_part(kind: NodeKind, part: Option<u8>) -> Option<u8>
     }
 }
 
-/// The text of a mark.
+/// The text of a mark in the row of the message.
 fn mark_text(mark: MarkKind) -> &'static [u8]
     ensures { result.now ≡ mark_text mark }
 {

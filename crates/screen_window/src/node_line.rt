@@ -13,7 +13,7 @@ use plcs_grammar::{NodeKind, Sort};
 use template_tree::{Node, Path, Tree};
 use unparse_layout::{Line, LineKind};
 
-/// One of the lines of the node in a slot.
+/// A line of the screen, told as one of the lines of the node in a slot.
 #[derive(Clone, Copy)]
 pub struct NodeLine {
     /// The slot.
@@ -22,14 +22,14 @@ pub struct NodeLine {
     pub kind: LineKind,
 }
 
-/// Whether a laid line is that line.
+/// Whether a laid line is this line, which is told by its node.
 pub fn is_line<W>(line: NodeLine, laid: &Line<W>) -> bool
     ensures { result ≡ is_line line laid.now }
 {
     laid.slot().0 == line.slot && same_kind(line.kind, laid.kind())
 }
 
-/// Whether two kinds of line are the same.
+/// Whether two kinds of a node's lines are the same.
 fn same_kind(one: LineKind, other: LineKind) -> bool
     ensures { result ≡ same_kind one other }
 {
@@ -55,7 +55,7 @@ pub fn place_line(tree: &Tree, place: Place) -> Option<NodeLine>
     None
 }
 
-/// The line of what stands in an item of the program.
+/// The line on which a place of a run is shown that stands in an item of the program.
 fn line_of_item(tree: &Tree, k: u32, place: Place) -> Option<NodeLine>
     requires { IsTree tree.now }
     ensures { result ≡ item_line place.slot.0 place.point.0 (slice_get (nodes tree.now.items) k) }
@@ -65,7 +65,7 @@ fn line_of_item(tree: &Tree, k: u32, place: Place) -> Option<NodeLine>
     line_at(tree.node(&path)?, place)
 }
 
-/// The line of what stands in a node, or is the node.
+/// The line on which a place of a run is shown that is the node, or stands inside it.
 #[cycle(line)]
 fn line_at(node: &Node, place: Place) -> Option<NodeLine>
     requires { count node.now.inner ≤ most_slots }
@@ -85,7 +85,7 @@ fn line_at(node: &Node, place: Place) -> Option<NodeLine>
     })
 }
 
-/// The line of what stands inside a node, as if the node weren't elided.
+/// The line on which a place of a run inside a node is shown, as if the node weren't elided.
 #[cycle(line)]
 fn line_inside(node: &Node, place: Place) -> Option<NodeLine>
     requires { count node.now.inner ≤ most_slots }
@@ -99,7 +99,7 @@ fn line_inside(node: &Node, place: Place) -> Option<NodeLine>
     None
 }
 
-/// The line of what stands in the node of this number inside a node.
+/// The line on which a place of a run is shown that stands in the node of this number inside a node.
 #[cycle(line)]
 fn line_of_child(node: &Node, k: u32, place: Place) -> Option<NodeLine>
     requires { count node.now.inner ≤ most_slots }
@@ -108,7 +108,7 @@ fn line_of_child(node: &Node, k: u32, place: Place) -> Option<NodeLine>
     line_at(node.child(k)?, place)
 }
 
-/// The line of a node on which a point of it is shown.
+/// The line of a node on which a point of a run is shown.
 fn point_line(node: &Node, point: Point) -> NodeLine
     ensures { result ≡ point_line node.now.label point.0 }
 {
@@ -122,7 +122,7 @@ fn point_line(node: &Node, point: Point) -> NodeLine
     }
 }
 
-/// Whether a node is a procedure, which has a last line.
+/// Whether a node is a procedure, which has a last line on which a point of a run may be shown.
 fn is_procedure(kind: NodeKind) -> bool
     ensures { result ≡ is_procedure kind }
 {
@@ -130,7 +130,8 @@ fn is_procedure(kind: NodeKind) -> bool
     is_outer(row.sort) && row.last.is_some()
 }
 
-/// Whether the sort is that of main, or of a procedure or a hole for one.
+/// For the line of a point of a run: whether the sort is that of main, or of a procedure or a hole for
+/// one.
 fn is_outer(sort: Sort) -> bool
     ensures { result ≡ is_outer sort }
 {

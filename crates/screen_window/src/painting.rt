@@ -77,7 +77,7 @@ fn put_row_piece(piece: &mut Piece, number: u16, cells: &[u16])
     put(piece, b"\x1b[K");
 }
 
-/// Appends cells, each in its image.
+/// Appends the bytes of cells to a piece, each in its image.
 fn put_cells(piece: &mut Piece, cells: &[u16])
     requires room { array_vec_len piece.old ≤ 100 }
     requires short { length cells.now ≤ 160 }
@@ -94,7 +94,7 @@ fn put_cells(piece: &mut Piece, cells: &[u16])
     put_image_change(piece, image, false);
 }
 
-/// Appends the sequence that turns negative image on or off, where it isn't so already.
+/// Appends to a piece the sequence that turns negative image on or off, where it isn't so already.
 fn put_image_change(piece: &mut Piece, image: bool, negative: bool)
     requires { array_vec_len piece.old ≤ 1000 }
     ensures change { piece.new.items ≡ piece.old.items ++ image_change image negative }
@@ -107,7 +107,7 @@ fn put_image_change(piece: &mut Piece, image: bool, negative: bool)
     }
 }
 
-/// Appends the sequence that moves the cursor.
+/// Puts into an empty piece the sequence that moves the cursor.
 #[tactic(auto, unfolding(crate::specs::Paint::go_to), using(std::proofs::Common::append_assoc))]
 fn put_go_to(piece: &mut Piece, row: u16, col: u16)
     requires { piece.old.items ≡ [] }
@@ -121,7 +121,7 @@ fn put_go_to(piece: &mut Piece, row: u16, col: u16)
     put(piece, b"H");
 }
 
-/// Appends a number in decimal.
+/// Appends the number of a row or a column to a piece, in decimal.
 fn put_number(piece: &mut Piece, number: u16)
     requires { array_vec_len piece.old ≤ 900 }
     ensures number { piece.new.items ≡ piece.old.items ++ decimal number }
@@ -130,7 +130,7 @@ fn put_number(piece: &mut Piece, number: u16)
     put(piece, itoa::Buffer::new().format(number).as_bytes());
 }
 
-/// How many cells there are up to the last that isn't a blank in default image.
+/// How many cells of a row are painted: those up to the last that isn't a blank in default image.
 fn visible_len(cells: &[u16]) -> usize
     ensures cells { take result cells.now ≡ visible cells.now }
     ensures within { result ≤ length cells.now }
@@ -142,7 +142,8 @@ fn visible_len(cells: &[u16]) -> usize
     len
 }
 
-/// Writes a piece of bytes; what the sink takes in part is written on. It takes no memory of its own.
+/// Writes a piece of bytes to the sink; what that takes in part is written on. It takes no memory of its
+/// own.
 pub fn write_piece<K: Sink>(sink: &mut K, piece: &[u8]) -> Result<(), SinkFault>
     ensures { Writes piece.now result
         (K.taken sink.old) (K.taken sink.new) (K.faults sink.old) (K.faults sink.new) }

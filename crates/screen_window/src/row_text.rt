@@ -1,4 +1,4 @@
-//! Rows of cells, as they are written.
+//! What is written in one row of a grid, and how the cells of the row show it.
 
 ghost use Rattle.std.specs.Prelude.{◌≡◌, ℕ, ◌-◌, List, ◌++◌, length, replicate};
 ghost use Rattle.plcs_base.specs.Byte.{is_printable};
@@ -8,7 +8,7 @@ ghost use Rattle.screen_window.specs.Private.RowText.{text_cells};
 
 use crate::lines::BLANK;
 
-/// What is written in a row.
+/// What is written in a row of a grid.
 #[derive(Clone, Copy)]
 pub enum RowText<'a> {
     /// A line of the program behind its margin, which says whether the run stands there.
@@ -23,7 +23,7 @@ pub enum RowText<'a> {
     Input(&'a [u8], &'a [u8]),
 }
 
-/// Shows what is written in a row of cells.
+/// Shows what is written in a row by the row's cells.
 pub fn show_row(line: &mut Vec<u16>, text: RowText<'_>)
     ensures { line.new.items ≡ shown_row (length line.old.items) (text_cells (length line.old.items) text.entry) }
 {
@@ -45,14 +45,14 @@ pub fn show_row(line: &mut Vec<u16>, text: RowText<'_>)
     }
 }
 
-/// The margin of a line.
+/// The margin of a line or an instruction in its row, which says whether the run stands there.
 fn margin(runs: bool) -> &'static [u8]
     ensures { result.now ≡ margin runs }
 {
     if runs { b"> " } else { b"  " }
 }
 
-/// Shows bytes from a column on, which counts from 0.
+/// Shows bytes in a row from a column on, which counts from 0.
 fn show_bytes(line: &mut Vec<u16>, from: usize, bytes: &[u8])
     ensures first { from ≡ 0 → line.new.items ≡ shown_row (length line.old.items) bytes.now }
     ensures behind { (front : List ℕ) → length front ≡ from → line.old.items ≡ shown_row (length line.old.items) front
@@ -68,7 +68,7 @@ fn show_bytes(line: &mut Vec<u16>, from: usize, bytes: &[u8])
     }
 }
 
-/// Shows cells from a column on, which counts from 0.
+/// Shows cells in a row from a column on, which counts from 0.
 fn show_cells(line: &mut Vec<u16>, from: usize, cells: &[u16])
     ensures { (front : List ℕ) → length front ≡ from → line.old.items ≡ shown_row (length line.old.items) front
         → line.new.items ≡ shown_row (length line.old.items) (front ++ cells.now) }
@@ -83,7 +83,7 @@ fn show_cells(line: &mut Vec<u16>, from: usize, cells: &[u16])
     }
 }
 
-/// Shows dashes in all columns but the last.
+/// Shows dashes in all columns of a row but the last.
 fn show_dashes(line: &mut Vec<u16>)
     ensures { line.new.items ≡ shown_row (length line.old.items) (replicate (length line.old.items - 1) 45) }
 {
@@ -97,21 +97,21 @@ fn show_dashes(line: &mut Vec<u16>)
     }
 }
 
-/// A cell, or a blank in place of what is none.
+/// What a row shows for a number: the cell that it is, or a blank in place of what is none.
 fn shown_cell(cell: u16) -> u16
     ensures { result ≡ shown_cell cell }
 {
     if is_cell(cell) { cell } else { BLANK }
 }
 
-/// Whether a number is a cell.
+/// Whether a number that a row is to show is a cell.
 fn is_cell(cell: u16) -> bool
     ensures { result ≡ is_cell cell }
 {
     is_in_range(cell) || is_in_range(cell.saturating_sub(256))
 }
 
-/// Whether a number is a printable byte.
+/// Whether a number that a row is to show is a printable byte.
 fn is_in_range(byte: u16) -> bool
     ensures { result ≡ is_printable byte }
 {

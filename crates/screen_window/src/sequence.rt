@@ -8,7 +8,7 @@ ghost use Rattle.screen_window.specs.Terminal.{longer, with_digit, with_separato
 pub enum Sequence {
     /// Nothing: no sequence has begun.
     Absent,
-    /// ESC.
+    /// ESC, with which a sequence begins.
     Escape,
     /// `ESC [`, and these bytes behind it.
     Behind(Gathered),
@@ -32,7 +32,7 @@ pub enum Gathered {
 }
 
 impl Gathered {
-    /// With one more digit, of this value.
+    /// What was gathered of a sequence, with one more digit of this value.
     pub fn with_digit(self, digit: u16) -> Self
         requires { digit ≤ 9 }
         ensures { result ≡ with_digit self digit }
@@ -48,7 +48,7 @@ impl Gathered {
         }
     }
 
-    /// With a `;` more.
+    /// What was gathered of a sequence, with a `;` more.
     pub fn with_separator(self) -> Self
         ensures { result ≡ with_separator self }
     {
@@ -61,7 +61,7 @@ impl Gathered {
     }
 }
 
-/// A number with one more digit.
+/// A number in a sequence with one more digit; past 9999 it counts as 9999.
 fn longer(value: u16, digit: u16) -> u16
     requires { digit ≤ 9 }
     ensures { result ≡ longer value digit }

@@ -77,7 +77,7 @@ impl Terminal {
         })
     }
 
-    /// Takes bytes. A sequence that they leave unfinished waits for its next byte.
+    /// Takes bytes on the terminal. A sequence that they leave unfinished waits for its next byte.
     #[tactic(auto, unfolding(crate::specs::Terminal::Term))]
     pub fn take(&mut self, bytes: &[u8])
         ensures taken { self.new ≡ Term self.old bytes.now }
@@ -89,8 +89,8 @@ impl Terminal {
         }
     }
 
-    /// The cells of a row, which counts from 1. A cell is its byte, plus 256 where it is in negative
-    /// image.
+    /// The cells of a row of the terminal, which counts from 1. A cell is its byte, plus 256 where it is
+    /// in negative image.
     pub fn cells(&self, row: u16) -> &[u16]
         requires least { 1 ≤ row }
         requires most { row ≤ self.now.rows }
@@ -100,7 +100,7 @@ impl Terminal {
         self.lines[usize::from(row - 1)].as_slice()
     }
 
-    /// The row and the column of the cursor, which count from 1.
+    /// The row and the column of the terminal's cursor, which count from 1.
     pub fn cursor(&self) -> (u16, u16)
         ensures row { result.0 ≡ self.now.above + 1 }
         ensures col { result.1 ≡ self.now.before + 1 }
@@ -108,7 +108,7 @@ impl Terminal {
         (self.above as u16 + 1, self.before as u16 + 1)
     }
 
-    /// Takes one byte.
+    /// Takes one byte on the terminal, by what it took of a sequence.
     fn take_byte(&mut self, byte: u8)
         ensures { self.new ≡ step self.old byte }
     {
@@ -122,7 +122,7 @@ impl Terminal {
         }
     }
 
-    /// Takes a byte outside of sequences.
+    /// Takes a byte outside of sequences on the terminal: ESC, or a printable one.
     fn take_plain(&mut self, byte: u8)
         requires { self.old.sequence ≡ Sequence.Absent }
         ensures { self.new ≡ step_in Sequence.Absent self.old byte }
@@ -134,7 +134,7 @@ impl Terminal {
         }
     }
 
-    /// Takes a byte behind `ESC [` and what was gathered.
+    /// Takes a byte on the terminal behind `ESC [` and what was gathered.
     fn take_behind(&mut self, gathered: Gathered, byte: u8)
         ensures { self.new ≡ step_in (Sequence.Behind gathered) self.old byte }
     {
@@ -148,7 +148,7 @@ impl Terminal {
         }
     }
 
-    /// Does what a whole sequence says, if it says something.
+    /// Does to the terminal what a whole sequence says, if it says something.
     fn end(&mut self, gathered: Gathered, byte: u8)
         ensures { self.new ≡ ended self.old gathered byte }
     {
@@ -160,7 +160,7 @@ impl Terminal {
         }
     }
 
-    /// Does what a whole sequence of one digit and this byte says, if it says something.
+    /// Does to the terminal what a whole sequence of one digit and this byte says, if it says something.
     fn end_behind_digit(&mut self, digit: u16, byte: u8)
         ensures { self.new ≡ ended_behind_digit self.old digit byte }
     {
@@ -177,7 +177,7 @@ impl Terminal {
         }
     }
 
-    /// Moves the cursor to the cell nearest to a row and a column, which count from 1.
+    /// Moves the terminal's cursor to the cell nearest to a row and a column, which count from 1.
     fn move_to(&mut self, row: u16, col: u16)
         ensures { self.new ≡ moved self.old row col }
     {
@@ -185,14 +185,14 @@ impl Terminal {
         self.before = nearest(self.cols, col);
     }
 
-    /// Blanks all cells.
+    /// Blanks all cells of the terminal.
     fn clear(&mut self)
         ensures { self.new ≡ cleared self.old }
     {
         blank_all(&mut self.lines, self.cols);
     }
 
-    /// Sets the cell at the cursor, and moves the cursor right.
+    /// Sets the terminal's cell at its cursor, and moves the cursor right.
     fn type_byte(&mut self, byte: u8)
         ensures { self.new ≡ typed self.old byte }
     {
@@ -206,7 +206,7 @@ impl Terminal {
     }
 }
 
-/// A byte as a cell of an image.
+/// A byte as a terminal's cell, in negative image or not.
 fn cell_of(negative: bool, byte: u8) -> u16
     ensures { result ≡ cell_of negative byte }
 {
@@ -217,7 +217,8 @@ fn cell_of(negative: bool, byte: u8) -> u16
     }
 }
 
-/// Of so many rows or columns, how many are before the one of this number, which counts from 1.
+/// Where a terminal's cursor is moved: of so many rows or columns, how many are before the one of this
+/// number, which counts from 1.
 fn nearest(count: usize, number: u16) -> usize
     requires { 0 < count }
     ensures result { result ≡ nearest count number }

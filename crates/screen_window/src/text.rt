@@ -5,7 +5,7 @@ ghost use Rattle.arrayvec.specs.ArrayVec.{array_vec_len};
 
 use arrayvec::ArrayVec;
 
-/// Appends bytes to a text that has room for them.
+/// Appends bytes to a text with room for a row; they have to fit.
 pub fn put<const N: usize>(text: &mut ArrayVec<u8, N>, bytes: &[u8])
     requires { array_vec_len text.old + length bytes.now ≤ N }
     ensures { text.new.items ≡ text.old.items ++ bytes.now }

@@ -4,8 +4,8 @@ use plcs_base::{Place, Work};
 use template_tree::{Stop, Tree};
 use unparse_layout::Layout;
 
-/// What is shown on a screen. A byte outside 32 to 126 is shown as a blank, but that each byte 10 splits
-/// the output in lines.
+/// A view: what is shown on a screen. A byte outside 32 to 126 is shown as a blank, but that each byte 10
+/// splits the output in lines.
 #[derive(Drop)]
 pub struct View<'a, W, M> {
     /// The program.

@@ -6,20 +6,20 @@ use Rattle.template_tree.specs.PlainTree.{Forest}
 use Rattle.template_tree.specs.Program.{sort_of}
 use Rattle.template_tree.specs.Section.{left_for, left_after, next_lead}
 
--- what is kept of a node: its slot, its kind, whether it is elided, and whether a line stands before it that
--- the table of templates has there
+-- what a layout keeps of a node: its slot, its kind, whether it is elided, and whether a line stands before it that the
+-- table of templates has there
 pub record Bone : Type 0 where
   pub slot : ℕ
   pub kind : NodeKind
   pub elided : Bool
   pub led : Bool
 
--- nodes in order without their phrases, each with what stands inside it
+-- what a layout keeps of nodes in order: each without its phrases, with what stands inside it
 pub data Bones : Type 0 where
   nil : Bones
   cons : (bone : Bone) (inner rest : Bones) → Bones
 
--- what is kept of nodes for which these sections are left
+-- what a layout keeps of the nodes of a tree, for which these sections are left
 abbrev pub bones_of : (left : List PlainSection) → Forest → Bones
 bones_of left Forest.nil = nil
 bones_of left (Forest.cons label inner rest) =

@@ -7,16 +7,16 @@ use Rattle.unparse_layout.specs.declared.line.LineKind.{LineKind}
 use Rattle.unparse_layout.specs.declared.line.TheConstants.{LONGEST_LINE}
 use Rattle.unparse_layout.specs.OwnedLine.{Stretch, OwnedLine, OwnedLines}
 
--- how many cells a line may have
+-- how many cells a line of the screen may have
 abbrev pub longest_line : ℕ
 longest_line = LONGEST_LINE
 
--- the cell of a byte, in negative image or not
+-- the cell of a byte in a line that is laid, in negative image or not
 abbrev pub cell : Bool → ℕ → ℕ
 cell false byte = byte
 cell true byte = byte + 256
 
--- whether what stands in the part, if it is one, is marked
+-- whether a stretch is marked, of a line that belongs to the slot: it stands in a part that has a mark
 abbrev pub is_marked : MarkMap → ℕ → Option ℕ → Bool
 is_marked marks slot None = false
 is_marked marks slot (Some part) = is_some (get marks record { slot = record { 0 = slot }; part = part })
@@ -40,6 +40,6 @@ pub record LaidLine : Type 0 where
 abbrev pub laid_line : MarkMap → OwnedLine → LaidLine
 laid_line marks line = record { slot = line.slot; kind = line.kind; cells = line_cells marks line }
 
--- the lines that are shown of a program under these marks
+-- the lines that are shown of a program, laid as cells under these marks
 abbrev pub LaidLines : MarkMap → Forest → List LaidLine
 LaidLines marks items = map (laid_line marks) (OwnedLines items)

@@ -9,45 +9,46 @@ use Rattle.template_tree.specs.Section.{left_for, left_after, next_lead}
 use Rattle.template_tree.specs.Line.{Line, Lines, part_text}
 use Rattle.unparse_layout.specs.declared.line.LineKind.{LineKind}
 
--- some bytes of a line, and in which part of the node they stand, if in one
+-- a stretch of a line of the screen: some bytes, and in which part of the node they stand, if in one
 pub record Stretch : Type 0 where
   pub part : Option ℕ
   pub bytes : List ℕ
 
--- a line: the slot of the node to which it belongs, which of the node's lines it is, its level, and what is written
--- behind the level's blanks
+-- a line of the screen: the slot of the node to which it belongs, which of the node's lines it is, its level, and what
+-- is written behind the level's blanks
 pub record OwnedLine : Type 0 where
   pub slot : ℕ
   pub kind : LineKind
   pub level : ℕ
   pub stretches : List Stretch
 
--- what is written for a segment, where the next part has this number
+-- the stretch of a line that is written for a segment of it, where the next part has this number
 abbrev pub stretch_of : (next : ℕ) → PlainSegment → List (Option PlainPhrase) → Stretch
 stretch_of next (PlainSegment.words bytes) parts = record { part = None; bytes = bytes }
 stretch_of next (PlainSegment.part category) parts = record { part = Some next; bytes = part_text category (part_at parts next) }
 
--- the number of the next part after a segment
+-- the number of the next part behind the stretch of a segment
 abbrev pub next_after : ℕ → PlainSegment → ℕ
 next_after next (PlainSegment.words bytes) = next
 next_after next (PlainSegment.part category) = next + 1
 
--- what is written for the segments of a node's first line, whose next part has this number
+-- the stretches of a node's first line, which are written for these segments, of which the next part has this number
 abbrev pub stretches_of : (next : ℕ) → List PlainSegment → List (Option PlainPhrase) → List Stretch
 stretches_of next [] parts = []
 stretches_of next (segment ∷ segments) parts = stretch_of next segment parts ∷ stretches_of (next_after next segment) segments parts
 
--- a line of a node in which no part stands
+-- a line of the screen that belongs to a node, and in which no part stands
 abbrev pub partless_line : ℕ → LineKind → ℕ → List ℕ → OwnedLine
 partless_line slot kind level bytes =
     record { slot = slot; kind = kind; level = level; stretches = record { part = None; bytes = bytes } ∷ [] }
 
--- a line that the table of templates has as it stands, or none where it has none
+-- a line of the screen that belongs to a node, and that the table of templates has as it stands, or none where it has
+-- none
 abbrev pub table_line : ℕ → LineKind → ℕ → Option (List ℕ) → List OwnedLine
 table_line slot kind level None = []
 table_line slot kind level (Some bytes) = partless_line slot kind level bytes ∷ []
 
--- the first line of a node
+-- the first line of a node as a line of the screen, which belongs to that node
 abbrev pub first_line : ℕ → Label → OwnedLine
 first_line level label =
     record { slot = label.slot; kind = LineKind.First; level = level; stretches = stretches_of 0 (row_of label.kind).line label.parts }
@@ -66,14 +67,15 @@ owned_lines owner level left (Forest.cons label inner rest) =
     ++ (table_line label.slot LineKind.Last level (row_of label.kind).last
     ++ owned_lines owner level (left_after here) rest)))
 
--- the lines that are shown of a program; before a section of the program itself no line stands
+-- the lines that are shown of a program, each with the node to which it belongs; before a section of the program itself
+-- no line stands
 abbrev pub OwnedLines : Forest → List OwnedLine
 OwnedLines = owned_lines 0 0 program_sections
 
--- a line without its node
+-- a line of the screen without the node to which it belongs: its level and its text
 abbrev pub bare_line : OwnedLine → Line
 bare_line line = record { level = line.level; text = flat_map (λ stretch. stretch.bytes) line.stretches }
 
--- the lines with their nodes are the lines that are shown
+-- the lines of the screen, without the nodes to which they belong, are the lines that are shown
 abbrev pub OwnedLinesAreLines : Type 0
 OwnedLinesAreLines = (items : Forest) → map bare_line (OwnedLines items) ≡ Lines items

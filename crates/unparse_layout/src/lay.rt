@@ -21,7 +21,7 @@ use template_tree::{Node, PhrasePlace};
 /// What is added to a byte in negative image.
 const NEGATIVE: u16 = 256;
 
-/// Lays the line under these marks.
+/// Lays as cells a line that was found, under these marks.
 pub(crate) fn lay<W, M: Marked>(plan: &Plan, marks: &M) -> Line<W>
     ensures { result ≡ laid_line (M.marks marks.now) (planned plan.now) }
 {
@@ -31,7 +31,7 @@ pub(crate) fn lay<W, M: Marked>(plan: &Plan, marks: &M) -> Line<W>
     }
 }
 
-/// Lays a line in which no part stands.
+/// Lays as cells a line in which no part stands.
 fn lay_fixed<W>(slot: Slot, kind: LineKind, level: u32, bytes: &[u8]) -> Line<W>
     ensures { result ≡ record { slot = slot.0; kind = kind; cells = take longest_line (replicate (2 * level) 32 ++ bytes.now) } }
 {
@@ -44,7 +44,7 @@ fn lay_fixed<W>(slot: Slot, kind: LineKind, level: u32, bytes: &[u8]) -> Line<W>
     Line::laid(slot, kind, out.cells)
 }
 
-/// Lays the first line of the node.
+/// Lays as cells the first line of the node.
 fn lay_first<W, M: Marked>(level: u32, node: &Node, marks: &M) -> Line<W>
     ensures { result ≡ laid_line (M.marks marks.now) (first_line level node.now.label) }
 {
@@ -57,7 +57,7 @@ fn lay_first<W, M: Marked>(level: u32, node: &Node, marks: &M) -> Line<W>
     Line::laid(node.slot(), LineKind::First, out.cells)
 }
 
-/// Puts the blanks before a line of the level.
+/// Puts the cells of the blanks before a line of the level.
 fn put_blanks(level: u32, out: &mut CellsOut)
     requires plain { out.old.negative ≡ false }
     requires short { length out.old.cells.items ≤ longest_line }
@@ -68,7 +68,7 @@ fn put_blanks(level: u32, out: &mut CellsOut)
     }
 }
 
-/// Puts the first line of a node behind the blanks.
+/// Puts the cells of the first line of a node behind the blanks.
 fn put_first<M: Marked>(node: &Node, marks: &M, out: &mut CellsOut)
     requires plain { out.old.negative ≡ false }
     requires short { length out.old.cells.items ≤ longest_line }
@@ -80,7 +80,8 @@ fn put_first<M: Marked>(node: &Node, marks: &M, out: &mut CellsOut)
     }
 }
 
-/// Puts a segment, where the next part has this number, and gives the number of the part after it.
+/// Puts the cells of a segment, where the next part has this number, and gives the number of the part
+/// after it.
 fn put_segment<M: Marked>(
     segment: Segment,
     node: &Node,
@@ -106,7 +107,7 @@ fn put_segment<M: Marked>(
     }
 }
 
-/// Puts what stands in a part, in negative image where it is marked.
+/// Puts the cells of what stands in a part, in negative image where it is marked.
 fn put_part<M: Marked>(category: Category, node: &Node, part: u8, marks: &M, out: &mut CellsOut)
     requires short { length out.old.cells.items ≤ longest_line }
     ensures { PutsAside out.old (stretch_cells (M.marks marks.now) node.now.label.slot (record { part = Some part; bytes = part_text category (part_at node.now.label.parts part) })) out.new }
@@ -120,8 +121,8 @@ fn put_part<M: Marked>(category: Category, node: &Node, part: u8, marks: &M, out
     out.negative = false;
 }
 
-/// Puts the phrase that stands in a part, or the placeholder of its category, also where the node has no
-/// such part.
+/// Puts the phrase that stands in a part of the line that is laid, or the placeholder of its category,
+/// also where the node has no such part.
 fn put_place<O: ByteOut>(category: Category, place: Option<&PhrasePlace>, out: &mut O)
     ensures { PutsAll O.puts out.old (part_text category (option_and_then (λ phrase. phrase) (option_map (λ place. plain_place place.now) place.entry))) out.new }
 {
@@ -131,7 +132,8 @@ fn put_place<O: ByteOut>(category: Category, place: Option<&PhrasePlace>, out: &
     }
 }
 
-/// Puts the phrase that stands in a place, or the placeholder of the category where it is empty.
+/// Puts the phrase that stands in this place in the line that is laid, or the placeholder of the category
+/// where the place is empty.
 fn put_filled<O: ByteOut>(category: Category, place: &PhrasePlace, out: &mut O)
     ensures { PutsAll O.puts out.old (part_text category (plain_place place.now)) out.new }
 {
@@ -141,7 +143,7 @@ fn put_filled<O: ByteOut>(category: Category, place: &PhrasePlace, out: &mut O)
     }
 }
 
-/// The cells of a line so far, and whether the bytes that come are in negative image.
+/// The cells so far of a line that is laid, and whether the bytes that come are in negative image.
 #[derive(Drop)]
 struct CellsOut {
     cells: ArrayVec<u16, LONGEST_LINE>,
@@ -159,7 +161,7 @@ impl ByteOut for CellsOut {
     }
 }
 
-/// The cell of a byte.
+/// The cell of a byte in a line that is laid, in negative image or not.
 fn cell_of(negative: bool, byte: u8) -> u16
     ensures { result ≡ cell negative byte }
 {

@@ -37,7 +37,7 @@ impl<W> Model for Layout<W> {
 }
 
 impl<W: Work> Layout<W> {
-    /// How many lines of the screen there are. It takes no memory.
+    /// How many lines of the screen the layout has. It takes no memory.
     pub fn lines(&self) -> u32
         ensures lines { (tree : PlainTree) → IsLayoutOf self.now tree → result ≡ length (Lines (roomless_tree tree).items) }
         ensures few { (tree : PlainTree) → IsLayoutOf self.now tree → IsTree tree → result ≤ 4 * most_slots }
@@ -45,8 +45,8 @@ impl<W: Work> Layout<W> {
         self.root.lines_inside()
     }
 
-    /// The line of this number, counted from 0, under these marks, or `None` exactly where there is no
-    /// such line. It is counted as laid either way. It takes no memory.
+    /// The line of the screen of this number, counted from 0, laid under these marks, or `None` exactly
+    /// where there is no such line. It is counted as laid either way. It takes no memory.
     pub fn line<M: Marked>(&self, tree: &Tree, marks: &M, k: u32, work: &mut W) -> Option<Line<W>>
         requires tree { IsTree tree.now }
         requires agrees { IsLayoutOf self.now tree.now }

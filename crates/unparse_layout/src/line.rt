@@ -9,16 +9,16 @@ use std::marker::{Model, PhantomData};
 /// How many cells a line may have: what goes beyond is cut.
 pub const LONGEST_LINE: usize = 158;
 
-/// Which of a node's lines a line is.
+/// Which of a node's lines a line of the screen is.
 #[derive(Clone, Copy, Debug, PartialEq, Eq)]
 pub enum LineKind {
-    /// Its first line.
+    /// A node's first line.
     First,
-    /// A line before some of what stands inside it, as `ELSE`.
+    /// A line before some of what stands inside a node, as `ELSE`.
     Lead,
-    /// The line that stands for its elided refinement.
+    /// The line that stands for a node's elided refinement.
     Elision,
-    /// Its last line, `END;`.
+    /// A node's last line, `END;`.
     Last,
 }
 
@@ -42,7 +42,7 @@ impl<W> Model for Line<W> {
 }
 
 impl<W> Line<W> {
-    /// The line with these cells.
+    /// The line of the screen with these cells, of this kind and slot.
     pub(crate) fn laid(slot: Slot, kind: LineKind, cells: ArrayVec<u16, LONGEST_LINE>) -> Line<W>
         ensures { result ≡ record { slot = slot.0; kind = kind; cells = cells.items } }
     {
@@ -54,8 +54,8 @@ impl<W> Line<W> {
         }
     }
 
-    /// Its cells from the left, at most 158: a byte, plus 256 where it is in negative image. The blanks
-    /// of its level are among them.
+    /// The line's cells from the left, at most 158: a byte, plus 256 where it is in negative image. The
+    /// blanks of its level are among them.
     pub fn cells(&self) -> &[u16]
         ensures cells { result.now ≡ self.now.cells }
         ensures short { length result.now ≤ longest_line }
@@ -63,14 +63,14 @@ impl<W> Line<W> {
         self.cells.as_slice()
     }
 
-    /// The slot of the node to which it belongs.
+    /// The slot of the node to which the line belongs.
     pub fn slot(&self) -> Slot
         ensures { result.0 ≡ self.now.slot }
     {
         self.slot
     }
 
-    /// Which of the node's lines it is.
+    /// The line's kind: which of its node's lines it is.
     pub fn kind(&self) -> LineKind
         ensures { result ≡ self.now.kind }
     {

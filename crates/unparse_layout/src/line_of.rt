@@ -32,8 +32,8 @@ impl<W: Work> Layout<W> {
 }
 
 impl NodeLayout {
-    /// How many lines inside this node stand before the first line of the node at a path, which begins
-    /// with this number.
+    /// How many lines inside this node of a layout stand before the first line of the node at a stop's
+    /// path, which begins with this number.
     fn lines_before(&self, k: usize, rest: &[u32]) -> u32
         requires few { bone_count self.now.inner ≤ most_slots }
         ensures { result ≡ lines_before self.now.inner k rest.now }

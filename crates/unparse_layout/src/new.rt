@@ -1,4 +1,4 @@
-//! Layouts made anew.
+//! Layouts made anew, item by item of the program.
 ghost use Rattle.std.specs.Prelude.{◌≡◌, ◌<◌, IfOk};
 ghost use Rattle.template_tree.specs.Limit.{most_slots};
 ghost use Rattle.template_tree.specs.Slots.{count};
@@ -15,7 +15,7 @@ use std::marker::PhantomData;
 use template_tree::{Node, SectionsLeft, Tree, path_of_item};
 
 impl<W: Work> Layout<W> {
-    /// The layout of the tree.
+    /// The layout of the tree, made anew.
     pub fn new(alloc: Global, tree: &Tree) -> Result<Layout<W>, OutOfMemory>
         requires tree { IsTree tree.now }
         ensures { IfOk result (λ layout. IsLayoutOf layout tree.now) }
@@ -37,7 +37,8 @@ impl<W: Work> Layout<W> {
 }
 
 impl NodeLayout {
-    /// The node of a layout for a node of the tree, before which a line of the table stands where `led`.
+    /// Makes the node of a layout for a node of the tree, before which a line of the table stands where
+    /// `led`.
     fn of(alloc: Global, node: &Node, led: bool) -> Result<NodeLayout, OutOfMemory>
         requires few { count node.now.inner < most_slots }
         ensures { IfOk result (λ node_layout. node_layout ≡ node_layout_of led node.now) }

@@ -73,7 +73,7 @@ impl Model for NodeLayouts {
 }
 
 impl NodeLayout {
-    /// What is kept of a node with nothing inside. It takes no memory.
+    /// What a layout keeps of a node with nothing inside. It takes no memory.
     pub(crate) fn bare(
         alloc: Global,
         slot: Slot,
@@ -93,7 +93,7 @@ impl NodeLayout {
         }
     }
 
-    /// Puts what is kept of one more node behind those inside.
+    /// Puts what a layout keeps of one more node behind those inside this node.
     #[tactic(auto, using(crate::specs::Private::PlainNodeLayout::node_layouts_bones))]
     pub(crate) fn push(&mut self, item: NodeLayout) -> Result<(), OutOfMemory>
         requires few { length (node_layouts self.old.inner) < 2 ^ 32 }
@@ -107,14 +107,14 @@ impl NodeLayout {
         Ok(())
     }
 
-    /// How many lines the nodes inside it have.
+    /// How many lines the nodes inside this node of a layout have.
     pub(crate) fn lines_inside(&self) -> u32
         ensures { result ≡ heights self.now.inner }
     {
         self.heights.total()
     }
 
-    /// How many lines the node has, the line before it among them.
+    /// How many lines this node of a layout has, the line before it among them.
     pub(crate) fn height(&self) -> u32
         requires fits { height self.now < 2 ^ 32 }
         ensures { result ≡ height self.now }
@@ -127,7 +127,7 @@ impl NodeLayout {
     }
 }
 
-/// How many lines an entry of the table takes: one where it is there.
+/// How many lines of a node's height an entry of the table of templates takes: one where it is there.
 pub(crate) fn line_count(line: Option<&[u8]>) -> u32
     ensures { result ≡ line_count (option_map (λ bytes. bytes.now) line.entry) }
 {
@@ -138,7 +138,7 @@ pub(crate) fn line_count(line: Option<&[u8]>) -> u32
 }
 
 impl NodeLayouts {
-    /// An empty list, which takes no memory.
+    /// An empty list of nodes of a layout, which takes no memory.
     fn new(alloc: Global) -> NodeLayouts
         ensures { result.items ≡ [] }
     {
@@ -147,7 +147,7 @@ impl NodeLayouts {
         }
     }
 
-    /// Puts what is kept of one more node at the end.
+    /// Puts what a layout keeps of one more node at the end of a list.
     fn push(&mut self, item: NodeLayout) -> Result<(), OutOfMemory>
         ensures put { OnOk result (self.new.items ≡ self.old.items ++ item ∷ []) }
         ensures same { OnErr result (self.new.items ≡ self.old.items) }
@@ -156,14 +156,14 @@ impl NodeLayouts {
         Ok(())
     }
 
-    /// What is kept of the node of this number, counted from 0.
+    /// What a layout keeps of the node of this number in a list, counted from 0.
     pub(crate) fn get(&self, k: usize) -> Option<&NodeLayout>
         ensures { option_map (λ node_layout. node_layout.now) result ≡ slice_get self.now.items k }
     {
         self.list.get(k)
     }
 
-    /// Lends what is kept of the node of this number, counted from 0.
+    /// Lends what a layout keeps of the node of this number in a list, counted from 0.
     pub(crate) fn get_mut(&mut self, k: usize) -> Option<&mut NodeLayout>
         ensures* writes_back { sem 𝓛 (LendsIf list_row.the_row node_layout_row.the_row self.entry result (with_item self.old k) self.old) }
         ensures found { option_map (λ node_layout. node_layout.now) result ≡ slice_get self.old.items k }

@@ -26,7 +26,7 @@ pub(crate) enum Plan<'a> {
 }
 
 impl NodeLayout {
-    /// The line of this number of the tree whose layout is inside it.
+    /// Finds the line of this number of the tree whose layout stands inside this node.
     pub(crate) fn plan_of<'a>(&self, tree: &'a Tree, k: u32) -> Option<Plan<'a>>
         requires tree { IsTree tree.now }
         requires agrees { IsLayoutOf self.now.inner tree.now }
@@ -44,7 +44,7 @@ impl NodeLayout {
         item.plan(node, 0, position.rest)
     }
 
-    /// The line of this number of the node; the line before it isn't one of them.
+    /// Finds the line of this number among the node's own; the line before the node isn't one of them.
     fn plan<'a>(&self, node: &'a Node, level: u32, at: u32) -> Option<Plan<'a>>
         requires agrees { self.now ≡ node_layout_of self.now.bone.led node.now }
         requires few { count node.now.inner < most_slots }
@@ -79,7 +79,7 @@ impl NodeLayout {
         item.plan(child, level + 1, position.rest - lead)
     }
 
-    /// The line of this number behind the first one, where its refinement is elided.
+    /// Finds the line of this number behind the first one, in a node whose refinement is elided.
     fn elided_plan<'a>(&self, level: u32, below: u32) -> Option<Plan<'a>>
         requires { level < deepest_path }
         ensures { option_map planned result ≡ slice_get (partless_line self.now.bone.slot LineKind.Elision (level + 1) (codes "...") ∷ table_line self.now.bone.slot LineKind.Last level (row_of self.now.bone.kind).last) below }
@@ -90,7 +90,7 @@ impl NodeLayout {
         self.last_plan(level, below - 1)
     }
 
-    /// The line of this number behind what stands inside it.
+    /// Finds the line of this number behind what stands inside the node.
     fn last_plan<'a>(&self, level: u32, behind: u32) -> Option<Plan<'a>>
         ensures { option_map planned result ≡ slice_get (table_line self.now.bone.slot LineKind.Last level (row_of self.now.bone.kind).last) behind }
     {
@@ -101,7 +101,7 @@ impl NodeLayout {
     }
 }
 
-/// A line of the table, if it is there.
+/// A line of the table of templates as one that is found but not laid, if the table has it.
 fn fixed<'a>(slot: Slot, kind: LineKind, level: u32, line: Option<&'a [u8]>) -> Option<Plan<'a>>
     ensures { option_map planned result ≡ slice_get (table_line slot.0 kind level (option_map (λ bytes. bytes.now) line.entry)) 0 }
 {
@@ -111,8 +111,8 @@ fn fixed<'a>(slot: Slot, kind: LineKind, level: u32, line: Option<&'a [u8]>) -> 
     Some(Plan::Fixed(slot, kind, level, bytes))
 }
 
-/// The line before the node of this number inside a node, if one stands there. It goes through the nodes
-/// before that one, of which there are few: the line comes before the first node of a section.
+/// Finds the line before the node of this number inside a node, if one stands there. It goes through the
+/// nodes before that one, of which there are few: the line comes before the first node of a section.
 fn lead_before(node: &Node, k: u32) -> Option<&'static [u8]>
     ensures { option_map (λ bytes. bytes.now) result ≡ lead_at (row_of node.now.label.kind).sections node.now.inner k }
 {

@@ -6,7 +6,8 @@ use Rattle.synth_outside.specs.Files.{FileMap, NewContent, begun_bytes, begun_na
 use Rattle.synth_outside.specs.declared.faults.FilesFault.{FilesFault}
 use Rattle.synth_outside.specs.declared.faults.FilesFault.TheVariants.{NoFile, Failed, OutOfMemory}
 
--- the map, what is begun, the counts, the bytes that wait, and the fault that came, if one did
+-- what a sink that passes bytes on is seen as: the map, what is begun, the counts, the bytes that wait, and the fault
+-- that came, if one did
 pub record Desk : Type 0 where
   pub stored : Option FileMap
   pub begun : Option NewContent
@@ -15,19 +16,20 @@ pub record Desk : Type 0 where
   pub wait : List ℕ
   pub fault : Option FilesFault
 
+-- what a sink that passes bytes on is seen as, made of its parts
 abbrev pub desk : Option FileMap → Option NewContent → (faults wants : ℕ) (wait : List ℕ) → Option FilesFault → Desk
 desk stored begun faults wants wait fault =
     record { stored = stored; begun = begun; faults = faults; wants = wants; wait = wait; fault = fault }
 
--- the bytes that are begun, with those that wait
+-- the bytes that were passed on to what is begun, with those that wait in the sink
 abbrev pub with_wait : Desk → Option (List ℕ)
 with_wait desk = append_known (begun_bytes desk.begun) desk.wait
 
--- this fault came between two moments
+-- this fault came to the sink between two moments
 abbrev pub Came : FilesFault → Desk → Desk → Type 0
 Came fault before now = (before.fault ≡ None) × (now.fault ≡ Some fault)
 
--- the bytes were put: they are passed on or wait, unless a fault came, which stays
+-- the bytes were put into the sink: they are passed on or wait, unless a fault came, which stays
 pub record Sent (before : Desk) (bytes : List ℕ) (now : Desk) : Type 0 where
   pub stored : now.stored ≡ before.stored
   pub name : begun_name now.begun ≡ begun_name before.begun
@@ -38,7 +40,7 @@ pub record Sent (before : Desk) (bytes : List ℕ) (now : Desk) : Type 0 where
   pub faults : RisesWith (Came Failed before now) before.faults now.faults
   pub wants : RisesWith (Came OutOfMemory before now) before.wants now.wants
 
--- the bytes were written behind what was begun, or this fault came
+-- what becomes of bytes that a sink passes on as a whole: they were written behind what was begun, or this fault came
 pub record Written (old_stored : Option FileMap) (old_begun : Option NewContent) (old_faults old_wants : ℕ) (bytes : List ℕ)
     (now_stored : Option FileMap) (now_begun : Option NewContent) (now_faults now_wants : ℕ) (fault : Option FilesFault) : Type 0 where
   pub stored : now_stored ≡ old_stored

@@ -9,35 +9,37 @@ use Rattle.template_tree.specs.Line.{part_text, segments_text}
 use Rattle.template_tree.specs.Program.{AreParts, IsPart, parts_of}
 use Rattle.file_store.specs.Private.Reader.{Said, IsSaying, text_of}
 
--- the blanks before a line of the level
+-- the blanks with which the text of a line of the level begins
 abbrev pub blanks : ℕ → List ℕ
 blanks level = replicate (2 * level) 32
 
--- the bytes of a line
+-- the text of a line that says this: its blanks and what is written behind them
 abbrev pub said_bytes : Said → List ℕ
 said_bytes said = blanks said.level ++ text_of said.saying
 
 -- ---- parts
 
--- the text is what is written for the part
+-- the text is read as the part: it is what is written for it
 abbrev pub IsPartText : Category → List ℕ → Option PlainPhrase → Type 0
 IsPartText category x part = IsPart category part × (part_text category part ≡ x)
 
+-- the text is read as no part of the category
 abbrev pub IsNoPart : Category → List ℕ → Type 0
 IsNoPart category x = (part : Option PlainPhrase) → IsPart category part → part_text category part ≢ x
 
--- the text is what is written for the segments with these parts
+-- the text is read as these parts of the segments: it is what is written for the segments with them
 abbrev pub IsSegmentsText : List PlainSegment → List ℕ → List (Option PlainPhrase) → Type 0
 IsSegmentsText segments x parts = AreParts (parts_of segments) parts × (segments_text segments parts ≡ x)
 
+-- the text is read as no parts of the segments
 abbrev pub AreNoSegments : List PlainSegment → List ℕ → Type 0
 AreNoSegments segments x = (parts : List (Option PlainPhrase)) → AreParts (parts_of segments) parts → segments_text segments parts ≢ x
 
--- they were read behind these parts
+-- the parts that the text is read as, behind these that were read before, are all
 abbrev pub AreReadBehind : List PlainSegment → List ℕ → List (Option PlainPhrase) → List (Option PlainPhrase) → Type 0
 AreReadBehind segments x parts all = (more : List (Option PlainPhrase)) × (all ≡ parts ++ more) × IsSegmentsText segments x more
 
--- each part of a line ends where the words behind it begin
+-- each part of a line that is read ends where the words behind it begin
 abbrev pub IsCut : List PlainSegment → Type 0
 IsCut [] = Unit {0}
 IsCut (PlainSegment.words w ∷ segments) = IsCut segments
@@ -46,7 +48,7 @@ IsCut (PlainSegment.part category ∷ (PlainSegment.part other ∷ segments)) = 
 IsCut (PlainSegment.part category ∷ (PlainSegment.words w ∷ [])) = Unit {0}
 IsCut (PlainSegment.part category ∷ (PlainSegment.words w ∷ (segment ∷ segments))) = Divides category w × IsCut (segment ∷ segments)
 
--- a part stands at the front of a text for these segments: what is left for those that are left makes the whole, and
+-- a part is read at the front of a text for these segments: what is left for those that are left makes the whole, and
 -- nothing else does
 pub record IsFront (category : Category) (segments : List PlainSegment) (x : List ℕ) (part : Option PlainPhrase)
     (later : List PlainSegment) (rest : List ℕ) : Type 0 where
@@ -57,15 +59,16 @@ pub record IsFront (category : Category) (segments : List PlainSegment) (x : Lis
 
 -- ---- lines
 
--- of each of the kinds this holds
+-- this holds of each of the kinds of nodes whose first line a text is read as
 abbrev pub OfEach : (NodeKind → Type 0) → List NodeKind → Type 0
 OfEach P [] = Unit {0}
 OfEach P (kind ∷ kinds) = P kind × OfEach P kinds
 
--- the line says this
+-- the text of the line says this
 abbrev pub Says : List ℕ → Said → Type 0
 Says line said = IsSaying said.saying × (said_bytes said ≡ line)
 
+-- the text of the line says nothing that a listing may have
 abbrev pub SaysNothing : List ℕ → Type 0
 SaysNothing line = (said : Said) → IsSaying said.saying → said_bytes said ≢ line
 

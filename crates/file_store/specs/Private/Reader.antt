@@ -26,41 +26,41 @@ pub data Saying : Type 0 where
   lead : List ℕ → Saying
   last : List ℕ → Saying
 
--- what is written for it
+-- what is written behind the blanks of a line that says this
 abbrev pub text_of : Saying → List ℕ
 text_of (head kind parts) = segments_text (row_of kind).line parts
 text_of (lead text) = text
 text_of (last text) = text
 
--- whether a node begins in it
+-- whether a node begins in a line that says this
 abbrev pub opens : Saying → Bool
 opens (head kind parts) = true
 opens (lead text) = false
 opens (last text) = false
 
--- some listing may have it
+-- some listing may have a line that says this
 abbrev pub IsSaying : Saying → Type 0
 IsSaying (head kind parts) = (shape kind ≡ kind) × AreParts (parts_of (row_of kind).line) parts
 IsSaying (lead text) = text ≡ codes "ELSE"
 IsSaying (last text) = text ≡ codes "END;"
 
--- a line: its level, and what it says
+-- what the reader has of a line: its level, and what it says
 pub record Said : Type 0 where
   pub level : ℕ
   pub saying : Saying
 
 -- ---- how far a list has come
 
--- the sort of the list that goes on, if one does, and the sections that are left behind it
+-- how far a list has come: the sort of the list that goes on, if one does, and the sections that are left behind it
 pub record Filling : Type 0 where
   pub going : Option Sort
   pub left : List PlainSection
 
--- no item has come yet
+-- how far a list has come into which no item came yet
 abbrev pub unfilled : List PlainSection → Filling
 unfilled sections = record { going = None; left = sections }
 
--- behind an item of the section
+-- how far a list has come behind an item of the section
 abbrev pub behind : Amount → Sort → List PlainSection → Filling
 behind Amount.One sort left = record { going = None; left = left }
 behind Amount.Many sort left = record { going = Some sort; left = left }
@@ -88,25 +88,26 @@ abbrev pub entry : Sort → Filling → Option Entry
 entry sort filling =
     if goes_on filling.going sort then Some (record { before = None; next = filling }) else first_entry sort filling.left
 
--- the list behind an item of the sort before which no line is wanted
+-- how far a list has come behind an item, if no line is wanted before that
 abbrev pub unled : Entry → Option Filling
 unled item = if is_none item.before then Some item.next else None
 
+-- how far the list has come behind an item of the sort, if one may come without a line before it
 abbrev pub advanced : Sort → Filling → Option Filling
 advanced sort filling = option_and_then unled (entry sort filling)
 
--- whether the text is that line
+-- whether the text is that line of the table, if there is one
 abbrev pub is_text : List ℕ → Option (List ℕ) → Bool
 is_text text None = false
 is_text text (Some own) = bytes_eq text own
 
--- the list behind the line before a section
+-- how far a list has come behind the line before the first of these sections, if the text is that line
 abbrev pub led_sections : List ℕ → List PlainSection → Option Filling
 led_sections text [] = None
 led_sections text (section ∷ left) =
     if is_text text section.lead then Some (unfilled (record section { lead = None } ∷ left)) else None
 
--- whether the list may end here: a section with a line before it may be absent
+-- whether a list for which these sections are left may end: a section with a line before it may be absent
 abbrev pub optional : List PlainSection → Bool
 optional [] = true
 optional (section ∷ left) = is_some section.lead && optional left
@@ -129,7 +130,7 @@ pub record Stack : Type 0 where
   pub own : OpenList
   pub outer : List Frame
 
--- no line was read yet
+-- the open lists where no line was read yet
 abbrev pub unread : Stack
 unread = record { own = record { items = Forest.nil; filling = unfilled program_sections }; outer = [] }
 
@@ -142,16 +143,16 @@ kind_with kind items = kind
 abbrev pub node_of : Frame → Forest → Forest
 node_of frame items = Forest.cons (built_label (kind_with frame.kind items) frame.parts 0) items Forest.nil
 
--- the list around a node behind it
+-- the list around an open node, once the node has ended in it
 abbrev pub closed : OpenList → Frame → OpenList
 closed own frame = record frame.around { items = join frame.around.items (node_of frame own.items) }
 
--- the innermost node ends without a line of its own, if it may
+-- the list around the innermost open node, once that has ended without a line of its own, if it may
 abbrev pub shut : OpenList → Frame → Option OpenList
 shut own frame =
     if is_none (row_of frame.kind).last && optional own.filling.left then Some (closed own frame) else None
 
--- nodes end until no more than so many are open
+-- the open lists once nodes have ended until no more than so many are open, if they may
 abbrev pub lowered : ℕ → OpenList → List Frame → Option Stack
 lowered level own [] = Some (record { own = own; outer = [] })
 lowered level own (frame ∷ outer) =
@@ -159,16 +160,17 @@ lowered level own (frame ∷ outer) =
     then Some (record { own = own; outer = frame ∷ outer })
     else option_and_then (λ list. lowered level list outer) (shut own frame)
 
--- exactly so many are open
+-- the open lists, if exactly so many nodes are open
 abbrev pub at_height : ℕ → Stack → Option Stack
 at_height level stack = if length stack.outer == level then Some stack else None
 
+-- the open lists once nodes have ended until exactly so many are open, if they may
 abbrev pub lowered_to : ℕ → Stack → Option Stack
 lowered_to level stack = option_and_then (at_height level) (lowered level stack.own stack.outer)
 
 -- ---- what a line does
 
--- a node is opened in the innermost list
+-- the open lists once a node is opened in the innermost one, which has then come so far
 abbrev pub with_frame : NodeKind → List (Option PlainPhrase) → Stack → Filling → Stack
 with_frame kind parts stack filling =
     record {
@@ -176,18 +178,20 @@ with_frame kind parts stack filling =
       outer = record { kind = kind; parts = parts; around = record stack.own { filling = filling } } ∷ stack.outer;
     }
 
+-- the open lists once a node is opened in the innermost one, if it may come there
 abbrev pub begun : NodeKind → List (Option PlainPhrase) → Stack → Option Stack
 begun kind parts stack = option_map (with_frame kind parts stack) (advanced (sort_of kind) stack.own.filling)
 
--- the line before a section of the innermost node
+-- the open lists, of which the innermost has come so far
 abbrev pub with_filling : Stack → Filling → Stack
 with_filling stack filling = record stack { own = record stack.own { filling = filling } }
 
+-- the open lists behind the line before a section of the innermost node, if it is wanted
 abbrev pub led_in : List ℕ → Stack → List Frame → Option Stack
 led_in text stack [] = None
 led_in text stack (frame ∷ outer) = option_map (with_filling stack) (led_sections text stack.own.filling.left)
 
--- the last line of the innermost node
+-- the open lists behind the last line of the innermost node, if that may end
 abbrev pub ended_in : List ℕ → OpenList → List Frame → Option Stack
 ended_in text own [] = None
 ended_in text own (frame ∷ outer) =
@@ -201,31 +205,36 @@ step_at stack level (head kind parts) = option_and_then (begun kind parts) (lowe
 step_at stack level (lead text) = option_and_then (λ s. led_in text s s.outer) (lowered_to (suc level) stack)
 step_at stack level (last text) = option_and_then (λ s. ended_in text s.own s.outer) (lowered_to (suc level) stack)
 
+-- what a line does to the open lists, by its level and what it says
 abbrev pub step : Stack → Said → Option Stack
 step stack said = step_at stack said.level said.saying
 
--- the lines one after the other
+-- what lines do to the open lists, one after the other
 abbrev pub run : Stack → List Said → Option Stack
 run stack [] = Some stack
 run stack (said ∷ rest) = option_and_then (λ s. run s rest) (step stack said)
 
--- the program, if the lines are its whole listing
+-- the items of the outermost list, if it may end
 abbrev pub finished : OpenList → Option Forest
 finished own = if optional own.filling.left then Some own.items else None
 
+-- the program in the open lists, if the lines are its whole listing
 abbrev pub program_of : Stack → Option Forest
 program_of stack = option_and_then (λ s. finished s.own) (lowered 0 stack.own stack.outer)
 
 -- ---- the lines of nodes in this form
 
+-- what the line before a section says, if the table has one
 abbrev pub said_lead : ℕ → Option (List ℕ) → List Said
 said_lead level None = []
 said_lead level (Some text) = record { level = level; saying = lead text } ∷ []
 
+-- what the last line of a node says, if the table has one
 abbrev pub said_last : ℕ → Option (List ℕ) → List Said
 said_last level None = []
 said_last level (Some text) = record { level = level; saying = last text } ∷ []
 
+-- what the lines say that nodes in order have at a level, where these sections are left for them
 abbrev pub sayings : (level : ℕ) (left : List PlainSection) → Forest → List Said
 sayings level left Forest.nil = []
 sayings level left (Forest.cons label inner rest) =

@@ -16,7 +16,7 @@ pub record MayOpen (said : Said) (opened : ℕ) : Type 0 where
   pub shallow : opens said.saying ≡ true → said.level < deepest_path
   pub few : opens said.saying ≡ true → opened < most_slots
 
--- the line says something that leads the reader on
+-- the line says something that leads the reader on from where it had come
 pub record Taken (line : List ℕ) (before now : Come) (said : Said) : Type 0 where
   pub says : Says line said
   pub steps : step before.stack said ≡ Some now.stack
@@ -24,13 +24,15 @@ pub record Taken (line : List ℕ) (before now : Come) (said : Said) : Type 0 wh
   pub lines : now.lines ≡ before.lines + 1
   pub opened : now.opened ≡ (if opens said.saying then 1 else 0) + before.opened
 
+-- the line leads the reader on, whatever it says
 abbrev pub IsTaken : List ℕ → Come → Come → Type 0
 IsTaken line before now = (said : Said) × Taken line before now said
 
--- it says something with which a listing may go on, but a node that begins in it is past a limit
+-- the line says something with which a listing may go on from where the reader had come, and a node begins in it
 abbrev pub GoesOn : List ℕ → Come → Said → Type 0
 GoesOn line before said = (after : Stack) × Says line said × (step before.stack said ≡ Some after) × (opens said.saying ≡ true)
 
+-- why the reader refuses the line where it had come
 abbrev pub IsLineRefused : List ℕ → Come → FileRefusal → Type 0
 IsLineRefused line before (FileRefusal.NotAListing k) =
     (k ≡ before.lines + 1) × ((said : Said) → Says line said → step before.stack said ≡ None)

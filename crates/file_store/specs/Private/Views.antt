@@ -12,33 +12,39 @@ use Rattle.file_store.specs.declared.reader.open_list.Frame.{Frame}
 use Rattle.file_store.specs.declared.reader.open_list.OpenList.{OpenList}
 use Rattle.file_store.specs.declared.reader.open_list.Stack.{Stack}
 
--- sections of which the first has the line before it already
+-- the sections that the reader's list has left, of which the first has the line before it already where that was read
 abbrev pub led_if : Bool → List PlainSection → List PlainSection
 led_if false sections = sections
 led_if true [] = []
 led_if true (section ∷ sections) = record section { lead = None } ∷ sections
 
+-- what the reader's value for how far a list has come stands for
 abbrev pub filling_of : Filling → machine.Filling
 filling_of filling = record { going = filling.going; left = led_if filling.led (map plain_section filling.left.now) }
 
+-- what the reader's value for what a line says stands for
 abbrev pub saying_of : Saying → machine.Saying
 saying_of (saying.Head kind parts) = machine.Saying.head kind (map plain_place parts.items)
 saying_of saying.Lead = machine.Saying.lead (codes "ELSE")
 saying_of saying.Last = machine.Saying.last (codes "END;")
 
+-- what the reader's value for a line, with its level, stands for
 abbrev pub said_of : Said → machine.Said
 said_of said = record { level = said.level; saying = saying_of said.saying }
 
+-- what the reader's open list stands for
 abbrev pub open_list_of : OpenList → machine.OpenList
 open_list_of list = record { items = roomless (forest list.items.items); filling = filling_of list.filling }
 
+-- what the reader's open node stands for
 abbrev pub frame_of : Frame → machine.Frame
 frame_of frame = record { kind = frame.kind; parts = map plain_place frame.parts.items; around = open_list_of frame.around }
 
--- the open nodes, of which the innermost stands last
+-- what the reader's open nodes stand for, of which the innermost stands last
 abbrev pub frames_on : List machine.Frame → List Frame → List machine.Frame
 frames_on outer [] = outer
 frames_on outer (frame ∷ frames) = frames_on (frame_of frame ∷ outer) frames
 
+-- what the reader's open lists and nodes stand for
 abbrev pub stack_of : Stack → machine.Stack
 stack_of stack = record { own = open_list_of stack.own; outer = frames_on [] stack.frames.items }

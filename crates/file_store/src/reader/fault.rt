@@ -7,9 +7,9 @@ use std::alloc::{AllocError, AllocFailed};
 /// Why a line, or a part of it, was not read.
 #[derive(Clone, Copy, Debug, PartialEq, Eq)]
 pub enum ReadFault {
-    /// Memory ran out.
+    /// Memory ran out while a line was read.
     OutOfMemory,
-    /// No listing has it here.
+    /// No listing has the line, or the part, here.
     Refused,
 }
 

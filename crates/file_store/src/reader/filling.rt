@@ -18,7 +18,7 @@ pub(crate) struct Filling {
 }
 
 impl Filling {
-    /// No item has come yet.
+    /// How far a list of these sections has come before any item.
     pub(crate) fn of(sections: &'static [Section]) -> Filling
         ensures { filling_of result ≡ unfilled (map plain_section sections.now) }
     {
@@ -29,7 +29,7 @@ impl Filling {
         }
     }
 
-    /// The list behind an item of the sort, if one may come without a line before it.
+    /// How far the list has come behind an item of the sort, if one may come without a line before it.
     pub(crate) fn advanced(self, sort: Sort) -> Option<Filling>
         ensures { option_map filling_of result ≡ advanced sort (filling_of self) }
     {
@@ -48,7 +48,7 @@ impl Filling {
         Some(behind(section.amount, section.sort, left))
     }
 
-    /// The list behind the line before a section, if that is wanted.
+    /// How far the list has come behind the line before a section, if that is wanted.
     pub(crate) fn behind_lead(self) -> Option<Filling>
         ensures { option_map filling_of result ≡ led_sections (codes "ELSE") (filling_of self).left }
     {
@@ -68,7 +68,7 @@ impl Filling {
         })
     }
 
-    /// Whether the list may end here.
+    /// Whether the list may end where it has come.
     pub(crate) fn may_end(self) -> bool
         ensures { result ≡ optional (filling_of self).left }
     {
@@ -98,7 +98,7 @@ fn goes_on(going: Option<Sort>, sort: Sort) -> bool
     }
 }
 
-/// The list behind an item of a section.
+/// How far a list has come behind an item of a section.
 fn behind(amount: Amount, sort: Sort, left: &'static [Section]) -> Filling
     ensures { filling_of result ≡ behind amount sort (map plain_section left.now) }
 {
@@ -113,7 +113,7 @@ fn behind(amount: Amount, sort: Sort, left: &'static [Section]) -> Filling
     }
 }
 
-/// Whether the text is that line.
+/// Whether the text is that line of the table, if there is one.
 pub(crate) fn is_text(text: &[u8], own: Option<&[u8]>) -> bool
     ensures { result ≡ is_text text.now (option_map (λ own. own.now) own.entry) }
 {
@@ -123,7 +123,7 @@ pub(crate) fn is_text(text: &[u8], own: Option<&[u8]>) -> bool
     }
 }
 
-/// Whether all of the sections may be absent.
+/// Whether all of the sections that a list has left may be absent.
 fn are_optional(sections: &[Section]) -> bool
     ensures { result ≡ optional (map plain_section sections.now) }
 {

@@ -1,4 +1,4 @@
-//! What the lines of a text say.
+//! Whole lines of a listing: which line each is, and at which level.
 ghost use Rattle.std.specs.Prelude.{◌≡◌, ◌≢◌, ◌≤◌, IfOk, length, ◌∷◌, ◌++◌, ℕ, List, MatchOption, map};
 ghost use Rattle.std.specs.Bool.{Decides};
 ghost use Rattle.plcs_grammar.specs.Template.{row_of};
@@ -18,7 +18,7 @@ use plcs_grammar::{NodeKind, Template};
 use std::alloc::Global;
 use template_tree::PhrasePlace;
 
-/// What the line says, if some listing may have it.
+/// Reads a whole line: its level, and which line it is, if some listing may have it.
 pub(crate) fn read_line(alloc: Global, line: &[u8]) -> Result<Said, ReadFault>
     ensures says { Finds (λ said. Says line.now (said_of said)) (SaysNothing line.now) result }
     ensures small { IfOk result (λ said. said.level ≤ length line.now) }
@@ -47,7 +47,7 @@ fn unblanked(line: &[u8]) -> (usize, &[u8])
     (level, rest)
 }
 
-/// What the text says behind its blanks.
+/// Reads which line the text behind the blanks of a whole line is.
 fn read_saying(alloc: Global, text: &[u8]) -> Result<Saying, ReadFault>
     ensures { Finds (λ saying. IsSaying (saying_of saying) × (text_of (saying_of saying) ≡ text.now))
         ((saying : machine.Saying) → IsSaying saying → text_of saying ≢ text.now) result }
@@ -61,14 +61,14 @@ fn read_saying(alloc: Global, text: &[u8]) -> Result<Saying, ReadFault>
     read_head(alloc, &SHAPES, text)
 }
 
-/// Whether two texts are one.
+/// Whether the text of a whole line is this one.
 fn is_same(one: &[u8], other: &[u8]) -> bool
     ensures { Decides result (one.now ≡ other.now) }
 {
     one == other
 }
 
-/// The node whose first line the text is, among these kinds.
+/// Reads a whole line as the first one of a node of one of these kinds, if it is such a line.
 fn read_head(alloc: Global, kinds: &[NodeKind], text: &[u8]) -> Result<Saying, ReadFault>
     requires shapes { OfEach (λ kind. shape kind ≡ kind) kinds.now }
     ensures { Finds (λ saying. IsSaying (saying_of saying) × (text_of (saying_of saying) ≡ text.now))
@@ -84,7 +84,7 @@ fn read_head(alloc: Global, kinds: &[NodeKind], text: &[u8]) -> Result<Saying, R
     }
 }
 
-/// The parts of the first line of a node of the kind, if the text is one.
+/// Reads a whole line as the first one of a node of the kind, if it is such a line: its parts.
 fn read_parts(alloc: Global, kind: NodeKind, text: &[u8]) -> Result<Vec<PhrasePlace>, ReadFault>
     ensures { Finds (λ parts. IsSegmentsText (row_of kind).line text.now (map plain_place parts.items)) (AreNoSegments (row_of kind).line text.now) result }
 {

@@ -1,4 +1,4 @@
-//! The parts of lines.
+//! The parts of a line that is read, each a phrase or a placeholder, and where they end.
 ghost use Rattle.std.specs.Prelude.{◌≡◌, ◌≢◌, ◌&&◌, ◌∷◌, ◌++◌, ℕ, List, [], MatchOption, Option, bytes_eq, length, map, option_map};
 ghost use Rattle.std.specs.Bool.{Decides};
 ghost use Rattle.plcs_grammar.specs.Canon.{Canon};
@@ -53,7 +53,7 @@ pub(crate) fn read_segments(
     }
 }
 
-/// What comes first of the segments, and those behind it.
+/// What may come first of the segments of a line, with those behind it.
 #[derive(Clone, Copy)]
 pub(crate) enum Next<'a> {
     /// There are none.
@@ -64,7 +64,7 @@ pub(crate) enum Next<'a> {
     Part(Category, &'a [Segment]),
 }
 
-/// What comes first.
+/// What comes first of these segments of a line.
 fn next_segment(segments: &[Segment]) -> Next
     ensures { IsNext (map plain_segment segments.now) result }
 {
@@ -77,7 +77,7 @@ fn next_segment(segments: &[Segment]) -> Next
     }
 }
 
-/// The parts, if the text is at its end.
+/// The parts that were read of a line, if its text is at its end.
 fn nothing_more(text: &[u8], parts: Vec<PhrasePlace>) -> Result<Vec<PhrasePlace>, ReadFault>
     ensures { Finds (λ all. (text.now ≡ []) × (all ≡ parts)) (text.now ≢ []) result }
 {
@@ -87,14 +87,14 @@ fn nothing_more(text: &[u8], parts: Vec<PhrasePlace>) -> Result<Vec<PhrasePlace>
     Err(ReadFault::Refused)
 }
 
-/// Whether there is nothing.
+/// Whether nothing is left: of segments, or of a text.
 fn is_empty<T>(items: &[T]) -> bool
     ensures { Decides result (items.now ≡ []) }
 {
     matches!(items, [])
 }
 
-/// A part at the front of a text, and what is left behind it and the words that end it.
+/// A part that was read at the front of a text, and what is left behind it and the words that end it.
 #[derive(Drop)]
 struct Front<'a, 'b> {
     place: PhrasePlace,
@@ -131,7 +131,7 @@ fn read_front<'a, 'b>(
     }
 }
 
-/// The part before the last words of a line.
+/// Reads the part before the last words of a line.
 fn read_last(
     alloc: Global,
     category: Category,
@@ -147,7 +147,7 @@ fn read_last(
     read_part(alloc, category, part)
 }
 
-/// The part before words that divide it from what stands behind them.
+/// Reads the part before words that divide it from what stands behind them.
 fn read_divided<'a, 'b>(
     alloc: Global,
     category: Category,
@@ -172,7 +172,7 @@ fn read_divided<'a, 'b>(
     }
 }
 
-/// What stands in a part of the category, if the text is one.
+/// Reads a part of the category: its placeholder or a phrase, if the text is one.
 fn read_part(alloc: Global, category: Category, text: &[u8]) -> Result<PhrasePlace, ReadFault>
     ensures { Finds (λ place. IsPartText category text.now (plain_place place)) (IsNoPart category text.now) result }
 {
@@ -200,7 +200,7 @@ fn is_placeholder(category: Category, text: &[u8]) -> bool
     category != Category::Assignment && text == category.placeholder()
 }
 
-/// Whether the text is the phrase's canonical text.
+/// Whether the text of a part is the canonical text of the phrase that it was read as.
 fn is_shown_as(phrase: &Phrase, text: &[u8]) -> bool
     ensures { Decides result (Canon (plain_phrase phrase.now) ≡ text.now) }
 {
@@ -212,7 +212,8 @@ fn is_shown_as(phrase: &Phrase, text: &[u8]) -> bool
     }
 }
 
-/// A sink that compares what is put with what is awaited; where they differ, nothing is left.
+/// A sink that compares the canonical text that is put with the text of the part; where they differ,
+/// nothing is left.
 #[derive(Drop)]
 struct Awaited<'a> {
     left: Option<&'a [u8]>,
@@ -233,14 +234,14 @@ impl ByteOut for Awaited<'_> {
     }
 }
 
-/// What stands behind the words, if the text begins with them.
+/// What stands behind the words in the text of a line, if it begins with them.
 pub(crate) fn behind<'a>(text: &'a [u8], words: &[u8]) -> Option<&'a [u8]>
     ensures { MatchOption result ((rest : List ℕ) → text.now ≢ words.now ++ rest) (λ rest. text.now ≡ words.now ++ rest.now) }
 {
     text.strip_prefix(words)
 }
 
-/// What stands before the words, if the text ends with them.
+/// What stands before the words in the text of a line, if it ends with them.
 fn before<'a>(text: &'a [u8], words: &[u8]) -> Option<&'a [u8]>
     ensures { MatchOption result ((front : List ℕ) → text.now ≢ front ++ words.now) (λ front. text.now ≡ front.now ++ words.now) }
 {

@@ -1,17 +1,17 @@
-//! What a line says.
+//! What a line of a listing says, as it was read.
 
 use plcs_grammar::NodeKind;
 use std::vec::Vec;
 use template_tree::PhrasePlace;
 
-/// A line: its level, and what it says.
+/// A line of a listing as it was read: its level, and what it says.
 #[derive(Drop)]
 pub(crate) struct Said {
     pub(crate) level: usize,
     pub(crate) saying: Saying,
 }
 
-/// What a line says.
+/// What a line of a listing says, wherever it stands.
 #[derive(Drop)]
 pub(crate) enum Saying {
     /// It is the first line of a node with these parts; an IF is told as one with an ELSE.

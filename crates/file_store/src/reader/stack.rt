@@ -16,7 +16,7 @@ use std::alloc::Global;
 use template_tree::{Node, Nodes, PhrasePlace};
 
 impl OpenList {
-    /// No item has come yet.
+    /// An open list without items, which has come so far.
     fn new(alloc: Global, filling: Filling) -> OpenList
         ensures { open_list_of result ≡ record { items = forest []; filling = filling_of filling } }
     {
@@ -29,7 +29,7 @@ impl OpenList {
 }
 
 impl Stack {
-    /// No line was read yet.
+    /// The open lists where no line was read yet.
     pub(crate) fn new(alloc: Global) -> Stack
         ensures { stack_of result ≡ unread }
     {
@@ -75,7 +75,7 @@ pub(crate) fn finish(stack: Stack) -> Result<Nodes, ReadFault>
     Ok(items)
 }
 
-/// Nodes end until exactly so many are open, if they may.
+/// The open lists once nodes have ended until exactly so many are open, if they may.
 fn lowered_to(stack: Stack, level: usize) -> Result<Stack, ReadFault>
     ensures { Gives stack_of result (lowered_to level (stack_of stack)) }
 {
@@ -86,7 +86,7 @@ fn lowered_to(stack: Stack, level: usize) -> Result<Stack, ReadFault>
     Ok(stack)
 }
 
-/// Nodes end until no more than so many are open, if they may.
+/// The open lists once nodes have ended until no more than so many are open, if they may.
 fn lowered(stack: Stack, level: usize) -> Result<Stack, ReadFault>
     ensures { Gives stack_of result (lowered level (stack_of stack).own (stack_of stack).outer) }
 {
@@ -105,7 +105,7 @@ fn lowered(stack: Stack, level: usize) -> Result<Stack, ReadFault>
     Ok(Stack { own, frames })
 }
 
-/// The innermost node ends without a line of its own, if it may.
+/// The list around the innermost open node, once that has ended without a line of its own, if it may.
 fn shut(own: OpenList, frame: Frame) -> Result<OpenList, ReadFault>
     ensures { Gives open_list_of result (shut (open_list_of own) (frame_of frame)) }
 {
@@ -118,7 +118,7 @@ fn shut(own: OpenList, frame: Frame) -> Result<OpenList, ReadFault>
     closed(own, frame)
 }
 
-/// The list around a node, behind it.
+/// The list around an open node, once the node has ended in it.
 fn closed(own: OpenList, frame: Frame) -> Result<OpenList, ReadFault>
     ensures { Gives open_list_of result (Some (closed (open_list_of own) (frame_of frame))) }
 {
@@ -146,7 +146,7 @@ fn kind_with(kind: NodeKind, count: usize) -> NodeKind
     }
 }
 
-/// A list with one item more.
+/// An open list with one item more.
 fn with_item(list: OpenList, node: Node) -> Result<OpenList, ReadFault>
     ensures { Gives open_list_of result (Some (record (open_list_of list) {
       items = join (open_list_of list).items (roomless (Forest.cons node.label node.inner Forest.nil));
@@ -168,7 +168,7 @@ fn with_item(list: OpenList, node: Node) -> Result<OpenList, ReadFault>
     })
 }
 
-/// The list, which has come so far.
+/// The open list, which has come so far.
 fn with_filling(list: OpenList, filling: Filling) -> OpenList
     ensures { open_list_of result ≡ record (open_list_of list) { filling = filling_of filling } }
 {
@@ -180,7 +180,7 @@ fn with_filling(list: OpenList, filling: Filling) -> OpenList
     }
 }
 
-/// A node is opened in the innermost list, if one may come there.
+/// The open lists once a node is opened in the innermost one, if it may come there.
 #[tactic(auto, using(crate::proofs::FrameStacks::frames_push))]
 fn begun(
     alloc: Global,
@@ -208,7 +208,7 @@ fn begun(
     })
 }
 
-/// The line before a section of the innermost node, if it is wanted.
+/// The open lists behind the line before a section of the innermost node, if it is wanted.
 fn led(stack: Stack) -> Result<Stack, ReadFault>
     ensures { Gives stack_of result (led_in (codes "ELSE") (stack_of stack) (stack_of stack).outer) }
 {
@@ -225,7 +225,7 @@ fn led(stack: Stack) -> Result<Stack, ReadFault>
     })
 }
 
-/// The last line of the innermost node, if it may end.
+/// The open lists behind the last line of the innermost node, if that may end.
 #[tactic(auto, using(crate::proofs::FrameStacks::frames_push))]
 fn ended(stack: Stack) -> Result<Stack, ReadFault>
     ensures { Gives stack_of result (ended_in (codes "END;") (stack_of stack).own (stack_of stack).outer) }

@@ -3,6 +3,6 @@ use Rattle.std.specs.Prelude.{ℕ, ◌+◌, ◌-◌, nat_lt, if◌then◌else◌
 use Rattle.screen_window.specs.Cell.{blank}
 use Rattle.screen_window.specs.ShownRow.{shown_cell}
 
--- the cell in a column of cells that begin at another
+-- the cell of a row in a column, where these cells are shown from another column on
 abbrev pub cell_behind : ℕ → ℕ → List ℕ → ℕ → ℕ
 cell_behind cols from cells col = if nat_lt (col + 1) cols then shown_cell (slice_index_or cells (col - from) blank) else blank

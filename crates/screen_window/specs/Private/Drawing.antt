@@ -7,30 +7,30 @@ use Rattle.screen_window.specs.PlainView.{PlainView}
 use Rattle.screen_window.specs.Cursor.{begins_node}
 use Rattle.screen_window.specs.Window.{window_line}
 
--- the program's line in a row of the screen, where that lies in the window, which has so many rows
+-- the program's line in a row of the screen that is drawn, where that lies in the window, which has so many rows
 abbrev pub row_line : ℕ → PlainView → ℕ → Option LaidLine
 row_line window view row = if nat_lt row window then window_line view row else None
 
--- whether a line is the first of the node in the slot, where there is one
+-- whether a line that is drawn is the first of the node in the slot, where there is a slot
 abbrev pub begins_stop : Option ℕ → Option LaidLine → Bool
 begins_stop None laid = false
 begins_stop (Some slot) laid = begins_node slot laid
 
--- the first row of the window from this one on, of so many, that shows the node's first line
+-- the first row of the window, of so many that are drawn from this one on, that shows the node's first line
 abbrev pub row_from : PlainView → Option ℕ → ℕ → ℕ → Option ℕ
 row_from view slot from rows = find (λ row. begins_stop slot (window_line view row)) (range_with_len from rows)
 
--- the row that was found, or else this one where it is the one that is looked for
+-- the row of the cursor's stop that was found while drawing, or else this one where it is that
 abbrev pub found_or : Option ℕ → Bool → ℕ → Option ℕ
 found_or None here row = if here then Some row else None
 found_or (Some found) here row = Some found
 
--- the row that was found, or else one that is found later
+-- the row of the cursor's stop that was found while drawing, or else one that is found later
 abbrev pub found_before : Option ℕ → Option ℕ → Option ℕ
 found_before None later = later
 found_before (Some found) later = Some found
 
--- the same grid but for its cursor, on which so many rows are drawn
+-- the same grid but for its cursor, on which so many rows of a view are drawn
 pub record IsDrawn (draw : ℕ → List ℕ) (count : ℕ) (old new : PlainGrid) : Type 0 where
   pub rows : new.rows ≡ old.rows
   pub cols : new.cols ≡ old.cols

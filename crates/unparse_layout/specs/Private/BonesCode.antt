@@ -8,7 +8,7 @@ use Rattle.plcs_grammar.specs.contracts.node_kind.NodeKind as kind_row
 use Rattle.unparse_layout.specs.Bones.{Bone, Bones}
 use Rattle.unparse_layout.specs.Private.PlainNodeLayout.{PlainNodeLayout, PlainNodeLayouts}
 
--- a bone is told by its fields
+-- what a layout keeps of a node is told by its fields
 abbrev pub bone_code : Coded Bone
 bone_code =
     code_by (ℕ × (NodeKind × (Bool × Bool)))
@@ -16,30 +16,30 @@ bone_code =
     (λ b. (b.slot, (b.kind, (b.elided, b.led))))
     (λ t. record { slot = t.0; kind = t.1.0; elided = t.1.1.0; led = t.1.1.1 }) (λ _. refl)
 
--- the first half of a pair
+-- the first half of a pair in a layout's tree of labels
 abbrev pub front : Gv → Gv
 front gnil = gnil
 front (gnum n) = gnil
 front (gcons a b) = a
 
--- the second half of a pair
+-- the second half of a pair in a layout's tree of labels
 abbrev pub back : Gv → Gv
 back gnil = gnil
 back (gnum n) = gnil
 back (gcons a b) = b
 
--- it is a pair
+-- what stands in a layout's tree of labels is a pair
 abbrev pub IsPair : Gv → Type 0
 IsPair gnil = ⊥
 IsPair (gnum n) = ⊥
 IsPair (gcons a b) = Unit {0}
 
--- nodes in order as a tree of labels
+-- a layout's nodes in order as a tree of labels
 abbrev pub bones_code_of : Bones → Gv
 bones_code_of Bones.nil = gnil
 bones_code_of (Bones.cons bone inner rest) = gcons (bone_code.code bone) (gcons (bones_code_of inner) (bones_code_of rest))
 
--- it gives them back
+-- the tree of labels of a layout's nodes gives them back
 pub bones_code_of_inj : (x y : Bones) → bones_code_of x ≡ bones_code_of y → x ≡ y
 bones_code_of_inj Bones.nil Bones.nil p = refl
 bones_code_of_inj (Bones.cons l a b) (Bones.cons m c d) p =
@@ -49,7 +49,7 @@ bones_code_of_inj (Bones.cons l a b) (Bones.cons m c d) p =
 bones_code_of_inj Bones.nil (Bones.cons m c d) p = absurd (subst IsPair (sym p) tt)
 bones_code_of_inj (Bones.cons l a b) Bones.nil p = absurd (subst IsPair p tt)
 
--- nodes in order are told by their tree of labels
+-- a layout's nodes in order are told by their tree of labels
 abbrev pub bones_code : Coded Bones
 bones_code = record { code = bones_code_of; inj = bones_code_of_inj }
 

@@ -1,4 +1,4 @@
--- Layouts after the elision of a node was set.
+-- Layouts after a node came in place of another, or its elision was set.
 use Rattle.std.specs.Prelude.{ℕ, Bool, List, [], ◌∷◌, option_map, unwrap_or, slice_get, slice_set}
 use Rattle.unparse_layout.specs.Private.PlainNodeLayout.{PlainNodeLayout, PlainNodeLayouts, bones, node_layouts}
 

@@ -4,7 +4,7 @@ use Rattle.unparse_layout.specs.declared.node_layout.NodeLayout.TheInside.{Insid
 use Rattle.unparse_layout.specs.Private.PlainNodeLayout.{PlainNodeLayout, bones}
 use Rattle.unparse_layout.specs.Private.Height.{height}
 
--- a node's fields, with the list of the nodes inside it as nodes in order
+-- what a node of a layout in memory is seen as: its fields, with the list of the nodes inside it as nodes in order
 abbrev pub seen : Inside → PlainNodeLayout
 seen a =
     record {
@@ -14,6 +14,6 @@ seen a =
       inner = bones a.inner.items;
     }
 
--- the heights that a node keeps are those of the nodes inside it, one by one
+-- the heights that a node of a layout in memory keeps are those of the nodes inside it, one by one
 pub record IsRight (a : Inside) : Type 0 where
   pub heights : a.heights.numbers ≡ map height a.inner.items

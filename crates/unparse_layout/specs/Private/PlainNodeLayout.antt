@@ -1,4 +1,4 @@
--- Nodes of a layout.
+-- Nodes of a layout as plain data.
 use Rattle.std.specs.Prelude.{Bool, ◌≡◌, ℕ, List, [], ◌∷◌, ◌++◌, refl}
 use Rattle.std.proofs.Common.{ap}
 use Rattle.plcs_grammar.specs.Template.{row_of}
@@ -25,12 +25,12 @@ abbrev pub bones : List PlainNodeLayout → Bones
 bones [] = Bones.nil
 bones (node_layout ∷ rest) = Bones.cons node_layout.bone node_layout.inner (bones rest)
 
--- a list made nodes in order, and these a list again, is that list
+-- a list of nodes of a layout, made nodes in order and these a list again, is that list
 pub node_layouts_bones : (items : List PlainNodeLayout) → node_layouts (bones items) ≡ items
 node_layouts_bones [] = refl
 node_layouts_bones (node_layout ∷ rest) = ap (λ items. node_layout ∷ items) (node_layouts_bones rest)
 
--- nodes in order made a list, and that nodes in order again, are those nodes
+-- nodes of a layout in order, made a list and that nodes in order again, are those nodes
 pub bones_node_layouts : (items : Bones) → bones (node_layouts items) ≡ items
 bones_node_layouts Bones.nil = refl
 bones_node_layouts (Bones.cons bone inner rest) = ap (λ items. Bones.cons bone inner items) (bones_node_layouts rest)

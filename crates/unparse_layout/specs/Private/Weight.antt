@@ -5,18 +5,20 @@ use denote.Param.Weighed.{most}
 use Rattle.unparse_layout.specs.Bones.{Bones}
 use Rattle.unparse_layout.specs.Private.PlainNodeLayout.{PlainNodeLayout, PlainNodeLayouts, bones}
 
--- two for each node, since a node and its list take turns
+-- how large the nodes of a layout are: two for each, since a node and its list take turns
 abbrev pub bones_weight : Bones → ℕ
 bones_weight Bones.nil = 0
 bones_weight (Bones.cons bone inner rest) = suc (suc (bones_weight inner + bones_weight rest))
 
+-- how large a node of a layout is
 abbrev pub weight : PlainNodeLayout → ℕ
 weight node_layout = suc (suc (bones_weight node_layout.inner))
 
+-- how large a list of nodes of a layout is
 abbrev pub list_weight : PlainNodeLayouts → ℕ
 list_weight list = suc (bones_weight (bones list.items))
 
--- no item is heavier than its list
+-- no node of a layout is heavier than the list in which it stands
 pub most_le_weight : (items : List PlainNodeLayout) → most (λ node_layout. weight node_layout + 1) items ≤ bones_weight (bones items) + 1
 most_le_weight [] = omega arith
 most_le_weight (node_layout ∷ rest) = omega (arith, most_le_weight rest)
