@@ -10,7 +10,7 @@ ghost use Rattle.screen_window.specs.Private.ItemLine.{item_line};
 
 use plcs_base::{Place, Point};
 use plcs_grammar::{NodeKind, Sort};
-use template_tree::{Node, Path, Tree};
+use template_tree::{Node, Tree, path_of_item};
 use unparse_layout::{Line, LineKind};
 
 /// A line of the screen, told as one of the lines of the node in a slot.
@@ -60,9 +60,7 @@ fn line_of_item(tree: &Tree, k: u32, place: Place) -> Option<NodeLine>
     requires { IsTree tree.now }
     ensures { result ≡ item_line place.slot.0 place.point.0 (slice_get (nodes tree.now.items) k) }
 {
-    let mut path = Path::new();
-    path.push(k);
-    line_at(tree.node(&path)?, place)
+    line_at(tree.node(&path_of_item(k))?, place)
 }
 
 /// The line on which a place of a run is shown that is the node, or stands inside it.
