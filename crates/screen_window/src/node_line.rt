@@ -1,4 +1,4 @@
-//! Lines of the screen, told by their nodes.
+//! Lines of the screen, told by their nodes, and the one on which a place of a run is shown.
 
 ghost use Rattle.std.specs.Prelude.{◌≡◌, ◌≤◌, slice_get};
 ghost use Rattle.template_tree.specs.Limit.{most_slots};

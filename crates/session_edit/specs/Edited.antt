@@ -37,7 +37,7 @@ limit_reached tree =
     then Some TreeFault.TooLarge
     else (if nat_lt most_drawn_slots tree.drawn then Some TreeFault.SlotsUsedUp else None))
 
--- the edit is refused for the limit that was reached, if one was
+-- what comes of an edit at a stop: it is refused for the limit that was reached, if one was, and else this
 abbrev pub unless : Option TreeFault → Edited → Edited
 unless None edited = edited
 unless (Some fault) edited = Edited.refused fault

@@ -53,7 +53,7 @@ takes_nodes kind part node = is_none part && (is_hole node.label.kind && same_so
 abbrev pub takes_phrase : PlainPhrase → ℕ → PlainNode → Bool
 takes_phrase phrase part node = is_none (part_at node.label.parts part) && is_wanted phrase (part_category node.label.kind part)
 
--- whether the node at the path is an item of a list, so that a hole can come beside it
+-- whether at the stop of the cursor a hole can come beside the node at this path: it is an item of a list
 abbrev pub is_item : Forest → List ℕ → Bool
 is_item items path =
     option_map_or (λ node. is_listed (sort_of node.label.kind) (sections_at program_sections items path)) (node_at items path) false

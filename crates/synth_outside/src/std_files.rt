@@ -1,4 +1,4 @@
-//! Files of the current folder.
+//! Files of the system, in the current folder.
 
 ghost use Rattle.std.specs.Prelude.{◌≡◌, ◌<◌, ◌≤◌, None, IfOk, IfSome, is_some, length};
 ghost use Rattle.plcs_base.specs.Count.{raised};

@@ -29,7 +29,7 @@ file_message FileRefusal.TooLarge = Some (Message.Refusal words.FileTooLarge)
 file_message FileRefusal.TooLong = Some (Message.Refusal words.FileTooLong)
 file_message FileRefusal.OutOfMemory = None
 
--- the message for an edit of the program that is refused; want of memory has none
+-- the message for an edit of the tree that is refused; want of memory has none
 abbrev pub tree_message : TreeFault → Option Message
 tree_message TreeFault.NotHere = Some (Message.Refusal words.NotHere)
 tree_message TreeFault.TooDeep = Some (Message.Refusal words.TreeTooDeep)

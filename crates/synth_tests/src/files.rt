@@ -66,17 +66,19 @@ fn words_load_a_program(rt: HostRuntime) -> Result<(), Fail> {
     Ok(())
 }
 
+/// Words that name files, and the message of the first one that is refused.
+static REFUSALS: [(&[&str], &[u8]); 3] = [
+    (
+        &["Broken", "--input", "None"],
+        b"\x1b[11;1HNOT A LISTING 1\x1b[K",
+    ),
+    (&["--input", "Broken", "None"], b"\x1b[11;1HNO FILE\x1b[K"),
+    (&["--input=None", "Whole"], b"\x1b[11;1HNO FILE\x1b[K"),
+];
+
 #[test]
 fn the_first_refusal_is_told(rt: HostRuntime) -> Result<(), Fail> {
-    let wanted = [
-        (
-            ["Broken", "--input", "None"].as_slice(),
-            b"\x1b[11;1HNOT A LISTING 1\x1b[K".as_slice(),
-        ),
-        (&["--input", "Broken", "None"], b"\x1b[11;1HNO FILE\x1b[K"),
-        (&["--input=None", "Whole"], b"\x1b[11;1HNO FILE\x1b[K"),
-    ];
-    for (words, message) in wanted {
+    for (words, message) in &REFUSALS {
         let mut files = MemFiles::new(rt.alloc(), Vec::new(rt.alloc()));
         assert!(rt; put_file(&mut files, b"Broken", b"x").is_ok());
         assert!(rt; put_file(&mut files, b"Whole", NEW_PROGRAM).is_ok());

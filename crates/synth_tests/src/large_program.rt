@@ -82,20 +82,22 @@ fn enter_writes(
     Ok(last_keys_write(alloc, before.as_slice(), b"\r", bytes)?)
 }
 
+/// Lines that go past a limit of slots, and what Enter writes.
+static LIMITS: [(&[u8], &[u8]); 2] = [
+    (
+        b".insert\r.after\r.insert",
+        b"\x1b[11;1HTREE TOO LARGE\x1b[K\x1b[12;19H",
+    ),
+    (
+        b".insert\r.copy e",
+        b"\x1b[11;1HCLIPS FULL\x1b[K\x1b[12;19H",
+    ),
+];
+
 #[test]
 fn slots_of_programs_and_clips_have_a_limit(rt: HostRuntime) -> Result<(), Fail> {
     let keys = clip_keys(rt.alloc(), 13).map_err(|_| "memory")?;
-    let wanted = [
-        (
-            b".insert\r.after\r.insert".as_slice(),
-            b"\x1b[11;1HTREE TOO LARGE\x1b[K\x1b[12;19H".as_slice(),
-        ),
-        (
-            b".insert\r.copy e",
-            b"\x1b[11;1HCLIPS FULL\x1b[K\x1b[12;19H",
-        ),
-    ];
-    for (line, bytes) in wanted {
+    for (line, bytes) in &LIMITS {
         assert!(rt;
             enter_writes(rt.alloc(), keys.as_slice(), line, bytes).map_err(|_| "memory")?,
             "{line:?}"

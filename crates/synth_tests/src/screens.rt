@@ -100,19 +100,21 @@ fn a_command_that_is_not_built_stays_typed(rt: HostRuntime) -> Result<(), Fail> 
     Ok(())
 }
 
+/// Digits as they are typed, and the number as it is shown.
+static NUMBERS: [(&[u8], &[u8]); 8] = [
+    (b"0", b"0"),
+    (b"9", b"9"),
+    (b"1234567890", b"1234567890"),
+    (b"2147483646", b"2147483646"),
+    (b"2147483647", b"2147483647"),
+    (b"007", b"7"),
+    (b"0000000000", b"0"),
+    (b"00000000000000000042", b"42"),
+];
+
 #[test]
 fn numbers_are_put(rt: HostRuntime) -> Result<(), Fail> {
-    let wanted = [
-        (b"0".as_slice(), b"0".as_slice()),
-        (b"9", b"9"),
-        (b"1234567890", b"1234567890"),
-        (b"2147483646", b"2147483646"),
-        (b"2147483647", b"2147483647"),
-        (b"007", b"7"),
-        (b"0000000000", b"0"),
-        (b"00000000000000000042", b"42"),
-    ];
-    for (digits, shown) in wanted {
+    for (digits, shown) in &NUMBERS {
         let bytes = [
             b"\x1b[3;1H    PUT LIST ( ".as_slice(),
             shown,

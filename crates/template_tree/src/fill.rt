@@ -1,4 +1,4 @@
-//! Holes filled with templates.
+//! Holes filled with templates, and the fresh nodes that fill them.
 ghost use Rattle.std.specs.Prelude.{◌≡◌, ◌+◌, IfErr, IfOk, None, OnOk, length, map, min};
 ghost use Rattle.plcs_grammar.specs.Template.{plain_section, plain_segment};
 ghost use Rattle.plcs_grammar.specs.declared.node_kind.NodeKind.{NodeKind};

@@ -88,7 +88,8 @@ fn item_offence(
     }
 }
 
-/// Whether the procedure declares an item of the name and with so many cells before the node in the slot.
+/// Whether the procedure declares an item of this name with so many cells before the node in the slot, so
+/// that one that is declared there isn't effective.
 fn has_such_before(procedure: &Node, slot: Slot, name: &Name, cells: u32) -> bool
     requires few { count procedure.now.inner < most_slots }
     ensures { result ≡ has_such name.now cells (declared_before procedure.now.inner slot.0) }
@@ -106,7 +107,7 @@ fn has_such_before(procedure: &Node, slot: Slot, name: &Name, cells: u32) -> boo
     false
 }
 
-/// Whether the node declares an item of the name and with so many cells.
+/// Whether a node declares an item of this name with so many cells, so that a later one isn't effective.
 fn declares_such(node: &Node, name: &Name, cells: u32) -> bool
     ensures { result ≡ has_such name.now cells (declares node.now.label) }
 {

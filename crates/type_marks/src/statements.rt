@@ -102,7 +102,7 @@ fn times_named(name: &Name, names: &[Name]) -> usize
     names.iter().filter(|other| name == *other).count()
 }
 
-/// The offence of a phrase in a statement, if one was found in it.
+/// The offence that was found in a part of a phrase in a statement, if one was.
 fn offence_in(found: Result<Kind, MarkKind>) -> Option<MarkKind>
     ensures { result ≡ offence_in found }
 {

@@ -1,4 +1,4 @@
-//! Primaries: operands that are no operators with operands of their own.
+//! Primaries: operands that are no operators with operands of their own, and the expressions that they are.
 
 ghost use Rattle.std.specs.Prelude.{◌≡◌, ◌≤◌, IfOk, pos};
 ghost use Rattle.plcs_grammar.specs.Limit.{greatest_number};
