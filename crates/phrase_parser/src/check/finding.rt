@@ -1,12 +1,12 @@
 //! Findings: what the check finds in the tokens of a text.
 ghost use Rattle.std.specs.Prelude.{◌≡◌};
 ghost use Rattle.phrase_parser.specs.Private.Recognizer.{may_end};
-ghost use Rattle.phrase_parser.specs.Private.Findings.{is_large, seen_over, finding_of, found_at_end};
+ghost use Rattle.phrase_parser.specs.Private.Findings.{seen_over, finding_of, found_at_end};
 ghost use Rattle.phrase_parser.specs.Private.Shapes.{shape_of, over_if, as_found};
 
 use crate::check::shape::{Shape, may_end};
-use crate::check::token_class::TokenClass;
-use plcs_grammar::{GREATEST_NESTING, GREATEST_NUMBER};
+use crate::check::token_class::{TokenClass, is_large};
+use plcs_grammar::GREATEST_NESTING;
 
 /// What the check finds past a limit, and the place of it.
 #[derive(Clone, Copy)]
@@ -26,17 +26,6 @@ pub enum Finding {
     SyntaxAt(usize),
     /// They are a phrase, and this goes past a limit first.
     Over(Over),
-}
-
-/// Whether a token that the check sees is a number that is too large, by its class.
-fn is_large(class: TokenClass) -> bool
-    ensures { result ≡ is_large class }
-{
-    match class {
-        TokenClass::Number(n) => n > GREATEST_NUMBER,
-        TokenClass::Name(_) | TokenClass::Keyword | TokenClass::Constant | TokenClass::Sign(_) =>
-            false,
-    }
 }
 
 /// What the check finds past a limit in the token with this place, which opens the level, if it finds anything.

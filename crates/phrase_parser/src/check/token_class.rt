@@ -1,11 +1,12 @@
 //! The classes of tokens: what the check looks at of each.
 
 ghost use Rattle.std.specs.Prelude.{◌≡◌, ◌≤◌, length};
+ghost use Rattle.phrase_parser.specs.Private.Findings.{is_large};
 ghost use Rattle.phrase_parser.specs.Private.TokenIn.{bytes_in};
 ghost use Rattle.phrase_parser.specs.Private.Shapes.{class_from};
 
 use crate::token::{Placed, TokenKind};
-use plcs_grammar::{Builtin, Sign};
+use plcs_grammar::{Builtin, GREATEST_NUMBER, Sign};
 
 /// The class of a token: what the check looks at of it.
 #[derive(Clone, Copy)]
@@ -35,5 +36,16 @@ pub fn class_at(text: &[u8], token: &Placed) -> TokenClass
         TokenKind::Number(n) => TokenClass::Number(n),
         TokenKind::Text | TokenKind::Bit(_) => TokenClass::Constant,
         TokenKind::Sign(sign) => TokenClass::Sign(sign),
+    }
+}
+
+/// Whether a token of the class is a number that is too large.
+pub fn is_large(class: TokenClass) -> bool
+    ensures { result ≡ is_large class }
+{
+    match class {
+        TokenClass::Number(n) => n > GREATEST_NUMBER,
+        TokenClass::Name(_) | TokenClass::Keyword | TokenClass::Constant | TokenClass::Sign(_) =>
+            false,
     }
 }
