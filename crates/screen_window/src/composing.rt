@@ -285,8 +285,8 @@ fn is_run_line<W>(run: Option<NodeLine>, laid: &Line<W>) -> bool
     }
 }
 
-/// The line in whose margin a view's run is drawn: that of its place, if a run stands and its slot is
-/// live.
+/// The line of a composed view in whose margin the run is drawn: that of the run's place, if a run stands
+/// and its slot is live.
 fn run_line(tree: &Tree, place: Option<Place>) -> Option<NodeLine>
     requires { IsTree tree.now }
     ensures { result ≡ run_line (roomless tree.now.items) place }
