@@ -12,8 +12,8 @@ returns-then-is_some c =
 pub returns-in-Ok : goal.returns-in-Ok
 returns-in-Ok c =
     insert_applied c.room_laws.ensures c.slot_edit_is_path_edit.ensures c.args.tree.now c.insert.new.self (plain_stop c.args.at.now) c.args.node c.in-Ok.receipt
-    c.stop_copy.result c.requires.tree c.requires.stop (no_part c.args.at.now.part (sym c.is_some.ensures ∙ c.if-is_some.false))
-    c.in-Ok.ensures.edited c.stop_copy.ensures
+    c.copy_stop.result c.requires.tree c.requires.stop (no_part c.args.at.now.part (sym c.is_some.ensures ∙ c.if-is_some.false))
+    c.in-Ok.ensures.edited c.copy_stop.ensures
 
 pub returns : goal.returns
 returns c = (

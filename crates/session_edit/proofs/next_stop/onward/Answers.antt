@@ -11,5 +11,5 @@ returns-in-Moved-clause-onward c =
 
 pub returns-in-AtEdge-clause-onward : goal.returns-in-AtEdge-clause-onward
 returns-in-AtEdge-clause-onward c =
-    c.stop_copy.ensures
+    c.copy_stop.ensures
     ∙ ap (λ to. option_map_or (stop_or_next (plain_stop c.args.at.now)) to (plain_stop c.args.at.now)) c.in-AtEdge.ensures.moved

@@ -7,7 +7,7 @@ use Rattle.session_edit.proofs.removal.empty_part.Goals as goal
 pub returns-in-Ok : goal.returns-in-Ok
 returns-in-Ok c =
     empty_applied c.room_laws.ensures c.slot_edit_is_path_edit.ensures c.args.tree.now c.set_phrase.new.self (plain_stop c.args.at.now) c.in-Ok.receipt
-    c.stop_copy.result c.requires.tree c.requires.stop (sym c.if-not-takes.false ∙ c.takes.ensures) c.in-Ok.ensures.edited c.stop_copy.ensures
+    c.copy_stop.result c.requires.tree c.requires.stop (sym c.if-not-takes.false ∙ c.takes.ensures) c.in-Ok.ensures.edited c.copy_stop.ensures
 
 pub returns : goal.returns
 returns c =

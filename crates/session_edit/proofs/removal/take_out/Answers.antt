@@ -7,8 +7,8 @@ use Rattle.session_edit.proofs.removal.take_out.Goals as goal
 pub returns-in-Ok : goal.returns-in-Ok
 returns-in-Ok c =
     take_applied c.room_laws.ensures c.slot_edit_is_path_edit.ensures c.args.tree.now c.take.new.self (plain_stop c.args.at.now) c.in-Ok.node c.in-Ok.receipt
-    c.stop_copy.result c.requires.tree c.requires.stop (no_part c.args.at.now.part (sym c.is_some.ensures ∙ c.if-is_some.false))
-    c.in-Ok.ensures.taken c.in-Ok.ensures.edited c.in-Ok.ensures.subtree c.stop_copy.ensures
+    c.copy_stop.result c.requires.tree c.requires.stop (no_part c.args.at.now.part (sym c.is_some.ensures ∙ c.if-is_some.false))
+    c.in-Ok.ensures.taken c.in-Ok.ensures.edited c.in-Ok.ensures.subtree c.copy_stop.ensures
 
 pub returns-in-Err : goal.returns-in-Err
 returns-in-Err c = (
