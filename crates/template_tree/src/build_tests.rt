@@ -7,6 +7,7 @@ ghost use Rattle.plcs_grammar.specs.Template.{list_of, row_of};
 ghost use Rattle.template_tree.specs.PlainPlace.{plain_place};
 ghost use Rattle.template_tree.specs.PlainTree.{forest};
 ghost use Rattle.template_tree.specs.Program.{AreNodes, Fill, IsProgram, IsSubtree, parts_of, sort_of, sorts};
+ghost use Rattle.template_tree.specs.Tree.{IsTree};
 
 use super::*;
 use crate::fixture_tests::{is_listed, stands_at};
@@ -153,12 +154,31 @@ static LINES: [&[u8]; 9] = [
     b"{procedure}",
 ];
 
+/// The IF of the lines around a group of two holes.
+fn choice_of_two(alloc: Global) -> Result<Node, Fail>
+    ensures node { IfOk result IsSubtree }
+    ensures sort { IfOk result (λ node. sort_of node.label.kind ≡ Sort.Statement) }
+{
+    let side = one(alloc, group(alloc, holes(alloc, 1)?))?;
+    let node = choice(alloc, side)?;
+    Ok(node)
+}
+
+/// The tree of the program with the statement.
+fn tree_of(alloc: Global, statement: Node) -> Result<Tree, Fail>
+    requires node { IsSubtree statement }
+    requires sort { sort_of statement.label.kind ≡ Sort.Statement }
+    ensures { IfOk result IsTree }
+{
+    let items = program(alloc, statement)?;
+    let tree = Tree::built(items).map_err(|_| "a tree")?;
+    Ok(tree)
+}
+
 #[test]
 fn a_tree_is_built_from_its_leaves(rt: HostRuntime) -> Result<(), Fail> {
-    let alloc = rt.alloc();
-    let side = one(alloc, group(alloc, holes(alloc, 1)?))?;
-    let items = program(alloc, choice(alloc, side)?)?;
-    let tree = Tree::built(items).map_err(|_| "a tree")?;
+    let statement = choice_of_two(rt.alloc())?;
+    let tree = tree_of(rt.alloc(), statement)?;
     assert!(rt; is_listed(&tree, &LINES));
     assert!(rt; tree.slots() == 7);
     assert!(rt; stands_at(&tree, 5, &[0, 1, 0, 1]));

@@ -3,7 +3,9 @@ ghost use Rattle.std.specs.Prelude.{IfOk};
 ghost use Rattle.template_tree.specs.Tree.{IsTree};
 
 use super::*;
-use crate::fixture_tests::{Edit, Row, is_listed, make_all, new_tree, path, stands_at};
+use crate::fixture_tests::{
+    Edit, Row, insert, is_listed, make_all, new_tree, path, shape, stands_at,
+};
 use plcs_base::Slot;
 use plcs_grammar::{Category, NodeKind, Template};
 use std::alloc::Global;
@@ -26,11 +28,28 @@ fn program(alloc: Global) -> Result<Tree, Fail>
     ensures { IfOk result IsTree }
 {
     let mut tree = new_tree(alloc)?;
-    make_all(alloc, &mut tree, &ROWS)?;
-    let (outer, inner) = (path(&[0, 1])?, path(&[0, 1, 0])?);
-    let _outer = tree.elide(&outer);
-    let _inner = tree.elide(&inner);
+    make_program(alloc, &mut tree)?;
     Ok(tree)
+}
+
+/// Makes a new tree the program of the rows.
+fn make_program(alloc: Global, tree: &mut Tree) -> Result<(), Fail>
+    requires { IsTree tree.old }
+    ensures { IsTree tree.new }
+{
+    make_all(alloc, tree, &ROWS)?;
+    elide(tree, &[0, 1])?;
+    elide(tree, &[0, 1, 0])
+}
+
+/// Hides the refinement of the comment at the path.
+fn elide(tree: &mut Tree, numbers: &[u32]) -> Result<(), Fail>
+    requires { IsTree tree.old }
+    ensures { IsTree tree.new }
+{
+    let at = path(numbers)?;
+    let _told = tree.elide(&at);
+    Ok(())
 }
 
 /// Whether it is the comment in a comment of the program, with nothing hidden.
@@ -133,13 +152,12 @@ fn comes(alloc: Global, tree: &mut Tree, row: &Insert) -> Result<bool, Fail>
     ensures { IsTree tree.new }
 {
     let (from, to, fits) = *row;
-    let copy = tree.copy_node(alloc, &path(from)?).map_err(|_| "a copy")?;
-    let kind = copy.kind();
-    let at = path(to)?;
-    match tree.insert(&at, copy) {
-        Ok(_) => Ok(fits),
-        Err((TreeFault::NotHere, back)) => Ok(!fits && back.kind() == kind),
-        Err(_) => Ok(false),
+    let (from, at) = (path(from)?, path(to)?);
+    let copy = tree.copy_node(alloc, &from).map_err(|_| "a copy")?;
+    let own = shape(&copy);
+    match insert(tree, &at, copy) {
+        None => Ok(fits),
+        Some((fault, back)) => Ok(!fits && fault == TreeFault::NotHere && back == own),
     }
 }
 

@@ -1,31 +1,11 @@
 //! Tests of templates: which holes each of them fills.
+ghost use Rattle.template_tree.specs.Tree.{IsTree};
+
 use super::*;
-use crate::fixture_tests::{new_tree, path};
+use crate::fixture_tests::{Edit, new_tree, outcome, path};
 use plcs_grammar::{NodeKind, Template};
 use std::alloc::Global;
 use std::test::Fail;
-
-/// Whether the template fills the hole at the one path with so many slots more, and neither at the other.
-fn fills(
-    alloc: Global,
-    template: Template,
-    hole: &[u32],
-    other: &[u32],
-    slots: u32,
-) -> Result<bool, Fail> {
-    let mut tree = new_tree(alloc)?;
-    let refused = tree.fill(alloc, &path(other)?, template);
-    let is_refused = matches!(refused, Err(TreeFault::NotHere)) && tree.slots() == 4;
-    let there = path(hole)?;
-    let receipt = tree
-        .fill(alloc, &there, template)
-        .map_err(|_| "a hole for it")?;
-    let Some(node) = tree.node(&there) else {
-        return Ok(false);
-    };
-    let is_it = node.kind() == NodeKind::Filled(template) && node.slot() == receipt.change().slot;
-    Ok(is_refused && is_it && tree.slots() as u64 == 4 + slots as u64)
-}
 
 const DECLARATION: &[u32] = &[0, 0];
 
@@ -57,12 +37,36 @@ static FILLINGS: [Filling; 16] = [
 
 /// Whether each row of the table is so.
 fn all_fill(alloc: Global, rows: &[Filling]) -> Result<bool, Fail> {
-    for (template, hole, other, slots) in rows {
-        if !fills(alloc, *template, hole, other, *slots)? {
+    for row in rows {
+        if !fills(alloc, row)? {
             return Ok(false);
         }
     }
     Ok(true)
+}
+
+/// Whether the template fills the hole at the one path with so many slots more, and neither at the other.
+fn fills(alloc: Global, row: &Filling) -> Result<bool, Fail> {
+    let (template, hole, other, slots) = *row;
+    let (hole, other) = (path(hole)?, path(other)?);
+    let mut tree = new_tree(alloc)?;
+    let refused = outcome(alloc, &mut tree, Edit::Fill(template), &other);
+    let is_refused = refused == Err(TreeFault::NotHere);
+    let slots_before = tree.slots();
+    let made = outcome(alloc, &mut tree, Edit::Fill(template), &hole);
+    let is_made = is_filled(&tree, &hole, template, made);
+    let slots_after = tree.slots() as u64;
+    Ok(is_refused && is_made && slots_before == 4 && slots_after == 4 + slots as u64)
+}
+
+/// Whether the change is that of the node at the path, which is of the template.
+fn is_filled(tree: &Tree, at: &Path, template: Template, made: Result<Change, TreeFault>) -> bool
+    requires { IsTree tree.now }
+{
+    let (Some(node), Ok(change)) = (tree.node(at), made) else {
+        return false;
+    };
+    node.kind() == NodeKind::Filled(template) && node.slot() == change.slot
 }
 
 #[test]

@@ -5,12 +5,13 @@ ghost use Rattle.plcs_base.specs.Name.{IsName};
 ghost use Rattle.template_tree.specs.Part.{IsPlace};
 ghost use Rattle.template_tree.specs.PlainPlace.{plain_place};
 ghost use Rattle.template_tree.specs.PlainTree.{roomless_tree};
+ghost use Rattle.template_tree.specs.Program.{IsSubtree};
 ghost use Rattle.template_tree.specs.Receipt.{CanUndo, NeedsNoRoom, undone};
 ghost use Rattle.template_tree.specs.Tree.{IsTree};
 
 use super::*;
 use plcs_base::{ByteOut, Name, Slot};
-use plcs_grammar::{Category, Expr, Item, Phrase, Template, VarRef};
+use plcs_grammar::{Category, Expr, Item, NodeKind, Phrase, Template, VarRef};
 use std::alloc::Global;
 use std::test::Fail;
 
@@ -264,6 +265,54 @@ pub(crate) fn make(
         Edit::Take => take(alloc, tree, at),
         Edit::Drop => tree.drop_hole(at),
         other => made(alloc, tree, other, at),
+    }
+}
+
+/// Makes the edit at the path, and says what its receipt says that it changed, or why it is refused.
+pub(crate) fn outcome(
+    alloc: Global,
+    tree: &mut Tree,
+    edit: Edit,
+    at: &Path,
+) -> Result<Change, TreeFault>
+    requires { IsTree tree.old }
+    ensures { IsTree tree.new }
+{
+    let answer = make(alloc, tree, edit, at);
+    change_of(answer)
+}
+
+/// What the receipt says that was changed, if there is one.
+fn change_of(answer: Result<Receipt, TreeFault>) -> Result<Change, TreeFault> {
+    match answer {
+        Ok(receipt) => Ok(receipt.change()),
+        Err(fault) => Err(fault),
+    }
+}
+
+/// A node as far as tests tell one from another: its kind, and whether others stand in it.
+pub(crate) type Shape = (NodeKind, bool);
+
+/// The shape of the node.
+pub(crate) fn shape(node: &Node) -> Shape {
+    (node.kind(), node.child(0).is_some())
+}
+
+/// Puts the node in place of the hole at the path. Where that is refused, says why, and what came back.
+pub(crate) fn insert(tree: &mut Tree, at: &Path, node: Node) -> Option<(TreeFault, Shape)>
+    requires tree { IsTree tree.old }
+    requires node { IsSubtree node }
+    ensures { IsTree tree.new }
+{
+    let answer = tree.insert(at, node);
+    refusal(answer)
+}
+
+/// Why it is refused, if it is, and what came back.
+fn refusal(answer: Result<Receipt, (TreeFault, Node)>) -> Option<(TreeFault, Shape)> {
+    match answer {
+        Ok(_) => None,
+        Err((fault, back)) => Some((fault, shape(&back))),
     }
 }
 

@@ -4,7 +4,9 @@ ghost use Rattle.template_tree.specs.Limit.{most_drawn_slots};
 ghost use Rattle.template_tree.specs.Tree.{IsTree};
 
 use super::*;
-use crate::fixture_tests::{Edit, make, make_all, new_tree, path, stands_at};
+use crate::fixture_tests::{
+    Edit, insert, make, make_all, new_tree, outcome, path, shape, stands_at,
+};
 use plcs_base::Slot;
 use plcs_grammar::{Category, NodeKind, Template};
 use std::alloc::Global;
@@ -57,10 +59,7 @@ fn fault_of(alloc: Global, tree: &mut Tree, edit: Edit, at: &Path) -> Option<Tre
     requires { IsTree tree.old }
     ensures { IsTree tree.new }
 {
-    match make(alloc, tree, edit, at) {
-        Ok(_) => None,
-        Err(fault) => Some(fault),
-    }
+    outcome(alloc, tree, edit, at).err()
 }
 
 /// Puts a copy of the one node in place of the other, and says why that is refused, if it is; the copy
@@ -76,15 +75,12 @@ fn fault_of_insert(
 {
     let from = path(from)?;
     let copy = tree.copy_node(alloc, &from).map_err(|_| "a copy")?;
-    let (kind, is_around) = (copy.kind(), copy.child(0).is_some());
-    let (fault, back) = match tree.insert(at, copy) {
-        Ok(_) => return Ok(None),
-        Err(refused) => refused,
-    };
-    if back.kind() == kind && back.child(0).is_some() == is_around {
-        return Ok(Some(fault));
+    let own = shape(&copy);
+    match insert(tree, at, copy) {
+        None => Ok(None),
+        Some((fault, back)) if back == own => Ok(Some(fault)),
+        Some(_) => Err(Fail::from("the copy again")),
     }
-    Err(Fail::from("the copy again"))
 }
 
 /// An edit, and why it is refused, if it is.
@@ -265,13 +261,26 @@ fn used_up(draws: bool) -> Option<TreeFault> {
 /// Whether the edit is refused where no slot is left, if it draws one, and made where one is left, which
 /// is drawn then.
 fn draws_last(alloc: Global, edit: Edit, draws: bool) -> Result<bool, Fail> {
+    let wanted = used_up(draws);
+    let at_end = faults_after(alloc, MOST_DRAWN_SLOTS, edit)?;
+    let before_end = faults_after(alloc, MOST_DRAWN_SLOTS - 1, edit)?;
+    Ok(at_end.0 == wanted && before_end == (None, wanted))
+}
+
+/// Why the edit of a hole is refused where so many slots were drawn, if it is, and then why no procedure is
+/// added, if none is.
+fn faults_after(
+    alloc: Global,
+    slots: u32,
+    edit: Edit,
+) -> Result<(Option<TreeFault>, Option<TreeFault>), Fail>
+    requires { slots ≤ most_drawn_slots }
+{
     let (hole, item) = (path(&[0, 3])?, path(&[1])?);
-    let mut full = drawn(alloc, MOST_DRAWN_SLOTS)?;
-    let at_end = fault_of(alloc, &mut full, edit, &hole);
-    let mut other = drawn(alloc, MOST_DRAWN_SLOTS - 1)?;
-    let before_end = fault_of(alloc, &mut other, edit, &hole);
-    let behind = fault_of(alloc, &mut other, Edit::Add(Side::After), &item);
-    Ok(at_end == used_up(draws) && before_end.is_none() && behind == used_up(draws))
+    let mut tree = drawn(alloc, slots)?;
+    let fault = fault_of(alloc, &mut tree, edit, &hole);
+    let behind = fault_of(alloc, &mut tree, Edit::Add(Side::After), &item);
+    Ok((fault, behind))
 }
 
 /// Whether each edit draws a slot as its row says.
@@ -290,17 +299,39 @@ fn no_slot_is_drawn_past_the_last(rt: HostRuntime) -> Result<(), Fail> {
     Ok(())
 }
 
+/// Why copies of the group and then of the RETURN can't come into the last hole where so many slots were
+/// drawn, if they can't, and the slot of the hole in the group then.
+type Copied = (Option<TreeFault>, Option<TreeFault>, Option<u32>);
+
+/// What comes of the copies where so many slots were drawn.
+fn copied_after(alloc: Global, slots: u32) -> Result<Copied, Fail>
+    requires { slots ≤ most_drawn_slots }
+{
+    let (hole, inner) = (path(&[0, 3])?, path(&[0, 3, 0])?);
+    let mut tree = drawn(alloc, slots)?;
+    let group = fault_of_insert(alloc, &mut tree, &[0, 1], &hole)?;
+    let last = fault_of_insert(alloc, &mut tree, &[0, 2], &hole)?;
+    Ok((group, last, slot_at(&tree, &inner)))
+}
+
+/// The slot of the node at the path, if one is there, which leads to it again.
+fn slot_at(tree: &Tree, at: &Path) -> Option<u32>
+    requires { IsTree tree.now }
+{
+    let slot = tree.node(at)?.slot().0;
+    if stands_at(tree, slot, at.as_slice()) {
+        return Some(slot);
+    }
+    None
+}
+
 #[test]
 fn no_slot_is_drawn_past_the_last_for_a_node(rt: HostRuntime) -> Result<(), Fail> {
-    let alloc = rt.alloc();
-    let hole = path(&[0, 3])?;
-    let mut full = drawn(alloc, MOST_DRAWN_SLOTS)?;
-    let fault = fault_of_insert(alloc, &mut full, &[0, 1], &hole)?;
-    assert!(rt; fault == Some(TreeFault::SlotsUsedUp));
-    assert!(rt; fault_of_insert(alloc, &mut full, &[0, 2], &hole)? == None);
-    let mut other = drawn(alloc, MOST_DRAWN_SLOTS - 1)?;
-    assert!(rt; fault_of_insert(alloc, &mut other, &[0, 1], &hole)? == None);
-    assert!(rt; stands_at(&other, MOST_DRAWN_SLOTS - 1, &[0, 3, 0]));
+    let slot = MOST_DRAWN_SLOTS - 1;
+    let none_left = copied_after(rt.alloc(), MOST_DRAWN_SLOTS)?;
+    assert!(rt; none_left == (Some(TreeFault::SlotsUsedUp), None, None));
+    let one_left = copied_after(rt.alloc(), slot)?;
+    assert!(rt; one_left == (None, Some(TreeFault::NotHere), Some(slot)));
     Ok(())
 }
 

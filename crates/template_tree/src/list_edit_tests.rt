@@ -4,7 +4,7 @@ ghost use Rattle.template_tree.specs.Tree.{IsTree};
 
 use super::*;
 use crate::fixture_tests::{
-    Edit, Row, is_listed, listing_sum, make_all, new_tree, path, stands_at,
+    Edit, Row, is_listed, listing_sum, make_all, new_tree, outcome, path, stands_at,
 };
 use plcs_base::Slot;
 use plcs_grammar::Template;
@@ -76,8 +76,8 @@ fn adds(alloc: Global, tree: &mut Tree, adding: &Adding) -> Result<bool, Fail>
 {
     let at = path(adding.0)?;
     let (before, slots) = (listing_sum(tree), tree.slots());
-    match tree.add_hole(alloc, &at, adding.1) {
-        Ok(receipt) => Ok(is_added(tree, receipt.change(), adding, slots)),
+    match outcome(alloc, tree, Edit::Add(adding.1), &at) {
+        Ok(change) => Ok(is_added(tree, change, adding, slots)),
         Err(fault) => {
             let same = listing_sum(tree) == before && tree.slots() == slots;
             Ok(same && fault == TreeFault::NotHere && adding.2.is_none())
@@ -156,14 +156,14 @@ fn is_dropped(tree: &Tree, change: Change, dropping: &Dropping, slots: u32) -> b
 }
 
 /// Whether the hole is dropped as the row says; a refusal changes nothing.
-fn drops(tree: &mut Tree, dropping: &Dropping) -> Result<bool, Fail>
+fn drops(alloc: Global, tree: &mut Tree, dropping: &Dropping) -> Result<bool, Fail>
     requires { IsTree tree.old }
     ensures { IsTree tree.new }
 {
     let at = path(dropping.0)?;
     let (before, slots) = (listing_sum(tree), tree.slots());
-    match tree.drop_hole(&at) {
-        Ok(receipt) => Ok(is_dropped(tree, receipt.change(), dropping, slots)),
+    match outcome(alloc, tree, Edit::Drop, &at) {
+        Ok(change) => Ok(is_dropped(tree, change, dropping, slots)),
         Err(fault) => {
             let same = listing_sum(tree) == before && tree.slots() == slots;
             Ok(same && fault == TreeFault::NotHere && dropping.1.is_none())
@@ -185,12 +185,12 @@ fn adds_all(alloc: Global, tree: &mut Tree, addings: &[Adding]) -> Result<bool, 
 }
 
 /// Whether the hole of each row, one after the other, is dropped as it says.
-fn drops_all(tree: &mut Tree, droppings: &[Dropping]) -> Result<bool, Fail>
+fn drops_all(alloc: Global, tree: &mut Tree, droppings: &[Dropping]) -> Result<bool, Fail>
     requires { IsTree tree.old }
     ensures { IsTree tree.new }
 {
     for dropping in droppings {
-        if !drops(tree, dropping)? {
+        if !drops(alloc, tree, dropping)? {
             return Ok(false);
         }
     }
@@ -203,7 +203,7 @@ fn holes_are_added_and_dropped(rt: HostRuntime) -> Result<(), Fail> {
     let before = listing_sum(&tree);
     assert!(rt; adds_all(rt.alloc(), &mut tree, &ADDINGS)?);
     assert!(rt; is_listed(&tree, &AFTER_ADDINGS));
-    assert!(rt; drops_all(&mut tree, &DROPPINGS)?);
+    assert!(rt; drops_all(rt.alloc(), &mut tree, &DROPPINGS)?);
     assert!(rt; listing_sum(&tree) == before && tree.slots() == 12);
     Ok(())
 }

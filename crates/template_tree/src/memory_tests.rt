@@ -3,7 +3,7 @@ ghost use Rattle.std.specs.Prelude.{IfOk};
 ghost use Rattle.template_tree.specs.Tree.{IsTree};
 
 use super::*;
-use crate::fixture_tests::{Edit, Row, listing_sum, make, new_tree, path};
+use crate::fixture_tests::{Edit, Row, listing_sum, new_tree, outcome, path};
 use plcs_base::Slot;
 use plcs_grammar::{Category, Template};
 use std::alloc::Global;
@@ -34,11 +34,11 @@ fn comes_at_last(alloc: Global, tree: &mut Tree, edit: Edit, at: &Path) -> bool
     ensures { IsTree tree.new }
 {
     let (before, slots) = (listing_sum(tree), tree.slots());
-    match make(alloc, tree, edit, at) {
+    match outcome(alloc, tree, edit, at) {
         Ok(_) => true,
         Err(TreeFault::OutOfMemory) => {
             let same = listing_sum(tree) == before && tree.slots() == slots;
-            same && make(alloc, tree, edit, at).is_ok()
+            same && outcome(alloc, tree, edit, at).is_ok()
         }
         Err(_) => false,
     }

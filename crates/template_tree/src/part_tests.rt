@@ -1,5 +1,6 @@
 //! Tests of parts that are set, and of assignments.
-ghost use Rattle.std.specs.Prelude.{IfOk};
+ghost use Rattle.std.specs.Prelude.{IfOk, Some};
+ghost use Rattle.plcs_grammar.specs.PlainPhrase.{plain_phrase};
 ghost use Rattle.template_tree.specs.Part.{IsPlace};
 ghost use Rattle.template_tree.specs.PlainPlace.{plain_place};
 ghost use Rattle.template_tree.specs.Tree.{IsTree};
@@ -7,7 +8,7 @@ ghost use Rattle.template_tree.specs.Tree.{IsTree};
 use super::*;
 use crate::fixture_tests::{Edit, Row, is_listed, listing_sum, make_all, new_tree, path, phrase};
 use plcs_base::Slot;
-use plcs_grammar::{Category, Template};
+use plcs_grammar::{Category, Phrase, Template};
 use std::alloc::Global;
 use std::test::Fail;
 
@@ -159,10 +160,26 @@ fn puts(alloc: Global, tree: &mut Tree, putting: &Putting) -> Result<bool, Fail>
     let (numbers, part, held, is_taken, back) = *putting;
     let place = place(alloc, held)?;
     let at = path(numbers)?;
-    match put_at(tree, &at, part, place) {
-        Some(Ok(old)) => Ok(is_taken && category_in(&old) == back),
-        Some(Err(own)) => Ok(!is_taken && category_in(&own) == back),
-        None => Ok(false),
+    let answer = put(tree, &at, part, place);
+    Ok(answer == Some((is_taken, back)))
+}
+
+/// Puts this into a part of the node at the path. Says whether it was taken, and the category of the phrase
+/// that comes back, if one does.
+fn put(tree: &mut Tree, at: &Path, part: u8, place: PhrasePlace) -> Option<(bool, Option<Category>)>
+    requires tree { IsTree tree.old }
+    requires place { IsPlace (plain_place place) }
+    ensures { IsTree tree.new }
+{
+    let answer = put_at(tree, at, part, place)?;
+    Some(taken(answer))
+}
+
+/// Whether it was taken, and the category of what came back.
+fn taken(answer: Result<PhrasePlace, PhrasePlace>) -> (bool, Option<Category>) {
+    match answer {
+        Ok(old) => (true, category_in(&old)),
+        Err(own) => (false, category_in(&own)),
     }
 }
 
@@ -237,25 +254,57 @@ static SETTINGS: [Setting; 13] = [
     (&[1], Some(2), None, None),
 ];
 
+/// What comes of a call: what was changed, or why it was refused and the category of what came back.
+#[derive(Clone, Copy)]
+enum Answer {
+    Changed(Change),
+    Refused(TreeFault, Option<Category>),
+}
+
 /// Whether the phrase is set at the row's stop, or comes back, as it says; a refusal changes nothing.
 fn sets(alloc: Global, tree: &mut Tree, setting: &Setting) -> Result<bool, Fail>
     requires { IsTree tree.old }
     ensures { IsTree tree.new }
 {
-    let (numbers, part, held, slot) = *setting;
+    let (numbers, part, held, _) = *setting;
     let place = place(alloc, held)?;
     let stop = Stop {
         path: path(numbers)?,
         part,
     };
-    let wanted = category_in(&place);
     let before = listing_sum(tree);
-    match tree.set_phrase(&stop, place) {
-        Ok(receipt) => Ok(is_part_of(receipt.change(), slot, part)),
-        Err((TreeFault::NotHere, back)) => {
-            Ok(slot == None && category_in(&back) == wanted && listing_sum(tree) == before)
+    let answer = set(tree, &stop, place);
+    let same = listing_sum(tree) == before;
+    Ok(is_set_so(answer, setting, same))
+}
+
+/// Sets the phrase at the stop, and says what comes of it.
+fn set(tree: &mut Tree, stop: &Stop, place: PhrasePlace) -> Answer
+    requires tree { IsTree tree.old }
+    requires place { IsPlace (plain_place place) }
+    ensures { IsTree tree.new }
+{
+    let answer = tree.set_phrase(stop, place);
+    with_place(answer)
+}
+
+/// The answer, with the category of what comes back.
+fn with_place(answer: Result<Receipt, (TreeFault, PhrasePlace)>) -> Answer {
+    match answer {
+        Ok(receipt) => Answer::Changed(receipt.change()),
+        Err((fault, back)) => Answer::Refused(fault, category_in(&back)),
+    }
+}
+
+/// Whether the answer is that of the row, where the listing is the same or not.
+fn is_set_so(answer: Answer, setting: &Setting, same: bool) -> bool {
+    let (_, part, held, slot) = *setting;
+    match answer {
+        Answer::Changed(change) => is_part_of(change, slot, part),
+        Answer::Refused(fault, back) => {
+            let category = held.map(|(category, _)| category);
+            same && slot == None && fault == TreeFault::NotHere && back == category
         }
-        Err(_) => Ok(false),
     }
 }
 
@@ -327,20 +376,44 @@ fn assigns(alloc: Global, tree: &mut Tree, assigning: &Assigning) -> Result<bool
     requires { IsTree tree.old }
     ensures { IsTree tree.new }
 {
-    let (numbers, category, name, slot) = *assigning;
+    let (numbers, category, name, _) = *assigning;
     let phrase = phrase(alloc, category, name).ok_or("a phrase")?;
     let at = path(numbers)?;
     let (before, slots) = (listing_sum(tree), tree.slots());
-    match tree.fill_assign(alloc, &at, phrase) {
-        Ok(receipt) => {
-            let change = receipt.change();
+    let answer = assign(alloc, tree, &at, phrase);
+    let (same, same_slots) = (listing_sum(tree) == before, tree.slots() == slots);
+    Ok(same_slots && is_assigned_so(answer, assigning, same))
+}
+
+/// Puts the phrase at the path as an assignment, and says what comes of it.
+fn assign(alloc: Global, tree: &mut Tree, at: &Path, phrase: Phrase) -> Answer
+    requires tree { IsTree tree.old }
+    requires phrase { IsPlace (Some (plain_phrase phrase)) }
+    ensures { IsTree tree.new }
+{
+    let answer = tree.fill_assign(alloc, at, phrase);
+    with_phrase(answer)
+}
+
+/// The answer, with the category of the phrase that comes back.
+fn with_phrase(answer: Result<Receipt, (TreeFault, Phrase)>) -> Answer {
+    match answer {
+        Ok(receipt) => Answer::Changed(receipt.change()),
+        Err((fault, back)) => Answer::Refused(fault, Some(back.category())),
+    }
+}
+
+/// Whether the answer is that of the row, where the listing is the same or not.
+fn is_assigned_so(answer: Answer, assigning: &Assigning, same: bool) -> bool {
+    let (_, category, _, slot) = *assigning;
+    match answer {
+        Answer::Changed(change) => {
             let is_it = change.what == What::Node && change.procedure == Slot(0);
-            Ok(slot == Some(change.slot.0) && is_it && tree.slots() == slots)
+            is_it && slot == Some(change.slot.0)
         }
-        Err((TreeFault::NotHere, back)) => {
-            Ok(slot == None && back.category() == category && listing_sum(tree) == before)
+        Answer::Refused(fault, back) => {
+            same && slot == None && fault == TreeFault::NotHere && back == Some(category)
         }
-        Err(_) => Ok(false),
     }
 }
 

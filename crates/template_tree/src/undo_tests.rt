@@ -1,11 +1,12 @@
 //! Tests of edits undone in reverse order.
-ghost use Rattle.std.specs.Prelude.{◌≡◌};
+ghost use Rattle.std.specs.Prelude.{◌≡◌, ◌<◌, IfNone, IfSome, None, length};
 ghost use Rattle.template_tree.specs.PlainTree.{roomless_tree};
+ghost use Rattle.template_tree.specs.Receipt.{CanUndo, NeedsNoRoom, undone};
 ghost use Rattle.template_tree.specs.Tree.{IsTree};
 
 use super::*;
-use crate::fixture_tests::{Edit, listing_sum, made, make, new_tree, path};
-use plcs_base::Slot;
+use crate::fixture_tests::{Edit, made, make, new_tree, path};
+use plcs_base::{ByteOut, Slot, put_bytes};
 use plcs_grammar::{Category, Template};
 use std::alloc::Global;
 use std::test::Fail;
@@ -13,64 +14,218 @@ use std::test::Fail;
 /// An edit, and the slot of the node at which it is made.
 type Step = (Edit, u32);
 
-/// Makes the edits one after the other, as far as they aren't refused, and then undoes them in reverse
-/// order. A dropped hole comes back at once. Says how many were made.
-fn walk(alloc: Global, tree: &mut Tree, steps: &[Step]) -> u32
+/// Makes the walk on a new tree, and says how many edits it made, or `None` where a tree that came again
+/// wasn't the one before. The slot that is drawn next is the next of a new tree.
+fn made_and_undone(alloc: Global, steps: &[Step]) -> Result<Option<u32>, Fail> {
+    let mut tree = new_tree(alloc)?;
+    let before = picture_of(alloc, &tree);
+    let mut walked = Walked {
+        made: 0,
+        same: true,
+    };
+    walk(alloc, &mut tree, steps, &mut walked);
+    walked.compare(&before, &picture_of(alloc, &tree));
+    let is_next = fills_with(alloc, &mut tree, Slot(4))?;
+    if walked.same && is_next {
+        return Ok(Some(walked.made));
+    }
+    Ok(None)
+}
+
+/// What is found on a walk.
+#[derive(Drop)]
+struct Walked {
+    /// How many edits were made.
+    made: u32,
+    /// Whether the tree before each of them came again when it was undone.
+    same: bool,
+}
+
+impl Walked {
+    /// Keeps whether a tree that came again looks as it did before.
+    fn compare(&mut self, before: &Picture, after: &Picture) {
+        let whole = before.is_whole && after.is_whole;
+        let same = before.bytes.as_slice() == after.bytes.as_slice();
+        self.same = self.same && whole && same;
+    }
+}
+
+/// Makes the edits one after the other, as far as they aren't refused, and undoes them in reverse order.
+fn walk(alloc: Global, tree: &mut Tree, steps: &[Step], walked: &mut Walked)
     requires tree { IsTree tree.old }
     ensures tree { IsTree tree.new }
     ensures same { roomless_tree tree.new ≡ roomless_tree tree.old }
 {
-    let Some(((edit, slot), rest)) = steps.split_first() else {
-        return 0;
+    let before = picture_of(alloc, tree);
+    let Some((receipt, node, rest)) = first_made(alloc, tree, steps, walked) else {
+        return;
     };
-    let Some(at) = tree.path_of(Slot(*slot)) else {
-        return walk(alloc, tree, rest);
+    walk(alloc, tree, rest, walked);
+    tree.undo(receipt, node);
+    walked.compare(&before, &picture_of(alloc, tree));
+}
+
+/// Makes the first of the edits that isn't refused and drops no hole. Gives its receipt, the node that it
+/// took out, if it took one, and the steps behind it.
+fn first_made<'a>(
+    alloc: Global,
+    tree: &mut Tree,
+    steps: &'a [Step],
+    walked: &mut Walked,
+) -> Option<(Receipt, Option<Node>, &'a [Step])>
+    requires tree { IsTree tree.old }
+    ensures tree { IsTree tree.new }
+    ensures can_undo { IfSome result (λ r. CanUndo r.0 r.1 tree.new) }
+    ensures undone { IfSome result (λ r. undone r.0 r.1 (roomless_tree tree.new) ≡ roomless_tree tree.old) }
+    ensures no_room { IfSome result (λ r. NeedsNoRoom r.0) }
+    ensures fewer { IfSome result (λ r. length r.2.now < length steps.now) }
+    ensures same { IfNone result (roomless_tree tree.new ≡ roomless_tree tree.old) }
+{
+    let mut rest = steps;
+    while let Some((step, behind)) = rest.split_first() {
+        rest = behind;
+        if let Some((receipt, node)) = made_at(alloc, tree, *step, walked) {
+            return Some((receipt, node, rest));
+        }
+    }
+    None
+}
+
+/// Makes the edit in the slot, unless it is refused. Gives its receipt, and the node that it took out, if it
+/// took one. A hole that is dropped comes back at once, since its room may be gone later.
+fn made_at(
+    alloc: Global,
+    tree: &mut Tree,
+    step: Step,
+    walked: &mut Walked,
+) -> Option<(Receipt, Option<Node>)>
+    requires tree { IsTree tree.old }
+    ensures tree { IsTree tree.new }
+    ensures can_undo { IfSome result (λ r. CanUndo r.0 r.1 tree.new) }
+    ensures undone { IfSome result (λ r. undone r.0 r.1 (roomless_tree tree.new) ≡ roomless_tree tree.old) }
+    ensures no_room { IfSome result (λ r. NeedsNoRoom r.0) }
+    ensures same { IfNone result (roomless_tree tree.new ≡ roomless_tree tree.old) }
+{
+    let (edit, slot) = step;
+    let at = tree.path_of(Slot(slot))?;
+    if let Edit::Drop = edit {
+        drop_and_undo(alloc, tree, &at, walked);
+        return None;
+    }
+    let (receipt, node) = made_with_node(alloc, tree, edit, &at)?;
+    walked.made = walked.made.saturating_add(1);
+    Some((receipt, node))
+}
+
+/// Makes the edit at the path, unless it is refused or drops a hole. Gives its receipt, and the node that it
+/// took out, if it took one.
+fn made_with_node(
+    alloc: Global,
+    tree: &mut Tree,
+    edit: Edit,
+    at: &Path,
+) -> Option<(Receipt, Option<Node>)>
+    requires tree { IsTree tree.old }
+    ensures tree { IsTree tree.new }
+    ensures can_undo { IfSome result (λ r. CanUndo r.0 r.1 tree.new) }
+    ensures undone { IfSome result (λ r. undone r.0 r.1 (roomless_tree tree.new) ≡ roomless_tree tree.old) }
+    ensures no_room { IfSome result (λ r. NeedsNoRoom r.0) }
+    ensures same { IfNone result (tree.new ≡ tree.old) }
+{
+    if let Edit::Take = edit {
+        return match tree.take(alloc, at) {
+            Ok((node, receipt)) => Some((receipt, Some(node))),
+            Err(_) => None,
+        };
+    }
+    match made(alloc, tree, edit, at) {
+        Ok(receipt) => Some((receipt, None)),
+        Err(_) => None,
+    }
+}
+
+/// Drops the hole at the path, unless that is refused, and undoes that.
+fn drop_and_undo(alloc: Global, tree: &mut Tree, at: &Path, walked: &mut Walked)
+    requires tree { IsTree tree.old }
+    ensures tree { IsTree tree.new }
+    ensures same { roomless_tree tree.new ≡ roomless_tree tree.old }
+{
+    let before = picture_of(alloc, tree);
+    let Ok(receipt) = tree.drop_hole(at) else {
+        return;
     };
-    match *edit {
-        Edit::Take => {
-            let Ok((node, receipt)) = tree.take(alloc, &at) else {
-                return walk(alloc, tree, rest);
-            };
-            let count = walk(alloc, tree, rest);
-            tree.undo(receipt, Some(node));
-            count.saturating_add(1)
-        }
-        Edit::Drop => {
-            let Ok(receipt) = tree.drop_hole(&at) else {
-                return walk(alloc, tree, rest);
-            };
-            tree.undo(receipt, None);
-            walk(alloc, tree, rest).saturating_add(1)
-        }
-        other => {
-            let Ok(receipt) = made(alloc, tree, other, &at) else {
-                return walk(alloc, tree, rest);
-            };
-            let count = walk(alloc, tree, rest);
-            tree.undo(receipt, None);
-            count.saturating_add(1)
+    tree.undo(receipt, None);
+    walked.made = walked.made.saturating_add(1);
+    walked.compare(&before, &picture_of(alloc, tree));
+}
+
+/// Whether this slot is the one that is drawn when the statement hole of a new tree is filled.
+fn fills_with(alloc: Global, tree: &mut Tree, slot: Slot) -> Result<bool, Fail>
+    requires { IsTree tree.old }
+{
+    let (hole, inner) = (path(&[0, 1])?, path(&[0, 1, 0])?);
+    make(alloc, tree, Edit::Fill(Template::Group), &hole).map_err(|_| "a group")?;
+    let node = tree.node(&inner).ok_or("a hole in it")?;
+    Ok(node.slot() == slot)
+}
+
+/// All that a tree shows, as bytes: its listing, each live slot with its path, how many slots are live, and
+/// how many were drawn.
+#[derive(Drop)]
+struct Picture {
+    bytes: Vec<u8>,
+    /// Whether there was memory for all of them.
+    is_whole: bool,
+}
+
+impl ByteOut for Picture {
+    ghost puts = { λ _ _ _. Unit {0} };
+
+    fn put(&mut self, byte: u8) {
+        if self.bytes.push(byte).is_err() {
+            self.is_whole = false;
         }
     }
 }
 
-/// Makes the walk on a new tree, and says how many edits it made, or `None` where it didn't leave the
-/// listing, the live slots and the number of slots drawn as they were.
-fn made_and_undone(alloc: Global, steps: &[Step]) -> Result<Option<u32>, Fail> {
-    let mut tree = new_tree(alloc)?;
-    let before = listing_sum(&tree);
-    let count = walk(alloc, &mut tree, steps);
-    let same = listing_sum(&tree) == before && tree.slots() == 4;
-    let hole = path(&[0, 1])?;
-    let Ok(_) = make(alloc, &mut tree, Edit::Fill(Template::Group), &hole) else {
-        return Ok(None);
+/// The picture of the tree.
+fn picture_of(alloc: Global, tree: &Tree) -> Picture
+    requires { IsTree tree.now }
+{
+    let mut picture = Picture {
+        bytes: Vec::new(alloc),
+        is_whole: true,
     };
-    let Some(inner) = tree.node(&path(&[0, 1, 0])?) else {
-        return Ok(None);
-    };
-    if same && inner.slot() == Slot(4) {
-        return Ok(Some(count));
+    tree.put_listing(&mut picture);
+    put_places(tree, &mut picture);
+    put_number(tree.slots(), &mut picture);
+    put_number(tree.drawn, &mut picture);
+    picture
+}
+
+/// Puts each live slot, how many numbers its path has, and these.
+fn put_places(tree: &Tree, out: &mut Picture)
+    requires { IsTree tree.now }
+{
+    for slot in 0..tree.drawn {
+        if let Some(at) = tree.path_of(Slot(slot)) {
+            put_number(slot, out);
+            put_number(at.len() as u32, out);
+            put_numbers(at.as_slice(), out);
+        }
     }
-    Ok(None)
+}
+
+/// Puts the numbers.
+fn put_numbers(numbers: &[u32], out: &mut Picture) {
+    for number in numbers {
+        put_number(*number, out);
+    }
+}
+
+/// Puts the four bytes of the number.
+fn put_number(number: u32, out: &mut Picture) {
+    put_bytes(&number.to_le_bytes(), out);
 }
 
 /// Edits of each kind, none of which is refused.
