@@ -1,12 +1,14 @@
 //! Tests of edits, copies and lists that are refused for want of memory. They pass with each allocation refused in turn.
-ghost use Rattle.std.specs.Prelude.{IfOk};
+ghost use Rattle.std.specs.Prelude.{◌≡◌, IfOk, IfSome, Some};
+ghost use Rattle.plcs_grammar.specs.PlainPhrase.{plain_phrase};
+ghost use Rattle.template_tree.specs.Part.{IsPlace};
 ghost use Rattle.template_tree.specs.Tree.{IsTree};
 
 use super::*;
 use crate::fixture_tests::{Edit, Row, new_tree, outcome, path, phrase};
 use arrayvec::ArrayVec;
 use plcs_base::{ByteOut, Slot};
-use plcs_grammar::{Category, NodeKind, Template, same_phrase};
+use plcs_grammar::{Category, NodeKind, Phrase, Template, same_phrase};
 use std::alloc::Global;
 use std::test::Fail;
 
@@ -138,25 +140,6 @@ fn an_edit_without_memory_changes_nothing(rt: HostRuntime) -> Result<(), Fail> {
     Ok(())
 }
 
-/// Whether what stands at the path becomes the assignment `x = ` and the name, at the second try where memory is
-/// wanting at the first, which changes nothing and gives the same phrase back.
-fn is_assigned_at_last(alloc: Global, tree: &mut Tree, name: &[u8], at: &Path) -> Result<bool, Fail>
-    requires { IsTree tree.old }
-    ensures { IsTree tree.new }
-{
-    let before = seen_of(tree);
-    let first = phrase(alloc, Category::Assignment, name).ok_or("an assignment")?;
-    let same = phrase(alloc, Category::Assignment, name).ok_or("an assignment")?;
-    match tree.fill_assign(alloc, at, first) {
-        Ok(_) => Ok(true),
-        Err((TreeFault::OutOfMemory, back)) => {
-            let is_same = same_phrase(&back, &same) && is_as_before(tree, &before);
-            Ok(is_same && tree.fill_assign(alloc, at, back).is_ok())
-        }
-        Err(_) => Ok(false),
-    }
-}
-
 #[test]
 fn an_assignment_without_memory_comes_back(rt: HostRuntime) -> Result<(), Fail> {
     let alloc = rt.alloc();
@@ -166,6 +149,36 @@ fn an_assignment_without_memory_comes_back(rt: HostRuntime) -> Result<(), Fail> 
     assert!(rt; is_assigned_at_last(alloc, &mut tree, b"b", &at)?);
     assert!(rt; tree.slots() == 4);
     Ok(())
+}
+
+/// Whether what stands at the path becomes the assignment `x = ` and the name, at the second try where
+/// memory is wanting at the first, which changes nothing and gives the same phrase back.
+fn is_assigned_at_last(alloc: Global, tree: &mut Tree, name: &[u8], at: &Path) -> Result<bool, Fail>
+    requires { IsTree tree.old }
+    ensures { IsTree tree.new }
+{
+    let before = seen_of(tree);
+    let first = phrase(alloc, Category::Assignment, name).ok_or("an assignment")?;
+    let own = phrase(alloc, Category::Assignment, name).ok_or("an assignment")?;
+    let Some((fault, back)) = assign(alloc, tree, at, first) else {
+        return Ok(true);
+    };
+    let is_wanting = fault == TreeFault::OutOfMemory;
+    let is_unchanged = is_as_before(tree, &before);
+    let is_own = same_phrase(&back, &own);
+    let is_assigned = assign(alloc, tree, at, back).is_none();
+    Ok(is_wanting && is_unchanged && is_own && is_assigned)
+}
+
+/// Puts the assignment at the path. Where that is refused, says why, and gives back what came back.
+fn assign(alloc: Global, tree: &mut Tree, at: &Path, phrase: Phrase) -> Option<(TreeFault, Phrase)>
+    requires tree { IsTree tree.old }
+    requires phrase { IsPlace (Some (plain_phrase phrase)) }
+    ensures tree { IsTree tree.new }
+    ensures back { IfSome result (λ refused. refused.1 ≡ phrase) }
+{
+    let answer = tree.fill_assign(alloc, at, phrase);
+    answer.err()
 }
 
 /// Whether the node comes to the end of the list, at the second try where memory is wanting at the first, which
