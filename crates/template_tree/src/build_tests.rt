@@ -175,10 +175,18 @@ fn tree_of(alloc: Global, statement: Node) -> Result<Tree, Fail>
     Ok(tree)
 }
 
+/// The tree of the lines.
+fn built(alloc: Global) -> Result<Tree, Fail>
+    ensures { IfOk result IsTree }
+{
+    let statement = choice_of_two(alloc)?;
+    let tree = tree_of(alloc, statement)?;
+    Ok(tree)
+}
+
 #[test]
 fn a_tree_is_built_from_its_leaves(rt: HostRuntime) -> Result<(), Fail> {
-    let statement = choice_of_two(rt.alloc())?;
-    let tree = tree_of(rt.alloc(), statement)?;
+    let tree = built(rt.alloc())?;
     assert!(rt; is_listed(&tree, &LINES));
     assert!(rt; tree.slots() == 7);
     assert!(rt; stands_at(&tree, 5, &[0, 1, 0, 1]));

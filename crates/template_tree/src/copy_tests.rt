@@ -1,5 +1,6 @@
 //! Tests of copies, and of nodes put into holes.
 ghost use Rattle.std.specs.Prelude.{IfOk};
+ghost use Rattle.template_tree.specs.Program.{IsSubtree};
 ghost use Rattle.template_tree.specs.Tree.{IsTree};
 
 use super::*;
@@ -97,23 +98,67 @@ static DOUBLED: [&[u8]; 18] = [
 
 #[test]
 fn a_copy_comes_into_a_hole(rt: HostRuntime) -> Result<(), Fail> {
-    let alloc = rt.alloc();
-    let mut tree = program(alloc)?;
-    let (from, at) = (path(&[0, 1])?, path(&[0, 2])?);
-    let copy = tree.copy_node(alloc, &from).map_err(|_| "a copy")?;
-    assert!(rt; is_copied(&copy));
-    let again = copy.copy(alloc).map_err(|_| "a copy")?;
-    assert!(rt; is_copied(&again));
-    let Ok(receipt) = tree.insert(&at, again) else {
-        return Err(Fail::from("a hole for it"));
-    };
+    let mut tree = program(rt.alloc())?;
+    let change = insert_copy(rt.alloc(), &mut tree)?;
+    assert!(rt; change.slot == Slot(4) && change.what == What::Node);
     assert!(rt; is_listed(&tree, &DOUBLED) && tree.slots() == 14);
-    assert!(rt; receipt.change().slot == Slot(4) && receipt.change().what == What::Node);
-    let node = tree.node(&at).ok_or("a node")?;
-    assert!(rt; is_copied(node) && tree.slots_at(&at) == Some(4));
-    assert!(rt; stands_at(&tree, 11, &[0, 2, 0]));
-    assert!(rt; tree.node(&from).ok_or("a node")?.is_elided());
+    assert!(rt; is_doubled(&tree)?);
     Ok(())
+}
+
+/// Puts a copy of the comment into the hole behind it, and says what was changed.
+fn insert_copy(alloc: Global, tree: &mut Tree) -> Result<Change, Fail>
+    requires { IsTree tree.old }
+    ensures { IsTree tree.new }
+{
+    let at = path(&[0, 2])?;
+    let copy = copied(alloc, tree)?;
+    let answer = tree.insert(&at, copy);
+    inserted(answer)
+}
+
+/// What was changed where the node came in.
+fn inserted(answer: Result<Receipt, (TreeFault, Node)>) -> Result<Change, Fail> {
+    match answer {
+        Ok(receipt) => Ok(receipt.change()),
+        Err(_) => Err(Fail::from("a hole for it")),
+    }
+}
+
+/// A copy of a copy of the comment.
+fn copied(alloc: Global, tree: &Tree) -> Result<Node, Fail>
+    requires { IsTree tree.now }
+    ensures { IfOk result IsSubtree }
+{
+    let from = path(&[0, 1])?;
+    let copy = tree.copy_node(alloc, &from).map_err(|_| "a copy")?;
+    let again = copied_again(alloc, &copy)?;
+    Ok(again)
+}
+
+/// A copy of the comment, which is a copy.
+fn copied_again(alloc: Global, copy: &Node) -> Result<Node, Fail>
+    requires { IsSubtree copy.now }
+    ensures { IfOk result IsSubtree }
+{
+    let again = copy.copy(alloc).map_err(|_| "a copy")?;
+    if !is_copied(copy) || !is_copied(&again) {
+        return Err(Fail::from("the comment"));
+    }
+    Ok(again)
+}
+
+/// Whether the copy stands in the hole with its slots, and the refinement of the comment is still hidden.
+fn is_doubled(tree: &Tree) -> Result<bool, Fail>
+    requires { IsTree tree.now }
+{
+    let (from, at) = (path(&[0, 1])?, path(&[0, 2])?);
+    let (own, node) = (
+        tree.node(&from).ok_or("a node")?,
+        tree.node(&at).ok_or("a node")?,
+    );
+    let is_placed = tree.slots_at(&at) == Some(4) && stands_at(tree, 11, &[0, 2, 0]);
+    Ok(is_copied(node) && own.is_elided() && is_placed)
 }
 
 /// Paths of nodes that aren't copied.

@@ -5,7 +5,7 @@ ghost use Rattle.template_tree.specs.Tree.{IsTree};
 
 use super::*;
 use crate::fixture_tests::{
-    Edit, insert, make, make_all, new_tree, outcome, path, shape, stands_at,
+    Edit, Row, insert, make, make_all, new_tree, outcome, path, shape, stands_at,
 };
 use plcs_base::Slot;
 use plcs_grammar::{Category, NodeKind, Template};
@@ -128,33 +128,63 @@ fn the_63rd_group_is_too_deep(rt: HostRuntime) -> Result<(), Fail> {
 
 #[test]
 fn a_path_of_64_numbers_is_read(rt: HostRuntime) -> Result<(), Fail> {
-    let alloc = rt.alloc();
-    let mut tree = new_tree(alloc)?;
-    let mut hole = nested(alloc, &mut tree, 62)?;
-    assert!(rt; stands_at(&tree, 65, hole.as_slice()));
-    let node = tree.node(&hole).ok_or("a hole")?;
-    assert!(rt; node.slot() == Slot(65) && node.kind() == NodeKind::StatementHole);
-    assert!(rt; tree.slots_at(&hole) == Some(1));
-    assert!(rt; tree.slots_at(&path(&[0, 1])?) == Some(63));
+    let mut tree = new_tree(rt.alloc())?;
+    let mut hole = nested(rt.alloc(), &mut tree, 62)?;
+    assert!(rt; is_read(&tree, &hole)?);
     assert!(rt; tree.elide(&hole) == None);
     assert!(rt; hole.try_push(0).is_err());
     Ok(())
 }
 
+/// Whether the readers tell what is so of the hole in 62 groups.
+fn is_read(tree: &Tree, hole: &Path) -> Result<bool, Fail>
+    requires { IsTree tree.now }
+{
+    let outermost = path(&[0, 1])?;
+    let node = tree.node(hole).ok_or("a hole")?;
+    let is_it = node.slot() == Slot(65) && node.kind() == NodeKind::StatementHole;
+    let is_found = stands_at(tree, 65, hole.as_slice());
+    let (slots, all) = (tree.slots_at(hole), tree.slots_at(&outermost));
+    Ok(is_it && is_found && slots == Some(1) && all == Some(63))
+}
+
+/// A group and a RETURN behind the first statement.
+static TWO: [Row; 2] = [
+    (Edit::Fill(Template::Group), &[0, 2]),
+    (Edit::Fill(Template::Return), &[0, 3]),
+];
+
+/// Puts copies of the group and then of the RETURN into the innermost of 62 groups. Says why they are
+/// refused, if they are, and what stands there then.
+fn copied_to_deepest(
+    alloc: Global,
+    tree: &mut Tree,
+) -> Result<(Option<TreeFault>, Option<TreeFault>, Option<NodeKind>), Fail>
+    requires { IsTree tree.old }
+    ensures { IsTree tree.new }
+{
+    let hole = nested(alloc, tree, 62)?;
+    add_holes(alloc, tree, 2)?;
+    make_all(alloc, tree, &TWO)?;
+    let group = fault_of_insert(alloc, tree, &[0, 2], &hole)?;
+    let last = fault_of_insert(alloc, tree, &[0, 3], &hole)?;
+    Ok((group, last, kind_at(tree, &hole)))
+}
+
+/// The kind of the node at the path.
+fn kind_at(tree: &Tree, at: &Path) -> Option<NodeKind>
+    requires { IsTree tree.now }
+{
+    let node = tree.node(at)?;
+    Some(node.kind())
+}
+
 #[test]
 fn a_node_is_put_in_down_to_64_numbers(rt: HostRuntime) -> Result<(), Fail> {
-    let alloc = rt.alloc();
-    let mut tree = new_tree(alloc)?;
-    let hole = nested(alloc, &mut tree, 62)?;
-    add_holes(alloc, &mut tree, 2)?;
-    let rows = [
-        (Edit::Fill(Template::Group), [0, 2].as_slice()),
-        (Edit::Fill(Template::Return), &[0, 3]),
-    ];
-    make_all(alloc, &mut tree, &rows)?;
-    assert!(rt; fault_of_insert(alloc, &mut tree, &[0, 2], &hole)? == Some(TreeFault::TooDeep));
-    assert!(rt; fault_of_insert(alloc, &mut tree, &[0, 3], &hole)? == None);
-    assert!(rt; tree.node(&hole).ok_or("a node")?.kind() == NodeKind::Filled(Template::Return));
+    let mut tree = new_tree(rt.alloc())?;
+    let (group, last, kind) = copied_to_deepest(rt.alloc(), &mut tree)?;
+    assert!(rt; group == Some(TreeFault::TooDeep));
+    assert!(rt; last == None && kind == Some(NodeKind::Filled(Template::Return)));
     Ok(())
 }
 
@@ -201,36 +231,64 @@ static FULL: [PlacedWanted; 14] = [
     (Edit::Fill(Template::If), &[0, 2], None),
 ];
 
+/// Fills a new tree up to 19,999 slots: main has a group, and holes behind it.
+fn fill_up(alloc: Global, tree: &mut Tree) -> Result<(), Fail>
+    requires { IsTree tree.old }
+    ensures { IsTree tree.new }
+{
+    make_all(alloc, tree, &[(Edit::Fill(Template::Group), &[0, 1])])?;
+    add_holes(alloc, tree, 19_994)
+}
+
+/// Puts copies of the IF and then of the PUT into a hole of a full tree, and says why they are refused, if
+/// they are.
+fn copied_to_full(
+    alloc: Global,
+    tree: &mut Tree,
+) -> Result<(Option<TreeFault>, Option<TreeFault>), Fail>
+    requires { IsTree tree.old }
+    ensures { IsTree tree.new }
+{
+    let hole = path(&[0, 19_000])?;
+    let around = fault_of_insert(alloc, tree, &[0, 1], &hole)?;
+    let alone = fault_of_insert(alloc, tree, &[0, 3], &hole)?;
+    Ok((around, alone))
+}
+
 #[test]
 fn slots_are_live_up_to_20000(rt: HostRuntime) -> Result<(), Fail> {
-    let alloc = rt.alloc();
-    let mut tree = new_tree(alloc)?;
-    let first = path(&[0, 1])?;
-    assert!(rt; fault_of(alloc, &mut tree, Edit::Fill(Template::Group), &first) == None);
-    add_holes(alloc, &mut tree, 19_994)?;
+    let mut tree = new_tree(rt.alloc())?;
+    fill_up(rt.alloc(), &mut tree)?;
     assert!(rt; tree.slots() == 19_999);
-    assert!(rt; all_come_so(alloc, &mut tree, &FULL)?);
+    assert!(rt; all_come_so(rt.alloc(), &mut tree, &FULL)?);
     assert!(rt; tree.slots() == MOST_SLOTS);
-    let hole = path(&[0, 19_000])?;
-    let fault = fault_of_insert(alloc, &mut tree, &[0, 1], &hole)?;
-    assert!(rt; fault == Some(TreeFault::TooLarge));
-    assert!(rt; fault_of_insert(alloc, &mut tree, &[0, 3], &hole)? == None);
-    assert!(rt; tree.slots() == MOST_SLOTS);
+    let faults = copied_to_full(rt.alloc(), &mut tree)?;
+    assert!(rt; faults == (Some(TreeFault::TooLarge), None) && tree.slots() == MOST_SLOTS);
     Ok(())
 }
 
-/// A tree with a group, a RETURN and two holes behind each other, where so many slots were drawn.
-fn drawn(alloc: Global, drawn: u32) -> Result<Tree, Fail>
-    requires { drawn ≤ most_drawn_slots }
+/// A group and a RETURN for the first holes.
+static FIRST: [Row; 2] = [
+    (Edit::Fill(Template::Group), &[0, 1]),
+    (Edit::Fill(Template::Return), &[0, 2]),
+];
+
+/// A tree with a group, a RETURN and two holes behind each other.
+fn four_statements(alloc: Global) -> Result<Tree, Fail>
     ensures { IfOk result IsTree }
 {
     let mut tree = new_tree(alloc)?;
     add_holes(alloc, &mut tree, 3)?;
-    let rows = [
-        (Edit::Fill(Template::Group), [0, 1].as_slice()),
-        (Edit::Fill(Template::Return), &[0, 2]),
-    ];
-    make_all(alloc, &mut tree, &rows)?;
+    make_all(alloc, &mut tree, &FIRST)?;
+    Ok(tree)
+}
+
+/// That tree, where so many slots were drawn.
+fn drawn(alloc: Global, drawn: u32) -> Result<Tree, Fail>
+    requires { drawn ≤ most_drawn_slots }
+    ensures { IfOk result IsTree }
+{
+    let tree = four_statements(alloc)?;
     if drawn < tree.drawn {
         return Err(Fail::from("more slots"));
     }
@@ -335,24 +393,49 @@ fn no_slot_is_drawn_past_the_last_for_a_node(rt: HostRuntime) -> Result<(), Fail
     Ok(())
 }
 
-#[test]
-fn limits_are_asked_in_their_order(rt: HostRuntime) -> Result<(), Fail> {
-    let alloc = rt.alloc();
-    let mut tree = new_tree(alloc)?;
-    let hole = nested(alloc, &mut tree, 62)?;
-    add_holes(alloc, &mut tree, 19_934)?;
-    assert!(rt; tree.slots() == MOST_SLOTS && tree.drawn <= MOST_DRAWN_SLOTS);
+/// Edits of a hole too deep where no slot is left, and none can be drawn.
+static AT_DEEPEST: [Wanted; 2] = [
+    (Edit::Fill(Template::Fixed), Some(TreeFault::NotHere)),
+    (Edit::Fill(Template::Group), Some(TreeFault::TooDeep)),
+];
+
+/// Edits of another hole there; the second makes room for a slot.
+static ELSEWHERE: [Wanted; 3] = [
+    (Edit::Fill(Template::Group), Some(TreeFault::TooLarge)),
+    (Edit::Drop, None),
+    (Edit::Fill(Template::Group), Some(TreeFault::SlotsUsedUp)),
+];
+
+/// Makes 62 groups around each other in a new tree, fills it up to 20,000 slots, and gives the path to the
+/// hole in the last group.
+fn fill_deep(alloc: Global, tree: &mut Tree) -> Result<Path, Fail>
+    requires { IsTree tree.old }
+    ensures { IsTree tree.new }
+{
+    let hole = nested(alloc, tree, 62)?;
+    add_holes(alloc, tree, 19_934)?;
+    Ok(hole)
+}
+
+/// The tree with the last slot drawn, if no more were.
+fn used_up_tree(tree: Tree) -> Result<Tree, Fail>
+    requires { IsTree tree }
+    ensures { IfOk result IsTree }
+{
     if tree.drawn > MOST_DRAWN_SLOTS {
         return Err(Fail::from("fewer slots"));
     }
-    let mut tree = with_drawn(tree, MOST_DRAWN_SLOTS);
-    let group = Edit::Fill(Template::Group);
-    let fixed = Edit::Fill(Template::Fixed);
+    Ok(with_drawn(tree, MOST_DRAWN_SLOTS))
+}
+
+#[test]
+fn limits_are_asked_in_their_order(rt: HostRuntime) -> Result<(), Fail> {
+    let mut tree = new_tree(rt.alloc())?;
+    let hole = fill_deep(rt.alloc(), &mut tree)?;
     let other = path(&[0, 2])?;
-    assert!(rt; fault_of(alloc, &mut tree, fixed, &hole) == Some(TreeFault::NotHere));
-    assert!(rt; fault_of(alloc, &mut tree, group, &hole) == Some(TreeFault::TooDeep));
-    assert!(rt; fault_of(alloc, &mut tree, group, &other) == Some(TreeFault::TooLarge));
-    assert!(rt; fault_of(alloc, &mut tree, Edit::Drop, &other) == None);
-    assert!(rt; fault_of(alloc, &mut tree, group, &other) == Some(TreeFault::SlotsUsedUp));
+    let mut tree = used_up_tree(tree)?;
+    assert!(rt; tree.slots() == MOST_SLOTS);
+    assert!(rt; come_so(rt.alloc(), &mut tree, &hole, &AT_DEEPEST));
+    assert!(rt; come_so(rt.alloc(), &mut tree, &other, &ELSEWHERE));
     Ok(())
 }

@@ -3,7 +3,7 @@ ghost use Rattle.std.specs.Prelude.{IfOk};
 ghost use Rattle.template_tree.specs.Tree.{IsTree};
 
 use super::*;
-use crate::fixture_tests::{Edit, Row, listing_sum, make, make_all, new_tree, path, stands_at};
+use crate::fixture_tests::{Edit, Row, listing_sum, make_all, new_tree, outcome, path, stands_at};
 use plcs_base::Slot;
 use plcs_grammar::{Category, NodeKind, Template};
 use std::alloc::Global;
@@ -40,7 +40,7 @@ fn refuses_all(alloc: Global, tree: &mut Tree, at: &Path) -> bool
     ensures { IsTree tree.new }
 {
     for edit in &EDITS {
-        if !matches!(make(alloc, tree, *edit, at), Err(TreeFault::NotHere)) {
+        if outcome(alloc, tree, *edit, at) != Err(TreeFault::NotHere) {
             return false;
         }
     }
@@ -58,13 +58,23 @@ fn finds_nothing(alloc: Global, tree: &Tree, at: &Path) -> bool
 
 /// Whether nothing in a new tree is found, lent, turned or edited at the path of these numbers.
 fn leads_nowhere(alloc: Global, numbers: &[u32]) -> Result<bool, Fail> {
-    let mut tree = new_tree(alloc)?;
     let at = path(numbers)?;
-    let before = listing_sum(&tree);
-    let finds = finds_nothing(alloc, &tree, &at);
-    let refuses = refuses_all(alloc, &mut tree, &at) && tree.elide(&at) == None;
-    let same = listing_sum(&tree) == before && tree.slots() == 4;
-    Ok(finds && refuses && same && tree.node_mut(&at).is_none())
+    let mut tree = new_tree(alloc)?;
+    let is_nowhere = is_nowhere(alloc, &mut tree, &at);
+    Ok(is_nowhere && tree.node_mut(&at).is_none())
+}
+
+/// Whether nothing in a new tree is found, turned or edited at the path.
+fn is_nowhere(alloc: Global, tree: &mut Tree, at: &Path) -> bool
+    requires { IsTree tree.old }
+    ensures { IsTree tree.new }
+{
+    let before = listing_sum(tree);
+    let finds = finds_nothing(alloc, tree, at);
+    let refuses = refuses_all(alloc, tree, at);
+    let turns = tree.elide(at).is_some();
+    let same = listing_sum(tree) == before && tree.slots() == 4;
+    finds && refuses && !turns && same
 }
 
 /// Whether the path of each row leads nowhere.
