@@ -1,3 +1,5 @@
+-- the value of the limit, which the definitions take from the code
+mod Limits
 -- `RefusedKeysChangeTheMessage`: each key in turn
 pub mod RefusedKeys
 -- `TextsStandSo`, and `Does` of enter_text: what the parser answers is what the text is taken for
