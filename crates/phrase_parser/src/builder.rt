@@ -13,8 +13,6 @@ mod primary;
 mod role;
 mod stack;
 mod state;
-#[cfg(test)]
-mod tests;
 mod token_value;
 
 pub use crate::builder::fault::BuildError;

@@ -9,16 +9,10 @@ mod constant;
 mod fault;
 mod front;
 mod lexer;
-#[cfg(test)]
-mod lexer_tests;
 mod line_part_laws;
 mod line_parts;
-#[cfg(test)]
-mod line_parts_tests;
 mod operator;
 mod parser;
-#[cfg(test)]
-mod parser_tests;
 mod reading_laws;
 mod token;
 

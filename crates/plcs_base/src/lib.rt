@@ -11,8 +11,6 @@ mod name;
 mod place;
 mod put_laws;
 mod scope;
-#[cfg(test)]
-mod tests;
 mod text;
 mod value;
 mod work;

@@ -26,8 +26,6 @@ mod show_phrase;
 mod shown_text_laws;
 mod sign;
 mod template;
-#[cfg(test)]
-mod tests;
 mod trimmed_text;
 
 pub use builtin::Builtin;

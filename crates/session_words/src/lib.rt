@@ -10,8 +10,6 @@ mod limit;
 mod message;
 mod message_text;
 mod number;
-#[cfg(test)]
-mod tests;
 
 pub use argument::is_file_name;
 pub use command::{Command, CommandFault, begins_with_point, command_word, read_command};

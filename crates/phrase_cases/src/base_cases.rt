@@ -1,0 +1,85 @@
+//! Cases on bytes, names, texts and counts.
+use crate::answer::Answer;
+use plcs_base::{
+    ByteOut, Counts, Name, TextValue, Work, is_digit, is_letter, is_name_byte, is_printable,
+};
+use plcs_grammar::numeral_value;
+
+/// A class of bytes.
+#[derive(Clone, Copy)]
+pub enum ByteClass {
+    Letter,
+    Digit,
+    NameByte,
+    Printable,
+}
+
+impl ByteClass {
+    /// Whether the byte is of the class.
+    fn has(self, byte: u8) -> bool {
+        match self {
+            ByteClass::Letter => is_letter(byte),
+            ByteClass::Digit => is_digit(byte),
+            ByteClass::NameByte => is_name_byte(byte),
+            ByteClass::Printable => is_printable(byte),
+        }
+    }
+}
+
+/// Those of all 256 bytes that are of the class.
+pub fn put_class(class: ByteClass, answer: &mut Answer) -> Option<()> {
+    let mut found = Answer::new(answer.alloc());
+    for byte in 0..=255u8 {
+        if class.has(byte) {
+            found.put(byte);
+        }
+    }
+    answer.put_word(found.as_bytes());
+    Some(())
+}
+
+/// The name that the bytes are.
+pub fn put_name(bytes: &[u8], answer: &mut Answer) -> Option<()> {
+    match Name::read(bytes) {
+        Some(name) => answer.put_word(name.as_bytes()),
+        None => answer.put_text("None"),
+    }
+    Some(())
+}
+
+/// The text of a value that the bytes are.
+pub fn put_text_value(bytes: &[u8], answer: &mut Answer) -> Option<()> {
+    match TextValue::read(bytes) {
+        Some(text) => answer.put_word(text.as_bytes()),
+        None => answer.put_text("None"),
+    }
+    Some(())
+}
+
+/// The counts, each from this number on, once these words were counted.
+pub fn put_counts(from: &[u8], counted: &[Vec<u8>], answer: &mut Answer) -> Option<()> {
+    let first = numeral_value(from);
+    let mut counts = Counts {
+        emitted: first,
+        checked: first,
+        fetched: first,
+        laid: first,
+    };
+    for word in counted {
+        count(word, &mut counts)?;
+    }
+    answer.put_debug(&counts);
+    Some(())
+}
+
+/// Counts what the word names.
+fn count(word: &[u8], counts: &mut Counts) -> Option<()> {
+    match word {
+        b"emitted" => counts.emitted(),
+        b"checked" => counts.checked(),
+        b"fetched" => counts.fetched(),
+        b"laid" => counts.laid(),
+        _ => return None,
+    }
+    Some(())
+}

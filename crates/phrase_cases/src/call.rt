@@ -1,0 +1,123 @@
+//! The calls that a script may name.
+use crate::answer::Answer;
+use crate::base_cases::{ByteClass, put_class, put_counts, put_name, put_text_value};
+use crate::command_cases::{
+    put_command, put_command_word, put_file_name, put_message, put_no_message,
+};
+use crate::grammar_cases::{
+    put_bit_constant, put_builtin, put_decimal_digits, put_numeral_value, put_operators,
+    put_placeholder, put_quoted_constant, put_sign, put_signed, put_template, put_trimmed,
+};
+use crate::text_cases::{put_comparison, put_cut, put_number_shown, put_reading};
+
+/// A call of the crates under test.
+#[derive(Clone, Copy)]
+pub enum Call {
+    Class(ByteClass),
+    ReadName,
+    ReadText,
+    Count,
+    ReadBuiltin,
+    ReadSign,
+    Operators,
+    PutDecimal,
+    PutNumber,
+    PutQuoted,
+    PutBit,
+    NumeralValue,
+    Trimmed,
+    Placeholder,
+    ReadTemplate,
+    ShowNumber,
+    Parse,
+    SamePhrase,
+    CutAt,
+    ReadCommand,
+    CommandWord,
+    IsFileName,
+    Message,
+    NoMessage,
+}
+
+/// The calls, each with its word.
+static CALLS: [(&[u8], Call); 27] = [
+    (b"is_letter", Call::Class(ByteClass::Letter)),
+    (b"is_digit", Call::Class(ByteClass::Digit)),
+    (b"is_name_byte", Call::Class(ByteClass::NameByte)),
+    (b"is_printable", Call::Class(ByteClass::Printable)),
+    (b"read_name", Call::ReadName),
+    (b"read_text", Call::ReadText),
+    (b"count", Call::Count),
+    (b"read_builtin", Call::ReadBuiltin),
+    (b"read_sign", Call::ReadSign),
+    (b"operators", Call::Operators),
+    (b"put_decimal", Call::PutDecimal),
+    (b"put_number", Call::PutNumber),
+    (b"put_quoted", Call::PutQuoted),
+    (b"put_bit", Call::PutBit),
+    (b"numeral_value", Call::NumeralValue),
+    (b"trimmed", Call::Trimmed),
+    (b"placeholder", Call::Placeholder),
+    (b"read_template", Call::ReadTemplate),
+    (b"show_number", Call::ShowNumber),
+    (b"parse", Call::Parse),
+    (b"same_phrase", Call::SamePhrase),
+    (b"cut_at", Call::CutAt),
+    (b"read_command", Call::ReadCommand),
+    (b"command_word", Call::CommandWord),
+    (b"is_file_name", Call::IsFileName),
+    (b"message", Call::Message),
+    (b"no_message", Call::NoMessage),
+];
+
+impl Call {
+    /// The call that has the word.
+    pub fn read(word: &[u8]) -> Option<Call> {
+        for (known, call) in &CALLS {
+            if *known == word {
+                return Some(*call);
+            }
+        }
+        None
+    }
+
+    /// Makes the call with these arguments, and puts what it answers, if it takes such arguments.
+    pub fn play(self, arguments: &[Vec<u8>], answer: &mut Answer) -> Option<()> {
+        match (self, arguments) {
+            (Call::Class(class), []) => put_class(class, answer),
+            (Call::Operators, []) => put_operators(answer),
+            (Call::NoMessage, []) => put_no_message(answer),
+            (Call::Count, [from, counted @ ..]) => put_counts(from, counted, answer),
+            (Call::SamePhrase, texts) => put_comparison(texts, answer),
+            (Call::Parse, [category, text]) => put_reading(category, text, answer),
+            (Call::CutAt, [text, divider]) => put_cut(text, divider, answer),
+            (Call::Message, [name, number]) => put_message(name, Some(number), answer),
+            (_, [argument]) => self.play_one(argument, answer),
+            _ => None,
+        }
+    }
+
+    /// Makes a call that takes one argument.
+    fn play_one(self, argument: &[u8], answer: &mut Answer) -> Option<()> {
+        match self {
+            Call::ReadName => put_name(argument, answer),
+            Call::ReadText => put_text_value(argument, answer),
+            Call::ReadBuiltin => put_builtin(argument, answer),
+            Call::ReadSign => put_sign(argument, answer),
+            Call::PutDecimal => put_decimal_digits(argument, answer),
+            Call::PutNumber => put_signed(argument, answer),
+            Call::PutQuoted => put_quoted_constant(argument, answer),
+            Call::PutBit => put_bit_constant(argument, answer),
+            Call::NumeralValue => put_numeral_value(argument, answer),
+            Call::Trimmed => put_trimmed(argument, answer),
+            Call::Placeholder => put_placeholder(argument, answer),
+            Call::ReadTemplate => put_template(argument, answer),
+            Call::ShowNumber => put_number_shown(argument, answer),
+            Call::ReadCommand => put_command(argument, answer),
+            Call::CommandWord => put_command_word(argument, answer),
+            Call::IsFileName => put_file_name(argument, answer),
+            Call::Message => put_message(argument, None, answer),
+            _ => None,
+        }
+    }
+}
