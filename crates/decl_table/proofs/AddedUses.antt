@@ -1,5 +1,5 @@
 -- What is noted under names, one after the other.
-use Rattle.std.proofs.Common.{◌≡◌, ℕ, ◌+◌, Bool, true, false, cond, List, [], ◌∷◌, ◌++◌, Option, Some, refl, sym, ap, ◌∙◌}
+use Rattle.std.proofs.Common.{◌≡◌, ℕ, ◌+◌, ◌<◌, suc, Bool, true, false, cond, List, [], ◌∷◌, ◌++◌, length, drop, get_or, Option, Some, refl, sym, ap, ◌∙◌, add-one, drop-cons}
 use Rattle.std.specs.Prelude.{◌&&◌, ◌||◌, bytes_eq, unwrap_or, Result, Ok, Err, OnOk}
 use Rattle.std.specs.List.{list_any}
 use Rattle.std.specs.Map.{lookup}
@@ -55,6 +55,18 @@ pub of_names-append : (xs ys : List (List ℕ)) (place : PhraseAt) (name : List 
 of_names-append xs ys place name at =
     ap (λ b. b && eq_by_cmp phrase_cmp at place) (list_any-append (bytes_eq name) xs ys)
     ∙ and_or (list_any (bytes_eq name) xs) (list_any (bytes_eq name) ys) (eq_by_cmp phrase_cmp at place)
+
+-- what is left of a list from an element on is the element and what is left behind it
+pub left_behind : {X : Type 0} (xs : List X) (i : ℕ) (x : X) → i < length xs → x ≡ get_or xs i x → drop i xs ≡ x ∷ drop (i + 1) xs
+left_behind xs i x inside is = drop-cons xs i x inside ∙ ap (λ y. y ∷ drop (suc i) xs) (sym is) ∙ ap (λ n. x ∷ drop n xs) (sym (add-one i))
+
+-- the names that are left are the next one and those behind it
+pub of_names-next : (names : List (List ℕ)) (i : ℕ) (next : List ℕ) (place : PhraseAt) → i < length names → next ≡ get_or names i next
+    → (name : List ℕ) (at : PhraseAt)
+    → of_names (drop i names) place name at ≡ (of_names (next ∷ []) place name at || of_names (drop (i + 1) names) place name at)
+of_names-next names i next place inside is name at =
+    ap (λ left. of_names left place name at) (left_behind names i next inside is)
+    ∙ of_names-append (next ∷ []) (drop (i + 1) names) place name at
 
 -- whether the place is that of a phrase in what stands in a part, in parts, in nodes
 abbrev pub of_place : PhraseAt → Option PlainPhrase → Test

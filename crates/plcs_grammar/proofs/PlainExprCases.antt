@@ -14,6 +14,10 @@ use Rattle.plcs_grammar.specs.declared.expr.VarRef.{VarRef, fold_out-VarRef, map
 use Rattle.plcs_grammar.specs.PlainPhrase.{PlainExpr, PlainVarRef, plain_expr, expr_step, reference_step, plain_exprs, plain_var_ref}
 use Rattle.plcs_grammar.specs.Private.Chain.{chain_text}
 
+-- the plain form of an expression, by which variant it is
+pub expr_by_variant : (e : Expr) → plain_expr e ≡ expr_step (map-Expr Expr VarRef PlainExpr PlainVarRef plain_expr plain_var_ref (out-Expr e))
+expr_by_variant e = fold_out-Expr PlainExpr PlainVarRef expr_step reference_step e
+
 -- the plain form of a variable as an expression
 pub expr_variable : (e : Expr) (r : VarRef) → e ≡ Var r → plain_expr e ≡ PlainExpr.variable (plain_var_ref r)
 expr_variable e r is = ap plain_expr is ∙ ap plain_expr (sym (rolls-Var r)) ∙ fold-roll-Expr PlainExpr PlainVarRef expr_step reference_step _

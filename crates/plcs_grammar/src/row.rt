@@ -63,7 +63,7 @@ impl NodeKind {
             NodeKind::ProcedureHole => PROCEDURE_HOLE,
             NodeKind::Main => MAIN,
             NodeKind::Assign => ASSIGN,
-            NodeKind::Filled(template) => template.row(),
+            NodeKind::Filled(template) => *template.row(),
         }
     }
 }
@@ -112,26 +112,26 @@ impl Template {
     }
 
     /// The row of the table for a node that is filled with this template.
-    fn row(self) -> Row
-        ensures { plain_row result ≡ template_row self }
+    fn row(self) -> &'static Row
+        ensures { plain_row result.now ≡ template_row self }
     {
         match self {
-            Template::Fixed => FIXED,
-            Template::Bit => BIT,
-            Template::Char => CHAR,
-            Template::If => IF,
-            Template::IfElse => IF_ELSE,
-            Template::While => WHILE,
-            Template::For => FOR,
-            Template::Group => GROUP,
-            Template::Get => GET,
-            Template::Put => PUT,
-            Template::PutSkip => PUT_SKIP,
-            Template::Call => CALL,
-            Template::Return => RETURN,
-            Template::Comment => COMMENT,
-            Template::Proc => PROC,
-            Template::ProcP => PROC_P,
+            Template::Fixed => &FIXED,
+            Template::Bit => &BIT,
+            Template::Char => &CHAR,
+            Template::If => &IF,
+            Template::IfElse => &IF_ELSE,
+            Template::While => &WHILE,
+            Template::For => &FOR,
+            Template::Group => &GROUP,
+            Template::Get => &GET,
+            Template::Put => &PUT,
+            Template::PutSkip => &PUT_SKIP,
+            Template::Call => &CALL,
+            Template::Return => &RETURN,
+            Template::Comment => &COMMENT,
+            Template::Proc => &PROC,
+            Template::ProcP => &PROC_P,
         }
     }
 }
@@ -191,7 +191,7 @@ const BLOCK: &[Section] = &[LIST_OF_DECLARATIONS, LIST_OF_STATEMENTS];
 /// The last line of each template that encloses a list.
 const CLOSING: Option<&[u8]> = Some(b"END;");
 
-const FIXED: Row = Row {
+static FIXED: Row = Row {
     sort: Sort::Declaration,
     command: Some(b"fixed"),
     line: &[
@@ -203,7 +203,7 @@ const FIXED: Row = Row {
     last: None,
 };
 
-const BIT: Row = Row {
+static BIT: Row = Row {
     sort: Sort::Declaration,
     command: Some(b"bit"),
     line: &[
@@ -215,7 +215,7 @@ const BIT: Row = Row {
     last: None,
 };
 
-const CHAR: Row = Row {
+static CHAR: Row = Row {
     sort: Sort::Declaration,
     command: Some(b"char"),
     line: &[
@@ -229,7 +229,7 @@ const CHAR: Row = Row {
     last: None,
 };
 
-const IF: Row = Row {
+static IF: Row = Row {
     sort: Sort::Statement,
     command: Some(b"if"),
     line: &[
@@ -241,7 +241,7 @@ const IF: Row = Row {
     last: None,
 };
 
-const IF_ELSE: Row = Row {
+static IF_ELSE: Row = Row {
     sort: Sort::Statement,
     command: Some(b"ifelse"),
     line: &[
@@ -253,7 +253,7 @@ const IF_ELSE: Row = Row {
     last: None,
 };
 
-const WHILE: Row = Row {
+static WHILE: Row = Row {
     sort: Sort::Statement,
     command: Some(b"while"),
     line: &[
@@ -265,7 +265,7 @@ const WHILE: Row = Row {
     last: CLOSING,
 };
 
-const FOR: Row = Row {
+static FOR: Row = Row {
     sort: Sort::Statement,
     command: Some(b"for"),
     line: &[
@@ -283,7 +283,7 @@ const FOR: Row = Row {
     last: CLOSING,
 };
 
-const GROUP: Row = Row {
+static GROUP: Row = Row {
     sort: Sort::Statement,
     command: Some(b"group"),
     line: &[Segment::Words(b"DO;")],
@@ -291,7 +291,7 @@ const GROUP: Row = Row {
     last: CLOSING,
 };
 
-const GET: Row = Row {
+static GET: Row = Row {
     sort: Sort::Statement,
     command: Some(b"get"),
     line: &[
@@ -303,7 +303,7 @@ const GET: Row = Row {
     last: None,
 };
 
-const PUT: Row = Row {
+static PUT: Row = Row {
     sort: Sort::Statement,
     command: Some(b"put"),
     line: &[
@@ -315,7 +315,7 @@ const PUT: Row = Row {
     last: None,
 };
 
-const PUT_SKIP: Row = Row {
+static PUT_SKIP: Row = Row {
     sort: Sort::Statement,
     command: Some(b"puts"),
     line: &[
@@ -327,7 +327,7 @@ const PUT_SKIP: Row = Row {
     last: None,
 };
 
-const CALL: Row = Row {
+static CALL: Row = Row {
     sort: Sort::Statement,
     command: Some(b"call"),
     line: &[
@@ -339,7 +339,7 @@ const CALL: Row = Row {
     last: None,
 };
 
-const RETURN: Row = Row {
+static RETURN: Row = Row {
     sort: Sort::Statement,
     command: Some(b"return"),
     line: &[Segment::Words(b"RETURN;")],
@@ -347,7 +347,7 @@ const RETURN: Row = Row {
     last: None,
 };
 
-const COMMENT: Row = Row {
+static COMMENT: Row = Row {
     sort: Sort::Statement,
     command: Some(b"comment"),
     line: &[
@@ -359,7 +359,7 @@ const COMMENT: Row = Row {
     last: None,
 };
 
-const PROC: Row = Row {
+static PROC: Row = Row {
     sort: Sort::Procedure,
     command: Some(b"proc"),
     line: &[
@@ -370,7 +370,7 @@ const PROC: Row = Row {
     last: CLOSING,
 };
 
-const PROC_P: Row = Row {
+static PROC_P: Row = Row {
     sort: Sort::Procedure,
     command: Some(b"procp"),
     line: &[

@@ -98,21 +98,39 @@ impl<W: Work> Program<W> {
     {
         let applied = apply(alloc, &mut self.tree, at, edit)?;
         let change = applied.receipt.change();
-        match Dependents::of(alloc, &self.tree, work) {
-            Ok(dependents) => {
-                self.dependents = dependents;
-                Ok(Changed {
-                    stop: applied.stop,
-                    taken: applied.taken,
-                    change,
-                })
-            }
+        match self.renew(alloc, work) {
+            Ok(()) => Ok(Changed {
+                stop: applied.stop,
+                taken: applied.taken,
+                change,
+            }),
             Err(OutOfMemory) => {
                 layouts_ignore_room();
                 checks_ignore_room_and_elision();
                 self.tree.undo(applied.receipt, applied.taken);
                 Err(TreeFault::OutOfMemory)
             }
+        }
+    }
+
+    /// Puts what depends on the edited tree in place, once all memory is taken that it needs. Where memory runs
+    /// out, what is in place stays.
+    fn renew(&mut self, alloc: Global, work: &mut W) -> Result<(), OutOfMemory>
+        requires tree { IsTree self.old.tree }
+        ensures depend { IfOk result (λ _. DependOn self.new.dependents self.old.tree) }
+        ensures tree { self.new.tree ≡ self.old.tree }
+        ensures same { IfErr result (λ _. self.new.dependents ≡ self.old.dependents) }
+        ensures checks { W.checked work.old ≤ W.checked work.new }
+        ensures emitted { W.emitted work.new ≡ W.emitted work.old }
+        ensures fetched { W.fetched work.new ≡ W.fetched work.old }
+        ensures laid { W.laid work.new ≡ W.laid work.old }
+    {
+        match Dependents::of(alloc, &self.tree, work) {
+            Ok(dependents) => {
+                self.dependents = dependents;
+                Ok(())
+            }
+            Err(OutOfMemory) => Err(OutOfMemory),
         }
     }
 

@@ -1,6 +1,7 @@
 use Rattle.std.proofs.Common.{◌<◌, length, arith}
 use Rattle.plcs_grammar.specs.PlainPhrase.{plain_expr}
 use Rattle.plcs_grammar.proofs.EqualPlainPhrases.{told_no, told_through, differs_at, images_length, exprs_tell, listed_exprs}
+use Rattle.plcs_grammar.proofs.PlainExprCases.{expr_by_variant}
 use Rattle.plcs_grammar.proofs.expr_equality.+same_expr.Goals as goal
 
 pub same_exprs-returns-then-all-others : goal.same_exprs-returns-then-all-others
@@ -13,3 +14,28 @@ same_exprs-returns-then-not-same_expr t c =
     let within : i < length c.args.others.now = omega arith in
     told_through _ (listed_exprs _ _)
     (differs_at plain_expr _ _ i _ _ inside within c.index-all-i.is c.index-others-i.is c.same_expr.ensures c.if-not-same_expr.true)
+
+-- The two expressions are of different variants, one goal for each variant of the first.
+pub same_expr-returns-in_default : goal.same_expr-returns-in_default
+same_expr-returns-in_default t c = told_through _ c.loop-left.invariant.0 (told_no (λ same. grind (arith, expr_by_variant)))
+
+pub same_expr-returns-in_default-2 : goal.same_expr-returns-in_default-2
+same_expr-returns-in_default-2 t c = told_through _ c.loop-left.invariant.0 (told_no (λ same. grind (arith, expr_by_variant)))
+
+pub same_expr-returns-in_default-3 : goal.same_expr-returns-in_default-3
+same_expr-returns-in_default-3 t c = told_through _ c.loop-left.invariant.0 (told_no (λ same. grind (arith, expr_by_variant)))
+
+pub same_expr-returns-in_default-4 : goal.same_expr-returns-in_default-4
+same_expr-returns-in_default-4 t c = told_through _ c.loop-left.invariant.0 (told_no (λ same. grind (arith, expr_by_variant)))
+
+pub same_expr-returns-in_default-5 : goal.same_expr-returns-in_default-5
+same_expr-returns-in_default-5 t c = told_through _ c.loop-left.invariant.0 (told_no (λ same. grind (arith, expr_by_variant)))
+
+pub same_expr-returns-in_default-6 : goal.same_expr-returns-in_default-6
+same_expr-returns-in_default-6 t c = told_through _ c.loop-left.invariant.0 (told_no (λ same. grind (arith, expr_by_variant)))
+
+pub same_expr-returns-in_default-7 : goal.same_expr-returns-in_default-7
+same_expr-returns-in_default-7 t c = told_through _ c.loop-left.invariant.0 (told_no (λ same. grind (arith, expr_by_variant)))
+
+pub same_expr-returns-in_default-8 : goal.same_expr-returns-in_default-8
+same_expr-returns-in_default-8 t c = told_through _ c.loop-left.invariant.0 (told_no (λ same. grind (arith, expr_by_variant)))

@@ -1,9 +1,9 @@
-use Rattle.std.proofs.Common.{◌∙◌, [], ◌∷◌, sym, ap, subst, refl, arith}
+use Rattle.std.proofs.Common.{◌∙◌, ◌+◌, [], ◌∷◌, drop, sym, ap, subst, refl, arith}
 use Rattle.plcs_grammar.specs.declared.expr.Expr.{size-Expr}
 use Rattle.plcs_grammar.specs.PlainPhrase.{plain_expr, plain_exprs, plain_var_ref}
 use Rattle.template_tree.specs.Mention.{names_in, names_in_all, reference_names}
 use Rattle.decl_table.specs.Private.UsesView.{AddsNames}
-use Rattle.decl_table.proofs.AddedUses.{adds_both, adds_last, Leaves, leaves_next, of_names, of_names-append, or_comm, then_ok}
+use Rattle.decl_table.proofs.AddedUses.{adds_both, adds_last, Leaves, leaves_next, left_behind, of_names, of_names-append, or_comm, then_ok}
 use Rattle.plcs_grammar.proofs.PlainExprCases.{expr_builtin, expr_infix, expr_paren, expr_prefix, expr_variable, left_no_deeper, reference_subscripted}
 use Rattle.decl_table.proofs.uses.Uses.+note_expr.Goals as goal
 
@@ -85,3 +85,17 @@ note_variable-returns-in-Some t c =
     (λ name place. ap (λ r. of_names (reference_names r) at name place) (reference_subscripted variable c.in-Some.index c.in-Some.is)
     ∙ of_names-append (variable.name ∷ []) index at name place))
     c.note_expr.ensures
+
+pub note_exprs-loop-expr-preserved : goal.note_exprs-loop-expr-preserved
+note_exprs-loop-expr-preserved t c =
+    let exprs = c.args.exprs.now in
+    let at = c.args.at in
+    let k = c.loop-expr.expr-index in
+    let next = c.expr-item.result in
+    let first = names_in (plain_expr next) in
+    let behind = names_in_all (plain_exprs (drop (k + 1) exprs)) in
+    leaves_next (of_names first at) (of_names behind at) (of_names (names_in_all (plain_exprs (drop k exprs))) at)
+    (of_names (names_in_all (plain_exprs exprs)) at) c.args.self.now c.loop-expr.self c.note_expr.new.self c.in_ok-note_expr.ensures
+    (λ name place. ap (λ left. of_names (names_in_all (plain_exprs left)) at name place) (left_behind exprs k next c.loop-expr-test.true c.expr-item.is)
+    ∙ of_names-append first behind at name place)
+    c.loop-expr.invariant
