@@ -9,8 +9,6 @@ mod name_copy;
 mod node_parts;
 mod places;
 mod scopes;
-#[cfg(test)]
-mod tests;
 mod uses;
 
 pub use decls::Decls;

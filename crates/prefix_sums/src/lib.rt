@@ -3,8 +3,6 @@
 
 mod position;
 mod sums;
-#[cfg(test)]
-mod sums_tests;
 
 pub use position::Position;
 pub use sums::PrefixSums;

@@ -29,5 +29,3 @@ pub mod OutputLines
 -- `drawn` of compose: rows drawn one after the other, and the row of the cursor, looked for row by row
 pub mod ComposedRows
 pub mod FoundRows
--- tests: the mark that they have
-pub mod OneMarks

@@ -3,8 +3,6 @@
 #![tactic(auto)]
 
 mod composing;
-#[cfg(test)]
-mod composing_tests;
 mod cursor;
 mod grid;
 mod limit;
@@ -13,16 +11,10 @@ mod lower_rows;
 mod node_line;
 mod painted_terminal;
 mod painting;
-#[cfg(test)]
-mod painting_tests;
 mod row_text;
 mod sequence;
 mod stop_node;
 mod terminal;
-#[cfg(test)]
-mod terminal_tests;
-#[cfg(test)]
-mod test_programs;
 mod text;
 mod view;
 

@@ -19,6 +19,3 @@ pub mod RoomlessLines
 pub mod TurnedBones
 -- `lay`: the cells of a line while they are put
 pub mod PutCells
--- tests: the mark that they have, and the stops whose lines they ask for
-pub mod OneMarks
-pub mod TestStops

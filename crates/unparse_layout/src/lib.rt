@@ -4,8 +4,6 @@
 mod elided;
 mod lay;
 mod layout;
-#[cfg(test)]
-mod layout_tests;
 mod line;
 mod line_laws;
 mod line_of;

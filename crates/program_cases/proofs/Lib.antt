@@ -1,0 +1,4 @@
+-- `OneMark`: the map of the one mark
+pub mod OneMarks
+-- `mark_of`: what the table of the program knows
+pub mod KnownPhrases

@@ -1,0 +1,6 @@
+use Rattle.template_tree.specs.PlainTree.{roomless_tree}
+use Rattle.template_tree.specs.Stop.{IsStop, plain_stop}
+use Rattle.program_cases.proofs.lines.stops.Given as goal
+
+abbrev pub invariant-loop : goal.invariant-loop
+invariant-loop l = IsStop (roomless_tree l.tree).items (plain_stop l.stop)

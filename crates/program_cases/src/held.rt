@@ -1,0 +1,51 @@
+//! What the script's cases hold from one to the next.
+ghost use Rattle.std.specs.Prelude.{IfOk};
+ghost use Rattle.template_tree.specs.Tree.{IsTree};
+
+use crate::screens::Screens;
+use crate::words::phrase_at;
+use plcs_base::PhraseAt;
+use std::alloc::{AllocError, Global};
+use std::io;
+use template_tree::Tree;
+
+/// What is held from case to case.
+#[derive(Drop)]
+pub struct Held {
+    /// The program.
+    pub tree: Tree,
+    /// The lines of text before the next case.
+    pub text: Vec<Vec<u8>>,
+    /// The one marked phrase, or `None` where the marks are those of the program.
+    pub marked: Option<PhraseAt>,
+    /// The last two grids.
+    pub screens: Screens,
+}
+
+impl Held {
+    /// What is held before the first case: the new program, and blank grids.
+    pub fn new(alloc: Global) -> Result<Held, AllocError>
+        ensures { IfOk result (λ held. IsTree held.tree) }
+    {
+        let screens = Screens::new(alloc)?;
+        let Ok(tree) = Tree::new(alloc) else {
+            return Err(AllocError);
+        };
+        Ok(Held {
+            tree,
+            text: Vec::new(alloc),
+            marked: None,
+            screens,
+        })
+    }
+
+    /// Marks the phrase in the slot and the part that are named, or none by hand where nothing is.
+    pub fn mark(&mut self, rt: &HostRuntime, words: &[Vec<u8>]) -> io::Result<bool>
+        requires { IsTree self.old.tree }
+        ensures { IsTree self.new.tree }
+    {
+        self.marked = phrase_at(words);
+        println!(rt; "= {:?}", self.marked)?;
+        Ok(true)
+    }
+}
