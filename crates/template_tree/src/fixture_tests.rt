@@ -1,4 +1,4 @@
-//! What tests of trees share: phrases, edits as rows of tables, and listings as lines written by hand.
+//! What tests of trees share: phrases, and edits as rows of tables.
 ghost use Rattle.std.specs.Prelude.{◌≡◌, ◌∷◌, [], IfErr, IfOk, IfSome, None, Some};
 ghost use Rattle.plcs_grammar.specs.PlainPhrase.{PlainExpr, PlainExprs, PlainPhrase, PlainVarRef, plain_expr, plain_phrase, plain_var_ref};
 ghost use Rattle.plcs_base.specs.Name.{IsName};
@@ -10,82 +10,10 @@ ghost use Rattle.template_tree.specs.Receipt.{CanUndo, NeedsNoRoom, undone};
 ghost use Rattle.template_tree.specs.Tree.{IsTree};
 
 use super::*;
-use plcs_base::{ByteOut, Name, Slot};
+use plcs_base::{Name, Slot};
 use plcs_grammar::{Category, Expr, Item, NodeKind, Phrase, Template, VarRef};
 use std::alloc::Global;
 use std::test::Fail;
-
-/// Compares what is put with lines that are awaited.
-#[derive(Drop)]
-struct Awaited<'a> {
-    lines: &'a [&'a [u8]],
-    /// The number of the line that is being put.
-    line: usize,
-    /// How much of that line was put.
-    at: usize,
-    /// Whether all that was put was awaited.
-    same: bool,
-}
-
-impl ByteOut for Awaited<'_> {
-    ghost puts = { λ _ _ _. Unit {0} };
-
-    fn put(&mut self, byte: u8) {
-        let Some(line) = self.lines.get(self.line) else {
-            self.same = false;
-            return;
-        };
-        match line.get(self.at) {
-            Some(own) if *own == byte => self.at = self.at.saturating_add(1),
-            None if byte == b'\n' => {
-                self.line = self.line.saturating_add(1);
-                self.at = 0;
-            }
-            _ => self.same = false,
-        }
-    }
-}
-
-/// Whether the listing of the tree has exactly these lines.
-pub(crate) fn is_listed(tree: &Tree, lines: &[&[u8]]) -> bool
-    requires { IsTree tree.now }
-{
-    let mut out = Awaited {
-        lines,
-        line: 0,
-        at: 0,
-        same: true,
-    };
-    tree.put_listing(&mut out);
-    out.same && out.line == lines.len() && out.at == 0
-}
-
-/// Adds up what is put, so that two texts that differ most likely have different sums. It takes no
-/// memory.
-#[derive(Drop)]
-struct Sum {
-    value: u64,
-}
-
-impl ByteOut for Sum {
-    ghost puts = { λ _ _ _. Unit {0} };
-
-    fn put(&mut self, byte: u8) {
-        self.value = self
-            .value
-            .wrapping_mul(6364136223846793005)
-            .wrapping_add(byte as u64 + 1);
-    }
-}
-
-/// A sum of the listing of the tree.
-pub(crate) fn listing_sum(tree: &Tree) -> u64
-    requires { IsTree tree.now }
-{
-    let mut out = Sum { value: 0 };
-    tree.put_listing(&mut out);
-    out.value
-}
 
 /// The path of these numbers.
 pub(crate) fn path(numbers: &[u32]) -> Result<Path, Fail> {

@@ -1,4 +1,4 @@
-//! Tests of edits at the limits of a tree.
+//! Tests of edits at the last slot that may be drawn.
 ghost use Rattle.std.specs.Prelude.{◌≤◌, IfOk};
 ghost use Rattle.template_tree.specs.Limit.{most_drawn_slots};
 ghost use Rattle.template_tree.specs.Tree.{IsTree};
@@ -7,8 +7,7 @@ use super::*;
 use crate::fixture_tests::{
     Edit, Row, insert, make, make_all, new_tree, outcome, path, shape, stands_at,
 };
-use plcs_base::Slot;
-use plcs_grammar::{Category, NodeKind, Template};
+use plcs_grammar::Template;
 use std::alloc::Global;
 use std::test::Fail;
 
@@ -97,174 +96,6 @@ fn come_so(alloc: Global, tree: &mut Tree, at: &Path, rows: &[Wanted]) -> bool
         }
     }
     true
-}
-
-/// Edits of a hole at a path of 64 numbers.
-static DEEPEST: [Wanted; 12] = [
-    (Edit::Fill(Template::Group), Some(TreeFault::TooDeep)),
-    (Edit::Fill(Template::If), Some(TreeFault::TooDeep)),
-    (Edit::Fill(Template::IfElse), Some(TreeFault::TooDeep)),
-    (Edit::Fill(Template::Comment), Some(TreeFault::TooDeep)),
-    (Edit::Fill(Template::Fixed), Some(TreeFault::NotHere)),
-    (Edit::Add(Side::Before), None),
-    (Edit::Drop, None),
-    (Edit::Fill(Template::Put), None),
-    (Edit::Set(0, Category::ExpressionList, b"a"), None),
-    (Edit::Empty(0), None),
-    (Edit::Take, None),
-    (Edit::Assign(b"b"), None),
-];
-
-#[test]
-fn the_63rd_group_is_too_deep(rt: HostRuntime) -> Result<(), Fail> {
-    let alloc = rt.alloc();
-    let mut tree = new_tree(alloc)?;
-    let hole = nested(alloc, &mut tree, 62)?;
-    assert!(rt; hole.len() == 64 && tree.slots() == 4 + 62);
-    assert!(rt; come_so(alloc, &mut tree, &hole, &DEEPEST));
-    assert!(rt; tree.slots() == 4 + 62);
-    Ok(())
-}
-
-#[test]
-fn a_path_of_64_numbers_is_read(rt: HostRuntime) -> Result<(), Fail> {
-    let mut tree = new_tree(rt.alloc())?;
-    let mut hole = nested(rt.alloc(), &mut tree, 62)?;
-    assert!(rt; is_read(&tree, &hole)?);
-    assert!(rt; tree.elide(&hole) == None);
-    assert!(rt; hole.try_push(0).is_err());
-    Ok(())
-}
-
-/// Whether the readers tell what is so of the hole in 62 groups.
-fn is_read(tree: &Tree, hole: &Path) -> Result<bool, Fail>
-    requires { IsTree tree.now }
-{
-    let outermost = path(&[0, 1])?;
-    let node = tree.node(hole).ok_or("a hole")?;
-    let is_it = node.slot() == Slot(65) && node.kind() == NodeKind::StatementHole;
-    let is_found = stands_at(tree, 65, hole.as_slice());
-    let (slots, all) = (tree.slots_at(hole), tree.slots_at(&outermost));
-    Ok(is_it && is_found && slots == Some(1) && all == Some(63))
-}
-
-/// A group and a RETURN behind the first statement.
-static TWO: [Row; 2] = [
-    (Edit::Fill(Template::Group), &[0, 2]),
-    (Edit::Fill(Template::Return), &[0, 3]),
-];
-
-/// Puts copies of the group and then of the RETURN into the innermost of 62 groups. Says why they are
-/// refused, if they are, and what stands there then.
-fn copied_to_deepest(
-    alloc: Global,
-    tree: &mut Tree,
-) -> Result<(Option<TreeFault>, Option<TreeFault>, Option<NodeKind>), Fail>
-    requires { IsTree tree.old }
-    ensures { IsTree tree.new }
-{
-    let hole = nested(alloc, tree, 62)?;
-    add_holes(alloc, tree, 2)?;
-    make_all(alloc, tree, &TWO)?;
-    let group = fault_of_insert(alloc, tree, &[0, 2], &hole)?;
-    let last = fault_of_insert(alloc, tree, &[0, 3], &hole)?;
-    Ok((group, last, kind_at(tree, &hole)))
-}
-
-/// The kind of the node at the path.
-fn kind_at(tree: &Tree, at: &Path) -> Option<NodeKind>
-    requires { IsTree tree.now }
-{
-    let node = tree.node(at)?;
-    Some(node.kind())
-}
-
-#[test]
-fn a_node_is_put_in_down_to_64_numbers(rt: HostRuntime) -> Result<(), Fail> {
-    let mut tree = new_tree(rt.alloc())?;
-    let (group, last, kind) = copied_to_deepest(rt.alloc(), &mut tree)?;
-    assert!(rt; group == Some(TreeFault::TooDeep));
-    assert!(rt; last == None && kind == Some(NodeKind::Filled(Template::Return)));
-    Ok(())
-}
-
-/// An edit, the numbers of the path at which it is made, and why it is refused, if it is.
-type PlacedWanted = (Edit, &'static [u32], Option<TreeFault>);
-
-/// Whether the edits, one after the other, are made or refused as the rows say.
-fn all_come_so(alloc: Global, tree: &mut Tree, rows: &[PlacedWanted]) -> Result<bool, Fail>
-    requires { IsTree tree.old }
-    ensures { IsTree tree.new }
-{
-    for (edit, numbers, fault) in rows {
-        let at = path(numbers)?;
-        if fault_of(alloc, tree, *edit, &at) != *fault {
-            return Ok(false);
-        }
-    }
-    Ok(true)
-}
-
-/// Edits of a tree with 19,999 slots.
-static FULL: [PlacedWanted; 14] = [
-    (
-        Edit::Fill(Template::IfElse),
-        &[0, 2],
-        Some(TreeFault::TooLarge),
-    ),
-    (Edit::Fill(Template::Proc), &[1], Some(TreeFault::TooLarge)),
-    (Edit::Fill(Template::If), &[0, 2], None),
-    (Edit::Fill(Template::If), &[0, 3], Some(TreeFault::TooLarge)),
-    (Edit::Add(Side::Before), &[0, 3], Some(TreeFault::TooLarge)),
-    (Edit::Add(Side::After), &[1], Some(TreeFault::TooLarge)),
-    (
-        Edit::Fill(Template::Fixed),
-        &[0, 3],
-        Some(TreeFault::NotHere),
-    ),
-    (Edit::Fill(Template::Put), &[0, 3], None),
-    (Edit::Assign(b"a"), &[0, 4], None),
-    (Edit::Drop, &[0, 5], None),
-    (Edit::Add(Side::After), &[1], None),
-    (Edit::Add(Side::After), &[1], Some(TreeFault::TooLarge)),
-    (Edit::Take, &[0, 2], None),
-    (Edit::Fill(Template::If), &[0, 2], None),
-];
-
-/// Fills a new tree up to 19,999 slots: main has a group, and holes behind it.
-fn fill_up(alloc: Global, tree: &mut Tree) -> Result<(), Fail>
-    requires { IsTree tree.old }
-    ensures { IsTree tree.new }
-{
-    make_all(alloc, tree, &[(Edit::Fill(Template::Group), &[0, 1])])?;
-    add_holes(alloc, tree, 19_994)
-}
-
-/// Puts copies of the IF and then of the PUT into a hole of a full tree, and says why they are refused, if
-/// they are.
-fn copied_to_full(
-    alloc: Global,
-    tree: &mut Tree,
-) -> Result<(Option<TreeFault>, Option<TreeFault>), Fail>
-    requires { IsTree tree.old }
-    ensures { IsTree tree.new }
-{
-    let hole = path(&[0, 19_000])?;
-    let around = fault_of_insert(alloc, tree, &[0, 1], &hole)?;
-    let alone = fault_of_insert(alloc, tree, &[0, 3], &hole)?;
-    Ok((around, alone))
-}
-
-#[test]
-fn slots_are_live_up_to_20000(rt: HostRuntime) -> Result<(), Fail> {
-    let mut tree = new_tree(rt.alloc())?;
-    fill_up(rt.alloc(), &mut tree)?;
-    assert!(rt; tree.slots() == 19_999);
-    assert!(rt; all_come_so(rt.alloc(), &mut tree, &FULL)?);
-    assert!(rt; tree.slots() == MOST_SLOTS);
-    let faults = copied_to_full(rt.alloc(), &mut tree)?;
-    assert!(rt; faults == (Some(TreeFault::TooLarge), None) && tree.slots() == MOST_SLOTS);
-    Ok(())
 }
 
 /// A group and a RETURN for the first holes.
