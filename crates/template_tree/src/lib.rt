@@ -12,14 +12,10 @@ mod elide;
 mod exchange;
 mod fill;
 mod fill_assign;
-#[cfg(test)]
-mod fixture_tests;
 mod hole;
 mod insert;
 mod limit;
 mod limit_reached;
-#[cfg(test)]
-mod limit_tests;
 mod list_change;
 mod list_edit;
 mod list_item;
