@@ -4,8 +4,6 @@ mod Limits
 pub mod PutPairs
 -- what isn't full takes the fragment, and the pairs stay within the limits
 pub mod ClipLimits
--- the fragments that tests put
-pub mod TestFragments
 -- the map's entries as pairs
 pub mod MapPairs
 -- `room_is_not_clipped`, and what a copy is without room

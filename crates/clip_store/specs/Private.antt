@@ -3,5 +3,3 @@
 pub mod ClipsCode
 -- ---- clips in memory
 pub mod ClipsView
--- ---- the fragments of tests
-pub mod Holes

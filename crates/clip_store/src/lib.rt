@@ -5,8 +5,6 @@ mod clip_laws;
 mod clips;
 mod fragment;
 mod limit;
-#[cfg(test)]
-mod tests;
 
 pub use clip_laws::room_is_not_clipped;
 pub use clips::{ClipFault, Clips};

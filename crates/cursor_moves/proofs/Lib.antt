@@ -8,5 +8,3 @@ pub mod FoundNodes
 pub mod Nodes
 -- stops in listing order
 pub mod Stops
--- the programs that tests build are programs
-pub mod TestPrograms

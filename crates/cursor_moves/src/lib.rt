@@ -9,8 +9,6 @@ mod next_node;
 mod part_stops;
 mod previous_node;
 mod stop_laws;
-#[cfg(test)]
-mod tests;
 
 pub use cursor_move::Move;
 pub use end::{bottom, top};

@@ -25,6 +25,8 @@ mod screens;
 #[cfg(test)]
 mod shown;
 #[cfg(test)]
+mod tree_memory;
+#[cfg(test)]
 mod typing;
 #[cfg(test)]
 mod words;

@@ -15,5 +15,3 @@ pub mod Counts
 pub mod NewPrograms
 -- a copy is a subtree, with as many slots
 pub mod CopiedNodes
--- the programs that tests build from their leaves
-pub mod BuiltProgram

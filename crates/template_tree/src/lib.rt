@@ -4,48 +4,28 @@
 mod around_path;
 mod beside;
 mod build;
-#[cfg(test)]
-mod build_tests;
 mod change;
 mod check_laws;
 mod copy;
-#[cfg(test)]
-mod copy_tests;
 mod descent;
-#[cfg(test)]
-mod edit_tests;
 mod elide;
 mod exchange;
 mod fill;
 mod fill_assign;
-#[cfg(test)]
-mod fixture_tests;
 mod hole;
 mod insert;
 mod limit;
 mod limit_reached;
-#[cfg(test)]
-mod limit_tests;
 mod list_change;
 mod list_edit;
-#[cfg(test)]
-mod list_edit_tests;
 mod list_item;
 mod listing;
-#[cfg(test)]
-mod listing_tests;
-#[cfg(test)]
-mod memory_tests;
 mod node;
 mod node_at;
-#[cfg(test)]
-mod part_tests;
 mod path;
 mod path_of;
 mod phrase_place;
 mod put_part;
-#[cfg(test)]
-mod reader_tests;
 mod receipt;
 mod room_laws;
 mod sections_left;
@@ -61,8 +41,6 @@ mod undo;
 mod undo_item;
 mod undo_node;
 mod undo_part;
-#[cfg(test)]
-mod undo_tests;
 
 pub use beside::{added_path, path_before};
 pub use build::OverLimit;

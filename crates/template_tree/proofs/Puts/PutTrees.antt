@@ -189,18 +189,3 @@ put_keeps_tree tree path node new t there sound same shallow few drawn_few =
       },
       omega (arith, r.count_is, count_numbered tree.drawn (whole new.inner), count_whole new.inner, t.live),
     )
-
--- a tree stays one where more slots count as drawn
-pub more_drawn : (tree seen : PlainTree) (drawn : ℕ) → seen ≡ tree → IsTree tree → tree.drawn ≤ drawn → drawn ≤ most_drawn_slots
-    → IsTree record { items = seen.items; spare = seen.spare; drawn = drawn; live = seen.live }
-more_drawn tree seen drawn is t more few =
-    subst (λ (s : PlainTree). IsTree record { items = s.items; spare = s.spare; drawn = drawn; live = s.live }) (sym is)
-    record {
-      program = t.program;
-      shallow = t.shallow;
-      few = t.few;
-      drawn_few = few;
-      drawn = below_more tree.drawn drawn tree.items more t.drawn;
-      once = t.once;
-      live = t.live;
-    }

@@ -1,5 +1,0 @@
-use Rattle.template_tree.specs.Tree.{IsTree}
-use Rattle.template_tree.proofs.fixture_tests.make_all.Given as goal
-
-abbrev pub invariant-loop-edit : goal.invariant-loop-edit
-invariant-loop-edit l = IsTree l.tree

@@ -1,5 +1,0 @@
-use Rattle.template_tree.specs.Tree.{IsTree}
-use Rattle.template_tree.proofs.memory_tests.all_come_at_last.Given as goal
-
-abbrev pub invariant-loop-edit : goal.invariant-loop-edit
-invariant-loop-edit l = IsTree l.tree

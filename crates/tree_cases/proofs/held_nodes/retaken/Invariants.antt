@@ -1,0 +1,5 @@
+use Rattle.template_tree.specs.Tree.{IsTree}
+use Rattle.tree_cases.proofs.held_nodes.retaken.Given as goal
+
+abbrev pub invariant-loop-k : goal.invariant-loop-k
+invariant-loop-k l = IsTree l.tree

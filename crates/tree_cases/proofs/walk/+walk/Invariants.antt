@@ -1,0 +1,4 @@
+use Rattle.tree_cases.proofs.walk.+walk.Given as goal
+
+abbrev pub decreases-walk : goal.decreases-walk
+decreases-walk l = l.left

@@ -1,0 +1,276 @@
+//! Edits of trees, as cases and walks make them.
+ghost use Rattle.std.specs.Prelude.{◌≡◌, IfErr, IfOk, None};
+ghost use Rattle.template_tree.specs.Part.{IsPlace};
+ghost use Rattle.template_tree.specs.PlainPlace.{plain_place};
+ghost use Rattle.template_tree.specs.PlainTree.{roomless_tree};
+ghost use Rattle.template_tree.specs.Receipt.{CanUndo, NeedsNoRoom, undone};
+ghost use Rattle.template_tree.specs.Tree.{IsTree};
+
+use crate::told::Told;
+use crate::words::{At, CATEGORIES, SIDES, TEMPLATES, meaning, phrase};
+use case_script::number_of;
+use plcs_base::ByteOut;
+use plcs_grammar::{Category, Template};
+use std::alloc::Global;
+use template_tree::{Node, Path, PhrasePlace, Receipt, Side, Stop, Tree, TreeFault, copy_path};
+
+/// An edit, and where it is made.
+pub(crate) type Step<'a> = (Edit<'a>, At<'a>);
+
+/// An edit.
+#[derive(Clone, Copy)]
+pub(crate) enum Edit<'a> {
+    Fill(Template),
+    /// With the text of a phrase of the category.
+    FillAssign(Category, &'a [u8]),
+    /// With the text of a phrase of the category.
+    SetPhrase(Option<u8>, Category, &'a [u8]),
+    SetEmpty(Option<u8>),
+    /// A copy of the node there comes into the hole.
+    InsertCopy(At<'a>),
+    Take,
+    AddHole(Side),
+    DropHole,
+}
+
+/// The words of edits.
+#[derive(Clone, Copy)]
+enum EditWord {
+    Fill,
+    FillAssign,
+    SetPhrase,
+    SetEmpty,
+    InsertCopy,
+    Take,
+    AddHole,
+    DropHole,
+}
+
+static EDITS: [(&[u8], EditWord); 8] = [
+    (b"fill", EditWord::Fill),
+    (b"fill_assign", EditWord::FillAssign),
+    (b"set_phrase", EditWord::SetPhrase),
+    (b"set_empty", EditWord::SetEmpty),
+    (b"insert_copy", EditWord::InsertCopy),
+    (b"take", EditWord::Take),
+    (b"add_hole", EditWord::AddHole),
+    (b"drop_hole", EditWord::DropHole),
+];
+
+/// The edit of these words, and where it is made.
+pub(crate) fn step_of(words: &[Vec<u8>]) -> Option<Step<'_>> {
+    let [word, at, rest @ ..] = words else {
+        return None;
+    };
+    let edit = edit_of(meaning(&EDITS, word.as_slice())?, rest)?;
+    Some((edit, At::of(at.as_slice())?))
+}
+
+/// The edit of the word, with the words behind the path.
+fn edit_of(word: EditWord, rest: &[Vec<u8>]) -> Option<Edit<'_>> {
+    match (word, rest) {
+        (EditWord::Fill, [template]) => {
+            let template = meaning(&TEMPLATES, template.as_slice())?;
+            Some(Edit::Fill(template))
+        }
+        (EditWord::FillAssign, [category, text]) => {
+            let category = meaning(&CATEGORIES, category.as_slice())?;
+            Some(Edit::FillAssign(category, text.as_slice()))
+        }
+        (EditWord::SetPhrase, [part, category, text]) => {
+            let category = meaning(&CATEGORIES, category.as_slice())?;
+            Some(Edit::SetPhrase(part_of(part.as_slice())?, category, text.as_slice()))
+        }
+        (EditWord::SetEmpty, [part]) => Some(Edit::SetEmpty(part_of(part.as_slice())?)),
+        (EditWord::InsertCopy, [from]) => Some(Edit::InsertCopy(At::of(from.as_slice())?)),
+        (EditWord::Take, []) => Some(Edit::Take),
+        (EditWord::AddHole, [side]) => Some(Edit::AddHole(meaning(&SIDES, side.as_slice())?)),
+        (EditWord::DropHole, []) => Some(Edit::DropHole),
+        _ => None,
+    }
+}
+
+/// The part of the word: a number up to 255, or `-` for the node itself.
+fn part_of(word: &[u8]) -> Option<Option<u8>> {
+    match word {
+        b"-" => Some(None),
+        word => Some(Some(u8::try_from(number_of(word)?).ok()?)),
+    }
+}
+
+/// Makes the edit at the path, unless it drops a hole. Gives its receipt, and the node that it took out, if it
+/// took one. Where it is refused, what comes back is told.
+pub(crate) fn made(
+    alloc: Global,
+    tree: &mut Tree,
+    edit: Edit<'_>,
+    at: &Path,
+    back: &mut Told,
+) -> Result<(Receipt, Option<Node>), TreeFault>
+    requires { IsTree tree.old }
+    ensures tree { IsTree tree.new }
+    ensures can_undo { IfOk result (λ r. CanUndo r.0 r.1 tree.new) }
+    ensures undone { IfOk result (λ r. undone r.0 r.1 (roomless_tree tree.new) ≡ roomless_tree tree.old) }
+    ensures no_room { IfOk result (λ r. NeedsNoRoom r.0) }
+    ensures unchanged { IfErr result (λ _. tree.new ≡ tree.old) }
+{
+    if let Edit::Take = edit {
+        return match tree.take(alloc, at) {
+            Ok((node, receipt)) => Ok((receipt, Some(node))),
+            Err(fault) => Err(fault),
+        };
+    }
+    match put(alloc, tree, edit, at, back) {
+        Ok(receipt) => Ok((receipt, None)),
+        Err(fault) => Err(fault),
+    }
+}
+
+/// Makes the edit at the path, if it is one that gives nothing out and needs no room to be undone: nothing is
+/// taken out or dropped. Where it is refused, what comes back is told.
+fn put(
+    alloc: Global,
+    tree: &mut Tree,
+    edit: Edit<'_>,
+    at: &Path,
+    back: &mut Told,
+) -> Result<Receipt, TreeFault>
+    requires { IsTree tree.old }
+    ensures tree { IsTree tree.new }
+    ensures can_undo { IfOk result (λ receipt. CanUndo receipt None tree.new) }
+    ensures undone { IfOk result (λ receipt. undone receipt None (roomless_tree tree.new) ≡ roomless_tree tree.old) }
+    ensures no_room { IfOk result NeedsNoRoom }
+    ensures unchanged { IfErr result (λ _. tree.new ≡ tree.old) }
+{
+    match edit {
+        Edit::Fill(template) => tree.fill(alloc, at, template),
+        Edit::FillAssign(category, text) => fill_assign(alloc, tree, at, category, text, back),
+        Edit::SetPhrase(part, category, text) => {
+            let Some(phrase) = phrase(alloc, category, text) else {
+                back.text(", no such phrase");
+                return Err(TreeFault::OutOfMemory);
+            };
+            set(alloc, tree, at, part, PhrasePlace::Filled(phrase), back)
+        }
+        Edit::SetEmpty(part) => set(alloc, tree, at, part, PhrasePlace::Empty, back),
+        Edit::InsertCopy(from) => insert_copy(alloc, tree, at, from, back),
+        Edit::AddHole(side) => tree.add_hole(alloc, at, side),
+        Edit::Take | Edit::DropHole => Err(TreeFault::NotHere),
+    }
+}
+
+/// Makes what stands at the path the assignment of the text.
+fn fill_assign(
+    alloc: Global,
+    tree: &mut Tree,
+    at: &Path,
+    category: Category,
+    text: &[u8],
+    back: &mut Told,
+) -> Result<Receipt, TreeFault>
+    requires { IsTree tree.old }
+    ensures tree { IsTree tree.new }
+    ensures can_undo { IfOk result (λ receipt. CanUndo receipt None tree.new) }
+    ensures undone { IfOk result (λ receipt. undone receipt None (roomless_tree tree.new) ≡ roomless_tree tree.old) }
+    ensures no_room { IfOk result NeedsNoRoom }
+    ensures unchanged { IfErr result (λ _. tree.new ≡ tree.old) }
+{
+    let Some(phrase) = phrase(alloc, category, text) else {
+        back.text(", no such phrase");
+        return Err(TreeFault::OutOfMemory);
+    };
+    match tree.fill_assign(alloc, at, phrase) {
+        Ok(receipt) => Ok(receipt),
+        Err((fault, own)) => {
+            back.text(", ");
+            back.phrase(alloc, &own);
+            back.text(" comes back");
+            Err(fault)
+        }
+    }
+}
+
+/// Sets a part of the node at the path.
+fn set(
+    alloc: Global,
+    tree: &mut Tree,
+    at: &Path,
+    part: Option<u8>,
+    place: PhrasePlace,
+    back: &mut Told,
+) -> Result<Receipt, TreeFault>
+    requires tree { IsTree tree.old }
+    requires place { IsPlace (plain_place place) }
+    ensures tree { IsTree tree.new }
+    ensures can_undo { IfOk result (λ receipt. CanUndo receipt None tree.new) }
+    ensures undone { IfOk result (λ receipt. undone receipt None (roomless_tree tree.new) ≡ roomless_tree tree.old) }
+    ensures no_room { IfOk result NeedsNoRoom }
+    ensures unchanged { IfErr result (λ _. tree.new ≡ tree.old) }
+{
+    let stop = Stop {
+        path: copy_path(at),
+        part,
+    };
+    match tree.set_phrase(&stop, place) {
+        Ok(receipt) => Ok(receipt),
+        Err((fault, own)) => {
+            back.text(", ");
+            back.place(alloc, &own);
+            back.text(" comes back");
+            Err(fault)
+        }
+    }
+}
+
+/// Puts a copy of the one node in place of the hole at the path.
+fn insert_copy(
+    alloc: Global,
+    tree: &mut Tree,
+    at: &Path,
+    from: At<'_>,
+    back: &mut Told,
+) -> Result<Receipt, TreeFault>
+    requires { IsTree tree.old }
+    ensures tree { IsTree tree.new }
+    ensures can_undo { IfOk result (λ receipt. CanUndo receipt None tree.new) }
+    ensures undone { IfOk result (λ receipt. undone receipt None (roomless_tree tree.new) ≡ roomless_tree tree.old) }
+    ensures no_room { IfOk result NeedsNoRoom }
+    ensures unchanged { IfErr result (λ _. tree.new ≡ tree.old) }
+{
+    let Some(from) = from.find(tree) else {
+        return Err(TreeFault::NotHere);
+    };
+    let node = match tree.copy_node(alloc, &from) {
+        Ok(node) => node,
+        Err(fault) => return Err(fault),
+    };
+    match tree.insert(at, node) {
+        Ok(receipt) => Ok(receipt),
+        Err((fault, own)) => {
+            tell_back(alloc, &own, back);
+            Err(fault)
+        }
+    }
+}
+
+/// Tells that the node comes back.
+pub(crate) fn tell_back(alloc: Global, node: &Node, back: &mut Told) {
+    back.text(", ");
+    tell_node(alloc, node, back);
+    back.text(" comes back");
+}
+
+/// Tells a node's kind, what stands in its parts, and which slots the nodes inside have.
+pub(crate) fn tell_node(alloc: Global, node: &Node, told: &mut Told) {
+    told.value(node.kind());
+    for part in 0..=255 {
+        let Some(place) = node.part(part) else {
+            break;
+        };
+        told.put(b' ');
+        told.place(alloc, place);
+    }
+    if node.is_elided() {
+        told.text(", elided");
+    }
+}

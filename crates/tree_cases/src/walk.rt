@@ -1,0 +1,229 @@
+//! Edits that are made one after the other and undone in reverse order.
+ghost use Rattle.std.specs.Prelude.{◌≡◌, ◌<◌, IfNone, IfSome};
+ghost use Rattle.template_tree.specs.PlainTree.{roomless_tree};
+ghost use Rattle.template_tree.specs.Receipt.{CanUndo, NeedsNoRoom, undone};
+ghost use Rattle.template_tree.specs.Tree.{IsTree};
+
+use crate::edit::{Edit, Step, made};
+use crate::edit_calls::tell_answer;
+use crate::node_calls::tell_tree;
+use crate::told::Told;
+use crate::words::At;
+use plcs_base::ByteOut;
+use plcs_grammar::{Category, Template};
+use std::alloc::{AllocError, Global};
+use template_tree::{Node, Path, Receipt, Side, Tree, TreeFault};
+
+/// What is found on a walk.
+#[derive(Drop)]
+pub(crate) struct Walked {
+    /// The answer to each edit.
+    pub(crate) answers: Told,
+    /// How many edits were made.
+    pub(crate) made: u32,
+    /// Whether the tree before each of them came again when it was undone.
+    pub(crate) same: bool,
+}
+
+impl Walked {
+    /// A walk that begins.
+    pub(crate) fn new(alloc: Global) -> Walked {
+        Walked {
+            answers: Told::new(alloc),
+            made: 0,
+            same: true,
+        }
+    }
+
+    /// Tells whether the tree before each edit came again.
+    pub(crate) fn tell(&self, told: &mut Told) {
+        match self.same {
+            true => told.text("undone, each step back the same\n"),
+            false => told.text("UNDONE, NOT THE SAME\n"),
+        }
+    }
+}
+
+/// Makes the last so many of the edits one after the other, as far as they aren't refused, and undoes them in
+/// reverse order.
+pub(crate) fn walk(
+    alloc: Global,
+    tree: &mut Tree,
+    steps: &[Step<'_>],
+    left: usize,
+    walked: &mut Walked,
+)
+    requires tree { IsTree tree.old }
+    ensures tree { IsTree tree.new }
+    ensures same { roomless_tree tree.new ≡ roomless_tree tree.old }
+{
+    let before = picture_of(alloc, tree);
+    let Some((receipt, node, rest)) = first_made(alloc, tree, steps, left, walked) else {
+        return;
+    };
+    walk(alloc, tree, steps, rest, walked);
+    tree.undo(receipt, node);
+    compare(alloc, tree, &before, walked);
+}
+
+/// All that a tree shows.
+fn picture_of(alloc: Global, tree: &Tree) -> Told
+    requires { IsTree tree.now }
+{
+    let mut picture = Told::new(alloc);
+    tell_tree(alloc, tree, &mut picture);
+    picture
+}
+
+/// Keeps whether a tree that came again looks as it did before.
+fn compare(alloc: Global, tree: &Tree, before: &Told, walked: &mut Walked)
+    requires { IsTree tree.now }
+{
+    let after = picture_of(alloc, tree);
+    walked.same = walked.same && after.is_same(before);
+}
+
+/// Makes the first of the last so many edits that isn't refused and drops no hole. Gives its receipt, the node
+/// that it took out, if it took one, and how many steps are left behind it.
+fn first_made(
+    alloc: Global,
+    tree: &mut Tree,
+    steps: &[Step<'_>],
+    left: usize,
+    walked: &mut Walked,
+) -> Option<(Receipt, Option<Node>, usize)>
+    requires tree { IsTree tree.old }
+    ensures tree { IsTree tree.new }
+    ensures can_undo { IfSome result (λ r. CanUndo r.0 r.1 tree.new) }
+    ensures undone { IfSome result (λ r. undone r.0 r.1 (roomless_tree tree.new) ≡ roomless_tree tree.old) }
+    ensures no_room { IfSome result (λ r. NeedsNoRoom r.0) }
+    ensures fewer { IfSome result (λ r. r.2 < left) }
+    ensures same { IfNone result (roomless_tree tree.new ≡ roomless_tree tree.old) }
+{
+    let mut rest = left;
+    while rest > 0 {
+        let Some(step) = steps.get(steps.len().saturating_sub(rest)) else {
+            return None;
+        };
+        rest -= 1;
+        if let Some((receipt, node)) = made_at(alloc, tree, *step, walked) {
+            return Some((receipt, node, rest));
+        }
+    }
+    None
+}
+
+/// Makes the edit, unless it is refused. Gives its receipt, and the node that it took out, if it took one. A
+/// hole that is dropped comes back at once, since its room may be gone later.
+fn made_at(
+    alloc: Global,
+    tree: &mut Tree,
+    step: Step<'_>,
+    walked: &mut Walked,
+) -> Option<(Receipt, Option<Node>)>
+    requires tree { IsTree tree.old }
+    ensures tree { IsTree tree.new }
+    ensures can_undo { IfSome result (λ r. CanUndo r.0 r.1 tree.new) }
+    ensures undone { IfSome result (λ r. undone r.0 r.1 (roomless_tree tree.new) ≡ roomless_tree tree.old) }
+    ensures no_room { IfSome result (λ r. NeedsNoRoom r.0) }
+    ensures same { IfNone result (roomless_tree tree.new ≡ roomless_tree tree.old) }
+{
+    let (edit, at) = step;
+    let at = at.find(tree)?;
+    if let Edit::DropHole = edit {
+        drop_and_undo(alloc, tree, &at, walked);
+        return None;
+    }
+    let mut back = Told::new(alloc);
+    match made(alloc, tree, edit, &at, &mut back) {
+        Ok((receipt, node)) => {
+            tell_answer(Ok(receipt.change()), &back, &mut walked.answers);
+            walked.made = walked.made.saturating_add(1);
+            Some((receipt, node))
+        }
+        Err(fault) => {
+            tell_answer(Err(fault), &back, &mut walked.answers);
+            None
+        }
+    }
+}
+
+/// Drops the hole at the path, unless that is refused, and undoes that.
+fn drop_and_undo(alloc: Global, tree: &mut Tree, at: &Path, walked: &mut Walked)
+    requires tree { IsTree tree.old }
+    ensures tree { IsTree tree.new }
+    ensures same { roomless_tree tree.new ≡ roomless_tree tree.old }
+{
+    let before = picture_of(alloc, tree);
+    let nothing = Told::new(alloc);
+    match tree.drop_hole(at) {
+        Ok(receipt) => {
+            tell_answer(Ok(receipt.change()), &nothing, &mut walked.answers);
+            tree.undo(receipt, None);
+            walked.made = walked.made.saturating_add(1);
+            compare(alloc, tree, &before, walked);
+        }
+        Err(fault) => tell_answer(Err(fault), &nothing, &mut walked.answers),
+    }
+}
+
+static TEMPLATES: [Template; 16] = [
+    Template::Fixed,
+    Template::Bit,
+    Template::Char,
+    Template::If,
+    Template::IfElse,
+    Template::While,
+    Template::For,
+    Template::Group,
+    Template::Get,
+    Template::Put,
+    Template::PutSkip,
+    Template::Call,
+    Template::Return,
+    Template::Comment,
+    Template::Proc,
+    Template::ProcP,
+];
+
+/// Categories of first parts.
+static CATEGORIES: [Category; 4] = [
+    Category::Condition,
+    Category::DeclaredList,
+    Category::Variable,
+    Category::ExpressionList,
+];
+
+/// So many steps, drawn by a generator of pseudo-random numbers that begins with this one.
+pub(crate) fn drawn_steps(
+    alloc: Global,
+    first: u32,
+    count: u32,
+) -> Result<Vec<Step<'static>>, AllocError> {
+    let mut steps = Vec::new(alloc);
+    let mut number = first;
+    for _ in 0..count {
+        number = number.wrapping_mul(1_664_525).wrapping_add(1_013_904_223);
+        steps.push(step(number / 256))?;
+    }
+    Ok(steps)
+}
+
+/// The step of a number of 24 bits, at one of the first 32 slots.
+fn step(number: u32) -> Step<'static> {
+    let slot = At::Slot(number % 32);
+    let other = At::Slot((number / 32) % 32);
+    let k = (number / 1024) % 16;
+    let edit = match (number / 16384) % 16 {
+        0 => Edit::Take,
+        1 => Edit::DropHole,
+        2 => Edit::SetEmpty(Some(0)),
+        3 => Edit::FillAssign(Category::Assignment, b"x = y"),
+        4 | 5 => Edit::InsertCopy(other),
+        6 => Edit::AddHole(Side::Before),
+        7 => Edit::AddHole(Side::After),
+        8 | 9 => Edit::SetPhrase(Some(0), CATEGORIES[(k % 4) as usize], b"z"),
+        _ => Edit::Fill(TEMPLATES[k as usize]),
+    };
+    (edit, slot)
+}

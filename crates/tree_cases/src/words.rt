@@ -1,0 +1,129 @@
+//! Words of cases, and what they stand for.
+ghost use Rattle.std.specs.Prelude.{IfSome, Some};
+ghost use Rattle.plcs_grammar.specs.PlainPhrase.{plain_phrase};
+ghost use Rattle.template_tree.specs.Part.{IsPlace};
+ghost use Rattle.template_tree.specs.Tree.{IsTree};
+
+use case_script::number_of;
+use phrase_parser::parse;
+use plcs_base::Slot;
+use plcs_grammar::{Category, Phrase, Template, shown_len};
+use std::alloc::Global;
+use template_tree::{LONGEST_PHRASE, Path, Side, Tree};
+
+/// What the word stands for, by the rows of a table.
+pub(crate) fn meaning<T: Copy>(rows: &[(&'static [u8], T)], word: &[u8]) -> Option<T> {
+    for (own, meaning) in rows {
+        if *own == word {
+            return Some(*meaning);
+        }
+    }
+    None
+}
+
+/// The words of templates.
+pub(crate) static TEMPLATES: [(&[u8], Template); 16] = [
+    (b"fixed", Template::Fixed),
+    (b"bit", Template::Bit),
+    (b"char", Template::Char),
+    (b"if", Template::If),
+    (b"ifelse", Template::IfElse),
+    (b"while", Template::While),
+    (b"for", Template::For),
+    (b"group", Template::Group),
+    (b"get", Template::Get),
+    (b"put", Template::Put),
+    (b"putskip", Template::PutSkip),
+    (b"call", Template::Call),
+    (b"return", Template::Return),
+    (b"comment", Template::Comment),
+    (b"proc", Template::Proc),
+    (b"procp", Template::ProcP),
+];
+
+/// The words of categories.
+pub(crate) static CATEGORIES: [(&[u8], Category); 12] = [
+    (b"assignment", Category::Assignment),
+    (b"condition", Category::Condition),
+    (b"expression", Category::Expression),
+    (b"expression_list", Category::ExpressionList),
+    (b"variable_list", Category::VariableList),
+    (b"variable", Category::Variable),
+    (b"call_ref", Category::CallRef),
+    (b"declared_list", Category::DeclaredList),
+    (b"procedure_name", Category::ProcedureName),
+    (b"name_list", Category::NameList),
+    (b"length", Category::Length),
+    (b"comment_text", Category::CommentText),
+];
+
+/// The words of sides.
+pub(crate) static SIDES: [(&[u8], Side); 2] = [(b"before", Side::Before), (b"after", Side::After)];
+
+/// The phrase of the category that the text reads as, if it may stand in a part.
+pub(crate) fn phrase(alloc: Global, category: Category, text: &[u8]) -> Option<Phrase>
+    ensures { IfSome result (λ phrase. IsPlace (Some (plain_phrase phrase))) }
+{
+    if text.len() > 1000 {
+        return None;
+    }
+    let phrase = parse(alloc, category, text).ok()?;
+    if shown_len(&phrase) > LONGEST_PHRASE {
+        return None;
+    }
+    Some(phrase)
+}
+
+/// Where a case is played: at the path of a word, or at the node in a slot.
+#[derive(Clone, Copy)]
+pub(crate) enum At<'a> {
+    Path(&'a [u8]),
+    Slot(u32),
+}
+
+impl At<'_> {
+    /// What the word says: `#` and a slot, or a path.
+    pub(crate) fn of(word: &[u8]) -> Option<At<'_>> {
+        match word {
+            [b'#', number @ ..] => Some(At::Slot(number_of(number)?)),
+            word => Some(At::Path(word)),
+        }
+    }
+
+    /// The path that is meant, if it is one.
+    pub(crate) fn find(self, tree: &Tree) -> Option<Path>
+        requires { IsTree tree.now }
+    {
+        match self {
+            At::Path(word) => path(word),
+            At::Slot(slot) => tree.path_of(Slot(slot)),
+        }
+    }
+}
+
+/// The path of the word: numbers with a comma between them, each with `*` and a number behind it where it
+/// stands so many times; `-` for none.
+pub(crate) fn path(word: &[u8]) -> Option<Path> {
+    let mut path = Path::new();
+    if let b"-" = word {
+        return Some(path);
+    }
+    for piece in word.split(|byte| *byte == b',') {
+        push_piece(&mut path, piece)?;
+    }
+    Some(path)
+}
+
+/// Puts the numbers of a piece at the end of the path, if they fit.
+fn push_piece(path: &mut Path, piece: &[u8]) -> Option<()> {
+    let mut halves = piece.split(|byte| *byte == b'*');
+    let number = number_of(halves.next()?)?;
+    let times = match halves.next() {
+        Some(times) => number_of(times)?,
+        None => 1,
+    };
+    for _ in 0..times {
+        path.try_push(number).ok()?;
+    }
+    Some(())
+}
