@@ -9,8 +9,6 @@ mod edit_commands;
 mod elide_command;
 mod entered_line;
 mod file_commands;
-#[cfg(test)]
-mod file_tests;
 mod key;
 mod press;
 mod program;
@@ -18,8 +16,6 @@ mod program_input;
 mod screens;
 mod session;
 mod session_screen;
-#[cfg(test)]
-mod session_tests;
 mod size;
 mod typed_line;
 mod window;

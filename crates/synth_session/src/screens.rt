@@ -56,15 +56,6 @@ impl Screens {
         self.shown.rows() - OTHER_ROWS
     }
 
-    /// The screen that was painted last.
-    #[cfg(test)]
-    pub(crate) fn shown(&self) -> &Grid
-        ensures { result.now ≡ self.now.shown }
-    {
-        let _ = &self.next;
-        &self.shown
-    }
-
     /// Draws a view on the screen that is shown next.
     pub(crate) fn draw<W: Work, M: Marked>(&mut self, view: &View<'_, W, M>, work: &mut W)
         requires tree { IsTree view.now.tree.now }

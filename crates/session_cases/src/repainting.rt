@@ -1,0 +1,83 @@
+//! Cases that compare screens painted over one another with screens painted anew.
+
+ghost use Rattle.std.specs.Prelude.{◌≡◌};
+ghost use Rattle.synth_session.specs.SessionView.{IsSession};
+
+use crate::scene::Scene;
+use crate::session_keys::{opened, painted, press_bytes};
+use plcs_base::{Counts, OutOfMemory};
+use screen_window::Terminal;
+use std::alloc::Global;
+use std::io;
+use synth_outside::MemFiles;
+use synth_session::Session;
+use synth_top::KeyReader;
+
+/// `repaint`: paints the screen of the session behind each byte of the keys at hand over the one before. It
+/// answers whether a terminal shows each time what it shows where that screen is painted anew.
+pub fn repaint(rt: &HostRuntime, scene: &mut Scene, arguments: &[Vec<u8>]) -> io::Result<bool> {
+    match first_other(rt.alloc(), scene.keys.as_slice()) {
+        Ok(None) => println!(rt; "= each screen is as painted anew")?,
+        Ok(Some(count)) => println!(rt; "= another screen behind {count} bytes")?,
+        Err(OutOfMemory) => return Ok(false),
+    }
+    Ok(arguments.is_empty())
+}
+
+/// How many bytes of these keys lead to the first screen that is another where it is painted over the one
+/// before, if there is one.
+fn first_other(alloc: Global, keys: &[u8]) -> Result<Option<usize>, OutOfMemory> {
+    let mut session = opened(alloc)?;
+    let mut terminal = Terminal::new(alloc, 12, 40)?;
+    let mut reader = KeyReader::new();
+    let mut files = MemFiles::new(alloc, Vec::new(alloc));
+    paint_over(alloc, &mut session, &mut terminal)?;
+    for count in 0..keys.len() {
+        let next = &keys[count..count + 1];
+        press_bytes(alloc, &mut session, &mut files, &mut reader, next)?;
+        paint_over(alloc, &mut session, &mut terminal)?;
+        if !is_as_anew(alloc, &terminal, &keys[..count + 1])? {
+            return Ok(Some(count + 1));
+        }
+    }
+    Ok(None)
+}
+
+/// Paints the session's screen on the terminal.
+fn paint_over(
+    alloc: Global,
+    session: &mut Session<Counts>,
+    terminal: &mut Terminal,
+) -> Result<(), OutOfMemory>
+    requires { IsSession session.old }
+    ensures session { IsSession session.new }
+    ensures rows { terminal.new.rows ≡ terminal.old.rows }
+{
+    let bytes = painted(alloc, session)?;
+    terminal.take(bytes.as_slice());
+    Ok(())
+}
+
+/// Whether the terminal shows what one shows on which the screen behind these keys is painted anew.
+fn is_as_anew(alloc: Global, terminal: &Terminal, keys: &[u8]) -> Result<bool, OutOfMemory>
+    requires { terminal.now.rows ≡ 12 }
+{
+    let mut session = opened(alloc)?;
+    let mut files = MemFiles::new(alloc, Vec::new(alloc));
+    press_bytes(alloc, &mut session, &mut files, &mut KeyReader::new(), keys)?;
+    let mut other = Terminal::new(alloc, 12, 40)?;
+    other.take(painted(alloc, &mut session)?.as_slice());
+    Ok(show_the_same(terminal, &other))
+}
+
+/// Whether two terminals of 12 rows show the same.
+fn show_the_same(first: &Terminal, second: &Terminal) -> bool
+    requires first { first.now.rows ≡ 12 }
+    requires second { second.now.rows ≡ 12 }
+{
+    let mut same = first.cursor() == second.cursor();
+    for above in 0..12 {
+        same = same && first.cells(above + 1) == second.cells(above + 1);
+    }
+    same
+}
