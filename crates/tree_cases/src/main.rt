@@ -1,5 +1,5 @@
-//! Plays a script of cases over trees, moves of the cursor and clips: each line of the script is written as
-//! it is, and behind a case what the calls answered.
+//! Plays a script of cases over trees, moves of the cursor, edits at its stop, and clips: each line of the script
+//! is written as it is, and behind a case what the calls answered.
 #![tactic(auto)]
 
 ghost use Rattle.template_tree.specs.Tree.{IsTree};
@@ -11,6 +11,7 @@ mod held_nodes;
 mod lent_nodes;
 mod node_calls;
 mod stop_calls;
+mod stop_edits;
 mod told;
 mod tree_calls;
 mod walk;
@@ -106,11 +107,26 @@ fn is_played(
     requires { IsTree cases.old.trees.tree }
     ensures { IsTree cases.new.trees.tree }
 {
-    edit_calls::play(alloc, &mut cases.trees.tree, words, text, told).is_some()
+    is_edited(alloc, &mut cases.trees.tree, words, text, told)
         || tree_calls::play(alloc, &mut cases.trees, words, text, told).is_some()
         || held_nodes::play(alloc, &mut cases.trees, words, told).is_some()
         || lent_nodes::play(alloc, &cases.trees.tree, words, told).is_some()
         || node_calls::play(alloc, &cases.trees.tree, words, told).is_some()
         || stop_calls::play(&cases.trees.tree, words, told).is_some()
         || clip_calls::play(alloc, &mut cases.clips, &cases.trees.held, words, told).is_some()
+}
+
+/// Plays the case of these words where it is one of edits, and tells whether it is.
+fn is_edited(
+    alloc: Global,
+    tree: &mut Tree,
+    words: &[Vec<u8>],
+    text: &[u8],
+    told: &mut Told,
+) -> bool
+    requires { IsTree tree.old }
+    ensures { IsTree tree.new }
+{
+    edit_calls::play(alloc, tree, words, text, told).is_some()
+        || stop_edits::play(alloc, tree, words, told).is_some()
 }

@@ -1,0 +1,6 @@
+use Rattle.template_tree.specs.PlainTree.{roomless_tree}
+use Rattle.template_tree.specs.Stop.{IsStop, plain_stop}
+use Rattle.tree_cases.proofs.stop_edits.stop_at.Given as goal
+
+abbrev pub invariant-parts : goal.invariant-parts
+invariant-parts l = IsStop (roomless_tree l.tree).items (plain_stop l.at)
