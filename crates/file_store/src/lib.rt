@@ -7,12 +7,8 @@ mod line_laws;
 mod listing_laws;
 mod loading;
 mod reader;
-#[cfg(test)]
-mod reader_tests;
 mod refusal;
 mod saving;
-#[cfg(test)]
-mod saving_tests;
 
 pub use limit::{LONGEST_INPUT, LONGEST_LISTING};
 pub use listing_laws::{listed_lines_are_lines, listings_are_short, one_listing, one_outcome};

@@ -15,6 +15,3 @@ pub use disk::{DISK_END, Disk, DiskFault, a_disk_reads_as_an_image};
 pub use journal::JournalKeys;
 pub use mem_disk::{DiskCall, MemDisk, Piece};
 pub use std_disk::{JOURNAL, StdDisk};
-
-#[cfg(test)]
-mod tests;

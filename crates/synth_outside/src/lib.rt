@@ -27,6 +27,3 @@ pub use source::Source;
 pub use std_files::StdFiles;
 pub use std_sink::StdSink;
 pub use std_source::StdSource;
-
-#[cfg(test)]
-mod tests;
