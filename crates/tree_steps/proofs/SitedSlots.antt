@@ -13,7 +13,7 @@ use Rattle.plcs_grammar.specs.Template.{list_of, row_of}
 use Rattle.template_tree.specs.Place.{PlainAt, Site, at, begin, end_at, in_turn, inner_end, is_statement, passes_in, site_among, site_start}
 use Rattle.template_tree.specs.PlainTree.{Forest, Label}
 use Rattle.template_tree.specs.Program.{AreNodes, Fill, IsNode, sort_of, sorts}
-use Rattle.tree_steps.specs.PlaceLaws.{SitesStand, StandingSlotsHaveSites, StatementsBegin}
+use Rattle.tree_steps.specs.PlaceLaws.{OthersBeginThemselves, SitesStand, StandingSlotsHaveSites, StatementsBegin}
 use Rattle.tree_steps.specs.RunPlace.{BeginsAt}
 use Rattle.tree_steps.specs.StandingSlot.{Around, StandsBelow, StandsInside, loop_by_kind, loops_around, outermost_slot}
 use Rattle.tree_steps.proofs.StandingSlots.{outermost_within, stands_once}
@@ -272,3 +272,15 @@ statements_begin tree slot kind around is stands sort =
       subst (λ (a : Around). BeginsAt tree.items slot a (site_start found)) same.1
           (site_begins (passes_in found.label.kind) tree.items slot found there is.program.sound refl (ap sort_of same.0 ∙ sort)),
     )
+
+plain_start : (found : Site) → passes_in found.label.kind ≡ false → site_start found ≡ at found.label.slot 0
+plain_start found e = rw e refl
+
+pub others_begin_themselves : OthersBeginThemselves
+others_begin_themselves items slot kind around once stands pass =
+    let has = standing_slots_have_sites items slot kind around stands in
+    let found : Site = has.0 in
+    let there : FoundAt [] items slot found = found_among [] slot false items (at 0 1) found has.1 in
+    let same = stands_once [] items slot found.label.kind kind there.around around once there.stands stands in
+    ap (option_map site_start) has.1
+    ∙ ap Some (plain_start found (ap passes_in same.0 ∙ pass) ∙ ap (λ (own : ℕ). at own 0) there.slot_is)

@@ -1,12 +1,13 @@
 -- The laws of places: they ignore room and elision, and trees that agree keep them.
-use Rattle.std.specs.Prelude.{◌≡◌, ℕ, Bool, List, Some}
+use Rattle.std.specs.Prelude.{◌≡◌, ℕ, ◌≤◌, Bool, false, List, Some}
 use Rattle.plcs_grammar.specs.declared.node_kind.NodeKind.{NodeKind}
 use Rattle.plcs_grammar.specs.declared.node_kind.Sort.{Sort}
 use Rattle.template_tree.specs.Edit.{edit_at}
 use Rattle.template_tree.specs.Elision.{turn}
-use Rattle.template_tree.specs.Place.{Exists, PlainAt, Site, Start, at, site}
+use Rattle.template_tree.specs.Place.{Exists, PlainAt, Site, Start, at, passes_in, site}
 use Rattle.template_tree.specs.PlainTree.{Forest, PlainTree, roomless}
 use Rattle.template_tree.specs.Program.{sort_of}
+use Rattle.template_tree.specs.Slots.{times}
 use Rattle.template_tree.specs.Tree.{IsTree}
 use Rattle.tree_steps.specs.EditStep.{substance}
 use Rattle.tree_steps.specs.RunPlace.{BeginsAt, KeepsPoint, PlacesAlike, SitesAlike}
@@ -47,6 +48,12 @@ StatementsBegin =
     (tree : PlainTree) (slot : ℕ) (kind : NodeKind) (around : Around) → IsTree tree → StandsInside tree.items slot kind around
     → sort_of kind ≡ Sort.Statement
     → (place : PlainAt) × (Start tree.items slot ≡ Some place) × BeginsAt tree.items slot around place
+
+-- a run that comes to a node which doesn't pass it on to what stands inside begins at that node itself
+abbrev pub OthersBeginThemselves : Type 0
+OthersBeginThemselves =
+    (items : Forest) (slot : ℕ) (kind : NodeKind) (around : Around) → times slot items ≤ 1 → StandsInside items slot kind around
+    → passes_in kind ≡ false → Start items slot ≡ Some (at slot 0)
 
 -- ---- trees that agree
 

@@ -1,6 +1,6 @@
 //! The laws of the places of runs, each a function that does nothing and whose contract states it.
 ghost use Rattle.tree_steps.specs.ListVerdict.{ListVerdictsFollowItems};
-ghost use Rattle.tree_steps.specs.PlaceLaws.{AgreementKeepsLoops, AgreementKeepsPlaces, AgreementKeepsStarts, PlacesIgnoreElision, PlacesIgnoreRoom, SitesAreOfSubstance, SitesStand, StandingSlotsHaveSites, StatementsBegin};
+ghost use Rattle.tree_steps.specs.PlaceLaws.{AgreementKeepsLoops, AgreementKeepsPlaces, AgreementKeepsStarts, OthersBeginThemselves, PlacesIgnoreElision, PlacesIgnoreRoom, SitesAreOfSubstance, SitesStand, StandingSlotsHaveSites, StatementsBegin};
 
 use template_tree::checks_ignore_room_and_elision;
 
@@ -20,6 +20,7 @@ pub fn sites_stand()
     ensures found { SitesStand }
     ensures standing { StandingSlotsHaveSites }
     ensures begins { StatementsBegin }
+    ensures others { OthersBeginThemselves }
 {}
 
 /// Trees that agree by their slots have the same loops round them and the same places, as far as the
