@@ -18,3 +18,7 @@ pub mod RoomlessPlaces
 pub mod SitedSlots
 -- `places_last`
 pub mod KeptPlaces
+-- `list_marks_follow_items`: the order of places
+pub mod PlaceOrder
+-- `list_marks_follow_items`
+pub mod ListMarks

@@ -69,12 +69,12 @@ found_here above label inner rest slot after same =
     }
 
 -- what is there, or else the site
-abbrev site_there : Site → Option Site → Site
+abbrev pub site_there : Site → Option Site → Site
 site_there found None = found
 site_there found (Some there) = there
 
 -- what is found of two is the one or the other
-either_found : (within behind : Option Site) (found : Site) → option_or within behind ≡ Some found
+pub either_found : (within behind : Option Site) (found : Site) → option_or within behind ≡ Some found
     → (within ≡ Some found) ⊎ (behind ≡ Some found)
 either_found None behind found e = inr e
 either_found (Some one) behind found e = inl e

@@ -12,10 +12,10 @@ use Rattle.tree_steps.specs.AgreementLaws.{LiveSlotsStand, ProceduresStandOuterm
 -- ---- how often a slot stands
 
 -- one where the two are the same
-abbrev one_if : ℕ → ℕ → ℕ
+abbrev pub one_if : ℕ → ℕ → ℕ
 one_if a b = if a == b then 1 else 0
 
-counted : (a b : ℕ) → a ≡ b → one_if a b ≡ 1
+pub counted : (a b : ℕ) → a ≡ b → one_if a b ≡ 1
 counted a b e = rw (eq-eqb a b e) refl
 
 -- a slot that stands among nodes is counted there

@@ -7,6 +7,6 @@ mod step_laws;
 
 pub use agreement_laws::{agreement_lasts, slots_stand};
 pub use place_laws::{
-    list_verdicts_follow_items, places_ignore_room_and_elision, places_last, sites_stand,
+    list_marks_follow_items, places_ignore_room_and_elision, places_last, sites_stand,
 };
 pub use step_laws::{edits_are_steps, edits_follow};

@@ -1,5 +1,5 @@
 //! The laws of the places of runs, each a function that does nothing and whose contract states it.
-ghost use Rattle.tree_steps.specs.ListVerdict.{ListVerdictsFollowItems};
+ghost use Rattle.tree_steps.specs.ListVerdict.{ListMarksFollowItems, ListVerdictsFollowItems};
 ghost use Rattle.tree_steps.specs.PlaceLaws.{AgreementKeepsLoops, AgreementKeepsPlaces, AgreementKeepsStarts, OthersBeginThemselves, PlacesIgnoreElision, PlacesIgnoreRoom, SitesAreOfSubstance, SitesStand, StandingSlotsHaveSites, StatementsBegin};
 
 use template_tree::checks_ignore_room_and_elision;
@@ -33,6 +33,7 @@ pub fn places_last()
 
 /// What is wrong with the list of variables in a GET, of which each is a point of it, depends on the
 /// items of its procedure alone.
-pub fn list_verdicts_follow_items()
-    ensures { ListVerdictsFollowItems }
+pub fn list_marks_follow_items()
+    ensures verdict { ListVerdictsFollowItems }
+    ensures mark { ListMarksFollowItems }
 {}

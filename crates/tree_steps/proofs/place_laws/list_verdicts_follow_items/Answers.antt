@@ -1,9 +1,0 @@
-use Rattle.std.specs.Prelude.{List}
-use Rattle.std.proofs.Common.{ap}
-use Rattle.plcs_base.specs.declared.declared.Declared.{Declared}
-use Rattle.template_tree.specs.Verdict.{references_offence}
-use Rattle.tree_steps.proofs.place_laws.list_verdicts_follow_items.Goals as goal
-
-pub returns : goal.returns
-returns c one other procedure other_procedure slot other_slot targets same =
-    ap (λ (items : List Declared). references_offence items targets) same
