@@ -1,15 +1,18 @@
 -- The definitions at work: each kind of place, and where slots stand.
--- Each computes.
-use Rattle.std.specs.Prelude.{◌≡◌, refl, ℕ, ◌==◌, Bool, false, List, [], ◌∷◌, codes, Option, Some, None}
-use Rattle.std.proofs.Common.{inl, inr}
+-- Each computes; marks do by the law of variable lists.
+use Rattle.std.specs.Prelude.{◌≡◌, refl, ℕ, ◌==◌, Bool, true, false, List, [], ◌∷◌, codes, Option, Some, None}
+use Rattle.std.proofs.Common.{ap, sym, ◌∙◌, arith, inl, inr}
 use Rattle.std.proofs.Math.Bool.{false≢true}
 use Rattle.plcs_grammar.specs.declared.node_kind.NodeKind.{NodeKind}
 use Rattle.plcs_grammar.specs.declared.template.Template.{Template}
+use Rattle.plcs_grammar.specs.Builtin.{is_builtin_name}
 use Rattle.plcs_grammar.specs.PlainPhrase.{PlainExprs, PlainPhrase, PlainVarRef}
 use Rattle.template_tree.specs.NewTree.{bare_label}
-use Rattle.template_tree.specs.Place.{Exists, Start, at}
-use Rattle.template_tree.specs.PlainTree.{Forest, Label}
+use Rattle.template_tree.specs.Place.{Exists, PlainAt, Site, Start, at, exists_at, site}
+use Rattle.template_tree.specs.PlainTree.{Forest, Label, PlainNode}
+use Rattle.tree_steps.specs.RunPlace.{HasPlace, is_first_marked}
 use Rattle.tree_steps.specs.StandingSlot.{StandsInside, loops_around, outermost_slot}
+use Rattle.tree_steps.proofs.ListMarks.{list_marks_follow_items}
 
 -- a label of the template in the slot, with these parts
 abbrev filled : ℕ → Template → List (Option PlainPhrase) → Label
@@ -19,28 +22,36 @@ filled slot template parts = record { slot = slot; kind = NodeKind.Filled templa
 abbrev leaf : Label → Forest → Forest
 leaf label rest = Forest.cons label Forest.nil rest
 
--- the variables x and y
-abbrev two_variables : PlainPhrase
-two_variables = PlainPhrase.variable_list (PlainVarRef.simple (codes "x") ∷ (PlainVarRef.simple (codes "y") ∷ []))
+-- the variable x twice, and y twice
+abbrev twice : List ℕ → List PlainVarRef
+twice name = PlainVarRef.simple name ∷ (PlainVarRef.simple name ∷ [])
+
+-- x declared, and not y
+abbrev declaration : PlainPhrase
+declaration = PlainPhrase.declared_list (record { name = codes "x"; size = None } ∷ [])
 
 -- a call of p
 abbrev call : PlainPhrase
 call = PlainPhrase.call (codes "p") PlainExprs.nil
 
--- main with a For over a group of a GET of two, an empty GET and a GET of two that is marked; then a CALL and a hole; then a
--- procedure
-abbrev sample : Forest
-sample =
-    Forest.cons (bare_label 0 NodeKind.Main)
-    (leaf (bare_label 1 NodeKind.DeclarationHole)
+-- inside main x declared, and a For over a group of a GET of x twice, an empty GET and a GET of y twice, which is marked; then
+-- a CALL and a hole
+abbrev main_inner : Forest
+main_inner =
+    leaf (filled 1 Template.Fixed (Some declaration ∷ []))
     (Forest.cons (filled 2 Template.For (None ∷ (None ∷ (None ∷ []))))
     (Forest.cons (filled 3 Template.Group [])
-    (leaf (filled 4 Template.Get (Some two_variables ∷ []))
+    (leaf (filled 4 Template.Get (Some (PlainPhrase.variable_list (twice (codes "x"))) ∷ []))
     (leaf (filled 5 Template.Get (None ∷ []))
-    (leaf (filled 6 Template.Get (Some two_variables ∷ [])) Forest.nil)))
+    (leaf (filled 6 Template.Get (Some (PlainPhrase.variable_list (twice (codes "y"))) ∷ [])) Forest.nil)))
     Forest.nil)
     (leaf (filled 7 Template.Call (Some call ∷ []))
-    (leaf (bare_label 8 NodeKind.StatementHole) Forest.nil))))
+    (leaf (bare_label 8 NodeKind.StatementHole) Forest.nil)))
+
+-- that main, and a procedure
+abbrev sample : Forest
+sample =
+    Forest.cons (bare_label 0 NodeKind.Main) main_inner
     (Forest.cons (filled 9 Template.Proc (Some (PlainPhrase.procedure_name (codes "p")) ∷ []))
     (leaf (bare_label 10 NodeKind.DeclarationHole)
     (leaf (bare_label 11 NodeKind.StatementHole) Forest.nil))
@@ -112,6 +123,35 @@ declaration_no_place h = false≢true h
 -- a slot that isn't live
 no_slot : Exists sample_marks sample (at 12 0) → ⊥
 no_slot h = false≢true h
+
+-- ---- places by the program's own marks
+
+-- main alone
+abbrev main_node : PlainNode
+main_node = record { label = bare_label 0 NodeKind.Main; inner = main_inner }
+
+-- the site of a GET with nothing inside
+abbrev get_site : ℕ → List ℕ → PlainAt → Site
+get_site slot name after =
+    record { label = filled slot Template.Get (Some (PlainPhrase.variable_list (twice name)) ∷ []); inner = Forest.nil; after = after }
+
+-- what is declared isn't marked
+declared_unmarked : is_first_marked sample 4 ≡ false
+unfolding is_builtin_name
+declared_unmarked =
+    list_marks_follow_items sample 0 main_node 4 (get_site 4 (codes "x") (at 5 0)) (twice (codes "x")) [] (omega arith) refl refl refl
+
+own_second : HasPlace sample (at 4 1)
+own_second = ap (λ (marked : Bool). exists_at marked (site sample 4) 1) declared_unmarked
+
+-- what isn't declared is
+undeclared_marked : is_first_marked sample 6 ≡ true
+unfolding is_builtin_name
+undeclared_marked =
+    list_marks_follow_items sample 0 main_node 6 (get_site 6 (codes "y") (at 2 1)) (twice (codes "y")) [] (omega arith) refl refl refl
+
+own_no_second : HasPlace sample (at 6 1) → ⊥
+own_no_second h = false≢true (sym (ap (λ (marked : Bool). exists_at marked (site sample 6) 1) undeclared_marked) ∙ h)
 
 -- ---- where slots stand
 
