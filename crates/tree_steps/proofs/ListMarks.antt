@@ -1,0 +1,194 @@
+-- The mark of a variable list is the offence that its procedure's items make of it.
+-- Its slot stands once, so that among the verdicts of the program its own is the one that is found; and that looks at these items alone.
+use Rattle.std.specs.Prelude.{◌≡◌, refl, ℕ, zero, suc, ◌+◌, ◌≤◌, ◌==◌, ◌&&◌, nat_eq, Bool, true, false, cond, if◌then◌else◌, List, [], ◌∷◌, ◌++◌, Option, Some, None, is_some, slice_get}
+use Rattle.std.specs.FinMap.{find, get-from_entries}
+use Rattle.std.specs.Option.{option_flatten, option_or}
+use Rattle.std.specs.Ordering.{eq_by_cmp}
+use Rattle.std.proofs.Common.{ap, sym, ◌∙◌, subst, arith, inl, inr}
+use Rattle.std.proofs.lemmas.Bool.{eq-eqb, eqb-false, eqb-true, ne_eqb}
+use Rattle.std.proofs.lemmas.Option.{none-some}
+use Rattle.plcs_base.specs.Mark.{phrase_cmp}
+use Rattle.plcs_base.specs.declared.mark.MarkKind.{MarkKind}
+use Rattle.plcs_grammar.specs.PlainPhrase.{PlainPhrase}
+use Rattle.plcs_grammar.specs.Template.{row_of}
+use Rattle.template_tree.specs.Marks.{VerdictList, Verdicts, node_verdicts, part_verdicts, procedure_verdicts, surroundings}
+use Rattle.template_tree.specs.Mention.{phrase_place}
+use Rattle.template_tree.specs.Place.{PlainAt, Site, at, begin, end_at, in_turn, inner_end, site, site_among}
+use Rattle.template_tree.specs.PlainTree.{Forest, Label, PlainNode, forest, nodes}
+use Rattle.template_tree.specs.Slots.{times}
+use Rattle.template_tree.specs.Verdict.{Surroundings, verdict}
+use Rattle.tree_steps.specs.ListVerdict.{ListMarksFollowItems}
+use Rattle.tree_steps.proofs.PlaceOrder.{mark_at, place_ties, places_total}
+use Rattle.tree_steps.proofs.SitedSlots.{either_found, found_among, site_there}
+use Rattle.tree_steps.proofs.StandingSlots.{counted, stands_counted}
+
+-- ---- what is found in joined lists
+
+-- the verdict that is found at the first part of a slot
+abbrev found_in : ℕ → VerdictList → Option (Option MarkKind)
+found_in slot list = find phrase_cmp (phrase_place slot 0) list
+
+none_level : (same : Bool) (own : Option MarkKind) (one joined behind : Option (Option MarkKind)) → cond same (Some own) one ≡ None
+    → (one ≡ None → joined ≡ behind) → cond same (Some own) joined ≡ behind
+none_level true own one joined behind e later = absurd (none-some own (sym e))
+none_level false own one joined behind e later = later e
+
+front_none : (slot : ℕ) (one other : VerdictList) → found_in slot one ≡ None → found_in slot (one ++ other) ≡ found_in slot other
+front_none slot [] other e = refl
+front_none slot (entry ∷ one) other e =
+    none_level (eq_by_cmp phrase_cmp (phrase_place slot 0) entry.0) entry.1 (found_in slot one) (found_in slot (one ++ other)) (found_in slot other) e
+    (front_none slot one other)
+
+some_level : (same : Bool) (own there : Option MarkKind) (one joined : Option (Option MarkKind)) → cond same (Some own) one ≡ Some there
+    → (one ≡ Some there → joined ≡ Some there) → cond same (Some own) joined ≡ Some there
+some_level true own there one joined e later = e
+some_level false own there one joined e later = later e
+
+front_some : (slot : ℕ) (one other : VerdictList) (there : Option MarkKind) → found_in slot one ≡ Some there
+    → found_in slot (one ++ other) ≡ Some there
+front_some slot [] other there e = absurd (none-some there e)
+front_some slot (entry ∷ one) other there e =
+    some_level (eq_by_cmp phrase_cmp (phrase_place slot 0) entry.0) entry.1 there (found_in slot one) (found_in slot (one ++ other)) e
+    (front_some slot one other there)
+
+-- ---- what is found among the parts of a node
+
+other_place : (slot other part : ℕ) → (slot ≡ other → ⊥) → eq_by_cmp phrase_cmp (phrase_place slot 0) (phrase_place other part) ≡ false
+other_place slot other part apart =
+    sym (place_ties (phrase_place slot 0) (phrase_place other part)) ∙ ap (λ (b : Bool). b && nat_eq 0 part) (ne_eqb slot other apart)
+
+own_place : (slot : ℕ) → eq_by_cmp phrase_cmp (phrase_place slot 0) (phrase_place slot 0) ≡ true
+own_place slot =
+    sym (place_ties (phrase_place slot 0) (phrase_place slot 0)) ∙ ap (λ (b : Bool). b && true) (eq-eqb slot slot refl)
+
+other_parts : (s : Surroundings) (slot other part : ℕ) (parts : List (Option PlainPhrase)) → (slot ≡ other → ⊥)
+    → found_in slot (part_verdicts s other part parts) ≡ None
+other_parts s slot other part [] apart = refl
+other_parts s slot other part (None ∷ parts) apart = other_parts s slot other (part + 1) parts apart
+other_parts s slot other part (Some phrase ∷ parts) apart =
+    ap (λ (b : Bool). cond b (Some (verdict s phrase)) (found_in slot (part_verdicts s other (part + 1) parts))) (other_place slot other part apart)
+    ∙ other_parts s slot other (part + 1) parts apart
+
+own_parts : (program : Forest) (procedure : PlainNode) (slot own : ℕ) (parts others : List (Option PlainPhrase)) (phrase : PlainPhrase)
+    → own ≡ slot → parts ≡ Some phrase ∷ others
+    → found_in slot (part_verdicts (surroundings program procedure own) own 0 parts) ≡ Some (verdict (surroundings program procedure slot) phrase)
+own_parts program procedure slot own parts others phrase same are =
+    ap (λ (n : ℕ). found_in slot (part_verdicts (surroundings program procedure n) n 0 parts)) same
+    ∙ (ap (λ (ps : List (Option PlainPhrase)). found_in slot (part_verdicts (surroundings program procedure slot) slot 0 ps)) are
+    ∙ ap (λ (b : Bool). cond b (Some (verdict (surroundings program procedure slot) phrase))
+    (found_in slot (part_verdicts (surroundings program procedure slot) slot 1 others)))
+    (own_place slot))
+
+-- ---- what is found among nodes
+
+absent_nodes : (program : Forest) (procedure : PlainNode) (items : Forest) (slot : ℕ) → times slot items ≡ 0
+    → found_in slot (node_verdicts program procedure items) ≡ None
+absent_nodes program procedure Forest.nil slot none = refl
+absent_nodes program procedure (Forest.cons label inner rest) slot none =
+    let apart : (slot ≡ label.slot → ⊥) = λ same. let one = counted label.slot slot (sym same) in omega (arith, none, one) in
+    front_none slot (part_verdicts (surroundings program procedure label.slot) label.slot 0 label.parts)
+    (node_verdicts program procedure inner ++ node_verdicts program procedure rest)
+    (other_parts (surroundings program procedure label.slot) slot label.slot 0 label.parts apart)
+    ∙ (front_none slot (node_verdicts program procedure inner) (node_verdicts program procedure rest)
+    (absent_nodes program procedure inner slot (omega (arith, none)))
+    ∙ absent_nodes program procedure rest slot (omega (arith, none)))
+
+-- the node itself, or what stands inside it or behind it
+nodes_level : (same : Bool) (program : Forest) (procedure : PlainNode) (label : Label) (inner rest : Forest) (slot : ℕ) (after : PlainAt)
+    (within behind : Option Site) (found : Site) (phrase : PlainPhrase) (others : List (Option PlainPhrase))
+    → times slot (Forest.cons label inner rest) ≤ 1 → (label.slot == slot) ≡ same → found.label.parts ≡ Some phrase ∷ others
+    → (within ≡ Some found → found_in slot (node_verdicts program procedure inner) ≡ Some (verdict (surroundings program procedure slot) phrase))
+    → (behind ≡ Some found
+    → (1 ≤ times slot rest) × (found_in slot (node_verdicts program procedure rest) ≡ Some (verdict (surroundings program procedure slot) phrase)))
+    → (if same then Some (let own : Site = record { label = label; inner = inner; after = after } in own) else option_or within behind) ≡ Some found
+    → found_in slot (node_verdicts program procedure (Forest.cons label inner rest)) ≡ Some (verdict (surroundings program procedure slot) phrase)
+nodes_level true program procedure label inner rest slot after within behind found phrase others once same parts inside later e =
+    let is = ap (site_there found) e in
+    front_some slot (part_verdicts (surroundings program procedure label.slot) label.slot 0 label.parts)
+    (node_verdicts program procedure inner ++ node_verdicts program procedure rest) (verdict (surroundings program procedure slot) phrase)
+    (own_parts program procedure slot label.slot label.parts others phrase (eqb-true label.slot slot same)
+    (ap (λ (s : Site). s.label.parts) is ∙ parts))
+nodes_level false program procedure label inner rest slot after within behind found phrase others once same parts inside later e =
+    let own = part_verdicts (surroundings program procedure label.slot) label.slot 0 label.parts in
+    let there = verdict (surroundings program procedure slot) phrase in
+    front_none slot own (node_verdicts program procedure inner ++ node_verdicts program procedure rest)
+    (other_parts (surroundings program procedure label.slot) slot label.slot 0 label.parts (λ is. eqb-false label.slot slot same (sym is)))
+    ∙ elim (either_found within behind found e) as
+    (λ _. found_in slot (node_verdicts program procedure inner ++ node_verdicts program procedure rest) ≡ Some there) [
+      | inl a ↦ front_some slot (node_verdicts program procedure inner) (node_verdicts program procedure rest) there (inside a)
+      | inr b ↦
+          (let some : 1 ≤ times slot rest = (later b).0 in
+          front_none slot (node_verdicts program procedure inner) (node_verdicts program procedure rest)
+          (absent_nodes program procedure inner slot (omega (arith, once, some)))
+          ∙ (later b).1)
+    ]
+
+found_nodes : (program : Forest) (procedure : PlainNode) (items : Forest) (slot : ℕ) (turn : Bool) (place : PlainAt) (found : Site)
+    (phrase : PlainPhrase) (others : List (Option PlainPhrase))
+    → times slot items ≤ 1 → site_among slot turn items place ≡ Some found → found.label.parts ≡ Some phrase ∷ others
+    → found_in slot (node_verdicts program procedure items) ≡ Some (verdict (surroundings program procedure slot) phrase)
+found_nodes program procedure Forest.nil slot turn place found phrase others once e parts = absurd (none-some found e)
+found_nodes program procedure (Forest.cons label inner rest) slot turn place found phrase others once e parts =
+    let after : PlainAt = if turn then begin rest place else place in
+    let inner_turn : Bool = in_turn (row_of label.kind).sections in
+    let inner_end_at : PlainAt = end_at label.slot (inner_end label.kind) after in
+    nodes_level (label.slot == slot) program procedure label inner rest slot after
+    (site_among slot inner_turn inner inner_end_at) (site_among slot turn rest place) found phrase others once refl parts
+    (λ a. found_nodes program procedure inner slot inner_turn inner_end_at found phrase others (omega (arith, once)) a parts)
+    (λ b.
+    let there = found_among [] slot turn rest place found b in (
+      stands_counted [] rest slot found.label.kind there.around there.stands,
+      found_nodes program procedure rest slot turn place found phrase others (omega (arith, once)) b parts,
+    ))
+    e
+
+-- ---- what is found among procedures
+
+-- what is there, or else the node
+abbrev node_there : PlainNode → Option PlainNode → PlainNode
+node_there node None = node
+node_there node (Some there) = there
+
+-- a slot in one of the procedures is counted among all
+counted_in : (items : Forest) (number : ℕ) (procedure : PlainNode) (slot : ℕ) → slice_get (nodes items) number ≡ Some procedure
+    → times slot (forest (procedure ∷ [])) ≤ times slot items
+counted_in Forest.nil number procedure slot e = absurd (none-some procedure e)
+counted_in (Forest.cons label inner rest) zero procedure slot e =
+    let same : record { label = label; inner = inner } ≡ procedure = ap (node_there procedure) e in
+    subst (λ (p : PlainNode). times slot (forest (p ∷ [])) ≤ times slot (Forest.cons label inner rest)) same (omega arith)
+counted_in (Forest.cons label inner rest) (suc number) procedure slot e =
+    let less = counted_in rest number procedure slot e in
+    omega (arith, less)
+
+found_procedures : (program items : Forest) (number : ℕ) (procedure : PlainNode) (slot : ℕ) (found : Site) (phrase : PlainPhrase)
+    (others : List (Option PlainPhrase))
+    → times slot items ≤ 1 → slice_get (nodes items) number ≡ Some procedure → site (forest (procedure ∷ [])) slot ≡ Some found
+    → found.label.parts ≡ Some phrase ∷ others
+    → found_in slot (procedure_verdicts program items) ≡ Some (verdict (surroundings program procedure slot) phrase)
+found_procedures program Forest.nil number procedure slot found phrase others once e here parts = absurd (none-some procedure e)
+found_procedures program (Forest.cons label inner rest) zero procedure slot found phrase others once e here parts =
+    let node : PlainNode = record { label = label; inner = inner } in
+    let same : node ≡ procedure = ap (node_there procedure) e in
+    let few : times slot (forest (procedure ∷ [])) ≤ times slot (Forest.cons label inner rest) =
+    counted_in (Forest.cons label inner rest) zero procedure slot e in
+    front_some slot (node_verdicts program node (forest (node ∷ []))) (procedure_verdicts program rest)
+    (verdict (surroundings program procedure slot) phrase)
+    (ap (λ (p : PlainNode). found_in slot (node_verdicts program p (forest (p ∷ [])))) same
+    ∙ found_nodes program procedure (forest (procedure ∷ [])) slot false (at 0 1) found phrase others (omega (arith, few, once)) here parts)
+found_procedures program (Forest.cons label inner rest) (suc number) procedure slot found phrase others once e here parts =
+    let node : PlainNode = record { label = label; inner = inner } in
+    let there = found_among [] slot false (forest (procedure ∷ [])) (at 0 1) found here in
+    let some : 1 ≤ times slot (forest (procedure ∷ [])) =
+    stands_counted [] (forest (procedure ∷ [])) slot found.label.kind there.around there.stands in
+    let few : times slot (forest (procedure ∷ [])) ≤ times slot rest = counted_in rest number procedure slot e in
+    front_none slot (node_verdicts program node (forest (node ∷ []))) (procedure_verdicts program rest)
+    (absent_nodes program node (forest (node ∷ [])) slot (omega (arith, some, few, once)))
+    ∙ found_procedures program rest number procedure slot found phrase others (omega (arith, once)) e here parts
+
+pub list_marks_follow_items : ListMarksFollowItems
+list_marks_follow_items items number procedure slot found targets others once e here parts =
+    ap is_some
+    (mark_at (Verdicts items) (phrase_place slot 0)
+    ∙ ap option_flatten
+    (get-from_entries places_total (procedure_verdicts items items) (phrase_place slot 0)
+    ∙ found_procedures items items number procedure slot found (PlainPhrase.variable_list targets) others once e here parts))

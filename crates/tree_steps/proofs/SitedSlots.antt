@@ -1,0 +1,286 @@
+-- A site is of the node that stands in its slot, and a run that comes to a statement begins at one in the same loops.
+-- Only groups and comments pass a run on to what stands inside them; these are no loops, and their first item is a statement.
+use Rattle.std.specs.Prelude.{◌≡◌, refl, ℕ, ◌<◌, ◌≤◌, ◌==◌, Bool, true, false, if◌then◌else◌, List, [], ◌∷◌, ◌++◌, length, slice_index_or, Option, Some, None, option_map, ◌⊎◌}
+use Rattle.std.specs.Option.{option_or}
+use Rattle.std.proofs.Common.{ap, sym, ◌∙◌, subst, arith, append-nil, inl, inr}
+use Rattle.std.proofs.Math.Bool.{false≢true}
+use Rattle.std.proofs.lemmas.Bool.{eqb-true, eq-eqb}
+use Rattle.std.proofs.lemmas.Option.{none-some}
+use Rattle.plcs_grammar.specs.declared.node_kind.NodeKind.{NodeKind}
+use Rattle.plcs_grammar.specs.declared.node_kind.Sort.{Sort}
+use Rattle.plcs_grammar.specs.declared.template.Template.{Template}
+use Rattle.plcs_grammar.specs.Template.{list_of, row_of}
+use Rattle.template_tree.specs.Place.{PlainAt, Site, at, begin, end_at, in_turn, inner_end, is_statement, passes_in, site_among, site_start}
+use Rattle.template_tree.specs.PlainTree.{Forest, Label}
+use Rattle.template_tree.specs.Program.{AreNodes, Fill, IsNode, sort_of, sorts}
+use Rattle.tree_steps.specs.PlaceLaws.{OthersBeginThemselves, SitesStand, StandingSlotsHaveSites, StatementsBegin}
+use Rattle.tree_steps.specs.RunPlace.{BeginsAt}
+use Rattle.tree_steps.specs.StandingSlot.{Around, StandsBelow, StandsInside, loop_by_kind, loops_around, outermost_slot}
+use Rattle.tree_steps.proofs.StandingSlots.{outermost_within, stands_once}
+
+-- ---- the site of a slot
+
+-- a site is that of the node in the slot among these nodes, or inside one of them
+pub record FoundAt (above : Around) (items : Forest) (slot : ℕ) (found : Site) : Type 0 where
+  pub slot_is : found.label.slot ≡ slot
+  pub around : Around
+  pub stands : StandsBelow above items slot found.label.kind around
+  pub within :
+      (other : ℕ) (kind : NodeKind) (others : Around)
+      → StandsBelow ((found.label.slot, found.label.kind) ∷ around) found.inner other kind others
+      → StandsBelow above items other kind others
+  pub node : AreNodes items → IsNode found.label (sorts found.inner) × AreNodes found.inner
+
+found_inside : (above : Around) (label : Label) (inner rest : Forest) (slot : ℕ) (found : Site)
+    → FoundAt ((label.slot, label.kind) ∷ above) inner slot found → FoundAt above (Forest.cons label inner rest) slot found
+found_inside above label inner rest slot found there =
+    record {
+      slot_is = there.slot_is;
+      around = there.around;
+      stands = inr (inl there.stands);
+      within = λ other kind others h. inr (inl (there.within other kind others h));
+      node = λ are. there.node are.1;
+    }
+
+found_behind : (above : Around) (label : Label) (inner rest : Forest) (slot : ℕ) (found : Site)
+    → FoundAt above rest slot found → FoundAt above (Forest.cons label inner rest) slot found
+found_behind above label inner rest slot found there =
+    record {
+      slot_is = there.slot_is;
+      around = there.around;
+      stands = inr (inr there.stands);
+      within = λ other kind others h. inr (inr (there.within other kind others h));
+      node = λ are. there.node are.2;
+    }
+
+-- the site with this place behind it
+abbrev own_site : Label → Forest → PlainAt → Site
+own_site label inner after = record { label = label; inner = inner; after = after }
+
+found_here : (above : Around) (label : Label) (inner rest : Forest) (slot : ℕ) (after : PlainAt) → label.slot ≡ slot
+    → FoundAt above (Forest.cons label inner rest) slot (own_site label inner after)
+found_here above label inner rest slot after same =
+    record {
+      slot_is = same;
+      around = above;
+      stands = inl (same, refl, refl);
+      within = λ other kind others h. inr (inl h);
+      node = λ are. (are.0, are.1);
+    }
+
+-- what is there, or else the site
+abbrev pub site_there : Site → Option Site → Site
+site_there found None = found
+site_there found (Some there) = there
+
+-- what is found of two is the one or the other
+pub either_found : (within behind : Option Site) (found : Site) → option_or within behind ≡ Some found
+    → (within ≡ Some found) ⊎ (behind ≡ Some found)
+either_found None behind found e = inr e
+either_found (Some one) behind found e = inl e
+
+found_level : (same : Bool) (above : Around) (label : Label) (inner rest : Forest) (slot : ℕ) (after : PlainAt) (within behind : Option Site) (found : Site)
+    → (label.slot == slot) ≡ same
+    → (within ≡ Some found → FoundAt ((label.slot, label.kind) ∷ above) inner slot found)
+    → (behind ≡ Some found → FoundAt above rest slot found)
+    → (if same then Some (own_site label inner after) else option_or within behind) ≡ Some found
+    → FoundAt above (Forest.cons label inner rest) slot found
+found_level true above label inner rest slot after within behind found same inside later e =
+    subst (FoundAt above (Forest.cons label inner rest) slot) (ap (site_there found) e)
+    (found_here above label inner rest slot after (eqb-true label.slot slot same))
+found_level false above label inner rest slot after within behind found same inside later e =
+    elim (either_found within behind found e) as (λ _. FoundAt above (Forest.cons label inner rest) slot found) [
+      | inl a ↦ found_inside above label inner rest slot found (inside a)
+      | inr b ↦ found_behind above label inner rest slot found (later b)
+    ]
+
+pub found_among : (above : Around) (slot : ℕ) (turn : Bool) (items : Forest) (place : PlainAt) (found : Site)
+    → site_among slot turn items place ≡ Some found → FoundAt above items slot found
+found_among above slot turn Forest.nil place found e = absurd (none-some found e)
+found_among above slot turn (Forest.cons label inner rest) place found e =
+    let after : PlainAt = if turn then begin rest place else place in
+    let inner_turn : Bool = in_turn (row_of label.kind).sections in
+    found_level (label.slot == slot) above label inner rest slot after
+    (site_among slot inner_turn inner (end_at label.slot (inner_end label.kind) after)) (site_among slot turn rest place) found refl
+    (found_among ((label.slot, label.kind) ∷ above) slot inner_turn inner (end_at label.slot (inner_end label.kind) after) found)
+    (found_among above slot turn rest place found)
+    e
+
+pub sites_stand : SitesStand
+sites_stand items slot found e =
+    let there = found_among [] slot false items (at 0 1) found e in
+    (there.slot_is, there.around, there.stands)
+
+-- ---- a slot that stands has a site
+
+abbrev HasSite : Option Site → Type 0
+HasSite found = (one : Site) × (found ≡ Some one)
+
+either_has : (within behind : Option Site) → HasSite within ⊎ HasSite behind → HasSite (option_or within behind)
+either_has None behind (inl h) = absurd (none-some h.0 h.1)
+either_has None behind (inr h) = h
+either_has (Some one) behind h = (one, refl)
+
+level_has : (same : Bool) (own : Site) (within behind : Option Site) → (same ≡ true) ⊎ (HasSite within ⊎ HasSite behind)
+    → HasSite (if same then Some own else option_or within behind)
+level_has true own within behind h = (own, refl)
+level_has false own within behind (inl e) = absurd (false≢true e)
+level_has false own within behind (inr h) = either_has within behind h
+
+among_has : (above : Around) (slot : ℕ) (turn : Bool) (items : Forest) (place : PlainAt) (kind : NodeKind) (around : Around)
+    → StandsBelow above items slot kind around → HasSite (site_among slot turn items place)
+among_has above slot turn Forest.nil place kind around h = absurd h
+among_has above slot turn (Forest.cons label inner rest) place kind around (inl h) =
+    let after : PlainAt = if turn then begin rest place else place in
+    let inner_turn : Bool = in_turn (row_of label.kind).sections in
+    level_has (label.slot == slot) (own_site label inner after)
+    (site_among slot inner_turn inner (end_at label.slot (inner_end label.kind) after)) (site_among slot turn rest place)
+    (inl (eq-eqb label.slot slot h.0))
+among_has above slot turn (Forest.cons label inner rest) place kind around (inr (inl h)) =
+    let after : PlainAt = if turn then begin rest place else place in
+    let inner_turn : Bool = in_turn (row_of label.kind).sections in
+    level_has (label.slot == slot) (own_site label inner after)
+    (site_among slot inner_turn inner (end_at label.slot (inner_end label.kind) after)) (site_among slot turn rest place)
+    (inr (inl (among_has ((label.slot, label.kind) ∷ above) slot inner_turn inner (end_at label.slot (inner_end label.kind) after) kind around h)))
+among_has above slot turn (Forest.cons label inner rest) place kind around (inr (inr h)) =
+    let after : PlainAt = if turn then begin rest place else place in
+    let inner_turn : Bool = in_turn (row_of label.kind).sections in
+    level_has (label.slot == slot) (own_site label inner after)
+    (site_among slot inner_turn inner (end_at label.slot (inner_end label.kind) after)) (site_among slot turn rest place)
+    (inr (inr (among_has above slot turn rest place kind around h)))
+
+pub standing_slots_have_sites : StandingSlotsHaveSites
+standing_slots_have_sites items slot kind around h = among_has [] slot false items (at 0 1) kind around h
+
+-- ---- where a run begins
+
+-- the first of the sorts is that of statements
+abbrev StartsWithStatement : List Sort → Type 0
+StartsWithStatement [] = ⊥
+StartsWithStatement (sort ∷ others) = sort ≡ Sort.Statement
+
+-- a list of statements begins with one
+list_starts : (own others : List Sort) → 1 ≤ length own
+    → ((k : ℕ) (d : Sort) → k < length own → slice_index_or own k d ≡ Sort.Statement) → StartsWithStatement (own ++ others)
+list_starts [] others some all = absurd (omega (arith, some))
+list_starts (sort ∷ own) others some all = all 0 Sort.Statement (omega (arith, some))
+
+filled_starts : (items : List Sort) → Fill (list_of Sort.Statement ∷ []) items → StartsWithStatement items
+filled_starts items (own, others, same, are, none) = subst StartsWithStatement (sym same) (list_starts own others are.0 are.1)
+
+template_starts : (template : Template) (items : List Sort) → passes_in (NodeKind.Filled template) ≡ true
+    → Fill (row_of (NodeKind.Filled template)).sections items → StartsWithStatement items
+template_starts Template.Group items e fill = filled_starts items fill
+template_starts Template.Comment items e fill = filled_starts items fill
+template_starts other items e fill = absurd (false≢true e)
+
+-- what passes a run on to its first item has a statement there
+kind_starts : (kind : NodeKind) (items : List Sort) → passes_in kind ≡ true → Fill (row_of kind).sections items → StartsWithStatement items
+kind_starts (NodeKind.Filled template) items e fill = template_starts template items e fill
+kind_starts other items e fill = absurd (false≢true e)
+
+template_no_loop : (template : Template) (slot : ℕ) → passes_in (NodeKind.Filled template) ≡ true → loop_by_kind (NodeKind.Filled template) slot ≡ []
+template_no_loop Template.Group slot e = refl
+template_no_loop Template.Comment slot e = refl
+template_no_loop other slot e = absurd (false≢true e)
+
+-- what passes a run on to its first item is no loop
+no_loop : (kind : NodeKind) (slot : ℕ) → passes_in kind ≡ true → loop_by_kind kind slot ≡ []
+no_loop (NodeKind.Filled template) slot e = template_no_loop template slot e
+no_loop other slot e = absurd (false≢true e)
+
+-- what stands in it has the same loops around it
+same_loops : (kind : NodeKind) (slot : ℕ) (around : Around) → passes_in kind ≡ true → loops_around ((slot, kind) ∷ around) ≡ loops_around around
+same_loops kind slot around e = ap (λ (loop : List ℕ). loops_around around ++ loop) (no_loop kind slot e) ∙ append-nil (loops_around around)
+
+-- a place is the start of a statement among these nodes, or inside one of them, in the same loops
+record BeginsBelow (above : Around) (items : Forest) (place : PlainAt) : Type 0 where
+  start : place.point ≡ 0
+  kind : NodeKind
+  within : Around
+  stands : StandsBelow above items place.slot kind within
+  statement : sort_of kind ≡ Sort.Statement
+  loops : loops_around within ≡ loops_around above
+
+-- the first node is where a run begins, or passes it on
+begin_level : (statement passes : Bool) (above : Around) (label : Label) (inner rest : Forest) (one other : PlainAt)
+    → statement ≡ true → passes_in label.kind ≡ passes → sort_of label.kind ≡ Sort.Statement
+    → (passes ≡ true → BeginsBelow ((label.slot, label.kind) ∷ above) inner one)
+    → BeginsBelow above (Forest.cons label inner rest) (if statement then (if passes then one else at label.slot 0) else other)
+begin_level false passes above label inner rest one other is pass sort inside = absurd (false≢true is)
+begin_level true true above label inner rest one other is pass sort inside =
+    let there = inside refl in
+    record {
+      start = there.start;
+      kind = there.kind;
+      within = there.within;
+      stands = inr (inl there.stands);
+      statement = there.statement;
+      loops = there.loops ∙ same_loops label.kind label.slot above pass;
+    }
+begin_level true false above label inner rest one other is pass sort inside =
+    record { start = refl; kind = label.kind; within = above; stands = inl (refl, refl, refl); statement = sort; loops = refl }
+
+begin_below : (above : Around) (items : Forest) (behind : PlainAt) → AreNodes items → StartsWithStatement (sorts items)
+    → BeginsBelow above items (begin items behind)
+begin_below above Forest.nil behind are starts = absurd starts
+begin_below above (Forest.cons label inner rest) behind are starts =
+    begin_level (is_statement (sort_of label.kind)) (passes_in label.kind) above label inner rest (begin inner behind) (begin rest behind)
+    (ap is_statement starts) refl starts
+    (λ pass. begin_below ((label.slot, label.kind) ∷ above) inner behind are.1 (kind_starts label.kind (sorts inner) pass are.0.inner))
+
+-- a run that comes to the node at a site begins there, or is passed on
+site_begins : (passes : Bool) (items : Forest) (slot : ℕ) (found : Site) (there : FoundAt [] items slot found) → AreNodes items
+    → passes_in found.label.kind ≡ passes → sort_of found.label.kind ≡ Sort.Statement
+    → BeginsAt items slot there.around (if passes then begin found.inner found.after else at found.label.slot 0)
+site_begins true items slot found there are pass sort =
+    let node = there.node are in
+    let above : Around = (found.label.slot, found.label.kind) ∷ there.around in
+    let place : PlainAt = begin found.inner found.after in
+    let begins : BeginsBelow above found.inner place =
+    begin_below above found.inner found.after node.1 (kind_starts found.label.kind (sorts found.inner) pass node.0.inner) in
+    record {
+      start = begins.start;
+      kind = begins.kind;
+      within = begins.within;
+      stands = there.within place.slot begins.kind begins.within begins.stands;
+      statement = begins.statement;
+      loops = begins.loops ∙ same_loops found.label.kind found.label.slot there.around pass;
+      procedure =
+          outermost_within found.inner there.around (found.label.slot, found.label.kind) place.slot begins.kind begins.within begins.stands
+          ∙ ap (λ (own : ℕ). outermost_slot own there.around) there.slot_is;
+    }
+site_begins false items slot found there are pass sort =
+    record {
+      start = refl;
+      kind = found.label.kind;
+      within = there.around;
+      stands = subst (λ (own : ℕ). StandsInside items own found.label.kind there.around) (sym there.slot_is) there.stands;
+      statement = sort;
+      loops = refl;
+      procedure = ap (λ (own : ℕ). outermost_slot own there.around) there.slot_is;
+    }
+
+pub statements_begin : StatementsBegin
+statements_begin tree slot kind around is stands sort =
+    let has = standing_slots_have_sites tree.items slot kind around stands in
+    let found : Site = has.0 in
+    let there : FoundAt [] tree.items slot found = found_among [] slot false tree.items (at 0 1) found has.1 in
+    let same = stands_once [] tree.items slot found.label.kind kind there.around around (is.once slot) there.stands stands in (
+      site_start found,
+      ap (option_map site_start) has.1,
+      subst (λ (a : Around). BeginsAt tree.items slot a (site_start found)) same.1
+          (site_begins (passes_in found.label.kind) tree.items slot found there is.program.sound refl (ap sort_of same.0 ∙ sort)),
+    )
+
+plain_start : (found : Site) → passes_in found.label.kind ≡ false → site_start found ≡ at found.label.slot 0
+plain_start found e = rw e refl
+
+pub others_begin_themselves : OthersBeginThemselves
+others_begin_themselves items slot kind around once stands pass =
+    let has = standing_slots_have_sites items slot kind around stands in
+    let found : Site = has.0 in
+    let there : FoundAt [] items slot found = found_among [] slot false items (at 0 1) found has.1 in
+    let same = stands_once [] items slot found.label.kind kind there.around around once there.stands stands in
+    ap (option_map site_start) has.1
+    ∙ ap Some (plain_start found (ap passes_in same.0 ∙ pass) ∙ ap (λ (own : ℕ). at own 0) there.slot_is)

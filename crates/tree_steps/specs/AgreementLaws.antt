@@ -1,0 +1,59 @@
+-- The laws of agreement: edits give it, and it outlasts edits and their undoing; what follows from it.
+use Rattle.std.specs.Prelude.{◌≡◌, ℕ, ◌≤◌, Some}
+use Rattle.plcs_grammar.specs.declared.node_kind.NodeKind.{NodeKind}
+use Rattle.template_tree.specs.Edit.{procedure_of}
+use Rattle.template_tree.specs.PlainTree.{Forest, PlainTree}
+use Rattle.template_tree.specs.Slots.{times}
+use Rattle.template_tree.specs.Tree.{IsTree}
+use Rattle.tree_steps.specs.SlotAgreement.{AgreesWith}
+use Rattle.tree_steps.specs.StandingSlot.{Around, StandsInside, outermost_slot}
+use Rattle.tree_steps.specs.EditStep.{CameByEdits, IsStep, substance}
+
+-- ---- where slots stand
+
+-- a live slot stands somewhere
+abbrev pub LiveSlotsStand : Type 0
+LiveSlotsStand =
+    (items : Forest) (slot : ℕ) → 1 ≤ times slot items → (kind : NodeKind) × (around : Around) × StandsInside items slot kind around
+
+-- a slot that stands somewhere is live
+abbrev pub StandingSlotsLive : Type 0
+StandingSlotsLive =
+    (items : Forest) (slot : ℕ) (kind : NodeKind) (around : Around) → StandsInside items slot kind around → 1 ≤ times slot items
+
+-- a slot that is there but once stands at one place
+abbrev pub SlotsStandOnce : Type 0
+SlotsStandOnce =
+    (items : Forest) (slot : ℕ) (kind other_kind : NodeKind) (around other : Around) → times slot items ≤ 1
+    → StandsInside items slot kind around → StandsInside items slot other_kind other
+    → (kind ≡ other_kind) × (around ≡ other)
+
+-- the procedure of a slot is the outermost node round it
+abbrev pub ProceduresStandOutermost : Type 0
+ProceduresStandOutermost =
+    (items : Forest) (slot : ℕ) (kind : NodeKind) (around : Around) → times slot items ≤ 1
+    → StandsInside items slot kind around → procedure_of items slot ≡ Some (outermost_slot slot around)
+
+-- ---- agreement
+
+-- a tree agrees with those from which edits made it
+abbrev pub EditsAgree : Type 0
+EditsAgree = (before after : PlainTree) → IsTree before → CameByEdits before after → AgreesWith before after
+
+-- a step keeps the agreement with each earlier tree
+abbrev pub StepsKeepAgreement : Type 0
+StepsKeepAgreement =
+    (earlier before after : PlainTree) → AgreesWith earlier before → IsStep before after → AgreesWith earlier after
+
+-- so does going back to a kept tree that agreed, also where more slots are drawn by now
+abbrev pub GoingBackAgrees : Type 0
+GoingBackAgrees =
+    (earlier kept back : PlainTree) → AgreesWith earlier kept
+    → substance back.items ≡ substance kept.items → kept.drawn ≤ back.drawn → AgreesWith earlier back
+
+-- a slot that is live in trees that agree stands in the same procedure
+abbrev pub AgreementKeepsProcedures : Type 0
+AgreementKeepsProcedures =
+    (earlier later : PlainTree) (slot : ℕ) → IsTree earlier → IsTree later → AgreesWith earlier later
+    → 1 ≤ times slot earlier.items → 1 ≤ times slot later.items
+    → procedure_of earlier.items slot ≡ procedure_of later.items slot

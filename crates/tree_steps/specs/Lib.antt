@@ -1,0 +1,12 @@
+-- ---- where slots stand
+pub mod StandingSlot
+-- ---- edits as steps
+pub mod EditStep
+pub mod SlotAgreement
+-- ---- places of a run
+pub mod RunPlace
+-- ---- the laws
+pub mod StepLaws
+pub mod AgreementLaws
+pub mod PlaceLaws
+pub mod ListVerdict

@@ -1,0 +1,27 @@
+-- The law of variable lists: what is wrong with one depends on what its procedure declares alone.
+use Rattle.std.specs.Prelude.{◌≡◌, ◌≤◌, ℕ, List, [], ◌∷◌, Option, Some, is_some, slice_get}
+use Rattle.plcs_grammar.specs.PlainPhrase.{PlainPhrase, PlainVarRef}
+use Rattle.template_tree.specs.Environment.{items_inside}
+use Rattle.template_tree.specs.Marks.{surroundings}
+use Rattle.template_tree.specs.PlainTree.{Forest, PlainNode, forest, nodes}
+use Rattle.template_tree.specs.Verdict.{references_offence, verdict}
+use Rattle.template_tree.specs.Place.{Site, site}
+use Rattle.template_tree.specs.Slots.{times}
+use Rattle.tree_steps.specs.RunPlace.{is_first_marked}
+
+-- a list of variables has the same verdict in procedures with the same effective items, whatever stands round them
+abbrev pub ListVerdictsFollowItems : Type 0
+ListVerdictsFollowItems =
+    (one other : Forest) (procedure other_procedure : PlainNode) (slot other_slot : ℕ) (targets : List PlainVarRef)
+    → items_inside procedure.inner ≡ items_inside other_procedure.inner
+    → verdict (surroundings one procedure slot) (PlainPhrase.variable_list targets)
+    ≡ verdict (surroundings other other_procedure other_slot) (PlainPhrase.variable_list targets)
+
+-- a list of variables in the first part of a slot is marked where one of them is an offence by the effective items of its
+-- procedure, which is among those of the program; nothing else in the program counts
+abbrev pub ListMarksFollowItems : Type 0
+ListMarksFollowItems =
+    (items : Forest) (number : ℕ) (procedure : PlainNode) (slot : ℕ) (found : Site) (targets : List PlainVarRef) (others : List (Option PlainPhrase))
+    → times slot items ≤ 1 → slice_get (nodes items) number ≡ Some procedure
+    → site (forest (procedure ∷ [])) slot ≡ Some found → found.label.parts ≡ Some (PlainPhrase.variable_list targets) ∷ others
+    → is_first_marked items slot ≡ is_some (references_offence (items_inside procedure.inner) targets)

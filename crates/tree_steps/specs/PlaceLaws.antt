@@ -1,0 +1,80 @@
+-- The laws of places: they ignore room and elision, and trees that agree keep them.
+use Rattle.std.specs.Prelude.{◌≡◌, ℕ, ◌≤◌, Bool, false, List, Some}
+use Rattle.plcs_grammar.specs.declared.node_kind.NodeKind.{NodeKind}
+use Rattle.plcs_grammar.specs.declared.node_kind.Sort.{Sort}
+use Rattle.template_tree.specs.Edit.{edit_at}
+use Rattle.template_tree.specs.Elision.{turn}
+use Rattle.template_tree.specs.Place.{Exists, PlainAt, Site, Start, at, passes_in, site}
+use Rattle.template_tree.specs.PlainTree.{Forest, PlainTree, roomless}
+use Rattle.template_tree.specs.Program.{sort_of}
+use Rattle.template_tree.specs.Slots.{times}
+use Rattle.template_tree.specs.Tree.{IsTree}
+use Rattle.tree_steps.specs.EditStep.{substance}
+use Rattle.tree_steps.specs.RunPlace.{BeginsAt, KeepsPoint, PlacesAlike, SitesAlike}
+use Rattle.tree_steps.specs.SlotAgreement.{AgreesWith}
+use Rattle.tree_steps.specs.StandingSlot.{Around, StandsInside, loops_around}
+
+-- ---- room and elision
+
+-- the places of a program are those without room
+abbrev pub PlacesIgnoreRoom : Type 0
+PlacesIgnoreRoom = (items : Forest) → PlacesAlike (roomless items) items
+
+-- the places of a program are those with the comment at a path turned
+abbrev pub PlacesIgnoreElision : Type 0
+PlacesIgnoreElision = (items : Forest) (path : List ℕ) → PlacesAlike (edit_at turn path items) items
+
+-- programs of the same substance have the same sites
+abbrev pub SitesAreOfSubstance : Type 0
+SitesAreOfSubstance = (one other : Forest) → substance one ≡ substance other → SitesAlike one other
+
+-- ---- sites
+
+-- the site of a slot is of a node that stands in it
+abbrev pub SitesStand : Type 0
+SitesStand =
+    (items : Forest) (slot : ℕ) (found : Site) → site items slot ≡ Some found
+    → (found.label.slot ≡ slot) × (around : Around) × StandsInside items slot found.label.kind around
+
+-- a slot that stands somewhere has a site
+abbrev pub StandingSlotsHaveSites : Type 0
+StandingSlotsHaveSites =
+    (items : Forest) (slot : ℕ) (kind : NodeKind) (around : Around) → StandsInside items slot kind around
+    → (found : Site) × (site items slot ≡ Some found)
+
+-- a run that comes to a statement of a tree begins at one, in the same loops and the same procedure
+abbrev pub StatementsBegin : Type 0
+StatementsBegin =
+    (tree : PlainTree) (slot : ℕ) (kind : NodeKind) (around : Around) → IsTree tree → StandsInside tree.items slot kind around
+    → sort_of kind ≡ Sort.Statement
+    → (place : PlainAt) × (Start tree.items slot ≡ Some place) × BeginsAt tree.items slot around place
+
+-- a run that comes to a node which doesn't pass it on to what stands inside begins at that node itself
+abbrev pub OthersBeginThemselves : Type 0
+OthersBeginThemselves =
+    (items : Forest) (slot : ℕ) (kind : NodeKind) (around : Around) → times slot items ≤ 1 → StandsInside items slot kind around
+    → passes_in kind ≡ false → Start items slot ≡ Some (at slot 0)
+
+-- ---- trees that agree
+
+-- a slot that is live in trees that agree has the same loops around it
+abbrev pub AgreementKeepsLoops : Type 0
+AgreementKeepsLoops =
+    (earlier later : PlainTree) (slot : ℕ) (was now : NodeKind) (one other : Around) → AgreesWith earlier later
+    → StandsInside earlier.items slot was one → StandsInside later.items slot now other → loops_around one ≡ loops_around other
+
+-- a run that comes to a slot of trees that agree, where a statement stood, begins in the loops and the procedure that the
+-- slot had
+abbrev pub AgreementKeepsStarts : Type 0
+AgreementKeepsStarts =
+    (earlier later : PlainTree) (slot : ℕ) (was now : NodeKind) (one other : Around) → IsTree later → AgreesWith earlier later
+    → StandsInside earlier.items slot was one → StandsInside later.items slot now other → sort_of was ≡ Sort.Statement
+    → (place : PlainAt) × (Start later.items slot ≡ Some place) × BeginsAt later.items slot one place
+
+-- a place of trees that agree goes on to exist, where its point is kept and its slot is live
+abbrev pub AgreementKeepsPlaces : Type 0
+AgreementKeepsPlaces =
+    (earlier later : PlainTree) (was_marked is_marked : ℕ → Bool) (slot point : ℕ) (one other : Site) → AgreesWith earlier later
+    → site earlier.items slot ≡ Some one → site later.items slot ≡ Some other
+    → KeepsPoint one.label other.label (was_marked slot) (is_marked slot) point
+    → Exists was_marked earlier.items (at slot point) → Exists is_marked later.items (at slot point)

@@ -1,0 +1,62 @@
+-- Places of a run in a program, by what is marked in it; and where a run begins that comes to a statement.
+use Rattle.std.specs.Prelude.{◌≡◌, ◌↔◌, ◌⊎◌, ℕ, Bool, false, is_some, option_map}
+use Rattle.std.specs.FinMap.{get}
+use Rattle.plcs_grammar.specs.declared.node_kind.NodeKind.{NodeKind}
+use Rattle.plcs_grammar.specs.declared.node_kind.Sort.{Sort}
+use Rattle.template_tree.specs.Marks.{Marks}
+use Rattle.template_tree.specs.Mention.{phrase_place}
+use Rattle.template_tree.specs.Place.{After, Exists, PlainAt, Site, Start, site}
+use Rattle.template_tree.specs.PlainTree.{Forest, Label}
+use Rattle.template_tree.specs.Program.{sort_of}
+use Rattle.tree_steps.specs.EditStep.{substance}
+use Rattle.tree_steps.specs.StandingSlot.{Around, StandsInside, loops_around, outermost_slot}
+
+-- ---- places that exist
+
+-- whether the first phrase in the slot is marked in the program
+abbrev pub is_first_marked : Forest → (slot : ℕ) → Bool
+is_first_marked program slot = is_some (get (Marks program) (phrase_place slot 0))
+
+-- a run of the program has this place
+abbrev pub HasPlace : Forest → PlainAt → Type 0
+HasPlace program place = Exists (is_first_marked program) program place
+
+-- a point of a node stays one where another label stands in its slot: it is the start, or the kind, the parts and the mark
+-- of the first of them are the same
+abbrev pub KeepsPoint : (one other : Label) (was_marked is_marked : Bool) (point : ℕ) → Type 0
+KeepsPoint one other was_marked is_marked point =
+    (point ≡ 0) ⊎ ((one.kind ≡ other.kind) × (one.parts ≡ other.parts) × (was_marked ≡ is_marked))
+
+-- ---- where a run begins
+
+-- the place is the start of a statement, with the same loops around it as these nodes have, in the procedure of the slot
+-- that these are around
+pub record BeginsAt (items : Forest) (slot : ℕ) (around : Around) (place : PlainAt) : Type 0 where
+  pub start : place.point ≡ 0
+  pub kind : NodeKind
+  pub within : Around
+  pub stands : StandsInside items place.slot kind within
+  pub statement : sort_of kind ≡ Sort.Statement
+  pub loops : loops_around within ≡ loops_around around
+  pub procedure : outermost_slot place.slot within ≡ outermost_slot slot around
+
+-- ---- programs whose places are alike
+
+-- a site without elision and room
+abbrev pub site_substance : Site → Site
+site_substance site =
+    record { label = record site.label { elided = false; spare = 0 }; inner = substance site.inner; after = site.after }
+
+-- two programs have the same sites but for elision and room: a run begins and goes on in both at the same places, and has the
+-- same places where the same is marked
+pub record SitesAlike (one other : Forest) : Type 0 where
+  pub sites : (slot : ℕ) → option_map site_substance (site one slot) ≡ option_map site_substance (site other slot)
+  pub starts : (slot : ℕ) → Start one slot ≡ Start other slot
+  pub afters : (slot : ℕ) → After one slot ≡ After other slot
+  pub exist : (marked : ℕ → Bool) (place : PlainAt) → Exists marked one place ↔ Exists marked other place
+
+-- two programs have the same sites, and the same places, each by its own marks
+pub record PlacesAlike (one other : Forest) : Type 0 where
+  pub sites : SitesAlike one other
+  pub marked : (slot : ℕ) → is_first_marked one slot ≡ is_first_marked other slot
+  pub places : (place : PlainAt) → HasPlace one place ↔ HasPlace other place

@@ -1,0 +1,41 @@
+-- Where a slot stands: in a node of which kind, and in which nodes that one is enclosed.
+use Rattle.std.specs.Prelude.{◌≡◌, ℕ, ◌⊎◌, List, [], ◌∷◌, ◌++◌}
+use Rattle.plcs_grammar.specs.declared.node_kind.NodeKind.{NodeKind}
+use Rattle.plcs_grammar.specs.declared.template.Template.{Template}
+use Rattle.plcs_grammar.specs.declared.template.Template.TheVariants.{For}
+use Rattle.template_tree.specs.PlainTree.{Forest}
+
+-- the nodes that enclose a node, each by its slot and its kind, the innermost first
+abbrev pub Around : Type 0
+Around = List (ℕ × NodeKind)
+
+-- among nodes that these enclose, or inside one of them, a node of the kind stands in the slot, with those around it
+abbrev pub StandsBelow : (above : Around) → Forest → (slot : ℕ) → NodeKind → (around : Around) → Type 0
+StandsBelow above Forest.nil slot kind around = ⊥
+StandsBelow above (Forest.cons label inner rest) slot kind around =
+    ((label.slot ≡ slot) × (label.kind ≡ kind) × (above ≡ around))
+    ⊎ (StandsBelow ((label.slot, label.kind) ∷ above) inner slot kind around ⊎ StandsBelow above rest slot kind around)
+
+-- in a program a node of the kind stands in the slot, with those around it
+abbrev pub StandsInside : Forest → (slot : ℕ) → NodeKind → (around : Around) → Type 0
+StandsInside items slot kind around = StandsBelow [] items slot kind around
+
+-- the slot of the outermost node round a slot, or that slot itself where nothing is around it: that of main or its procedure
+abbrev pub outermost_slot : (slot : ℕ) → Around → ℕ
+outermost_slot slot [] = slot
+outermost_slot slot (node ∷ around) = outermost_slot node.0 around
+
+-- the slot of a For by the template; nothing else is a loop that a run keeps
+abbrev pub loop_by_template : Template → (slot : ℕ) → List ℕ
+loop_by_template For slot = slot ∷ []
+loop_by_template other slot = []
+
+-- the slot of a node of the kind as a list of loops that a run keeps: that of a For, and of nothing else
+abbrev pub loop_by_kind : NodeKind → (slot : ℕ) → List ℕ
+loop_by_kind (NodeKind.Filled template) slot = loop_by_template template slot
+loop_by_kind other slot = []
+
+-- the slots of the loops that a run keeps among these nodes, the outermost first
+abbrev pub loops_around : Around → List ℕ
+loops_around [] = []
+loops_around (node ∷ around) = loops_around around ++ loop_by_kind node.1 node.0

@@ -1,0 +1,87 @@
+-- The laws of steps: each edit is one, and those that follow one another make one way.
+use Rattle.std.specs.Prelude.{◌≡◌, List, Option, Some, ℕ}
+use Rattle.plcs_grammar.specs.declared.node_kind.NodeKind.{NodeKind}
+use Rattle.plcs_grammar.specs.declared.template.Template.{Template}
+use Rattle.plcs_grammar.specs.PlainPhrase.{PlainPhrase}
+use Rattle.template_tree.specs.declared.side.Side.{Side}
+use Rattle.template_tree.specs.EditAnswer.{Edits, IsHoleFor, IsListItem, IsSpareHole, TakesAssignment, TakesAtStop, TakesOut}
+use Rattle.template_tree.specs.Elision.{with_turn_at}
+use Rattle.template_tree.specs.FreshNode.{assignment_node, fresh_node}
+use Rattle.template_tree.specs.Path.{node_at}
+use Rattle.template_tree.specs.PlainTree.{PlainNode, PlainTree, roomless_tree}
+use Rattle.template_tree.specs.Receipt.{PlainReceipt}
+use Rattle.template_tree.specs.Tree.{IsTree}
+use Rattle.template_tree.specs.TreeEdit.{TreeEdit}
+use Rattle.tree_steps.specs.EditStep.{CameByEdits, IsSameTree, IsStep}
+
+-- ---- each edit is a step
+
+-- a hole that was filled with a template
+abbrev pub FillIsStep : Type 0
+FillIsStep =
+    (before after : PlainTree) (receipt : PlainReceipt) (path : List ℕ) (template : Template) → IsTree before
+    → Edits (TreeEdit.put (fresh_node (NodeKind.Filled template))) (node_at before.items path) (IsHoleFor (NodeKind.Filled template)) before after receipt
+    → IsStep before after
+
+-- a hole or an assignment that became an assignment
+abbrev pub FillAssignIsStep : Type 0
+FillAssignIsStep =
+    (before after : PlainTree) (receipt : PlainReceipt) (path : List ℕ) (phrase : PlainPhrase) → IsTree before
+    → Edits (TreeEdit.put (assignment_node phrase)) (node_at before.items path) (TakesAssignment phrase) before after receipt
+    → IsStep before after
+
+-- a hole that became a node
+abbrev pub InsertIsStep : Type 0
+InsertIsStep =
+    (before after : PlainTree) (receipt : PlainReceipt) (path : List ℕ) (node : PlainNode) → IsTree before
+    → Edits (TreeEdit.put node) (node_at before.items path) (IsHoleFor node.label.kind) before after receipt
+    → IsStep before after
+
+-- a part that was set
+abbrev pub SetPhraseIsStep : Type 0
+SetPhraseIsStep =
+    (before after : PlainTree) (receipt : PlainReceipt) (path : List ℕ) (part : ℕ) (place : Option PlainPhrase) → IsTree before
+    → Edits (TreeEdit.set_part part place) (node_at before.items path) (TakesAtStop part place) before after receipt
+    → IsStep before after
+
+-- a node that was taken out
+abbrev pub TakeIsStep : Type 0
+TakeIsStep =
+    (before after : PlainTree) (receipt : PlainReceipt) (path : List ℕ) (node : PlainNode) → IsTree before
+    → node_at before.items path ≡ Some node → TakesOut node before after receipt
+    → IsStep before after
+
+-- a hole that was added
+abbrev pub AddHoleIsStep : Type 0
+AddHoleIsStep =
+    (before after : PlainTree) (receipt : PlainReceipt) (path : List ℕ) (side : Side) → IsTree before
+    → Edits (TreeEdit.add side) (node_at before.items path) (IsListItem before.items path) before after receipt
+    → IsStep before after
+
+-- a hole that was dropped
+abbrev pub DropHoleIsStep : Type 0
+DropHoleIsStep =
+    (before after : PlainTree) (receipt : PlainReceipt) (path : List ℕ) → IsTree before
+    → Edits TreeEdit.drop (node_at before.items path) (IsSpareHole before.items path) before after receipt
+    → IsStep before after
+
+-- ---- what is no step
+
+-- a turned comment leaves the same tree
+abbrev pub TurnsAreNoEdits : Type 0
+TurnsAreNoEdits = (tree : PlainTree) (path : List ℕ) → IsSameTree tree (with_turn_at path tree)
+
+-- trees that are the same without room are the same tree
+abbrev pub RoomIsNoEdit : Type 0
+RoomIsNoEdit = (one other : PlainTree) → roomless_tree one ≡ roomless_tree other → IsSameTree one other
+
+-- ---- steps in turn
+
+-- a step is a way of one edit
+abbrev pub StepsAreWays : Type 0
+StepsAreWays = (before after : PlainTree) → IsStep before after → CameByEdits before after
+
+-- edits that follow edits; the last tree is one
+abbrev pub EditsFollow : Type 0
+EditsFollow =
+    (first second third : PlainTree) → IsTree third → CameByEdits first second → CameByEdits second third → CameByEdits first third

@@ -1,0 +1,18 @@
+//! The laws of trees that agree by their slots, each a function that does nothing and whose contract states it.
+ghost use Rattle.tree_steps.specs.AgreementLaws.{AgreementKeepsProcedures, EditsAgree, GoingBackAgrees, LiveSlotsStand, ProceduresStandOutermost, SlotsStandOnce, StandingSlotsLive, StepsKeepAgreement};
+
+/// Each live slot stands at one place, in the procedure that encloses it outermost.
+pub fn slots_stand()
+    ensures live { LiveSlotsStand }
+    ensures standing { StandingSlotsLive }
+    ensures once { SlotsStandOnce }
+    ensures procedure { ProceduresStandOutermost }
+{}
+
+/// Trees agree with those from which edits made them, and go on to agree under edits and their undoing.
+pub fn agreement_lasts()
+    ensures edits { EditsAgree }
+    ensures steps { StepsKeepAgreement }
+    ensures back { GoingBackAgrees }
+    ensures procedures { AgreementKeepsProcedures }
+{}
