@@ -1,6 +1,6 @@
 //! Cases that compare screens painted over one another with screens painted anew.
 
-ghost use Rattle.std.specs.Prelude.{◌≡◌};
+ghost use Rattle.std.specs.Prelude.{◌≡◌, IfOk};
 ghost use Rattle.synth_session.specs.SessionView.{IsSession};
 
 use crate::scene::Scene;
@@ -27,16 +27,51 @@ pub fn repaint(rt: &HostRuntime, scene: &mut Scene, arguments: &[Vec<u8>]) -> io
 /// How many bytes of these keys lead to the first screen that is another where it is painted over the one
 /// before, if there is one.
 fn first_other(alloc: Global, keys: &[u8]) -> Result<Option<usize>, OutOfMemory> {
-    let mut session = opened(alloc)?;
-    let mut terminal = Terminal::new(alloc, 12, 40)?;
-    let mut reader = KeyReader::new();
-    let mut files = MemFiles::new(alloc, Vec::new(alloc));
-    paint_over(alloc, &mut session, &mut terminal)?;
+    let mut shown = Shown::new(alloc)?;
+    paint_over(alloc, &mut shown.session, &mut shown.terminal)?;
+    other_behind(alloc, &mut shown, keys)
+}
+
+/// A session that is pressed byte by byte, and the terminal on which its screens are painted.
+#[derive(Drop)]
+struct Shown {
+    session: Session<Counts>,
+    terminal: Terminal,
+    reader: KeyReader,
+    files: MemFiles,
+}
+
+impl Shown {
+    /// A session over a new program, whose screen isn't painted yet.
+    fn new(alloc: Global) -> Result<Shown, OutOfMemory>
+        ensures session { IfOk result (λ shown. IsSession shown.session) }
+        ensures rows { IfOk result (λ shown. shown.terminal.rows ≡ 12) }
+    {
+        let terminal = Terminal::new(alloc, 12, 40)?;
+        Ok(Shown {
+            session: opened(alloc)?,
+            terminal,
+            reader: KeyReader::new(),
+            files: MemFiles::new(alloc, Vec::new(alloc)),
+        })
+    }
+}
+
+/// The same of a session that is shown, once its screen is painted.
+fn other_behind(alloc: Global, shown: &mut Shown, keys: &[u8]) -> Result<Option<usize>, OutOfMemory>
+    requires session { IsSession shown.old.session }
+    requires rows { shown.old.terminal.rows ≡ 12 }
+{
     for count in 0..keys.len() {
-        let next = &keys[count..count + 1];
-        press_bytes(alloc, &mut session, &mut files, &mut reader, next)?;
-        paint_over(alloc, &mut session, &mut terminal)?;
-        if !is_as_anew(alloc, &terminal, &keys[..count + 1])? {
+        press_bytes(
+            alloc,
+            &mut shown.session,
+            &mut shown.files,
+            &mut shown.reader,
+            &keys[count..count + 1],
+        )?;
+        paint_over(alloc, &mut shown.session, &mut shown.terminal)?;
+        if !is_as_anew(alloc, &shown.terminal, &keys[..count + 1])? {
             return Ok(Some(count + 1));
         }
     }
@@ -62,12 +97,18 @@ fn paint_over(
 fn is_as_anew(alloc: Global, terminal: &Terminal, keys: &[u8]) -> Result<bool, OutOfMemory>
     requires { terminal.now.rows ≡ 12 }
 {
+    let bytes = painted_behind(alloc, keys)?;
+    let mut other = Terminal::new(alloc, 12, 40)?;
+    other.take(bytes.as_slice());
+    Ok(show_the_same(terminal, &other))
+}
+
+/// What the screen behind these keys writes where it is painted anew.
+fn painted_behind(alloc: Global, keys: &[u8]) -> Result<Vec<u8>, OutOfMemory> {
     let mut session = opened(alloc)?;
     let mut files = MemFiles::new(alloc, Vec::new(alloc));
     press_bytes(alloc, &mut session, &mut files, &mut KeyReader::new(), keys)?;
-    let mut other = Terminal::new(alloc, 12, 40)?;
-    other.take(painted(alloc, &mut session)?.as_slice());
-    Ok(show_the_same(terminal, &other))
+    painted(alloc, &mut session)
 }
 
 /// Whether two terminals of 12 rows show the same.
