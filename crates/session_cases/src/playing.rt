@@ -29,13 +29,16 @@ impl Played {
         self.screen.bytes()
     }
 
-    /// The first 256 bytes that the source has left.
+    /// The first 256 bytes that the source has left. The read that is to fail may be the one that is made for
+    /// that here, and then another one is made.
     pub fn left(&mut self, alloc: Global) -> Result<Vec<u8>, AllocError> {
-        let mut buf = [0u8; 256];
-        match self.keys.read(&mut buf) {
-            Ok(count) => buf[..count].to_vec(alloc),
-            Err(_) => Ok(Vec::new(alloc)),
+        for _ in 0..2 {
+            let mut buf = [0u8; 256];
+            if let Ok(count) = self.keys.read(&mut buf) {
+                return buf[..count].to_vec(alloc);
+            }
         }
+        Ok(Vec::new(alloc))
     }
 }
 
