@@ -19,5 +19,3 @@ pub mod Room
 mod CheckedContents
 -- `put_listing`, `listing_splits_in_lines`: lines, and the bytes of a listing
 pub mod Listings
--- tests: the phrases that they put into parts may stand there
-pub mod TestPhrases
