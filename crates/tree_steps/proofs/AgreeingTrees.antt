@@ -13,7 +13,7 @@ use Rattle.template_tree.specs.Slots.{AllBelow}
 use Rattle.template_tree.specs.Tree.{IsTree}
 use Rattle.template_tree.specs.TreeEdit.{TreeEdit, tree_after}
 use Rattle.tree_steps.specs.SlotAgreement.{AgreesWith}
-use Rattle.tree_steps.specs.AgreementLaws.{AgreementKeepsProcedures, EditsAgree, GoingBackAgrees, StepsKeepAgreement}
+use Rattle.tree_steps.specs.AgreementLaws.{AgreementKeepsProcedures, EditsAgree, GoingBackAgrees, GoingBackPastAgrees, StepsKeepAgreement}
 use Rattle.tree_steps.specs.EditStep.{BringsSort, CameIn, IsStep}
 use Rattle.tree_steps.specs.StandingSlot.{Around, StandsBelow, StandsInside, outermost_slot}
 use Rattle.tree_steps.proofs.EditedSlots.{HasSort, Stood, add_new, drop_new, part_new, put_new, standing_below, stood}
@@ -123,6 +123,17 @@ going_back_agrees earlier kept back agrees same more =
       alike = λ slot was now one other earlier_stands stands.
           agrees.alike slot was now one other earlier_stands
           (subst (λ (T : Type 0). T) (stands_same back.items kept.items slot now other same) stands);
+    }
+
+pub going_back_past_agrees : GoingBackPastAgrees
+going_back_past_agrees one other back agrees drawn same =
+    record {
+      drawn = drawn;
+      alike = λ slot was now around later other_stands stands.
+          let alike =
+          agrees.alike slot now was later around (subst (λ (T : Type 0). T) (stands_same back.items one.items slot now later same) stands)
+          other_stands in
+          (sym alike.0, sym alike.1);
     }
 
 -- a tree agrees with itself

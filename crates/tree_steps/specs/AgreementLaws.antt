@@ -3,7 +3,7 @@ use Rattle.std.specs.Prelude.{◌≡◌, ℕ, ◌≤◌, Some}
 use Rattle.plcs_grammar.specs.declared.node_kind.NodeKind.{NodeKind}
 use Rattle.template_tree.specs.Edit.{procedure_of}
 use Rattle.template_tree.specs.PlainTree.{Forest, PlainTree}
-use Rattle.template_tree.specs.Slots.{times}
+use Rattle.template_tree.specs.Slots.{AllBelow, times}
 use Rattle.template_tree.specs.Tree.{IsTree}
 use Rattle.tree_steps.specs.SlotAgreement.{AgreesWith}
 use Rattle.tree_steps.specs.StandingSlot.{Around, StandsInside, outermost_slot}
@@ -50,6 +50,12 @@ abbrev pub GoingBackAgrees : Type 0
 GoingBackAgrees =
     (earlier kept back : PlainTree) → AgreesWith earlier kept
     → substance back.items ≡ substance kept.items → kept.drawn ≤ back.drawn → AgreesWith earlier back
+
+-- and going back past a tree, to one that agreed with it, agrees with that tree where its slots are still drawn
+abbrev pub GoingBackPastAgrees : Type 0
+GoingBackPastAgrees =
+    (one other back : PlainTree) → AgreesWith one other → AllBelow back.drawn other.items
+    → substance back.items ≡ substance one.items → AgreesWith other back
 
 -- a slot that is live in trees that agree stands in the same procedure
 abbrev pub AgreementKeepsProcedures : Type 0

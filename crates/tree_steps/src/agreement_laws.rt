@@ -1,5 +1,5 @@
 //! The laws of trees that agree by their slots, each a function that does nothing and whose contract states it.
-ghost use Rattle.tree_steps.specs.AgreementLaws.{AgreementKeepsProcedures, EditsAgree, GoingBackAgrees, LiveSlotsStand, ProceduresStandOutermost, SlotsStandOnce, StandingSlotsLive, StepsKeepAgreement};
+ghost use Rattle.tree_steps.specs.AgreementLaws.{AgreementKeepsProcedures, EditsAgree, GoingBackAgrees, GoingBackPastAgrees, LiveSlotsStand, ProceduresStandOutermost, SlotsStandOnce, StandingSlotsLive, StepsKeepAgreement};
 
 /// Each live slot stands at one place, in the procedure that encloses it outermost.
 pub fn slots_stand()
@@ -14,5 +14,6 @@ pub fn agreement_lasts()
     ensures edits { EditsAgree }
     ensures steps { StepsKeepAgreement }
     ensures back { GoingBackAgrees }
+    ensures past { GoingBackPastAgrees }
     ensures procedures { AgreementKeepsProcedures }
 {}
