@@ -56,6 +56,20 @@ is_place marked kind parts point =
     (is_statement (sort_of kind) && (point == 0))
     || has_point marked (record { slot = 0; kind = kind; parts = parts; elided = false; spare = 0 }) kind point
 
+-- only a GET looks at its mark
+template_marks : (was_marked is_marked : Bool) (label : Label) (template : Template) (point : ℕ)
+    → (NodeKind.Filled template ≡ NodeKind.Filled Template.Get → was_marked ≡ is_marked)
+    → has_point was_marked label (NodeKind.Filled template) point ≡ has_point is_marked label (NodeKind.Filled template) point
+template_marks was_marked is_marked label Template.Get point marked =
+    ap (λ (m : Bool). has_point m label (NodeKind.Filled Template.Get) point) (marked refl)
+template_marks was_marked is_marked label other point marked = refl
+
+kind_marks : (was_marked is_marked : Bool) (label : Label) (kind : NodeKind) (point : ℕ)
+    → (kind ≡ NodeKind.Filled Template.Get → was_marked ≡ is_marked)
+    → has_point was_marked label kind point ≡ has_point is_marked label kind point
+kind_marks was_marked is_marked label (NodeKind.Filled template) point marked = template_marks was_marked is_marked label template point marked
+kind_marks was_marked is_marked label other point marked = refl
+
 place_kept : (was_marked is_marked : Bool) (point : ℕ) (one other : Site) → sort_of one.label.kind ≡ sort_of other.label.kind
     → KeepsPoint one.label other.label was_marked is_marked point
     → IsTrue (exists_at was_marked (Some one) point) → IsTrue (exists_at is_marked (Some other) point)
@@ -65,7 +79,10 @@ place_kept was_marked is_marked point one other sort (inl start) h =
     (sym (ap is_statement sort)
     ∙ kind_start was_marked one.label one.label.kind (subst (λ (p : ℕ). IsTrue (exists_at was_marked (Some one) p)) start h)))
 place_kept was_marked is_marked point one other sort (inr (kind, parts, marked)) h =
-    subst IsTrue (λ i. is_place (marked i) (kind i) (parts i) point) h
+    subst IsTrue
+    (ap (λ (more : Bool). (is_statement (sort_of other.label.kind) && (point == 0)) || more)
+    (kind_marks was_marked is_marked other.label other.label.kind point (λ get. marked (kind ∙ get))))
+    (subst IsTrue (λ i. is_place was_marked (kind i) (parts i) point) h)
 
 pub agreement_keeps_places : AgreementKeepsPlaces
 agreement_keeps_places earlier later was_marked is_marked slot point one other agrees e_one e_other keeps exists =

@@ -3,6 +3,7 @@ use Rattle.std.specs.Prelude.{◌≡◌, ◌↔◌, ◌⊎◌, ℕ, Bool, false,
 use Rattle.std.specs.FinMap.{get}
 use Rattle.plcs_grammar.specs.declared.node_kind.NodeKind.{NodeKind}
 use Rattle.plcs_grammar.specs.declared.node_kind.Sort.{Sort}
+use Rattle.plcs_grammar.specs.declared.template.Template.{Template}
 use Rattle.template_tree.specs.Marks.{Marks}
 use Rattle.template_tree.specs.Mention.{phrase_place}
 use Rattle.template_tree.specs.Place.{After, Exists, PlainAt, Site, Start, site}
@@ -21,11 +22,12 @@ is_first_marked program slot = is_some (get (Marks program) (phrase_place slot 0
 abbrev pub HasPlace : Forest → PlainAt → Type 0
 HasPlace program place = Exists (is_first_marked program) program place
 
--- a point of a node stays one where another label stands in its slot: it is the start, or the kind, the parts and the mark
--- of the first of them are the same
+-- a point of a node stays one where another label stands in its slot: it is the start, or the kind and the parts are the same,
+-- and in a GET, of which each variable is a point only where the list isn't marked, the mark of the first part
 abbrev pub KeepsPoint : (one other : Label) (was_marked is_marked : Bool) (point : ℕ) → Type 0
 KeepsPoint one other was_marked is_marked point =
-    (point ≡ 0) ⊎ ((one.kind ≡ other.kind) × (one.parts ≡ other.parts) × (was_marked ≡ is_marked))
+    (point ≡ 0)
+    ⊎ ((one.kind ≡ other.kind) × (one.parts ≡ other.parts) × (one.kind ≡ NodeKind.Filled Template.Get → was_marked ≡ is_marked))
 
 -- ---- where a run begins
 
