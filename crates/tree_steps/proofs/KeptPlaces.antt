@@ -2,9 +2,7 @@
 -- A slot that is live in both has one sort and the same nodes around it; what else a place asks for is the kind, the parts and the mark.
 use Rattle.std.specs.Prelude.{◌≡◌, refl, ℕ, ◌==◌, ◌&&◌, ◌||◌, Bool, true, false, List, [], Option, Some, IsTrue}
 use Rattle.std.proofs.Common.{ap, sym, ◌∙◌, subst, inl, inr}
-use Rattle.std.proofs.Math.Bool.{false≢true}
 use Rattle.plcs_grammar.specs.declared.node_kind.NodeKind.{NodeKind}
-use Rattle.plcs_grammar.specs.declared.node_kind.Sort.{Sort}
 use Rattle.plcs_grammar.specs.declared.template.Template.{Template}
 use Rattle.plcs_grammar.specs.PlainPhrase.{PlainPhrase}
 use Rattle.template_tree.specs.Place.{Site, at, exists_at, has_point, is_statement}
@@ -13,7 +11,7 @@ use Rattle.template_tree.specs.Program.{sort_of}
 use Rattle.tree_steps.specs.PlaceLaws.{AgreementKeepsLoops, AgreementKeepsPlaces, AgreementKeepsStarts}
 use Rattle.tree_steps.specs.RunPlace.{BeginsAt, KeepsPoint}
 use Rattle.tree_steps.specs.StandingSlot.{Around, loops_around}
-use Rattle.tree_steps.proofs.SitedSlots.{found_among, statements_begin}
+use Rattle.tree_steps.proofs.SitedSlots.{found_among, statement_starts, statements_begin}
 
 pub agreement_keeps_loops : AgreementKeepsLoops
 agreement_keeps_loops earlier later slot was now one other agrees stood stands = ap loops_around (agrees.alike slot was now one other stood stands).1
@@ -44,11 +42,6 @@ kind_start marked label (NodeKind.Filled template) h = template_start marked lab
 kind_start marked label NodeKind.Assign h = refl
 kind_start marked label NodeKind.StatementHole h = refl
 kind_start marked label other h = h
-
--- each statement has a place at point 0
-statement_starts : (sort : Sort) (others : Bool) → is_statement sort ≡ true → IsTrue ((is_statement sort && true) || others)
-statement_starts Sort.Statement others e = refl
-statement_starts other others e = absurd (false≢true e)
 
 -- whether there is a place at a point, by what it asks for
 abbrev is_place : Bool → NodeKind → List (Option PlainPhrase) → ℕ → Bool

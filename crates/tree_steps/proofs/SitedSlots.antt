@@ -1,6 +1,6 @@
 -- A site is of the node that stands in its slot, and a run that comes to a statement begins at one in the same loops.
 -- Only groups and comments pass a run on to what stands inside them; these are no loops, and their first item is a statement.
-use Rattle.std.specs.Prelude.{◌≡◌, refl, ℕ, ◌<◌, ◌≤◌, ◌==◌, Bool, true, false, if◌then◌else◌, List, [], ◌∷◌, ◌++◌, length, slice_index_or, Option, Some, None, option_map, ◌⊎◌}
+use Rattle.std.specs.Prelude.{◌≡◌, refl, ℕ, ◌<◌, ◌≤◌, ◌==◌, ◌&&◌, ◌||◌, IsTrue, Bool, true, false, if◌then◌else◌, List, [], ◌∷◌, ◌++◌, length, slice_index_or, Option, Some, None, option_map, ◌⊎◌}
 use Rattle.std.specs.Option.{option_or}
 use Rattle.std.proofs.Common.{ap, sym, ◌∙◌, subst, arith, append-nil, inl, inr}
 use Rattle.std.proofs.Math.Bool.{false≢true}
@@ -10,11 +10,12 @@ use Rattle.plcs_grammar.specs.declared.node_kind.NodeKind.{NodeKind}
 use Rattle.plcs_grammar.specs.declared.node_kind.Sort.{Sort}
 use Rattle.plcs_grammar.specs.declared.template.Template.{Template}
 use Rattle.plcs_grammar.specs.Template.{list_of, row_of}
-use Rattle.template_tree.specs.Place.{PlainAt, Site, at, begin, end_at, in_turn, inner_end, is_statement, passes_in, site_among, site_start}
+use Rattle.template_tree.specs.Place.{Exists, PlainAt, Site, at, begin, end_at, exists_at, has_point, in_turn, inner_end, is_statement, passes_in, site_among, site_start}
 use Rattle.template_tree.specs.PlainTree.{Forest, Label}
+use Rattle.template_tree.specs.Slots.{times}
 use Rattle.template_tree.specs.Program.{AreNodes, Fill, IsNode, sort_of, sorts}
 use Rattle.tree_steps.specs.PlaceLaws.{OthersBeginThemselves, SitesStand, StandingSlotsHaveSites, StatementsBegin}
-use Rattle.tree_steps.specs.RunPlace.{BeginsAt}
+use Rattle.tree_steps.specs.RunPlace.{BeginsAt, is_first_marked}
 use Rattle.tree_steps.specs.StandingSlot.{Around, StandsBelow, StandsInside, loop_by_kind, loops_around, outermost_slot}
 use Rattle.tree_steps.proofs.StandingSlots.{outermost_within, stands_once}
 
@@ -200,6 +201,7 @@ record BeginsBelow (above : Around) (items : Forest) (place : PlainAt) : Type 0 
   within : Around
   stands : StandsBelow above items place.slot kind within
   statement : sort_of kind ≡ Sort.Statement
+  stays : passes_in kind ≡ false
   loops : loops_around within ≡ loops_around above
 
 -- the first node is where a run begins, or passes it on
@@ -216,10 +218,11 @@ begin_level true true above label inner rest one other is pass sort inside =
       within = there.within;
       stands = inr (inl there.stands);
       statement = there.statement;
+      stays = there.stays;
       loops = there.loops ∙ same_loops label.kind label.slot above pass;
     }
 begin_level true false above label inner rest one other is pass sort inside =
-    record { start = refl; kind = label.kind; within = above; stands = inl (refl, refl, refl); statement = sort; loops = refl }
+    record { start = refl; kind = label.kind; within = above; stands = inl (refl, refl, refl); statement = sort; stays = pass; loops = refl }
 
 begin_below : (above : Around) (items : Forest) (behind : PlainAt) → AreNodes items → StartsWithStatement (sorts items)
     → BeginsBelow above items (begin items behind)
@@ -229,34 +232,63 @@ begin_below above (Forest.cons label inner rest) behind are starts =
     (ap is_statement starts) refl starts
     (λ pass. begin_below ((label.slot, label.kind) ∷ above) inner behind are.1 (kind_starts label.kind (sorts inner) pass are.0.inner))
 
+-- each statement has a place at point 0
+pub statement_starts : (sort : Sort) (others : Bool) → is_statement sort ≡ true → IsTrue ((is_statement sort && true) || others)
+statement_starts Sort.Statement others e = refl
+statement_starts other others e = absurd (false≢true e)
+
+-- the start of a statement that stands but once is a place, whatever is marked
+starts_exist : (marked : ℕ → Bool) (items : Forest) (place : PlainAt) (kind : NodeKind) (around : Around) → times place.slot items ≤ 1
+    → place.point ≡ 0 → StandsInside items place.slot kind around → sort_of kind ≡ Sort.Statement → Exists marked items place
+starts_exist marked items place kind around once start stands sort =
+    let has = standing_slots_have_sites items place.slot kind around stands in
+    let found : Site = has.0 in
+    let there : FoundAt [] items place.slot found = found_among [] place.slot false items (at 0 1) found has.1 in
+    let same = stands_once [] items place.slot found.label.kind kind there.around around once there.stands stands in
+    subst (λ (site : Option Site). IsTrue (exists_at (marked place.slot) site place.point)) (sym has.1)
+    (subst (λ (point : ℕ). IsTrue (exists_at (marked place.slot) (Some found) point)) (sym start)
+    (statement_starts (sort_of found.label.kind) (has_point (marked place.slot) found.label found.label.kind 0)
+    (ap is_statement (ap sort_of same.0 ∙ sort))))
+
 -- a run that comes to the node at a site begins there, or is passed on
 site_begins : (passes : Bool) (items : Forest) (slot : ℕ) (found : Site) (there : FoundAt [] items slot found) → AreNodes items
-    → passes_in found.label.kind ≡ passes → sort_of found.label.kind ≡ Sort.Statement
+    → ((other : ℕ) → times other items ≤ 1) → passes_in found.label.kind ≡ passes → sort_of found.label.kind ≡ Sort.Statement
     → BeginsAt items slot there.around (if passes then begin found.inner found.after else at found.label.slot 0)
-site_begins true items slot found there are pass sort =
+site_begins true items slot found there are once pass sort =
     let node = there.node are in
     let above : Around = (found.label.slot, found.label.kind) ∷ there.around in
     let place : PlainAt = begin found.inner found.after in
     let begins : BeginsBelow above found.inner place =
     begin_below above found.inner found.after node.1 (kind_starts found.label.kind (sorts found.inner) pass node.0.inner) in
+    let stands : StandsInside items place.slot begins.kind begins.within =
+    there.within place.slot begins.kind begins.within begins.stands in
     record {
       start = begins.start;
       kind = begins.kind;
       within = begins.within;
-      stands = there.within place.slot begins.kind begins.within begins.stands;
+      stands = stands;
       statement = begins.statement;
+      stays = begins.stays;
+      exists =
+          starts_exist (is_first_marked items) items place begins.kind begins.within (once place.slot) begins.start stands begins.statement;
       loops = begins.loops ∙ same_loops found.label.kind found.label.slot there.around pass;
       procedure =
           outermost_within found.inner there.around (found.label.slot, found.label.kind) place.slot begins.kind begins.within begins.stands
           ∙ ap (λ (own : ℕ). outermost_slot own there.around) there.slot_is;
     }
-site_begins false items slot found there are pass sort =
+site_begins false items slot found there are once pass sort =
+    let stands : StandsInside items found.label.slot found.label.kind there.around =
+    subst (λ (own : ℕ). StandsInside items own found.label.kind there.around) (sym there.slot_is) there.stands in
     record {
       start = refl;
       kind = found.label.kind;
       within = there.around;
-      stands = subst (λ (own : ℕ). StandsInside items own found.label.kind there.around) (sym there.slot_is) there.stands;
+      stands = stands;
       statement = sort;
+      stays = pass;
+      exists =
+          starts_exist (is_first_marked items) items (at found.label.slot 0) found.label.kind there.around (once found.label.slot) refl stands
+          sort;
       loops = refl;
       procedure = ap (λ (own : ℕ). outermost_slot own there.around) there.slot_is;
     }
@@ -270,7 +302,7 @@ statements_begin tree slot kind around is stands sort =
       site_start found,
       ap (option_map site_start) has.1,
       subst (λ (a : Around). BeginsAt tree.items slot a (site_start found)) same.1
-          (site_begins (passes_in found.label.kind) tree.items slot found there is.program.sound refl (ap sort_of same.0 ∙ sort)),
+          (site_begins (passes_in found.label.kind) tree.items slot found there is.program.sound is.once refl (ap sort_of same.0 ∙ sort)),
     )
 
 plain_start : (found : Site) → passes_in found.label.kind ≡ false → site_start found ≡ at found.label.slot 0

@@ -6,7 +6,7 @@ use Rattle.plcs_grammar.specs.declared.node_kind.Sort.{Sort}
 use Rattle.plcs_grammar.specs.declared.template.Template.{Template}
 use Rattle.template_tree.specs.Marks.{Marks}
 use Rattle.template_tree.specs.Mention.{phrase_place}
-use Rattle.template_tree.specs.Place.{After, Exists, PlainAt, Site, Start, site}
+use Rattle.template_tree.specs.Place.{After, Exists, PlainAt, Site, Start, passes_in, site}
 use Rattle.template_tree.specs.PlainTree.{Forest, Label}
 use Rattle.template_tree.specs.Program.{sort_of}
 use Rattle.tree_steps.specs.EditStep.{substance}
@@ -31,14 +31,16 @@ KeepsPoint one other was_marked is_marked point =
 
 -- ---- where a run begins
 
--- the place is the start of a statement, with the same loops around it as these nodes have, in the procedure of the slot
--- that these are around
+-- the place is one of the program: the start of a statement that doesn't pass a run on to what stands inside it, with the
+-- loops among these nodes around it, in the procedure of the slot that these are around
 pub record BeginsAt (items : Forest) (slot : ℕ) (around : Around) (place : PlainAt) : Type 0 where
   pub start : place.point ≡ 0
   pub kind : NodeKind
   pub within : Around
   pub stands : StandsInside items place.slot kind within
   pub statement : sort_of kind ≡ Sort.Statement
+  pub stays : passes_in kind ≡ false
+  pub exists : HasPlace items place
   pub loops : loops_around within ≡ loops_around around
   pub procedure : outermost_slot place.slot within ≡ outermost_slot slot around
 
