@@ -9,7 +9,7 @@ use Rattle.plcs_grammar.specs.Builtin.{is_builtin_name}
 use Rattle.plcs_grammar.specs.PlainPhrase.{PlainExprs, PlainPhrase, PlainVarRef}
 use Rattle.template_tree.specs.NewTree.{bare_label}
 use Rattle.template_tree.specs.Place.{Exists, PlainAt, Site, Start, at, exists_at, site}
-use Rattle.template_tree.specs.PlainTree.{Forest, Label, PlainNode}
+use Rattle.template_tree.specs.PlainTree.{Forest, Label}
 use Rattle.tree_steps.specs.RunPlace.{HasPlace, is_first_marked}
 use Rattle.tree_steps.specs.StandingSlot.{StandsInside, loops_around, outermost_slot}
 use Rattle.tree_steps.proofs.ListMarks.{list_marks_follow_items}
@@ -126,10 +126,6 @@ no_slot h = false≢true h
 
 -- ---- places by the program's own marks
 
--- main alone
-abbrev main_node : PlainNode
-main_node = record { label = bare_label 0 NodeKind.Main; inner = main_inner }
-
 -- the site of a GET with nothing inside
 abbrev get_site : ℕ → List ℕ → PlainAt → Site
 get_site slot name after =
@@ -139,7 +135,7 @@ get_site slot name after =
 declared_unmarked : is_first_marked sample 4 ≡ false
 unfolding is_builtin_name
 declared_unmarked =
-    list_marks_follow_items sample 0 main_node 4 (get_site 4 (codes "x") (at 5 0)) (twice (codes "x")) [] (omega arith) refl refl refl
+    list_marks_follow_items sample 4 0 (get_site 4 (codes "x") (at 5 0)) (twice (codes "x")) [] (omega arith) (omega arith) refl refl refl
 
 own_second : HasPlace sample (at 4 1)
 own_second = ap (λ (marked : Bool). exists_at marked (site sample 4) 1) declared_unmarked
@@ -148,7 +144,7 @@ own_second = ap (λ (marked : Bool). exists_at marked (site sample 4) 1) declare
 undeclared_marked : is_first_marked sample 6 ≡ true
 unfolding is_builtin_name
 undeclared_marked =
-    list_marks_follow_items sample 0 main_node 6 (get_site 6 (codes "y") (at 2 1)) (twice (codes "y")) [] (omega arith) refl refl refl
+    list_marks_follow_items sample 6 0 (get_site 6 (codes "y") (at 2 1)) (twice (codes "y")) [] (omega arith) (omega arith) refl refl refl
 
 own_no_second : HasPlace sample (at 6 1) → ⊥
 own_no_second h = false≢true (sym (ap (λ (marked : Bool). exists_at marked (site sample 6) 1) undeclared_marked) ∙ h)

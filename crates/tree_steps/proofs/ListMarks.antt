@@ -1,26 +1,29 @@
 -- The mark of a variable list is the offence that its procedure's items make of it.
 -- Its slot stands once, so that among the verdicts of the program its own is the one that is found; and that looks at these items alone.
-use Rattle.std.specs.Prelude.{◌≡◌, refl, ℕ, zero, suc, ◌+◌, ◌≤◌, ◌==◌, ◌&&◌, nat_eq, Bool, true, false, cond, if◌then◌else◌, List, [], ◌∷◌, ◌++◌, Option, Some, None, is_some, slice_get}
+use Rattle.std.specs.Prelude.{◌≡◌, refl, ℕ, zero, suc, ◌+◌, ◌<◌, ◌≤◌, ◌==◌, ◌&&◌, nat_eq, Bool, true, false, cond, if◌then◌else◌, List, [], ◌∷◌, ◌++◌, Option, Some, None, is_some, option_map, slice_get, unwrap_or}
 use Rattle.std.specs.FinMap.{find, get-from_entries}
 use Rattle.std.specs.Option.{option_flatten, option_or}
 use Rattle.std.specs.Ordering.{eq_by_cmp}
 use Rattle.std.proofs.Common.{ap, sym, ◌∙◌, subst, arith, inl, inr}
-use Rattle.std.proofs.lemmas.Bool.{eq-eqb, eqb-false, eqb-true, ne_eqb}
+use Rattle.std.proofs.lemmas.Bool.{eq-eqb, eqb-false, eqb-true, le-ltb, lt-ltb, ne_eqb}
 use Rattle.std.proofs.lemmas.Option.{none-some}
 use Rattle.plcs_base.specs.Mark.{phrase_cmp}
 use Rattle.plcs_base.specs.declared.mark.MarkKind.{MarkKind}
-use Rattle.plcs_grammar.specs.PlainPhrase.{PlainPhrase}
+use Rattle.plcs_grammar.specs.PlainPhrase.{PlainPhrase, PlainVarRef}
 use Rattle.plcs_grammar.specs.Template.{row_of}
+use Rattle.template_tree.specs.Edit.{procedure_of}
+use Rattle.template_tree.specs.Environment.{items_inside, procedure_at}
 use Rattle.template_tree.specs.Marks.{VerdictList, Verdicts, node_verdicts, part_verdicts, procedure_verdicts, surroundings}
 use Rattle.template_tree.specs.Mention.{phrase_place}
 use Rattle.template_tree.specs.Place.{PlainAt, Site, at, begin, end_at, in_turn, inner_end, site, site_among}
 use Rattle.template_tree.specs.PlainTree.{Forest, Label, PlainNode, forest, nodes}
 use Rattle.template_tree.specs.Slots.{times}
-use Rattle.template_tree.specs.Verdict.{Surroundings, verdict}
+use Rattle.template_tree.specs.Verdict.{Surroundings, references_offence, verdict}
 use Rattle.tree_steps.specs.ListVerdict.{ListMarksFollowItems}
+use Rattle.tree_steps.specs.RunPlace.{is_first_marked}
 use Rattle.tree_steps.proofs.PlaceOrder.{mark_at, place_ties, places_total}
 use Rattle.tree_steps.proofs.SitedSlots.{either_found, found_among, site_there}
-use Rattle.tree_steps.proofs.StandingSlots.{counted, stands_counted}
+use Rattle.tree_steps.proofs.StandingSlots.{counted, found_first, found_later, has, one_if, stands_counted}
 
 -- ---- what is found in joined lists
 
@@ -185,10 +188,135 @@ found_procedures program (Forest.cons label inner rest) (suc number) procedure s
     (absent_nodes program node (forest (node ∷ [])) slot (omega (arith, some, few, once)))
     ∙ found_procedures program rest number procedure slot found phrase others (omega (arith, once)) e here parts
 
-pub list_marks_follow_items : ListMarksFollowItems
-list_marks_follow_items items number procedure slot found targets others once e here parts =
+-- ---- the procedure of a slot
+
+-- what a slot's procedure is: which of the program's, by number and by slot, with the slot's site in it
+record InProcedure (items : Forest) (slot procedure : ℕ) (found : Site) : Type 0 where
+  number : ℕ
+  node : PlainNode
+  there : slice_get (nodes items) number ≡ Some node
+  held : site (forest (node ∷ [])) slot ≡ Some found
+  named : procedure_at items procedure ≡ Some node
+
+absent_level : (items : Forest) (slot : ℕ) (found : Option Site) → site items slot ≡ found → times slot items ≡ 0 → found ≡ None
+absent_level items slot None e none = refl
+absent_level items slot (Some found) e none =
+    let there = found_among [] slot false items (at 0 1) found e in
+    let some : 1 ≤ times slot items = stands_counted [] items slot found.label.kind there.around there.stands in
+    absurd (omega (arith, none, some))
+
+-- a slot that doesn't stand has no site
+absent_site : (items : Forest) (slot : ℕ) → times slot items ≡ 0 → site items slot ≡ None
+absent_site items slot none = absent_level items slot (site items slot) refl none
+
+-- what isn't found in an item is found behind it
+past_level : (same : Bool) (own : Site) (within behind : Option Site) → (if same then Some own else option_or within None) ≡ None
+    → (if same then Some own else option_or within behind) ≡ behind
+past_level true own within behind e = absurd (none-some own (sym e))
+past_level false own None behind e = refl
+past_level false own (Some one) behind e = absurd (none-some one (sym e))
+
+named_level : (same : Bool) (label : Label) (inner rest : Forest) (procedure : ℕ) (node : PlainNode) → (label.slot == procedure) ≡ same
+    → (procedure_at rest procedure ≡ Some node → 1 ≤ times procedure rest)
+    → (if same then Some (let own : PlainNode = record { label = label; inner = inner } in own) else procedure_at rest procedure) ≡ Some node
+    → 1 ≤ times procedure (Forest.cons label inner rest)
+named_level true label inner rest procedure node same later e =
+    let one : one_if label.slot procedure ≡ 1 = counted label.slot procedure (eqb-true label.slot procedure same) in
+    omega (arith, one)
+named_level false label inner rest procedure node same later e =
+    let some : 1 ≤ times procedure rest = later e in
+    omega (arith, some)
+
+-- the slot of a procedure stands
+named_counted : (items : Forest) (procedure : ℕ) (node : PlainNode) → procedure_at items procedure ≡ Some node → 1 ≤ times procedure items
+named_counted Forest.nil procedure node e = absurd (none-some node e)
+named_counted (Forest.cons label inner rest) procedure node e =
+    named_level (label.slot == procedure) label inner rest procedure node refl (named_counted rest procedure node) e
+
+named_first : (label : Label) (inner rest : Forest) (procedure : ℕ) → label.slot ≡ procedure
+    → procedure_at (Forest.cons label inner rest) procedure ≡ Some (let own : PlainNode = record { label = label; inner = inner } in own)
+named_first label inner rest procedure same = rw (eq-eqb label.slot procedure same) refl
+
+named_later : (label : Label) (inner rest : Forest) (procedure : ℕ) → (label.slot ≡ procedure → ⊥)
+    → procedure_at (Forest.cons label inner rest) procedure ≡ procedure_at rest procedure
+named_later label inner rest procedure apart = rw (ne_eqb label.slot procedure apart) refl
+
+-- the number that is there, or else this one
+abbrev number_there : ℕ → Option ℕ → ℕ
+number_there n None = n
+number_there n (Some there) = there
+
+-- by how often the slot stands in the first of the procedures
+procedure_level : (n : ℕ) (label : Label) (inner rest : Forest) (slot procedure : ℕ) (found : Site)
+    → n ≡ times slot (forest ((let own : PlainNode = record { label = label; inner = inner } in own) ∷ []))
+    → times slot (Forest.cons label inner rest) ≤ 1 → times procedure (Forest.cons label inner rest) ≤ 1
+    → procedure_of (Forest.cons label inner rest) slot ≡ Some procedure → site (Forest.cons label inner rest) slot ≡ Some found
+    → (procedure_of rest slot ≡ Some procedure → site rest slot ≡ Some found → InProcedure rest slot procedure found)
+    → InProcedure (Forest.cons label inner rest) slot procedure found
+procedure_level zero label inner rest slot procedure found is once own e here later =
+    let item : PlainNode = record { label = label; inner = inner } in
+    let none : times slot (forest (item ∷ [])) ≤ 0 = omega (arith, is) in
+    let behind : procedure_of rest slot ≡ Some procedure =
+    sym (found_later (has slot) item (nodes rest) (le-ltb 0 (times slot (forest (item ∷ []))) none)) ∙ e in
+    let past : site (Forest.cons label inner rest) slot ≡ site rest slot =
+    past_level (label.slot == slot) (record { label = label; inner = inner; after = at 0 1 })
+    (site_among slot (in_turn (row_of label.kind).sections) inner (end_at label.slot (inner_end label.kind) (at 0 1))) (site rest slot)
+    (absent_site (forest (item ∷ [])) slot (omega (arith, is))) in
+    let there : InProcedure rest slot procedure found = later behind (sym past ∙ here) in
+    let some : 1 ≤ times procedure rest = named_counted rest procedure there.node there.named in
+    let apart : (label.slot ≡ procedure → ⊥) =
+    λ same. let one : one_if label.slot procedure ≡ 1 = counted label.slot procedure same in omega (arith, own, some, one) in
+    record {
+      number = suc there.number;
+      node = there.node;
+      there = there.there;
+      held = there.held;
+      named = named_later label inner rest procedure apart ∙ there.named;
+    }
+procedure_level (suc n) label inner rest slot procedure found is once own e here later =
+    let item : PlainNode = record { label = label; inner = inner } in
+    let some : 0 < times slot (forest (item ∷ [])) = omega (arith, is) in
+    let first : Some label.slot ≡ Some procedure =
+    sym (found_first (has slot) item (nodes rest) (lt-ltb 0 (times slot (forest (item ∷ []))) some)) ∙ e in
+    let behind : site rest slot ≡ None = absent_site rest slot (omega (arith, is, once)) in
+    record {
+      number = 0;
+      node = item;
+      there = refl;
+      held =
+          sym (ap (λ (o : Option Site).
+          if label.slot == slot
+          then Some (let own : Site = record { label = label; inner = inner; after = at 0 1 } in own)
+          else option_or (site_among slot (in_turn (row_of label.kind).sections) inner (end_at label.slot (inner_end label.kind) (at 0 1))) o)
+          behind)
+          ∙ here;
+      named = named_first label inner rest procedure (ap (number_there label.slot) first);
+    }
+
+in_procedure : (items : Forest) (slot procedure : ℕ) (found : Site) → times slot items ≤ 1 → times procedure items ≤ 1
+    → procedure_of items slot ≡ Some procedure → site items slot ≡ Some found → InProcedure items slot procedure found
+in_procedure Forest.nil slot procedure found once own e here = absurd (none-some procedure e)
+in_procedure (Forest.cons label inner rest) slot procedure found once own e here =
+    procedure_level (times slot (forest ((let node : PlainNode = record { label = label; inner = inner } in node) ∷ []))) label inner rest slot procedure
+    found refl once own e here (in_procedure rest slot procedure found (omega (arith, once)) (omega (arith, own)))
+
+-- ---- the law
+
+marks_by_number : (items : Forest) (number : ℕ) (procedure : PlainNode) (slot : ℕ) (found : Site) (targets : List PlainVarRef) (others : List (Option PlainPhrase))
+    → times slot items ≤ 1 → slice_get (nodes items) number ≡ Some procedure
+    → site (forest (procedure ∷ [])) slot ≡ Some found → found.label.parts ≡ Some (PlainPhrase.variable_list targets) ∷ others
+    → is_first_marked items slot ≡ is_some (references_offence (items_inside procedure.inner) targets)
+marks_by_number items number procedure slot found targets others once e here parts =
     ap is_some
     (mark_at (Verdicts items) (phrase_place slot 0)
     ∙ ap option_flatten
     (get-from_entries places_total (procedure_verdicts items items) (phrase_place slot 0)
     ∙ found_procedures items items number procedure slot found (PlainPhrase.variable_list targets) others once e here parts))
+
+pub list_marks_follow_items : ListMarksFollowItems
+list_marks_follow_items items slot procedure found targets others once own e here parts =
+    let there = in_procedure items slot procedure found once own e here in
+    marks_by_number items there.number there.node slot found targets others once there.there there.held parts
+    ∙ ap (λ (node : Option PlainNode).
+    is_some (references_offence (unwrap_or (option_map (λ (n : PlainNode). items_inside n.inner) node) []) targets))
+    (sym there.named)

@@ -115,18 +115,18 @@ outermost_within (Forest.cons label inner rest) above first slot kind around (in
     outermost_within rest above first slot kind around h
 
 -- a slot that stands in an item or not
-abbrev has : ℕ → PlainNode → Bool
+abbrev pub has : ℕ → PlainNode → Bool
 has slot item = nat_lt 0 (times slot (forest (item ∷ [])))
 
 -- the slot of the item that is found among these
-abbrev slot_found : (PlainNode → Bool) → List PlainNode → Option ℕ
+abbrev pub slot_found : (PlainNode → Bool) → List PlainNode → Option ℕ
 slot_found test items = option_map (λ item. item.label.slot) (find test items)
 
-found_first : (test : PlainNode → Bool) (item : PlainNode) (items : List PlainNode) → test item ≡ true
+pub found_first : (test : PlainNode → Bool) (item : PlainNode) (items : List PlainNode) → test item ≡ true
     → slot_found test (item ∷ items) ≡ Some item.label.slot
 found_first test item items e = rw e refl
 
-found_later : (test : PlainNode → Bool) (item : PlainNode) (items : List PlainNode) → test item ≡ false
+pub found_later : (test : PlainNode → Bool) (item : PlainNode) (items : List PlainNode) → test item ≡ false
     → slot_found test (item ∷ items) ≡ slot_found test items
 found_later test item items e = rw e refl
 

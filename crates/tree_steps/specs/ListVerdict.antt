@@ -1,9 +1,10 @@
 -- The law of variable lists: what is wrong with one depends on what its procedure declares alone.
-use Rattle.std.specs.Prelude.{◌≡◌, ◌≤◌, ℕ, List, [], ◌∷◌, Option, Some, is_some, slice_get}
+use Rattle.std.specs.Prelude.{◌≡◌, ◌≤◌, ℕ, List, ◌∷◌, Option, Some, is_some}
 use Rattle.plcs_grammar.specs.PlainPhrase.{PlainPhrase, PlainVarRef}
-use Rattle.template_tree.specs.Environment.{items_inside}
+use Rattle.template_tree.specs.Edit.{procedure_of}
+use Rattle.template_tree.specs.Environment.{Items, items_inside}
 use Rattle.template_tree.specs.Marks.{surroundings}
-use Rattle.template_tree.specs.PlainTree.{Forest, PlainNode, forest, nodes}
+use Rattle.template_tree.specs.PlainTree.{Forest, PlainNode}
 use Rattle.template_tree.specs.Verdict.{references_offence, verdict}
 use Rattle.template_tree.specs.Place.{Site, site}
 use Rattle.template_tree.specs.Slots.{times}
@@ -21,7 +22,7 @@ ListVerdictsFollowItems =
 -- procedure, which is among those of the program; nothing else in the program counts
 abbrev pub ListMarksFollowItems : Type 0
 ListMarksFollowItems =
-    (items : Forest) (number : ℕ) (procedure : PlainNode) (slot : ℕ) (found : Site) (targets : List PlainVarRef) (others : List (Option PlainPhrase))
-    → times slot items ≤ 1 → slice_get (nodes items) number ≡ Some procedure
-    → site (forest (procedure ∷ [])) slot ≡ Some found → found.label.parts ≡ Some (PlainPhrase.variable_list targets) ∷ others
-    → is_first_marked items slot ≡ is_some (references_offence (items_inside procedure.inner) targets)
+    (items : Forest) (slot procedure : ℕ) (found : Site) (targets : List PlainVarRef) (others : List (Option PlainPhrase))
+    → times slot items ≤ 1 → times procedure items ≤ 1 → procedure_of items slot ≡ Some procedure
+    → site items slot ≡ Some found → found.label.parts ≡ Some (PlainPhrase.variable_list targets) ∷ others
+    → is_first_marked items slot ≡ is_some (references_offence (Items items procedure) targets)
