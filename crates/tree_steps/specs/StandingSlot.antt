@@ -2,7 +2,6 @@
 use Rattle.std.specs.Prelude.{◌≡◌, ℕ, ◌⊎◌, List, [], ◌∷◌, ◌++◌}
 use Rattle.plcs_grammar.specs.declared.node_kind.NodeKind.{NodeKind}
 use Rattle.plcs_grammar.specs.declared.template.Template.{Template}
-use Rattle.plcs_grammar.specs.declared.template.Template.TheVariants.{For}
 use Rattle.template_tree.specs.PlainTree.{Forest}
 
 -- the nodes that enclose a node, each by its slot and its kind, the innermost first
@@ -25,15 +24,33 @@ abbrev pub outermost_slot : (slot : ℕ) → Around → ℕ
 outermost_slot slot [] = slot
 outermost_slot slot (node ∷ around) = outermost_slot node.0 around
 
--- the slot of a For by the template; nothing else is a loop that a run keeps
+-- the slot of a node of the template as a list of loops that a run keeps: that of a For alone; a While tests anew each time
 abbrev pub loop_by_template : Template → (slot : ℕ) → List ℕ
-loop_by_template For slot = slot ∷ []
-loop_by_template other slot = []
+loop_by_template Template.Fixed slot = []
+loop_by_template Template.Bit slot = []
+loop_by_template Template.Char slot = []
+loop_by_template Template.If slot = []
+loop_by_template Template.IfElse slot = []
+loop_by_template Template.While slot = []
+loop_by_template Template.For slot = slot ∷ []
+loop_by_template Template.Group slot = []
+loop_by_template Template.Get slot = []
+loop_by_template Template.Put slot = []
+loop_by_template Template.PutSkip slot = []
+loop_by_template Template.Call slot = []
+loop_by_template Template.Return slot = []
+loop_by_template Template.Comment slot = []
+loop_by_template Template.Proc slot = []
+loop_by_template Template.ProcP slot = []
 
--- the slot of a node of the kind as a list of loops that a run keeps: that of a For, and of nothing else
+-- the slot of a node of the kind as a list of loops that a run keeps
 abbrev pub loop_by_kind : NodeKind → (slot : ℕ) → List ℕ
 loop_by_kind (NodeKind.Filled template) slot = loop_by_template template slot
-loop_by_kind other slot = []
+loop_by_kind NodeKind.DeclarationHole slot = []
+loop_by_kind NodeKind.StatementHole slot = []
+loop_by_kind NodeKind.ProcedureHole slot = []
+loop_by_kind NodeKind.Main slot = []
+loop_by_kind NodeKind.Assign slot = []
 
 -- the slots of the loops that a run keeps among these nodes, the outermost first
 abbrev pub loops_around : Around → List ℕ
