@@ -1,4 +1,4 @@
--- The laws of agreement: edits give it, and it outlasts edits and their undoing; what follows from it.
+-- The laws of agreement: edits give it, and steps and going back to a kept tree keep it; what follows from it.
 use Rattle.std.specs.Prelude.{◌≡◌, ℕ, ◌≤◌, Some}
 use Rattle.plcs_grammar.specs.declared.node_kind.NodeKind.{NodeKind}
 use Rattle.template_tree.specs.Edit.{procedure_of}

@@ -23,8 +23,8 @@ BringsSort (TreeEdit.add side) node = Unit {0}
 BringsSort TreeEdit.drop node = Unit {0}
 BringsSort (TreeEdit.set_part part place) node = Unit {0}
 
--- one edit, at the node at a path, made one tree of the other, but for elision and room. Undoing is no such step: the number
--- of slots drawn goes back
+-- one edit, at the node at a path, made one tree of the other, but for elision and room. The calls that edit ask for more of
+-- the node, which no law of steps needs. Undoing is no such step: slots that were gone come back, which no edit brings
 pub record IsStep (before after : PlainTree) : Type 0 where
   pub edit : TreeEdit
   pub path : List ℕ

@@ -49,7 +49,8 @@ StatementsBegin =
     → sort_of kind ≡ Sort.Statement
     → (place : PlainAt) × (Start tree.items slot ≡ Some place) × BeginsAt tree.items slot around place
 
--- a run that comes to a node which doesn't pass it on to what stands inside begins at that node itself
+-- a run that comes to a node other than a group and a comment, which alone pass it on to what stands inside them, begins at
+-- that node itself
 abbrev pub OthersBeginThemselves : Type 0
 OthersBeginThemselves =
     (items : Forest) (slot : ℕ) (kind : NodeKind) (around : Around) → times slot items ≤ 1 → StandsInside items slot kind around

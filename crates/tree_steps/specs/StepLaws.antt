@@ -77,7 +77,7 @@ RoomIsNoEdit = (one other : PlainTree) → roomless_tree one ≡ roomless_tree o
 
 -- ---- steps in turn
 
--- a step is a way of one edit
+-- a tree that a step made of another came from it by edits: by that one
 abbrev pub StepsAreWays : Type 0
 StepsAreWays = (before after : PlainTree) → IsStep before after → CameByEdits before after
 

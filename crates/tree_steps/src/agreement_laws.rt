@@ -9,7 +9,8 @@ pub fn slots_stand()
     ensures procedure { ProceduresStandOutermost }
 {}
 
-/// Trees agree with those from which edits made them, and go on to agree under edits and their undoing.
+/// Trees agree with those from which edits made them. A step keeps an agreement, and so does going back to
+/// a tree that agreed, whether it is earlier or later than the one agreed with.
 pub fn agreement_lasts()
     ensures edits { EditsAgree }
     ensures steps { StepsKeepAgreement }
