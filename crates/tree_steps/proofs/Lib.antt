@@ -1,5 +1,6 @@
 -- the definitions at work; no clause needs them
 mod Examples
+mod StepExamples
 -- `slots_stand`
 pub mod StandingSlots
 -- nodes of the same substance: where their slots stand, and comments turned
