@@ -18,7 +18,7 @@ use Rattle.template_tree.specs.TreeEdit.{TreeEdit, tree_after}
 use Rattle.tree_steps.specs.EditStep.{IsStep}
 use Rattle.tree_steps.specs.SlotAgreement.{AgreesWith}
 use Rattle.tree_steps.specs.StandingSlot.{Around, StandsInside}
-use Rattle.tree_steps.proofs.AgreeingTrees.{edits_agree}
+use Rattle.tree_steps.proofs.AgreeingTrees.{edits_agree, going_back_past_agrees}
 use Rattle.tree_steps.proofs.CallSteps.{steps_are_ways}
 use Rattle.tree_steps.proofs.StandingSlots.{one_if}
 
@@ -65,6 +65,22 @@ once_added (suc (suc (suc (suc (suc slot))))) =
       lower 4 (suc (suc (suc (suc (suc slot))))) (omega arith),
     )
 
+once_declared : (slot : ℕ) → times slot declaration_added.items ≤ 1
+once_declared zero = omega arith
+once_declared (suc zero) = omega arith
+once_declared (suc (suc zero)) = omega arith
+once_declared (suc (suc (suc zero))) = omega arith
+once_declared (suc (suc (suc (suc zero)))) = omega arith
+once_declared (suc (suc (suc (suc (suc slot))))) =
+    omega (
+      arith,
+      lower 0 (suc (suc (suc (suc (suc slot))))) (omega arith),
+      lower 1 (suc (suc (suc (suc (suc slot))))) (omega arith),
+      lower 2 (suc (suc (suc (suc (suc slot))))) (omega arith),
+      lower 3 (suc (suc (suc (suc (suc slot))))) (omega arith),
+      lower 4 (suc (suc (suc (suc (suc slot))))) (omega arith),
+    )
+
 declaration_is : (slot : ℕ) → IsNode (bare_label slot NodeKind.DeclarationHole) []
 declaration_is slot = record { parts = tt; inner = refl; elision = λ e. absurd (false≢true e) }
 
@@ -97,6 +113,15 @@ added_filled = (
   refl,
   (omega arith, one_of),
   (Sort.Statement ∷ (Sort.Statement ∷ []), [], refl, (omega arith, two_of), refl),
+)
+
+declared_filled : Fill block (Sort.Declaration ∷ (Sort.Declaration ∷ (Sort.Statement ∷ [])))
+declared_filled = (
+  Sort.Declaration ∷ (Sort.Declaration ∷ []),
+  Sort.Statement ∷ [],
+  refl,
+  (omega arith, two_of),
+  (Sort.Statement ∷ [], [], refl, (omega arith, one_of), refl),
 )
 
 new_is : IsTree new_tree
@@ -139,6 +164,26 @@ added_is =
       live = refl;
     }
 
+declared_is : IsTree declaration_added
+declared_is =
+    record {
+      program =
+          record {
+            listed = program_filled;
+            sound = (
+              record { parts = tt; inner = declared_filled; elision = λ e. absurd (false≢true e) },
+              (declaration_is 1, tt, (declaration_is 4, tt, (statement_is 2, tt, tt))),
+              (procedure_is 3, tt, tt),
+            );
+          };
+      shallow = omega arith;
+      few = omega arith;
+      drawn_few = omega arith;
+      drawn = (omega arith, (omega arith, tt, (omega arith, tt, (omega arith, tt, tt))), (omega arith, tt, tt));
+      once = once_declared;
+      live = refl;
+    }
+
 -- ---- a step, and what agrees by it
 
 -- the hole that was added is a step
@@ -159,6 +204,39 @@ add_steps =
 add_agrees : AgreesWith new_tree statement_added
 add_agrees = edits_agree new_tree statement_added new_is (steps_are_ways new_tree statement_added add_steps)
 
+-- the same with the other hole
+declare_steps : IsStep new_tree declaration_added
+declare_steps =
+    record {
+      edit = TreeEdit.add Side.After;
+      path = 0 ∷ (0 ∷ []);
+      node = record { label = bare_label 1 NodeKind.DeclarationHole; inner = Forest.nil };
+      there = refl;
+      sort = tt;
+      tree_before = new_is;
+      tree = declared_is;
+      became = record { items = refl; drawn = refl };
+    }
+
+declare_agrees : AgreesWith new_tree declaration_added
+declare_agrees = edits_agree new_tree declaration_added new_is (steps_are_ways new_tree declaration_added declare_steps)
+
+-- ---- going back
+
+-- the new tree again, where slot 4 stays drawn
+abbrev undone : PlainTree
+undone = record new_tree { drawn = 5 }
+
+-- it agrees with the tree that was undone, in which slot 4 is live
+undone_agrees : AgreesWith statement_added undone
+undone_agrees =
+    going_back_past_agrees new_tree statement_added undone add_agrees
+    (omega arith, (omega arith, tt, (omega arith, tt, (omega arith, tt, tt))), (omega arith, tt, tt)) refl
+
+-- and the tree with the declaration hole agrees with it
+declared_agrees : AgreesWith undone declaration_added
+declared_agrees = record { drawn = declare_agrees.drawn; alike = declare_agrees.alike }
+
 -- ---- trees that don't agree
 
 -- main alone is around
@@ -171,7 +249,8 @@ statement_stands = inr (inl (inr (inr (inr (inr (inl (refl, refl, refl)))))))
 declaration_stands : StandsInside declaration_added.items 4 NodeKind.DeclarationHole in_main
 declaration_stands = inr (inl (inr (inr (inl (refl, refl, refl)))))
 
--- a slot that comes back with another meaning: the statement hole was undone, and slot 4 drawn again for a declaration hole
+-- a slot that comes back with another meaning: slot 4 drawn again, for a declaration hole. Agreement isn't transitive: each of
+-- the two before holds, through a tree without that slot
 comes_back_otherwise : AgreesWith statement_added declaration_added → ⊥
 comes_back_otherwise agrees =
     let alike = agrees.alike 4 NodeKind.StatementHole NodeKind.DeclarationHole in_main in_main statement_stands declaration_stands in
