@@ -5,18 +5,18 @@ use Rattle.std.specs.List.{IsDistinct}
 use Rattle.std.specs.Map.{keys_of}
 use Rattle.std.specs.Str.{bytes_eq}
 use Rattle.clip_store.specs.PlainFragment.{PlainFragment, IsFragment, slots_of}
-use Rattle.clip_store.specs.PlainClips.{Pair, PlainClips, clip_named, slots_held, with_clip, without}
+use Rattle.clip_store.specs.PlainClips.{Pair, PlainClips, clip_named, slots_held, with_clip, without_name}
 use Rattle.clip_store.specs.ClipLimit.{AreClips, IsClip, has_room, is_full, most_clips, most_clip_slots}
 use Rattle.clip_store.proofs.PutPairs.{All-with_clip, length-with_clip, slots_held-with_clip, slots_of-le-slots_held}
 use Rattle.std.proofs.lemmas.Map.Views.{IfSome-lookup_from_All}
 
 -- so few other names are held
-pub few_others : (name : List ℕ) (slots : ℕ) (pairs : List Pair) → is_full name slots pairs ≡ false → length (without name pairs) < most_clips
+pub few_others : (name : List ℕ) (slots : ℕ) (pairs : List Pair) → is_full name slots pairs ≡ false → length (without_name name pairs) < most_clips
 few_others name slots pairs fits = grind (arith, nat_tests)
 
 -- and so few slots are taken
 pub few_slots : (name : List ℕ) (slots : ℕ) (pairs : List Pair) → is_full name slots pairs ≡ false
-    → slots_held (without name pairs) + slots ≤ most_clip_slots
+    → slots_held (without_name name pairs) + slots ≤ most_clip_slots
 few_slots name slots pairs fits = grind (arith, nat_tests)
 
 -- what would hold as many slots as were counted isn't full

@@ -7,7 +7,7 @@ use Rattle.std.proofs.lemmas.List.{length-map}
 use Rattle.std.proofs.lemmas.List.Sums.{sum_by-cons}
 use Rattle.template_tree.specs.RoomLaws.{CountsIgnoreRoom}
 use Rattle.clip_store.specs.PlainFragment.{PlainFragment, roomless_fragment, slots_of}
-use Rattle.clip_store.specs.PlainClips.{Pair, clip_named, roomless_pairs, slots_held, with_clip, without}
+use Rattle.clip_store.specs.PlainClips.{Pair, clip_named, roomless_pairs, slots_held, with_clip, without_name}
 use Rattle.clip_store.specs.ClipLimit.{is_full, most_clips, most_clip_slots}
 use Rattle.clip_store.proofs.RoomlessFragments.{slots_roomless}
 
@@ -54,21 +54,21 @@ module _ (name : List ℕ) where
       by true rest = refl
       by false rest = ap (λ all. roomless_pair pair ∷ all) rest
 
-  without_roomless : (pairs : List Pair) → without name (roomless_pairs pairs) ≡ roomless_pairs (without name pairs)
+  without_roomless : (pairs : List Pair) → without_name name (roomless_pairs pairs) ≡ roomless_pairs (without_name name pairs)
   without_roomless [] = refl
   without_roomless (pair ∷ pairs) = by (bytes_eq name pair.0) (without_roomless pairs)
     where
       by : (here : Bool)
-          → without name (roomless_pairs pairs) ≡ roomless_pairs (without name pairs)
-          → cond here (roomless_pairs pairs) (roomless_pair pair ∷ without name (roomless_pairs pairs))
-          ≡ roomless_pairs (cond here pairs (pair ∷ without name pairs))
+          → without_name name (roomless_pairs pairs) ≡ roomless_pairs (without_name name pairs)
+          → cond here (roomless_pairs pairs) (roomless_pair pair ∷ without_name name (roomless_pairs pairs))
+          ≡ roomless_pairs (cond here pairs (pair ∷ without_name name pairs))
       by true rest = refl
       by false rest = ap (λ all. roomless_pair pair ∷ all) rest
 
   pub full_roomless : CountsIgnoreRoom → (slots : ℕ) (pairs : List Pair) → is_full name slots (roomless_pairs pairs) ≡ is_full name slots pairs
   full_roomless counts slots pairs =
-      let number : length (without name (roomless_pairs pairs)) ≡ length (without name pairs) =
-      ap length (without_roomless pairs) ∙ length_roomless (without name pairs) in
-      let held : slots_held (without name (roomless_pairs pairs)) ≡ slots_held (without name pairs) =
-      ap slots_held (without_roomless pairs) ∙ slots_held_roomless counts (without name pairs) in
+      let number : length (without_name name (roomless_pairs pairs)) ≡ length (without_name name pairs) =
+      ap length (without_roomless pairs) ∙ length_roomless (without_name name pairs) in
+      let held : slots_held (without_name name (roomless_pairs pairs)) ≡ slots_held (without_name name pairs) =
+      ap slots_held (without_roomless pairs) ∙ slots_held_roomless counts (without_name name pairs) in
       λ i. nat_le most_clips (number i) || nat_lt most_clip_slots (held i + slots)

@@ -6,7 +6,7 @@ use Rattle.std.specs.Str.{bytes_eq}
 use Rattle.clip_store.specs.declared.limit.TheConstants.{MOST_CLIPS, MOST_CLIP_SLOTS}
 use Rattle.clip_store.specs.declared.clips.ClipFault.{ClipFault}
 use Rattle.clip_store.specs.PlainFragment.{PlainFragment, IsFragment, slots_of}
-use Rattle.clip_store.specs.PlainClips.{Pair, PlainClips, clip_named, slots_held, without}
+use Rattle.clip_store.specs.PlainClips.{Pair, PlainClips, clip_named, slots_held, without_name}
 
 -- under how many names clips may be held
 abbrev pub most_clips : ℕ
@@ -32,7 +32,7 @@ pub record AreClips (pairs : List Pair) : Type 0 where
 -- fragments under other names it would have too many slots
 abbrev pub is_full : List ℕ → ℕ → List Pair → Bool
 is_full name slots pairs =
-    nat_le most_clips (length (without name pairs)) || nat_lt most_clip_slots (slots_held (without name pairs) + slots)
+    nat_le most_clips (length (without_name name pairs)) || nat_lt most_clip_slots (slots_held (without_name name pairs) + slots)
 
 -- a fragment comes under the name without memory: the name is held, or there is room for a new one
 abbrev pub has_room : List ℕ → PlainClips → Bool

@@ -19,8 +19,8 @@ abbrev pub clip_named : List ℕ → List Pair → Option PlainFragment
 clip_named name pairs = lookup (bytes_eq name) pairs
 
 -- the clips under other names, where each name is held once
-abbrev pub without : List ℕ → List Pair → List Pair
-without name pairs = remove_entry (bytes_eq name) pairs
+abbrev pub without_name : List ℕ → List Pair → List Pair
+without_name name pairs = remove_entry (bytes_eq name) pairs
 
 -- the clips with the fragment under the name: a name that is held keeps its place, and a new one comes last
 abbrev pub with_clip : List ℕ → PlainFragment → List Pair → List Pair

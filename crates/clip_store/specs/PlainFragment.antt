@@ -4,7 +4,7 @@ use Rattle.plcs_grammar.specs.PlainPhrase.{PlainPhrase, category_of}
 use Rattle.plcs_grammar.specs.PlainPhrase.{plain_phrase}
 use Rattle.template_tree.specs.PlainTree.{PlainNode, roomless_node}
 use Rattle.template_tree.specs.Copy.{whole_node}
-use Rattle.template_tree.specs.Program.{IsPhrase, IsSubtree}
+use Rattle.template_tree.specs.Program.{IsPartPhrase, IsSubtree}
 use Rattle.template_tree.specs.Slots.{count}
 use Rattle.clip_store.specs.declared.fragment.Fragment.{Fragment}
 
@@ -36,4 +36,4 @@ slots_of (PlainFragment.phrase p) = 1
 -- a fragment that may come into a program: a part of one, or a phrase that may stand in a part of its category
 abbrev pub IsFragment : PlainFragment → Type 0
 IsFragment (PlainFragment.node n) = IsSubtree n
-IsFragment (PlainFragment.phrase p) = IsPhrase (category_of p) p
+IsFragment (PlainFragment.phrase p) = IsPartPhrase (category_of p) p

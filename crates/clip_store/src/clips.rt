@@ -1,7 +1,7 @@
 //! The clips in the order in which their names came.
 ghost use Rattle.std.specs.Prelude.{◌≡◌, ◌+◌, ◌<◌, ◌≤◌, true, false, not, [], length, is_some, option_map, IfErr, IfOk, IfSome, IsOk, OnErr, OnOk};
 ghost use Rattle.clip_store.specs.PlainFragment.{IsFragment, plain_fragment, slots_of};
-ghost use Rattle.clip_store.specs.PlainClips.{clip_named, slots_held, with_clip, without};
+ghost use Rattle.clip_store.specs.PlainClips.{clip_named, slots_held, with_clip, without_name};
 ghost use Rattle.clip_store.specs.ClipLimit.{AreClips, IsClip, IsClipFault, has_room, is_full, most_clip_slots};
 
 use crate::fragment::Fragment;
@@ -128,7 +128,7 @@ impl Clips {
 
     /// How many clips are held under other names.
     fn other_names(&self, name: &Name) -> usize
-        ensures { result ≡ length (without name.now self.now.pairs) }
+        ensures { result ≡ length (without_name name.now self.now.pairs) }
     {
         match self.get(name) {
             None => self.fragments.len(),
@@ -138,7 +138,7 @@ impl Clips {
 
     /// How many slots the fragments under other names have.
     fn other_slots(&self, name: &Name) -> u32
-        ensures sum { result ≡ slots_held (without name.now self.now.pairs) }
+        ensures sum { result ≡ slots_held (without_name name.now self.now.pairs) }
         ensures few { result ≤ most_clip_slots }
     {
         match self.get(name) {

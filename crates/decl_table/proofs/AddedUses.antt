@@ -9,9 +9,9 @@ use Rattle.std.proofs.lemmas.Slice.Eq.{bytes_eq-Decides}
 use Rattle.plcs_base.specs.Mark.{phrase_cmp}
 use Rattle.plcs_base.specs.declared.place.PhraseAt.{PhraseAt}
 use Rattle.plcs_grammar.specs.PlainPhrase.{PlainPhrase}
-use Rattle.template_tree.specs.Mention.{mention, mentioned, mentions, part_mentions, phrase_place}
+use Rattle.template_tree.specs.Mention.{mention, mentioned, mentions, part_mentions, phrase_at}
 use Rattle.template_tree.specs.PlainTree.{Forest, PlainNode, forest}
-use Rattle.decl_table.specs.PlainDecls.{UseList, places_of}
+use Rattle.decl_table.specs.PlainDecls.{PlainUses, mentions_of}
 use Rattle.decl_table.specs.Private.UsesView.{Adds, AddsNames, AddsPart, is_among}
 
 -- what follows where it is Ok
@@ -80,39 +80,39 @@ of_nodes nodes name at = is_among at (mentions name nodes)
 
 -- ---- nothing, and one part after the other
 
-pub adds_none : (test : Test) (uses : UseList) → ((name : List ℕ) (at : PhraseAt) → test name at ≡ false) → Adds test uses uses
-adds_none test uses none name at = or_false (is_among at (places_of name uses)) ∙ ap (λ b. is_among at (places_of name uses) || b) (sym (none name at))
+pub adds_none : (test : Test) (uses : PlainUses) → ((name : List ℕ) (at : PhraseAt) → test name at ≡ false) → Adds test uses uses
+adds_none test uses none name at = or_false (is_among at (mentions_of name uses)) ∙ ap (λ b. is_among at (mentions_of name uses) || b) (sym (none name at))
 
-pub adds_both : (one other all : Test) (old mid new : UseList) → Adds one old mid → Adds other mid new
+pub adds_both : (one other all : Test) (old mid new : PlainUses) → Adds one old mid → Adds other mid new
     → ((name : List ℕ) (at : PhraseAt) → all name at ≡ (one name at || other name at)) → Adds all old new
 adds_both one other all old mid new first then is name at =
     then name at
     ∙ ap (λ b. b || other name at) (first name at)
-    ∙ or_assoc (is_among at (places_of name old)) (one name at) (other name at)
-    ∙ ap (λ b. is_among at (places_of name old) || b) (sym (is name at))
+    ∙ or_assoc (is_among at (mentions_of name old)) (one name at) (other name at)
+    ∙ ap (λ b. is_among at (mentions_of name old) || b) (sym (is name at))
 
 -- ---- what is left to note
 
 -- with what the rest adds, all is added
-abbrev pub Leaves : (rest all : Test) → (first now : UseList) → Type 0
+abbrev pub Leaves : (rest all : Test) → (first now : PlainUses) → Type 0
 Leaves rest all first now =
-    (name : List ℕ) (at : PhraseAt) → (is_among at (places_of name now) || rest name at) ≡ (is_among at (places_of name first) || all name at)
+    (name : List ℕ) (at : PhraseAt) → (is_among at (mentions_of name now) || rest name at) ≡ (is_among at (mentions_of name first) || all name at)
 
-pub leaves_all : (all : Test) (first : UseList) → Leaves all all first first
+pub leaves_all : (all : Test) (first : PlainUses) → Leaves all all first first
 leaves_all all first name at = refl
 
-pub leaves_next : (step rest left all : Test) (first now next : UseList) → Adds step now next
+pub leaves_next : (step rest left all : Test) (first now next : PlainUses) → Adds step now next
     → ((name : List ℕ) (at : PhraseAt) → left name at ≡ (step name at || rest name at)) → Leaves left all first now → Leaves rest all first next
 leaves_next step rest left all first now next adds is leaves name at =
     ap (λ b. b || rest name at) (adds name at)
-    ∙ or_assoc (is_among at (places_of name now)) (step name at) (rest name at)
-    ∙ ap (λ b. is_among at (places_of name now) || b) (sym (is name at))
+    ∙ or_assoc (is_among at (mentions_of name now)) (step name at) (rest name at)
+    ∙ ap (λ b. is_among at (mentions_of name now) || b) (sym (is name at))
     ∙ leaves name at
 
-pub adds_last : (rest all : Test) (first now new : UseList) → Adds rest now new → Leaves rest all first now → Adds all first new
+pub adds_last : (rest all : Test) (first now new : PlainUses) → Adds rest now new → Leaves rest all first now → Adds all first new
 adds_last rest all first now new adds leaves name at = adds name at ∙ leaves name at
 
-pub leaves_none : (rest all : Test) (first now : UseList) → ((name : List ℕ) (at : PhraseAt) → rest name at ≡ false)
+pub leaves_none : (rest all : Test) (first now : PlainUses) → ((name : List ℕ) (at : PhraseAt) → rest name at ≡ false)
     → Leaves rest all first now → Adds all first now
 leaves_none rest all first now none leaves = adds_last rest all first now now (adds_none rest now none) leaves
 
@@ -129,14 +129,14 @@ same_name xs ys = by (bytes_eq xs ys) (bytes_eq ys xs) refl refl
     by false true e f = sym e ∙ (bytes_eq-Decides xs ys).1 (sym ((bytes_eq-Decides ys xs).0 f))
 
 -- where a place comes behind those that are under the name
-pub noted : (key : List ℕ) (place : PhraseAt) (places : List PhraseAt) (old new : UseList)
-    → places_of key old ≡ places
+pub noted : (key : List ℕ) (place : PhraseAt) (places : List PhraseAt) (old new : PlainUses)
+    → mentions_of key old ≡ places
     → ((name : List ℕ) → lookup (bytes_eq name) new ≡ cond (bytes_eq key name) (Some (places ++ (place ∷ []))) (lookup (bytes_eq name) old))
     → AddsNames (key ∷ []) place old new
 noted key place places old new held is name at =
     ap (λ o. is_among at (unwrap_or o [])) (is name)
     ∙ by (bytes_eq key name) refl
-    ∙ ap (λ b. is_among at (places_of name old) || ((b || false) && eq_by_cmp phrase_cmp at place)) (same_name key name)
+    ∙ ap (λ b. is_among at (mentions_of name old) || ((b || false) && eq_by_cmp phrase_cmp at place)) (same_name key name)
   where
     tail : (a b : Bool) → (a || (b || false)) ≡ (a || b)
     tail true b = refl
@@ -149,12 +149,12 @@ noted key place places old new held is name at =
 
     by : (here : Bool) → bytes_eq key name ≡ here
         → is_among at (unwrap_or (cond here (Some (places ++ (place ∷ []))) (lookup (bytes_eq name) old)) [])
-        ≡ (is_among at (places_of name old) || ((here || false) && eq_by_cmp phrase_cmp at place))
+        ≡ (is_among at (mentions_of name old) || ((here || false) && eq_by_cmp phrase_cmp at place))
     by true here =
         list_any-append (eq_by_cmp phrase_cmp at) places (place ∷ [])
         ∙ tail (is_among at places) (eq_by_cmp phrase_cmp at place)
-        ∙ ap (λ all. is_among at all || eq_by_cmp phrase_cmp at place) (sym held ∙ ap (λ n. places_of n old) ((bytes_eq-Decides key name).0 here))
-    by false here = plain (is_among at (places_of name old))
+        ∙ ap (λ all. is_among at all || eq_by_cmp phrase_cmp at place) (sym held ∙ ap (λ n. mentions_of n old) ((bytes_eq-Decides key name).0 here))
+    by false here = plain (is_among at (mentions_of name old))
 
 -- ---- what a part adds
 
@@ -171,16 +171,16 @@ of_phrase place phrase name at = by (list_any (bytes_eq name) (mentioned phrase)
     by true = plain (eq_by_cmp phrase_cmp at place)
     by false = refl
 
-pub adds_phrase : (place : PhraseAt) (phrase : PlainPhrase) (old new : UseList) → AddsNames (mentioned phrase) place old new → AddsPart place (Some phrase) old new
-adds_phrase place phrase old new adds name at = adds name at ∙ ap (λ b. is_among at (places_of name old) || b) (sym (of_phrase place phrase name at))
+pub adds_phrase : (place : PhraseAt) (phrase : PlainPhrase) (old new : PlainUses) → AddsNames (mentioned phrase) place old new → AddsPart place (Some phrase) old new
+adds_phrase place phrase old new adds name at = adds name at ∙ ap (λ b. is_among at (mentions_of name old) || b) (sym (of_phrase place phrase name at))
 
 -- the parts from one on
 pub of_parts-next : (slot part : ℕ) (parts : List (Option PlainPhrase)) (place : Option PlainPhrase) (rest : List (Option PlainPhrase))
     → parts ≡ place ∷ rest → (name : List ℕ) (at : PhraseAt)
-    → of_parts slot part parts name at ≡ (of_place (phrase_place slot part) place name at || of_parts slot (part + 1) rest name at)
+    → of_parts slot part parts name at ≡ (of_place (phrase_at slot part) place name at || of_parts slot (part + 1) rest name at)
 of_parts-next slot part parts place rest is name at =
     ap (λ all. of_parts slot part all name at) is
-    ∙ list_any-append (eq_by_cmp phrase_cmp at) (mention name (phrase_place slot part) place) (part_mentions name slot (part + 1) rest)
+    ∙ list_any-append (eq_by_cmp phrase_cmp at) (mention name (phrase_at slot part) place) (part_mentions name slot (part + 1) rest)
 
 -- ---- what a node adds
 

@@ -11,7 +11,7 @@ use Rattle.plcs_base.specs.declared.declared.Declared.{Declared}
 use Rattle.plcs_base.specs.declared.mark.MarkKind.{MarkKind}
 use Rattle.plcs_grammar.specs.declared.builtin.Builtin.{Builtin}
 use Rattle.plcs_grammar.specs.Builtin.{builtin_of, is_builtin_name}
-use Rattle.template_tree.specs.Environment.{cells, cells_of, effective, item_named, item_offence, with_item}
+use Rattle.template_tree.specs.Environment.{cells, cells_of, effective, item_named, item_offence, with_declared}
 use Rattle.template_tree.specs.Limit.{most_cells}
 use Rattle.decl_table.specs.declared.items.Shape.{Shape}
 use Rattle.decl_table.specs.Private.ItemsView.{items_of, shaped}
@@ -85,11 +85,11 @@ module _ (before : List Declared) (item : Declared) where
       by false false false none = (refl, refl)
 
   -- such an item comes last
-  pub one_more : is_some (item_offence before item) ≡ false → with_item before item ≡ before ++ (item ∷ [])
+  pub one_more : is_some (item_offence before item) ≡ false → with_declared before item ≡ before ++ (item ∷ [])
   one_more none = rw none refl
 
   -- and another changes nothing
-  pub no_more : is_some (item_offence before item) ≡ true → with_item before item ≡ before
+  pub no_more : is_some (item_offence before item) ≡ true → with_declared before item ≡ before
   no_more some = rw some refl
 
 -- whether the cells are too many, where they are counted
@@ -109,7 +109,7 @@ cells_push before item = omega (arith, sum_by-append cells_of before (item ∷ [
 
 pub effective_append : (before first rest : List Declared) → effective before (first ++ rest) ≡ effective (effective before first) rest
 effective_append before [] rest = refl
-effective_append before (item ∷ first) rest = effective_append (with_item before item) first rest
+effective_append before (item ∷ first) rest = effective_append (with_declared before item) first rest
 
 -- the cells are within the limit still
 pub few_told : (counted many : ℕ) (before : List Declared) (item : Declared) → counted ≡ cells before → many ≡ cells_of item

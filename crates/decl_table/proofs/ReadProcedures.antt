@@ -11,7 +11,7 @@ use Rattle.template_tree.specs.Environment.{Items, Sig, Signature, items_inside,
 use Rattle.template_tree.specs.Mention.{mentions}
 use Rattle.template_tree.specs.PlainTree.{Forest, PlainNode, forest}
 use Rattle.decl_table.specs.Agreement.{IsDeclsOf}
-use Rattle.decl_table.specs.PlainDecls.{PlainDecls, items_in, places_of, slot_of}
+use Rattle.decl_table.specs.PlainDecls.{PlainDecls, items_in, mentions_of, slot_of}
 use Rattle.decl_table.specs.Private.DeclsView.{TakesProcedure}
 use Rattle.decl_table.specs.Private.UsesView.{AreSettled, is_among}
 use Rattle.decl_table.proofs.AddedUses.{of_nodes, of_nodes-first, or_comm}
@@ -21,14 +21,14 @@ use Rattle.decl_table.proofs.PlaceOrder.{nat_ties, places_equiv, same_place}
 pub record IsRead (decls : PlainDecls) (rest : Forest) : Type 0 where
   pub items : (slot : ℕ) → items_in decls.items slot ≡ Items rest slot
   pub headings : (name : List ℕ) → slot_of name decls.headings ≡ option_map (λ (s : Signature). s.slot) (Sig rest name)
-  pub uses : (name : List ℕ) (at : PhraseAt) → is_among at (places_of name decls.uses) ≡ is_among at (mentions name rest)
+  pub uses : (name : List ℕ) (at : PhraseAt) → is_among at (mentions_of name decls.uses) ≡ is_among at (mentions name rest)
 
 -- an empty table of none
 pub read_none : (decls : PlainDecls) → decls.items ≡ empty → decls.headings ≡ [] → decls.uses ≡ [] → IsRead decls Forest.nil
 read_none decls items headings uses = record {
   items = λ slot. ap (λ m. items_in m slot) items ∙ ap (λ o. unwrap_or o []) (get-empty nat_cmp slot);
   headings = λ name. ap (slot_of name) headings;
-  uses = λ name at. ap (λ u. is_among at (places_of name u)) uses;
+  uses = λ name at. ap (λ u. is_among at (mentions_of name u)) uses;
 }
 
 -- one more before them
@@ -74,8 +74,8 @@ read_all decls items settled read same_items same_headings are =
       uses_are = λ name. record {
         increasing = (are name).increasing;
         each = λ at. (
-          λ there. among name at (mentions name items) (sym (read.uses name at) ∙ is_there at (places_of name settled.uses) (places_of name decls.uses) ((are name).each at).0 there),
-          λ there. ((are name).each at).1 (among name at (places_of name decls.uses) (read.uses name at ∙ list_any-from_Contains places_equiv at (mentions name items) there)),
+          λ there. among name at (mentions name items) (sym (read.uses name at) ∙ is_there at (mentions_of name settled.uses) (mentions_of name decls.uses) ((are name).each at).0 there),
+          λ there. ((are name).each at).1 (among name at (mentions_of name decls.uses) (read.uses name at ∙ list_any-from_Contains places_equiv at (mentions name items) there)),
         );
       };
     }

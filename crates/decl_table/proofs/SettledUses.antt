@@ -5,40 +5,40 @@ use Rattle.std.specs.List.Sorted.{IsStrictlySortedBy}
 use Rattle.std.specs.Map.{lookup, values_of}
 use Rattle.indexmap.specs.IndexMap.{set_value_at}
 use Rattle.plcs_base.specs.declared.place.PhraseAt.{PhraseAt}
-use Rattle.decl_table.specs.PlainDecls.{UseList, places_of}
+use Rattle.decl_table.specs.PlainDecls.{PlainUses, mentions_of}
 use Rattle.decl_table.specs.Private.UsesView.{AreSettled, IsSettled}
 
 -- the first so many of them are settled, and the others are as they were
-abbrev pub IsSettling : ℕ → (first now : UseList) → Type 0
+abbrev pub IsSettling : ℕ → (first now : PlainUses) → Type 0
 IsSettling zero first now = now ≡ first
 IsSettling (suc k) [] now = now ≡ []
 IsSettling (suc k) (entry ∷ first) [] = ⊥
 IsSettling (suc k) (entry ∷ first) (other ∷ now) = (other.0 ≡ entry.0) × IsSettled entry.1 other.1 × IsSettling k first now
 
 -- one more is settled
-next : (k : ℕ) (first now : UseList) (places settled : List PhraseAt) → slice_get (values_of now) k ≡ Some places → IsSettled places settled
+next : (k : ℕ) (first now : PlainUses) (places settled : List PhraseAt) → slice_get (values_of now) k ≡ Some places → IsSettled places settled
     → IsSettling k first now → IsSettling (suc k) first (set_value_at now k settled)
 next zero first [] places settled there is same = absurd (cc)
 next zero first (entry ∷ now) places settled there is same =
     let e : entry.1 ≡ places = cc in
     subst (λ all. IsSettling 1 all (set_value_at (entry ∷ now) 0 settled)) same
     (refl, subst (λ p. IsSettled p settled) (sym e) is, refl)
-next (suc k) [] now places settled there is same = absurd (let e : slice_get (values_of (let xs : UseList = [] in xs)) (suc k) ≡ Some places = ap (λ all. slice_get (values_of all) (suc k)) (sym same) ∙ there in cc)
+next (suc k) [] now places settled there is same = absurd (let e : slice_get (values_of (let xs : PlainUses = [] in xs)) (suc k) ≡ Some places = ap (λ all. slice_get (values_of all) (suc k)) (sym same) ∙ there in cc)
 next (suc k) (entry ∷ first) [] places settled there is same = absurd same
 next (suc k) (entry ∷ first) (other ∷ now) places settled there is (key, done, rest) =
     (key, done, next k first now places settled there is rest)
 
-pub settling_next : (k : ℕ) (first now new : UseList) (places settled : List PhraseAt) → slice_get (values_of now) k ≡ Some places
+pub settling_next : (k : ℕ) (first now new : PlainUses) (places settled : List PhraseAt) → slice_get (values_of now) k ≡ Some places
     → IsSettled places settled → new ≡ set_value_at now k settled → IsSettling k first now → IsSettling (k + 1) first new
 settling_next k first now new places settled there is new_is same =
     subst (λ n. IsSettling n first new) (sym (add-one k))
     (subst (IsSettling (suc k) first) (sym new_is) (next k first now places settled there is same))
 
 -- and where there is none at the number, nothing is left to do
-pub settling_past : (k : ℕ) (first now : UseList) → slice_get (values_of now) k ≡ None → IsSettling k first now → IsSettling (k + 1) first now
+pub settling_past : (k : ℕ) (first now : PlainUses) → slice_get (values_of now) k ≡ None → IsSettling k first now → IsSettling (k + 1) first now
 settling_past k first now none same = subst (λ n. IsSettling n first now) (sym (add-one k)) (past k first now none same)
   where
-    past : (k : ℕ) (first now : UseList) → slice_get (values_of now) k ≡ None → IsSettling k first now → IsSettling (suc k) first now
+    past : (k : ℕ) (first now : PlainUses) → slice_get (values_of now) k ≡ None → IsSettling k first now → IsSettling (suc k) first now
     past zero [] now none same = same
     past zero (entry ∷ first) now none same =
         absurd (let e : slice_get (values_of (entry ∷ first)) 0 ≡ None = ap (λ all. slice_get (values_of all) 0) (sym same) ∙ none in cc)
@@ -52,10 +52,10 @@ unfolding IsStrictlySortedBy
 settled_nil = record { increasing = tt; each = λ at. (λ there. there, λ there. there) }
 
 -- where all are settled, those under each name are
-pub settled_all : (k : ℕ) (first now : UseList) → length first ≤ k → IsSettling k first now → AreSettled first now
-settled_all zero [] now few same name = subst (λ all. IsSettled [] (places_of name all)) (sym same) settled_nil
+pub settled_all : (k : ℕ) (first now : PlainUses) → length first ≤ k → IsSettling k first now → AreSettled first now
+settled_all zero [] now few same name = subst (λ all. IsSettled [] (mentions_of name all)) (sym same) settled_nil
 settled_all zero (entry ∷ first) now few same name = absurd (omega (arith, few))
-settled_all (suc k) [] now few same name = subst (λ all. IsSettled [] (places_of name all)) (sym same) settled_nil
+settled_all (suc k) [] now few same name = subst (λ all. IsSettled [] (mentions_of name all)) (sym same) settled_nil
 settled_all (suc k) (entry ∷ first) [] few same name = absurd same
 settled_all (suc k) (entry ∷ first) (other ∷ now) few (key, done, rest) name =
     subst
@@ -63,7 +63,7 @@ settled_all (suc k) (entry ∷ first) (other ∷ now) few (key, done, rest) name
     (unwrap_or (cond (bytes_eq name n) (Some other.1) (lookup (bytes_eq name) now)) []))
     (sym key) (by (bytes_eq name entry.0) (settled_all k first now (omega (arith, few)) rest name))
   where
-    by : (here : Bool) → IsSettled (places_of name first) (places_of name now)
+    by : (here : Bool) → IsSettled (mentions_of name first) (mentions_of name now)
         → IsSettled (unwrap_or (cond here (Some entry.1) (lookup (bytes_eq name) first)) [])
         (unwrap_or (cond here (Some other.1) (lookup (bytes_eq name) now)) [])
     by true others = done

@@ -7,28 +7,28 @@ use Rattle.plcs_base.specs.declared.declared.Declared.{Declared}
 use Rattle.plcs_base.specs.declared.place.PhraseAt.{PhraseAt}
 
 -- the effective headings in a table: names with the slots of their headings
-abbrev pub HeadingList : Type 0
-HeadingList = List (List ℕ × ℕ)
+abbrev pub PlainHeadings : Type 0
+PlainHeadings = List (List ℕ × ℕ)
 
 -- the uses of names in a table: names with the places of the phrases that mention them
-abbrev pub UseList : Type 0
-UseList = List (List ℕ × List PhraseAt)
+abbrev pub PlainUses : Type 0
+PlainUses = List (List ℕ × List PhraseAt)
 
 -- a table of declarations: the effective items of each procedure by its slot, the slot of the effective heading of
 -- each name that has one, and where each name is mentioned
 pub record PlainDecls : Type 0 where
   pub items : ItemMap
-  pub headings : HeadingList
-  pub uses : UseList
+  pub headings : PlainHeadings
+  pub uses : PlainUses
 
 -- the items that a table has of the procedure in the slot
 abbrev pub items_in : ItemMap → ℕ → List Declared
 items_in items slot = unwrap_or (get items slot) []
 
 -- the slot of the heading that a table has under the name
-abbrev pub slot_of : List ℕ → HeadingList → Option ℕ
+abbrev pub slot_of : List ℕ → PlainHeadings → Option ℕ
 slot_of name headings = lookup (bytes_eq name) headings
 
 -- the places that a table has under the name, of the phrases that mention it
-abbrev pub places_of : List ℕ → UseList → List PhraseAt
-places_of name uses = unwrap_or (lookup (bytes_eq name) uses) []
+abbrev pub mentions_of : List ℕ → PlainUses → List PhraseAt
+mentions_of name uses = unwrap_or (lookup (bytes_eq name) uses) []

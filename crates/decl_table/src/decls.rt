@@ -6,7 +6,7 @@ ghost use Rattle.template_tree.specs.Program.{IsSubtree};
 ghost use Rattle.template_tree.specs.Slots.{count};
 ghost use Rattle.template_tree.specs.Tree.{IsTree};
 ghost use Rattle.decl_table.specs.Agreement.{IsDeclsOf};
-ghost use Rattle.decl_table.specs.PlainDecls.{items_in, places_of, slot_of};
+ghost use Rattle.decl_table.specs.PlainDecls.{items_in, mentions_of, slot_of};
 ghost use Rattle.decl_table.specs.Private.DeclsView.{TakesProcedure};
 
 use crate::headings::Headings;
@@ -81,7 +81,7 @@ impl Decls {
     /// What the table says of where a name is mentioned: the places of the phrases that mention it, in
     /// order of slot and part. It takes no memory.
     pub fn uses(&self, name: &Name) -> &[PhraseAt]
-        ensures { result.now ≡ places_of name.now self.now.uses }
+        ensures { result.now ≡ mentions_of name.now self.now.uses }
     {
         self.uses.under(name)
     }

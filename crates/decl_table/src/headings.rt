@@ -18,10 +18,10 @@ pub(crate) struct Headings {
 }
 
 impl Model for Headings {
-    ghost use Rattle.decl_table.specs.PlainDecls.{HeadingList};
+    ghost use Rattle.decl_table.specs.PlainDecls.{PlainHeadings};
     ghost use Rattle.decl_table.specs.Private.DeclsView.{headings_code};
 
-    ghost Value = { HeadingList };
+    ghost Value = { PlainHeadings };
 
     ghost coded = { headings_code };
 

@@ -1,7 +1,7 @@
 //! The effective items of one procedure, as they are taken one after the other and found again.
 ghost use Rattle.std.specs.Prelude.{◌≡◌, ◌<◌, [], IfOk, OnOk, is_some, option_map, Some, slice_get};
 ghost use Rattle.plcs_base.specs.declared.declared.Declared.{Declared};
-ghost use Rattle.template_tree.specs.Environment.{all_declared, cells_of, declares, effective, item_named, item_offence, declared_as, items_inside, with_type, with_item};
+ghost use Rattle.template_tree.specs.Environment.{all_declared, cells_of, declares, effective, item_named, item_offence, declared_as, items_inside, with_type, with_declared};
 ghost use Rattle.decl_table.specs.Private.ItemsView.{shaped};
 ghost use Rattle.template_tree.specs.Limit.{most_slots};
 ghost use Rattle.template_tree.specs.Slots.{count};
@@ -91,7 +91,7 @@ impl Items {
 
     /// Takes one more item, where it is effective behind those that are taken.
     fn declare(&mut self, name: &Name, shape: Shape) -> Result<(), OutOfMemory>
-        ensures { OnOk result (self.new ≡ with_item self.old (shaped name.now shape)) }
+        ensures { OnOk result (self.new ≡ with_declared self.old (shaped name.now shape)) }
     {
         if self.offence(name, shape).is_some() {
             return Ok(());

@@ -7,7 +7,7 @@ mod headings;
 mod items;
 mod name_copy;
 mod node_parts;
-mod places;
+mod mention_list;
 mod scopes;
 mod uses;
 

@@ -3,15 +3,15 @@ ghost use Rattle.std.specs.Prelude.{◌≡◌, ◌+◌, ◌<◌, ◌≤◌, ◌�
 ghost use Rattle.plcs_grammar.specs.PlainPhrase.{plain_expr, plain_exprs, plain_phrase, plain_var_ref};
 ghost use Rattle.template_tree.specs.Limit.{most_slots};
 ghost use Rattle.template_tree.specs.Mention.{mentioned, names_in, names_in_all, reference_names};
-ghost use Rattle.template_tree.specs.PlainPlace.{plain_place};
+ghost use Rattle.template_tree.specs.PlainPhrasePlace.{plain_phrase_place};
 ghost use Rattle.template_tree.specs.PlainTree.{forest};
 ghost use Rattle.template_tree.specs.Program.{IsSubtree};
 ghost use Rattle.template_tree.specs.Slots.{count};
-ghost use Rattle.decl_table.specs.PlainDecls.{places_of};
+ghost use Rattle.decl_table.specs.PlainDecls.{mentions_of};
 ghost use Rattle.decl_table.specs.Private.UsesView.{AddsNames, AddsNodes, AddsPart, AddsParts, AreSettled};
 
 use crate::name_copy::name_copy;
-use crate::places::Places;
+use crate::mention_list::MentionList;
 use indexmap::IndexMap;
 use plcs_base::{Name, OutOfMemory, PhraseAt};
 use plcs_grammar::{Expr, Item, Phrase, VarRef};
@@ -22,14 +22,14 @@ use template_tree::{Node, PhrasePlace};
 /// For each name the places of the phrases that mention it, which contracts see as a list of pairs.
 #[derive(Drop)]
 pub(crate) struct Uses {
-    places: IndexMap<Name, Places>,
+    places: IndexMap<Name, MentionList>,
 }
 
 impl Model for Uses {
-    ghost use Rattle.decl_table.specs.PlainDecls.{UseList};
+    ghost use Rattle.decl_table.specs.PlainDecls.{PlainUses};
     ghost use Rattle.decl_table.specs.Private.UsesView.{uses_code};
 
-    ghost Value = { UseList };
+    ghost Value = { PlainUses };
 
     ghost coded = { uses_code };
 
@@ -48,7 +48,7 @@ impl Uses {
 
     /// The places that are noted under the name, of the phrases that mention it.
     pub(crate) fn under(&self, name: &Name) -> &[PhraseAt]
-        ensures { result.now ≡ places_of name.now self.now }
+        ensures { result.now ≡ mentions_of name.now self.now }
     {
         match self.places.get(name) {
             Some(places) => places.as_slice(),
@@ -92,20 +92,20 @@ impl Uses {
         let slot = node.slot();
         let mut part = 0;
         while let Some(place) = node.part(part) {
-            self.note_place(alloc, place, PhraseAt { slot, part })?;
+            self.note_mention(alloc, place, PhraseAt { slot, part })?;
             part += 1;
         }
         Ok(())
     }
 
     /// Notes what stands in one part, a phrase or nothing, under the names that it mentions.
-    fn note_place(
+    fn note_mention(
         &mut self,
         alloc: Global,
         place: &PhrasePlace,
         at: PhraseAt,
     ) -> Result<(), OutOfMemory>
-        ensures { OnOk result (AddsPart at (plain_place place.now) self.old self.new) }
+        ensures { OnOk result (AddsPart at (plain_phrase_place place.now) self.old self.new) }
     {
         match place {
             PhrasePlace::Empty => Ok(()),
@@ -240,7 +240,7 @@ impl Uses {
             places.push(at)?;
             return Ok(());
         }
-        let places = Places::of(alloc, at)?;
+        let places = MentionList::of(alloc, at)?;
         self.places.insert(name_copy(name), places)?;
         Ok(())
     }

@@ -16,7 +16,7 @@ use Rattle.template_tree.specs.Build.{built_label}
 use Rattle.template_tree.specs.PlainTree.{Label, Forest, join}
 use Rattle.template_tree.specs.Program.{AreNodes, AreParts, IsNode, IsProgram, parts_of, sorts, sort_of}
 use Rattle.template_tree.specs.Section.{same_sort}
-use Rattle.file_store.specs.Private.Reader.{shape, Saying, Said, IsSaying, Filling, Entry, unfilled, behind, first_entry, goes_on, entry, advanced, is_text, led_sections, optional, OpenList, Frame, Stack, unread, kind_with, node_of, closed, shut, lowered, at_height, lowered_to, with_frame, begun, with_filling, led_in, ended_in, step_at, step, run, finished, program_of, said_lead, said_last, sayings}
+use Rattle.file_store.specs.Private.Reader.{shape, Saying, Said, IsSaying, Filling, Entry, unfilled, filling_after, first_entry, goes_on, item_entry, advanced, is_text, led_sections, optional, OpenList, OpenNode, OpenNodes, unread, kind_with, node_of, closed, shut, lowered, at_height, lowered_to, with_open_node, begun, with_filling, led_in, ended_in, line_taken_at, line_taken, lines_taken, finished, program_of, said_lead, said_last, sayings}
 use Rattle.file_store.proofs.Fillings.{fills, if_some, if_some_parts, sections_of, some_is, sort_shape, same_sort_refl, same_sort_is, entered, filled, node_filled}
 use Rattle.file_store.proofs.Arrivals.{join_nil, join_assoc, first_sayings, opened_frame, opened_stack}
 use Rattle.file_store.proofs.Texts.{AreSayings}
@@ -27,7 +27,7 @@ abbrev many_sort : Amount → Sort → Option Sort
 many_sort Amount.One sort = None
 many_sort Amount.Many sort = Some sort
 
-behind_is : (amount : Amount) (sort : Sort) (left : List PlainSection) → behind amount sort left ≡ record { going = many_sort amount sort; left = left }
+behind_is : (amount : Amount) (sort : Sort) (left : List PlainSection) → filling_after amount sort left ≡ record { going = many_sort amount sort; left = left }
 behind_is Amount.One sort left = refl
 behind_is Amount.Many sort left = refl
 
@@ -53,14 +53,14 @@ first_apart : (sort : Sort) (left : List PlainSection) (item : Entry) → apart_
 first_apart sort [] item h e = absurd (none-some item e)
 first_apart sort (section ∷ left) item h e = go (same_sort section.sort sort) e
   where
-    go : (b : Bool) → (if b then Some (record { before = section.lead; next = behind section.amount section.sort left }) else None) ≡ Some item
+    go : (b : Bool) → (if b then Some (record { before = section.lead; next = filling_after section.amount section.sort left }) else None) ≡ Some item
         → apart item.next ≡ true
     go true e =
-        let plain : Some (record { before = section.lead; next = behind section.amount section.sort left }) ≡ Some item = e in
+        let plain : Some (record { before = section.lead; next = filling_after section.amount section.sort left }) ≡ Some item = e in
         sym (ap (λ (z : Entry). apart z.next) (some_is plain)) ∙ ap apart (behind_is section.amount section.sort left) ∙ h
     go false e = absurd (none-some item e)
 
-entry_apart : (sort : Sort) (filling : Filling) (item : Entry) → apart filling ≡ true → entry sort filling ≡ Some item → apart item.next ≡ true
+entry_apart : (sort : Sort) (filling : Filling) (item : Entry) → apart filling ≡ true → item_entry sort filling ≡ Some item → apart item.next ≡ true
 entry_apart sort filling item h e = go (goes_on filling.going sort) e
   where
     go : (b : Bool) → (if b then Some (record { before = None; next = filling }) else first_entry sort filling.left) ≡ Some item → apart item.next ≡ true
@@ -69,17 +69,17 @@ entry_apart sort filling item h e = go (goes_on filling.going sort) e
         sym (ap (λ (z : Entry). apart z.next) (some_is plain)) ∙ h
     go false e = first_apart sort filling.left item (and_parts (differs filling.going filling.left) (apart_sections filling.left) h).1 e
 
-abbrev pub ApartFrames : List Frame → Type 0
+abbrev pub ApartFrames : List OpenNode → Type 0
 ApartFrames [] = Unit {0}
 ApartFrames (frame ∷ outer) = (apart frame.around.filling ≡ true) × ApartFrames outer
 
-abbrev pub IsApart : Stack → Type 0
+abbrev pub IsApart : OpenNodes → Type 0
 IsApart stack = (apart stack.own.filling ≡ true) × ApartFrames stack.outer
 
-lowered_apart : (level : ℕ) (own : OpenList) (outer : List Frame) (after : Stack) → apart own.filling ≡ true → ApartFrames outer
+lowered_apart : (level : ℕ) (own : OpenList) (outer : List OpenNode) (after : OpenNodes) → apart own.filling ≡ true → ApartFrames outer
     → lowered level own outer ≡ Some after → IsApart after
 lowered_apart level own [] after h k e =
-    let plain : Some (let one : Stack = record { own = own; outer = [] } in one) ≡ Some after = e in
+    let plain : Some (let one : OpenNodes = record { own = own; outer = [] } in one) ≡ Some after = e in
     subst IsApart (some_is plain) (h, tt)
 lowered_apart level own (frame ∷ outer) after h k e =
     go (λ list l. lowered_apart level list outer after l k.1) (nat_le (suc (length outer)) level) e
@@ -93,7 +93,7 @@ lowered_apart level own (frame ∷ outer) after h k e =
         → (if b then Some (record { own = own; outer = frame ∷ outer }) else option_and_then (λ list. lowered level list outer) (shut own frame)) ≡ Some after
         → IsApart after
     go more true e =
-        let plain : Some (let one : Stack = record { own = own; outer = frame ∷ outer } in one) ≡ Some after = e in
+        let plain : Some (let one : OpenNodes = record { own = own; outer = frame ∷ outer } in one) ≡ Some after = e in
         subst IsApart (some_is plain) (h, k)
     go more false e = below more (is_none (row_of frame.kind).last && optional own.filling.left) e
 
@@ -102,32 +102,32 @@ lowered_apart level own (frame ∷ outer) after h k e =
 abbrev pub Coming : Filling → Type 0
 Coming filling = (more : Forest) × AreNodes more × (fills filling (sorts more) ≡ true)
 
-abbrev pub Continues : Filling → List Frame → Type 0
+abbrev pub Continues : Filling → List OpenNode → Type 0
 Continues filling [] = Coming filling
 Continues filling (frame ∷ outer) = Coming filling × Continues frame.around.filling outer
 
 -- the program that the open lists become with what comes
-abbrev pub whole : (items : Forest) (filling : Filling) (outer : List Frame) → Continues filling outer → Forest
+abbrev pub whole : (items : Forest) (filling : Filling) (outer : List OpenNode) → Continues filling outer → Forest
 whole items filling [] k = join items k.0
 whole items filling (frame ∷ outer) k =
     whole (join frame.around.items (node_of frame (join items k.0.0))) frame.around.filling outer k.1
 
 -- the lines that come
-abbrev pub remains : (filling : Filling) (outer : List Frame) → Continues filling outer → List Said
+abbrev pub remains : (filling : Filling) (outer : List OpenNode) → Continues filling outer → List Said
 remains filling [] k = sayings 0 (sections_of filling) k.0
 remains filling (frame ∷ outer) k =
     sayings (suc (length outer)) (sections_of filling) k.0.0
     ++ (said_last (length outer) (row_of frame.kind).last ++ remains frame.around.filling outer k.1)
 
 -- the lines lead from the one stack to the other: what comes behind them comes with them behind the one
-abbrev pub Pulls : (from to : Stack) → List Said → Type 0
+abbrev pub Pulls : (from to : OpenNodes) → List Said → Type 0
 Pulls from to ls =
     (k : Continues to.own.filling to.outer)
     → (back : Continues from.own.filling from.outer)
     × (whole from.own.items from.own.filling from.outer back ≡ whole to.own.items to.own.filling to.outer k)
     × (remains from.own.filling from.outer back ≡ ls ++ remains to.own.filling to.outer k)
 
-pull_more : (a b c : Stack) (ls ms : List Said) → Pulls a b ls → Pulls b c ms → Pulls a c (ls ++ ms)
+pull_more : (a b c : OpenNodes) (ls ms : List Said) → Pulls a b ls → Pulls b c ms → Pulls a c (ls ++ ms)
 pull_more a b c ls ms f g k =
     let second = g k in
     let first = f second.0 in (
@@ -136,11 +136,11 @@ pull_more a b c ls ms f g k =
       first.2 ∙ ap (λ z. ls ++ z) second.2 ∙ sym (append_assoc ls ms (remains c.own.filling c.outer k)),
     )
 
-pull_same : (a b : Stack) → a ≡ b → Pulls a b []
+pull_same : (a b : OpenNodes) → a ≡ b → Pulls a b []
 pull_same a b e = subst (λ z. Pulls a z []) e (λ k. (k, refl, refl))
 
 -- a change of the innermost list alone
-pull_own : (outer : List Frame) (f g : Filling) (i j : Forest) (ls : List Said)
+pull_own : (outer : List OpenNode) (f g : Filling) (i j : Forest) (ls : List Said)
     → ((c : Coming g) → (d : Coming f) × (join i d.0 ≡ join j c.0) × (sayings (length outer) (sections_of f) d.0 ≡ ls ++ sayings (length outer) (sections_of g) c.0))
     → Pulls (record { own = record { items = i; filling = f }; outer = outer }) (record { own = record { items = j; filling = g }; outer = outer }) ls
 pull_own [] f g i j ls change k = change k
@@ -154,7 +154,7 @@ pull_own (frame ∷ outer) f g i j ls change k =
 
 -- ---- a node ends
 
-pull_end : (own : OpenList) (frame : Frame) (outer : List Frame) → optional own.filling.left ≡ true
+pull_end : (own : OpenList) (frame : OpenNode) (outer : List OpenNode) → optional own.filling.left ≡ true
     → Pulls (record { own = own; outer = frame ∷ outer }) (record { own = closed own frame; outer = outer }) (said_last (length outer) (row_of frame.kind).last)
 pull_end own frame outer done k = (
   ((Forest.nil, tt, done), k),
@@ -166,10 +166,10 @@ no_last : (level : ℕ) (last : Option (List ℕ)) → is_none last ≡ true →
 no_last level None h = refl
 no_last level (Some text) h = absurd (false≢true h)
 
-pull_lowered : (level : ℕ) (own : OpenList) (outer : List Frame) (after : Stack) → lowered level own outer ≡ Some after
+pull_lowered : (level : ℕ) (own : OpenList) (outer : List OpenNode) (after : OpenNodes) → lowered level own outer ≡ Some after
     → Pulls (record { own = own; outer = outer }) after []
 pull_lowered level own [] after e =
-    let plain : Some (let one : Stack = record { own = own; outer = [] } in one) ≡ Some after = e in
+    let plain : Some (let one : OpenNodes = record { own = own; outer = [] } in one) ≡ Some after = e in
     pull_same _ after (some_is plain)
 pull_lowered level own (frame ∷ outer) after e =
     go (λ list. pull_lowered level list outer after) (nat_le (suc (length outer)) level) e
@@ -190,7 +190,7 @@ pull_lowered level own (frame ∷ outer) after e =
         → (if b then Some (record { own = own; outer = frame ∷ outer }) else option_and_then (λ list. lowered level list outer) (shut own frame)) ≡ Some after
         → Pulls (record { own = own; outer = frame ∷ outer }) after []
     go more true e =
-        let plain : Some (let one : Stack = record { own = own; outer = frame ∷ outer } in one) ≡ Some after = e in
+        let plain : Some (let one : OpenNodes = record { own = own; outer = frame ∷ outer } in one) ≡ Some after = e in
         pull_same _ after (some_is plain)
     go more false e = below more (is_none (row_of frame.kind).last && optional own.filling.left) refl e
 
@@ -220,8 +220,8 @@ node_sound kind parts inner h e =
       elision = λ e. absurd (false≢true e);
     }
 
-pull_head : (own : OpenList) (outer : List Frame) (kind : NodeKind) (parts : List (Option PlainPhrase)) (next : Filling)
-    → IsSaying (Saying.head kind parts) → entry (sort_of kind) own.filling ≡ Some (record { before = None; next = next })
+pull_head : (own : OpenList) (outer : List OpenNode) (kind : NodeKind) (parts : List (Option PlainPhrase)) (next : Filling)
+    → IsSaying (Saying.head kind parts) → item_entry (sort_of kind) own.filling ≡ Some (record { before = None; next = next })
     → Pulls (record { own = own; outer = outer }) (opened_stack kind parts own.items next outer)
     (record { level = length outer; saying = Saying.head kind parts } ∷ [])
 pull_head own outer kind parts next h e k =
@@ -234,7 +234,7 @@ pull_head own outer kind parts next h e k =
     let sort : sort_of (kind_with kind inner) ≡ sort_of kind = sym (sort_shape (kind_with kind inner)) ∙ ap sort_of same in
     let own_lines = sayings (length outer + 1) (row_of kind).sections inner in
     let last = said_last (length outer) (row_of kind).last in
-    let comes : entry (sort_of (kind_with kind inner)) own.filling ≡ Some (record { before = None; next = next }) = ap (λ s. entry s own.filling) sort ∙ e in
+    let comes : item_entry (sort_of (kind_with kind inner)) own.filling ≡ Some (record { before = None; next = next }) = ap (λ s. item_entry s own.filling) sort ∙ e in
     let pulled =
     pull_own outer own.filling next own.items (join own.items (node_of frame inner)) (said ∷ (own_lines ++ last))
     (λ c. (
@@ -259,8 +259,8 @@ not_true true h = absurd (false≢true h)
 not_true false h = refl
 
 led_entry : (text : List ℕ) (going : Option Sort) (left : List PlainSection) (led : Filling) (sort : Sort) (item : Entry)
-    → apart (record { going = going; left = left }) ≡ true → led_sections text left ≡ Some led → entry sort led ≡ Some item
-    → (item.before ≡ None) × (entry sort (record { going = going; left = left }) ≡ Some (record { before = Some text; next = item.next }))
+    → apart (record { going = going; left = left }) ≡ true → led_sections text left ≡ Some led → item_entry sort led ≡ Some item
+    → (item.before ≡ None) × (item_entry sort (record { going = going; left = left }) ≡ Some (record { before = Some text; next = item.next }))
 led_entry text going [] led sort item h is e = absurd (none-some led is)
 led_entry text going (section ∷ left) led sort item h is e = go (is_text text section.lead) refl is
   where
@@ -273,10 +273,10 @@ led_entry text going (section ∷ left) led sort item h is e = go (is_text text 
     away (Some own) d s = ap (same_sort own) (sym s) ∙ not_true (same_sort own section.sort) d
 
     by : (b : Bool) → same_sort section.sort sort ≡ b → is_text text section.lead ≡ true
-        → (if b then Some (record { before = None; next = behind section.amount section.sort left }) else None) ≡ Some item
-        → (item.before ≡ None) × (entry sort (record { going = going; left = section ∷ left }) ≡ Some (record { before = Some text; next = item.next }))
+        → (if b then Some (record { before = None; next = filling_after section.amount section.sort left }) else None) ≡ Some item
+        → (item.before ≡ None) × (item_entry sort (record { going = going; left = section ∷ left }) ≡ Some (record { before = Some text; next = item.next }))
     by true s t e =
-        let plain : Some (let one : Entry = record { before = None; next = behind section.amount section.sort left } in one) ≡ Some item = e in
+        let plain : Some (let one : Entry = record { before = None; next = filling_after section.amount section.sort left } in one) ≡ Some item = e in
         let sort_is : section.sort ≡ sort = same_sort_is section.sort sort s in (
           sym (ap (λ (z : Entry). z.before) (some_is plain)),
           rw (away going (and_parts (differs going (section ∷ left)) (apart_sections (section ∷ left)) h).0 sort_is, s, text_is section.lead t)
@@ -286,10 +286,10 @@ led_entry text going (section ∷ left) led sort item h is e = go (is_text text 
 
     go : (b : Bool) → is_text text section.lead ≡ b
         → (if b then Some (unfilled (record section { lead = None } ∷ left)) else None) ≡ Some led
-        → (item.before ≡ None) × (entry sort (record { going = going; left = section ∷ left }) ≡ Some (record { before = Some text; next = item.next }))
+        → (item.before ≡ None) × (item_entry sort (record { going = going; left = section ∷ left }) ≡ Some (record { before = Some text; next = item.next }))
     go true t is =
         let plain : Some (unfilled (record section { lead = None } ∷ left)) ≡ Some led = is in
-        by (same_sort section.sort sort) refl t (ap (entry sort) (some_is plain) ∙ e)
+        by (same_sort section.sort sort) refl t (ap (item_entry sort) (some_is plain) ∙ e)
     go false t is = absurd (none-some led is)
 
 -- it is wanted by an item
@@ -317,7 +317,7 @@ led_apart text filling led h is = go filling.left (and_parts (differs filling.go
     go [] h is = absurd (none-some led is)
     go (section ∷ left) h is = by section left h (is_text text section.lead) is
 
-pull_lead : (own : OpenList) (frame : Frame) (outer : List Frame) (text : List ℕ) (led : Filling) → apart own.filling ≡ true
+pull_lead : (own : OpenList) (frame : OpenNode) (outer : List OpenNode) (text : List ℕ) (led : Filling) → apart own.filling ≡ true
     → led_sections text own.filling.left ≡ Some led
     → Pulls (record { own = own; outer = frame ∷ outer }) (record { own = record { items = own.items; filling = led }; outer = frame ∷ outer })
     (record { level = length outer; saying = Saying.lead text } ∷ [])
@@ -329,7 +329,7 @@ pull_lead own frame outer text led h is =
         × (sayings (suc (length outer)) (sections_of own.filling) d.0 ≡ (record { level = length outer; saying = Saying.lead text } ∷ []) ++ sayings (suc (length outer)) (sections_of led) more)
     go Forest.nil sound all = absurd (led_wanted text own.filling.left led is all)
     go (Forest.cons label inner rest) sound all =
-        let next = if_some_parts (λ (i : Entry). fills i.next (sorts rest)) (entry (sort_of label.kind) led) all in
+        let next = if_some_parts (λ (i : Entry). fills i.next (sorts rest)) (item_entry (sort_of label.kind) led) all in
         let comes = led_entry text own.filling.going own.filling.left led (sort_of label.kind) next.0 h is next.1 in
         let back : suc (length outer) - 1 ≡ length outer = omega arith in (
           (Forest.cons label inner rest, sound, ap (if_some (λ (i : Entry). fills i.next (sorts rest))) comes.1 ∙ next.2),
@@ -350,24 +350,24 @@ pull_lead own frame outer text led h is =
 -- ---- a line
 
 -- the lines lead on, and lists stay apart
-pub record Leads (from to : Stack) (ls : List Said) : Type 0 where
+pub record Leads (from to : OpenNodes) (ls : List Said) : Type 0 where
   pub pulls : Pulls from to ls
   pub apart_still : IsApart to
 
-height : (level : ℕ) (stack after : Stack) → at_height level stack ≡ Some after → (stack ≡ after) × (level ≡ length after.outer)
+height : (level : ℕ) (stack after : OpenNodes) → at_height level stack ≡ Some after → (stack ≡ after) × (level ≡ length after.outer)
 height level stack after e = go (length stack.outer == level) refl e
   where
     go : (b : Bool) → (length stack.outer == level) ≡ b → (if b then Some stack else None) ≡ Some after → (stack ≡ after) × (level ≡ length after.outer)
     go true h e =
         let plain : Some stack ≡ Some after = e in
-        (some_is plain, sym (eqb-true (length stack.outer) level h) ∙ ap (λ (s : Stack). length s.outer) (some_is plain))
+        (some_is plain, sym (eqb-true (length stack.outer) level h) ∙ ap (λ (s : OpenNodes). length s.outer) (some_is plain))
     go false h e = absurd (none-some after e)
 
-lowered_leads : (level : ℕ) (stack after : Stack) → IsApart stack → lowered_to level stack ≡ Some after
+lowered_leads : (level : ℕ) (stack after : OpenNodes) → IsApart stack → lowered_to level stack ≡ Some after
     → Leads stack after [] × (level ≡ length after.outer)
 lowered_leads level stack after h e = go (lowered level stack.own stack.outer) refl e
   where
-    go : (o : Option Stack) → lowered level stack.own stack.outer ≡ o → option_and_then (at_height level) o ≡ Some after
+    go : (o : Option OpenNodes) → lowered level stack.own stack.outer ≡ o → option_and_then (at_height level) o ≡ Some after
         → Leads stack after [] × (level ≡ length after.outer)
     go None l e = absurd (none-some after e)
     go (Some s) l e =
@@ -375,40 +375,40 @@ lowered_leads level stack after h e = go (lowered level stack.own stack.outer) r
         let down : lowered level stack.own stack.outer ≡ Some after = l ∙ ap (λ z. Some z) same.0 in
         (record { pulls = pull_lowered level stack.own stack.outer after down; apart_still = lowered_apart level stack.own stack.outer after h.0 h.1 down }, same.1)
 
-step_leads : (stack after : Stack) (level : ℕ) (saying : Saying) → IsSaying saying → IsApart stack → step_at stack level saying ≡ Some after
+step_leads : (stack after : OpenNodes) (level : ℕ) (saying : Saying) → IsSaying saying → IsApart stack → line_taken_at stack level saying ≡ Some after
     → Leads stack after (record { level = level; saying = saying } ∷ [])
 step_leads stack after level (Saying.head kind parts) h k e = go (lowered_to level stack) refl e
   where
-    at : (s : Stack) → lowered_to level stack ≡ Some s → (o : Option Filling) → advanced (sort_of kind) s.own.filling ≡ o
-        → option_map (with_frame kind parts s) o ≡ Some after → Leads stack after (record { level = level; saying = Saying.head kind parts } ∷ [])
+    at : (s : OpenNodes) → lowered_to level stack ≡ Some s → (o : Option Filling) → advanced (sort_of kind) s.own.filling ≡ o
+        → option_map (with_open_node kind parts s) o ≡ Some after → Leads stack after (record { level = level; saying = Saying.head kind parts } ∷ [])
     at s l None a e = absurd (none-some after e)
     at s l (Some next) a e =
         let down = lowered_leads level stack s k l in
         let comes = entered (sort_of kind) s.own.filling next a in
-        let plain : Some (with_frame kind parts s next) ≡ Some after = e in
+        let plain : Some (with_open_node kind parts s next) ≡ Some after = e in
         subst (λ z. Leads stack z (record { level = level; saying = Saying.head kind parts } ∷ [])) (some_is plain)
-        (subst (λ n. Leads stack (with_frame kind parts s next) (record { level = n; saying = Saying.head kind parts } ∷ [])) (sym down.1)
+        (subst (λ n. Leads stack (with_open_node kind parts s next) (record { level = n; saying = Saying.head kind parts } ∷ [])) (sym down.1)
         record {
           pulls =
-              pull_more stack s (with_frame kind parts s next) [] (record { level = length s.outer; saying = Saying.head kind parts } ∷ []) down.0.pulls
+              pull_more stack s (with_open_node kind parts s next) [] (record { level = length s.outer; saying = Saying.head kind parts } ∷ []) down.0.pulls
               (pull_head s.own s.outer kind parts next h comes);
           apart_still =
               (row_apart kind, (entry_apart (sort_of kind) s.own.filling (record { before = None; next = next }) down.0.apart_still.0 comes, down.0.apart_still.1));
         })
 
-    go : (o : Option Stack) → lowered_to level stack ≡ o → option_and_then (begun kind parts) o ≡ Some after
+    go : (o : Option OpenNodes) → lowered_to level stack ≡ o → option_and_then (begun kind parts) o ≡ Some after
         → Leads stack after (record { level = level; saying = Saying.head kind parts } ∷ [])
     go None l e = absurd (none-some after e)
     go (Some s) l e = at s l (advanced (sort_of kind) s.own.filling) refl e
 step_leads stack after level (Saying.lead text) h k e = go (lowered_to (suc level) stack) refl e
   where
-    by : (own : OpenList) (frame : Frame) (outer : List Frame) → lowered_to (suc level) stack ≡ Some (record { own = own; outer = frame ∷ outer })
+    by : (own : OpenList) (frame : OpenNode) (outer : List OpenNode) → lowered_to (suc level) stack ≡ Some (record { own = own; outer = frame ∷ outer })
         → (o : Option Filling) → led_sections text own.filling.left ≡ o
         → option_map (with_filling (record { own = own; outer = frame ∷ outer })) o ≡ Some after
         → Leads stack after (record { level = level; saying = Saying.lead text } ∷ [])
     by own frame outer l None a e = absurd (none-some after e)
     by own frame outer l (Some led) a e =
-        let s : Stack = record { own = own; outer = frame ∷ outer } in
+        let s : OpenNodes = record { own = own; outer = frame ∷ outer } in
         let down = lowered_leads (suc level) stack s k l in
         let plain : Some (with_filling s led) ≡ Some after = e in
         let level_is : level ≡ length outer = omega (arith, down.1) in
@@ -421,12 +421,12 @@ step_leads stack after level (Saying.lead text) h k e = go (lowered_to (suc leve
           apart_still = (led_apart text own.filling led down.0.apart_still.0 a, down.0.apart_still.1);
         })
 
-    at : (own : OpenList) (outer : List Frame) → lowered_to (suc level) stack ≡ Some (record { own = own; outer = outer })
+    at : (own : OpenList) (outer : List OpenNode) → lowered_to (suc level) stack ≡ Some (record { own = own; outer = outer })
         → led_in text (record { own = own; outer = outer }) outer ≡ Some after → Leads stack after (record { level = level; saying = Saying.lead text } ∷ [])
     at own [] l e = absurd (none-some after e)
     at own (frame ∷ outer) l e = by own frame outer l (led_sections text own.filling.left) refl e
 
-    go : (o : Option Stack) → lowered_to (suc level) stack ≡ o → option_and_then (λ s. led_in text s s.outer) o ≡ Some after
+    go : (o : Option OpenNodes) → lowered_to (suc level) stack ≡ o → option_and_then (λ s. led_in text s s.outer) o ≡ Some after
         → Leads stack after (record { level = level; saying = Saying.lead text } ∷ [])
     go None l e = absurd (none-some after e)
     go (Some s) l e = at s.own s.outer l e
@@ -436,15 +436,15 @@ step_leads stack after level (Saying.last text) h k e = go (lowered_to (suc leve
     text_is None t = absurd (false≢true t)
     text_is (Some own) t = ap (λ z. Some z) (sym ((bytes_eq-Decides text own).0 t))
 
-    by : (own : OpenList) (frame : Frame) (outer : List Frame) → lowered_to (suc level) stack ≡ Some (record { own = own; outer = frame ∷ outer })
+    by : (own : OpenList) (frame : OpenNode) (outer : List OpenNode) → lowered_to (suc level) stack ≡ Some (record { own = own; outer = frame ∷ outer })
         → (b : Bool) → (is_text text (row_of frame.kind).last && optional own.filling.left) ≡ b
         → (if b then Some (record { own = closed own frame; outer = outer }) else None) ≡ Some after
         → Leads stack after (record { level = level; saying = Saying.last text } ∷ [])
     by own frame outer l false a e = absurd (none-some after e)
     by own frame outer l true a e =
-        let s : Stack = record { own = own; outer = frame ∷ outer } in
+        let s : OpenNodes = record { own = own; outer = frame ∷ outer } in
         let down = lowered_leads (suc level) stack s k l in
-        let plain : Some (let one : Stack = record { own = closed own frame; outer = outer } in one) ≡ Some after = e in
+        let plain : Some (let one : OpenNodes = record { own = closed own frame; outer = outer } in one) ≡ Some after = e in
         let level_is : level ≡ length outer = omega (arith, down.1) in
         let both = and_parts (is_text text (row_of frame.kind).last) (optional own.filling.left) a in
         subst (λ z. Leads stack z (record { level = level; saying = Saying.last text } ∷ [])) (some_is plain)
@@ -457,24 +457,24 @@ step_leads stack after level (Saying.last text) h k e = go (lowered_to (suc leve
           apart_still = (down.0.apart_still.1.0, down.0.apart_still.1.1);
         })
 
-    at : (own : OpenList) (outer : List Frame) → lowered_to (suc level) stack ≡ Some (record { own = own; outer = outer })
+    at : (own : OpenList) (outer : List OpenNode) → lowered_to (suc level) stack ≡ Some (record { own = own; outer = outer })
         → ended_in text own outer ≡ Some after → Leads stack after (record { level = level; saying = Saying.last text } ∷ [])
     at own [] l e = absurd (none-some after e)
     at own (frame ∷ outer) l e = by own frame outer l (is_text text (row_of frame.kind).last && optional own.filling.left) refl e
 
-    go : (o : Option Stack) → lowered_to (suc level) stack ≡ o → option_and_then (λ s. ended_in text s.own s.outer) o ≡ Some after
+    go : (o : Option OpenNodes) → lowered_to (suc level) stack ≡ o → option_and_then (λ s. ended_in text s.own s.outer) o ≡ Some after
         → Leads stack after (record { level = level; saying = Saying.last text } ∷ [])
     go None l e = absurd (none-some after e)
     go (Some s) l e = at s.own s.outer l e
 
-pub run_leads : (stack after : Stack) (ls : List Said) → AreSayings ls → IsApart stack → run stack ls ≡ Some after → Leads stack after ls
+pub run_leads : (stack after : OpenNodes) (ls : List Said) → AreSayings ls → IsApart stack → lines_taken stack ls ≡ Some after → Leads stack after ls
 run_leads stack after [] h k e =
     let plain : Some stack ≡ Some after = e in
     record { pulls = pull_same stack after (some_is plain); apart_still = subst IsApart (some_is plain) k }
-run_leads stack after (said ∷ ls) h k e = go (λ s. run_leads s after ls h.1) (step stack said) refl e
+run_leads stack after (said ∷ ls) h k e = go (λ s. run_leads s after ls h.1) (line_taken stack said) refl e
   where
-    go : ((s : Stack) → IsApart s → run s ls ≡ Some after → Leads s after ls) → (o : Option Stack) → step stack said ≡ o
-        → option_and_then (λ s. run s ls) o ≡ Some after → Leads stack after (said ∷ ls)
+    go : ((s : OpenNodes) → IsApart s → lines_taken s ls ≡ Some after → Leads s after ls) → (o : Option OpenNodes) → line_taken stack said ≡ o
+        → option_and_then (λ s. lines_taken s ls) o ≡ Some after → Leads stack after (said ∷ ls)
     go more None l e = absurd (none-some after e)
     go more (Some s) l e =
         let first = step_leads stack s said.level said.saying h.0 k l in
@@ -559,7 +559,7 @@ comes filling h =
     let found = holes_come filling.going filling.left both.0 both.1 in
     (holes filling.left, found.0, found.1)
 
-continues : (filling : Filling) (outer : List Frame) → apart filling ≡ true → ApartFrames outer → Continues filling outer
+continues : (filling : Filling) (outer : List OpenNode) → apart filling ≡ true → ApartFrames outer → Continues filling outer
 continues filling [] h k = comes filling h
 continues filling (frame ∷ outer) h k = (comes filling h, continues frame.around.filling outer k.0 k.1)
 
@@ -568,7 +568,7 @@ continues filling (frame ∷ outer) h k = (comes filling h, continues frame.arou
 program_is : (k : Coming (unfilled program_sections)) → IsProgram k.0
 program_is k = record { listed = filled program_sections (sorts k.0) refl k.2; sound = k.1 }
 
-pub alive : (ls : List Said) (after : Stack) → AreSayings ls → run unread ls ≡ Some after
+pub alive : (ls : List Said) (after : OpenNodes) → AreSayings ls → lines_taken unread ls ≡ Some after
     → (items : Forest) × (more : List Said) × IsProgram items × (sayings 0 program_sections items ≡ ls ++ more)
 alive ls after h e =
     let leads = run_leads unread after ls h (refl, tt) e in
@@ -577,10 +577,10 @@ alive ls after h e =
     (back.0.0, remains after.own.filling after.outer k, program_is back.0, back.2)
 
 -- no node is open any more
-bottom : (own : OpenList) (outer : List Frame) (s : Stack) → lowered 0 own outer ≡ Some s → s.outer ≡ []
+bottom : (own : OpenList) (outer : List OpenNode) (s : OpenNodes) → lowered 0 own outer ≡ Some s → s.outer ≡ []
 bottom own [] s l =
-    let plain : Some (let one : Stack = record { own = own; outer = [] } in one) ≡ Some s = l in
-    sym (ap (λ (z : Stack). z.outer) (some_is plain))
+    let plain : Some (let one : OpenNodes = record { own = own; outer = [] } in one) ≡ Some s = l in
+    sym (ap (λ (z : OpenNodes). z.outer) (some_is plain))
 bottom own (frame ∷ outer) s l = go (λ list. bottom list outer s) (nat_le (suc (length outer)) 0) (lt-leb (suc (length outer)) 0 (omega arith)) l
   where
     below : ((list : OpenList) → lowered 0 list outer ≡ Some s → s.outer ≡ []) → (o : Option OpenList)
@@ -594,11 +594,11 @@ bottom own (frame ∷ outer) s l = go (λ list. bottom list outer s) (nat_le (su
     go more true n l = absurd (true≢false n)
     go more false n l = below more (shut own frame) l
 
-pub ended : (ls : List Said) (after : Stack) (items : Forest) → AreSayings ls → run unread ls ≡ Some after → program_of after ≡ Some items
+pub ended : (ls : List Said) (after : OpenNodes) (items : Forest) → AreSayings ls → lines_taken unread ls ≡ Some after → program_of after ≡ Some items
     → IsProgram items × (sayings 0 program_sections items ≡ ls)
 ended ls after items h e p = go (lowered 0 after.own after.outer) refl p
   where
-    at : (own : OpenList) (outer : List Frame) → outer ≡ [] → Leads unread (record { own = own; outer = outer }) ls → (b : Bool) → optional own.filling.left ≡ b
+    at : (own : OpenList) (outer : List OpenNode) → outer ≡ [] → Leads unread (record { own = own; outer = outer }) ls → (b : Bool) → optional own.filling.left ≡ b
         → (if b then Some own.items else None) ≡ Some items → IsProgram items × (sayings 0 program_sections items ≡ ls)
     at own outer none leads false o p = absurd (none-some items p)
     at own (frame ∷ outer) none leads true o p = absurd (omega (arith, ap length none))
@@ -608,7 +608,7 @@ ended ls after items h e p = go (lowered 0 after.own after.outer) refl p
         let same : back.0.0 ≡ items = back.1 ∙ join_nil own.items ∙ some_is plain in
         (subst IsProgram same (program_is back.0), sym (ap (sayings 0 program_sections) same) ∙ back.2 ∙ append-nil ls)
 
-    go : (o : Option Stack) → lowered 0 after.own after.outer ≡ o → option_and_then (λ s. finished s.own) o ≡ Some items
+    go : (o : Option OpenNodes) → lowered 0 after.own after.outer ≡ o → option_and_then (λ s. finished s.own) o ≡ Some items
         → IsProgram items × (sayings 0 program_sections items ≡ ls)
     go None l p = absurd (none-some items p)
     go (Some s) l p =

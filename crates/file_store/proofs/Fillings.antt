@@ -10,11 +10,11 @@ use Rattle.plcs_grammar.specs.declared.node_kind.NodeKind.{NodeKind}
 use Rattle.plcs_grammar.specs.declared.node_kind.Sort.{Sort}
 use Rattle.plcs_grammar.specs.declared.row.Amount.{Amount}
 use Rattle.plcs_grammar.specs.declared.template.Template.{Template}
-use Rattle.plcs_grammar.specs.Template.{PlainSection, row_of, program_sections, list_of, block, body, body_behind}
+use Rattle.plcs_grammar.specs.Template.{PlainSection, row_of, program_sections, list_of, procedure_sections, body, body_after}
 use Rattle.template_tree.specs.PlainTree.{Forest}
 use Rattle.template_tree.specs.Program.{AreItems, Fill, sorts, sort_of}
 use Rattle.template_tree.specs.Section.{same_sort, left_for, left_in, left_after, next_lead}
-use Rattle.file_store.specs.Private.Reader.{shape, Filling, Entry, unfilled, behind, first_entry, entry, unled, advanced, is_text, led_sections, optional, kind_with}
+use Rattle.file_store.specs.Private.Reader.{shape, Filling, Entry, unfilled, filling_after, first_entry, item_entry, unled, advanced, is_text, led_sections, optional, kind_with}
 
 -- whether a list may go on with these items and end behind them
 abbrev pub if_some : {X : Type 0} → (X → Bool) → Option X → Bool
@@ -23,7 +23,7 @@ if_some f (Some x) = f x
 
 abbrev pub fills : Filling → List Sort → Bool
 fills filling [] = optional filling.left
-fills filling (sort ∷ rest) = if_some (λ item. fills item.next rest) (entry sort filling)
+fills filling (sort ∷ rest) = if_some (λ item. fills item.next rest) (item_entry sort filling)
 
 -- the sections that are left, the list that goes on among them
 abbrev pub sections_with : Option Sort → List PlainSection → List PlainSection
@@ -74,22 +74,22 @@ first_here sort [] item e = absurd (none-some item e)
 first_here sort (section ∷ left) item e = go (same_sort section.sort sort) e
   where
     by_amount : (amount : Amount) → section.amount ≡ amount
-        → left_in amount section left ≡ sections_of (behind amount section.sort left)
+        → left_in amount section left ≡ sections_of (filling_after amount section.sort left)
     by_amount Amount.One h = refl
     by_amount Amount.Many h = ap (λ a. record { lead = None; sort = section.sort; amount = a } ∷ left) h
 
     go : (b : Bool)
-        → (if b then Some (record { before = section.lead; next = behind section.amount section.sort left }) else None) ≡ Some item
+        → (if b then Some (record { before = section.lead; next = filling_after section.amount section.sort left }) else None) ≡ Some item
         → (next_lead (if b then section ∷ left else left_for sort left) ≡ item.before)
         × (left_after (if b then section ∷ left else left_for sort left) ≡ sections_of item.next)
     go true e =
-        let plain : Some (record { before = section.lead; next = behind section.amount section.sort left }) ≡ Some item = e in
-        let same : record { before = section.lead; next = behind section.amount section.sort left } ≡ item = some_is plain in
+        let plain : Some (record { before = section.lead; next = filling_after section.amount section.sort left }) ≡ Some item = e in
+        let same : record { before = section.lead; next = filling_after section.amount section.sort left } ≡ item = some_is plain in
         (ap (λ (z : Entry). z.before) same, by_amount section.amount refl ∙ ap (λ (z : Entry). sections_of z.next) same)
     go false e = absurd (none-some item e)
 
 pub here : (sort : Sort) (going : Option Sort) (left : List PlainSection) (item : Entry)
-    → entry sort (record { going = going; left = left }) ≡ Some item
+    → item_entry sort (record { going = going; left = left }) ≡ Some item
     → (next_lead (left_for sort (sections_with going left)) ≡ item.before)
     × (left_after (left_for sort (sections_with going left)) ≡ sections_of item.next)
 here sort None left item e = first_here sort left item e
@@ -105,13 +105,13 @@ here sort (Some own) left item e = go (same_sort own sort) e
     go false e = first_here sort left item e
 
 -- an item before which no line is wanted
-pub enters : (sort : Sort) (filling : Filling) (item : Entry) → entry sort filling ≡ Some item → item.before ≡ None
+pub enters : (sort : Sort) (filling : Filling) (item : Entry) → item_entry sort filling ≡ Some item → item.before ≡ None
     → advanced sort filling ≡ Some item.next
 enters sort filling item e none = rw e (rw none refl)
 
 pub entered : (sort : Sort) (filling next : Filling) → advanced sort filling ≡ Some next
-    → entry sort filling ≡ Some (record { before = None; next = next })
-entered sort filling next e = go (entry sort filling) e
+    → item_entry sort filling ≡ Some (record { before = None; next = next })
+entered sort filling next e = go (item_entry sort filling) e
   where
     by : (before : Option (List ℕ)) (later : Filling) → (if is_none before then Some later else None) ≡ Some next
         → Some (let item : Entry = record { before = before; next = later } in item) ≡ Some (record { before = None; next = next })
@@ -127,16 +127,16 @@ entered sort filling next e = go (entry sort filling) e
 -- an item behind the line before it
 pub led_first : (sort : Sort) (left : List PlainSection) (item : Entry) (text : List ℕ) → first_entry sort left ≡ Some item
     → item.before ≡ Some text → is_text text (Some text) ≡ true
-    → (led : Filling) × (led_sections text left ≡ Some led) × (entry sort led ≡ Some (record { before = None; next = item.next }))
+    → (led : Filling) × (led_sections text left ≡ Some led) × (item_entry sort led ≡ Some (record { before = None; next = item.next }))
 led_first sort [] item text e lead same = absurd (none-some item e)
 led_first sort (section ∷ left) item text e lead same = go (same_sort section.sort sort) refl e
   where
     go : (b : Bool) → same_sort section.sort sort ≡ b
-        → (if b then Some (record { before = section.lead; next = behind section.amount section.sort left }) else None) ≡ Some item
-        → (led : Filling) × (led_sections text (section ∷ left) ≡ Some led) × (entry sort led ≡ Some (record { before = None; next = item.next }))
+        → (if b then Some (record { before = section.lead; next = filling_after section.amount section.sort left }) else None) ≡ Some item
+        → (led : Filling) × (led_sections text (section ∷ left) ≡ Some led) × (item_entry sort led ≡ Some (record { before = None; next = item.next }))
     go true h e =
-        let plain : Some (record { before = section.lead; next = behind section.amount section.sort left }) ≡ Some item = e in
-        let is : record { before = section.lead; next = behind section.amount section.sort left } ≡ item = some_is plain in
+        let plain : Some (record { before = section.lead; next = filling_after section.amount section.sort left }) ≡ Some item = e in
+        let is : record { before = section.lead; next = filling_after section.amount section.sort left } ≡ item = some_is plain in
         let own : section.lead ≡ Some text = ap (λ (z : Entry). z.before) is ∙ lead in (
           unfilled (record section { lead = None } ∷ left),
           rw own (rw same refl),
@@ -145,15 +145,15 @@ led_first sort (section ∷ left) item text e lead same = go (same_sort section.
     go false h e = absurd (none-some item e)
 
 pub led : (sort : Sort) (going : Option Sort) (left : List PlainSection) (item : Entry) (text : List ℕ)
-    → entry sort (record { going = going; left = left }) ≡ Some item
+    → item_entry sort (record { going = going; left = left }) ≡ Some item
     → item.before ≡ Some text → is_text text (Some text) ≡ true
-    → (led : Filling) × (led_sections text left ≡ Some led) × (entry sort led ≡ Some (record { before = None; next = item.next }))
+    → (led : Filling) × (led_sections text left ≡ Some led) × (item_entry sort led ≡ Some (record { before = None; next = item.next }))
 led sort None left item text e lead same = led_first sort left item text e lead same
 led sort (Some own) left item text e lead same = go (same_sort own sort) e
   where
     go : (b : Bool)
         → (if b then Some (record { before = None; next = record { going = Some own; left = left } }) else first_entry sort left) ≡ Some item
-        → (led : Filling) × (led_sections text left ≡ Some led) × (entry sort led ≡ Some (record { before = None; next = item.next }))
+        → (led : Filling) × (led_sections text left ≡ Some led) × (item_entry sort led ≡ Some (record { before = None; next = item.next }))
     go true e =
         let is : record { before = None; next = record { going = Some own; left = left } } ≡ item = some_is e in
         absurd (none-some text (ap (λ (z : Entry). z.before) is ∙ lead))
@@ -189,7 +189,7 @@ list_fills sort items (own, others, is, some, none) =
     rw (is, none, first.1, same_sort_refl sort) (fills_on sort first.0 [] [] first.2 refl)
 
 -- declarations and then statements
-pub block_fills : (items : List Sort) → Fill block items → fills (unfilled block) items ≡ true
+pub block_fills : (items : List Sort) → Fill procedure_sections items → fills (unfilled procedure_sections) items ≡ true
 block_fills items (own, others, is, some, (own_2, others_2, is_2, some_2, none)) =
     let first = some_items Sort.Declaration own some in
     let second = some_items Sort.Statement own_2 some_2 in
@@ -242,7 +242,7 @@ pub first_items : (amount : Amount) (sort : Sort) (before : Option (List ℕ)) (
     → (own others : List Sort) × (item ∷ items ≡ own ++ others) × AreItems amount sort own × (fills (unfilled left) others ≡ true)
 first_items amount sort before left item items e = go (same_sort sort item) refl e
   where
-    by_amount : (amount : Amount) → sort ≡ item → fills (behind amount sort left) items ≡ true
+    by_amount : (amount : Amount) → sort ≡ item → fills (filling_after amount sort left) items ≡ true
         → (own others : List Sort) × (item ∷ items ≡ own ++ others) × AreItems amount sort own × (fills (unfilled left) others ≡ true)
     by_amount Amount.One same e = (item ∷ [], items, refl, ap (λ i. i ∷ []) (sym same), e)
     by_amount Amount.Many same e =
@@ -255,7 +255,7 @@ first_items amount sort before left item items e = go (same_sort sort item) refl
         )
 
     go : (b : Bool) → same_sort sort item ≡ b
-        → if_some (λ (i : Entry). fills i.next items) (if b then Some (record { before = before; next = behind amount sort left }) else None) ≡ true
+        → if_some (λ (i : Entry). fills i.next items) (if b then Some (record { before = before; next = filling_after amount sort left }) else None) ≡ true
         → (own others : List Sort) × (item ∷ items ≡ own ++ others) × AreItems amount sort own × (fills (unfilled left) others ≡ true)
     go true h e = by_amount amount (same_sort_is sort item h) e
     go false h e = absurd (false≢true e)
@@ -283,7 +283,7 @@ pub node_filled : (kind : NodeKind) (items : Forest) → shape kind ≡ kind →
     → Fill (row_of (kind_with kind items)).sections (sorts items)
 node_filled (NodeKind.Filled Template.IfElse) Forest.nil h e = absurd (false≢true e)
 node_filled (NodeKind.Filled Template.IfElse) (Forest.cons label inner Forest.nil) h e =
-    let parts = first_items Amount.One Sort.Statement None (body_behind _ ∷ []) (sort_of label.kind) [] e in
+    let parts = first_items Amount.One Sort.Statement None (body_after _ ∷ []) (sort_of label.kind) [] e in
     filled (body ∷ []) (sort_of label.kind ∷ []) refl (go (sort_of label.kind) e)
   where
     go : (sort : Sort) → fills (unfilled (row_of (NodeKind.Filled Template.IfElse)).sections) (sort ∷ []) ≡ true

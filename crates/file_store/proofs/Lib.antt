@@ -13,7 +13,7 @@ pub mod ListedLines
 -- each answer of `read_listing`: what the reader has taken is the front of a listing
 pub mod Continuations
 -- `step` of the reader: the last of the open nodes is the innermost
-pub mod FrameStacks
+pub mod OpenNodes
 -- `read_segments` and `read_line`: what is read of a line is all that it may say
 pub mod PartTexts
 pub mod LineTexts

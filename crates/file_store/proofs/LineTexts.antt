@@ -8,38 +8,38 @@ use Rattle.plcs_grammar.specs.declared.template.Template.{Template}
 use Rattle.plcs_grammar.specs.Template.{row_of}
 use Rattle.file_store.specs.declared.reader.lines.TheConstants.{SHAPES}
 use Rattle.file_store.specs.Private.LineLaws.{LineLaws}
-use Rattle.file_store.specs.Private.LineReading.{AreNoSegments, OfEach, Says, SaysNothing, blanks}
+use Rattle.file_store.specs.Private.LineReading.{AreNoSegments, OfEach, Says, SaysNothing, blank_bytes}
 use Rattle.file_store.specs.Private.Reader.{shape, Said, Saying, IsSaying, text_of}
 use Rattle.file_store.proofs.Texts.{Begun, first_of_text, more_blanks, saying_begun}
 
 -- blanks tell the text behind them, whatever stands there
-level_tells : (a b : ℕ) (x y : List ℕ) → Begun x → ((rest : List ℕ) → y ≢ 32 ∷ (32 ∷ rest)) → blanks a ++ x ≡ blanks b ++ y → (a ≡ b) × (x ≡ y)
+level_tells : (a b : ℕ) (x y : List ℕ) → Begun x → ((rest : List ℕ) → y ≢ 32 ∷ (32 ∷ rest)) → blank_bytes a ++ x ≡ blank_bytes b ++ y → (a ≡ b) × (x ≡ y)
 level_tells zero zero x y h k e = (refl, e)
 level_tells zero (suc b) x y h k e = absurd (go x h (e ∙ ap (λ z. z ++ y) (more_blanks b)))
   where
-    go : (x : List ℕ) → Begun x → x ≡ (32 ∷ (32 ∷ blanks b)) ++ y → ⊥
+    go : (x : List ℕ) → Begun x → x ≡ (32 ∷ (32 ∷ blank_bytes b)) ++ y → ⊥
     go [] h e = h
     go (byte ∷ x) h e = h (ap (first_of_text 32) e)
-level_tells (suc a) zero x y h k e = absurd (k (blanks a ++ x) (sym e ∙ ap (λ z. z ++ x) (more_blanks a)))
+level_tells (suc a) zero x y h k e = absurd (k (blank_bytes a ++ x) (sym e ∙ ap (λ z. z ++ x) (more_blanks a)))
 level_tells (suc a) (suc b) x y h k e =
     let below = level_tells a b x y h k (append_cancel_left (32 ∷ (32 ∷ [])) _ _ (sym (ap (λ z. z ++ x) (more_blanks a)) ∙ e ∙ ap (λ z. z ++ y) (more_blanks b))) in
     (ap suc below.0, below.1)
 
-pub says_nothing : LineLaws → (level : ℕ) (line text : List ℕ) → line ≡ blanks level ++ text → ((rest : List ℕ) → text ≢ 32 ∷ (32 ∷ rest))
+pub says_nothing : LineLaws → (level : ℕ) (line text : List ℕ) → line ≡ blank_bytes level ++ text → ((rest : List ℕ) → text ≢ 32 ∷ (32 ∷ rest))
     → ((saying : Saying) → IsSaying saying → text_of saying ≢ text) → SaysNothing line
 says_nothing laws level line text is all none said h e =
     none said.saying h (level_tells said.level level (text_of said.saying) text (saying_begun laws said.saying h) all (e ∙ is)).1
 
-pub says : (line text : List ℕ) (said : Said) → line ≡ blanks said.level ++ text → IsSaying said.saying × (text_of said.saying ≡ text) → Says line said
-says line text said is h = (h.0, ap (λ z. blanks said.level ++ z) h.1 ∙ sym is)
+pub says : (line text : List ℕ) (said : Said) → line ≡ blank_bytes said.level ++ text → IsSaying said.saying × (text_of said.saying ≡ text) → Says line said
+says line text said is h = (h.0, ap (λ z. blank_bytes said.level ++ z) h.1 ∙ sym is)
 
 -- two blanks more
-pub next_level : (level : ℕ) (line rest more : List ℕ) → line ≡ blanks level ++ rest → rest ≡ 32 ∷ (32 ∷ more) → line ≡ blanks (level + 1) ++ more
+pub next_level : (level : ℕ) (line rest more : List ℕ) → line ≡ blank_bytes level ++ rest → rest ≡ 32 ∷ (32 ∷ more) → line ≡ blank_bytes (level + 1) ++ more
 next_level level line rest more is two =
-    is ∙ ap (λ z. blanks level ++ z) two ∙ sym (append_assoc (blanks level) (32 ∷ (32 ∷ [])) more)
-    ∙ ap (λ z. z ++ more) (blanks_behind level ∙ sym (ap blanks (add-one level)))
+    is ∙ ap (λ z. blank_bytes level ++ z) two ∙ sym (append_assoc (blank_bytes level) (32 ∷ (32 ∷ [])) more)
+    ∙ ap (λ z. z ++ more) (blanks_behind level ∙ sym (ap blank_bytes (add-one level)))
   where
-    blanks_behind : (level : ℕ) → blanks level ++ (32 ∷ (32 ∷ [])) ≡ blanks (suc level)
+    blanks_behind : (level : ℕ) → blank_bytes level ++ (32 ∷ (32 ∷ [])) ≡ blank_bytes (suc level)
     blanks_behind level = replicate-append-replicate (2 * level) 2 32 ∙ ap (λ k. replicate k 32) (omega arith)
 
 -- each shape is among those that are tried

@@ -11,14 +11,14 @@ use Rattle.plcs_grammar.specs.declared.template.Template.{Template}
 use Rattle.plcs_grammar.specs.PlainPhrase.{PlainPhrase}
 use Rattle.plcs_grammar.specs.Template.{PlainSection, row_of, program_sections}
 use Rattle.template_tree.specs.Line.{Line, fixed_line, head_line, lines, listing_lines, segments_text}
-use Rattle.template_tree.specs.Listing.{bytes_of}
+use Rattle.template_tree.specs.Listing.{bytes_of_lines}
 use Rattle.template_tree.specs.PlainTree.{Forest}
 use Rattle.template_tree.specs.Program.{AreNodes, AreParts, IsProgram, parts_of, sort_of}
 use Rattle.template_tree.specs.Section.{same_sort, left_for, left_in, left_after, next_lead}
-use Rattle.file_store.specs.ListedLine.{ListedLine, listed_fixed, listed, listed_program, text_of_lines}
+use Rattle.file_store.specs.ListedLine.{ListedLine, listed_fixed, listed_lines, listed_program, text_of_lines}
 use Rattle.file_store.specs.ListingLaws.{OneListing}
 use Rattle.file_store.specs.Private.LineLaws.{LineLaws}
-use Rattle.file_store.specs.Private.Reader.{shape, Saying, Said, text_of, opens, unread, run, program_of, said_lead, said_last, sayings}
+use Rattle.file_store.specs.Private.Reader.{shape, Saying, Said, text_of, opens, unread, lines_taken, program_of, said_lead, said_last, sayings}
 use Rattle.file_store.proofs.Arrivals.{program_arrives}
 use Rattle.file_store.proofs.Fillings.{some_is}
 use Rattle.file_store.proofs.Texts.{AreSayings, said_text, one_text}
@@ -46,7 +46,7 @@ pub shape_line : (kind : NodeKind) (parts : List (Option PlainPhrase)) → segme
 shape_line (NodeKind.Filled Template.If) parts = refl
 shape_line kind parts = refl
 
-pub rows_are : (level : ℕ) (left : List PlainSection) (items : Forest) → map listed_row (sayings level left items) ≡ listed level left items
+pub rows_are : (level : ℕ) (left : List PlainSection) (items : Forest) → map listed_row (sayings level left items) ≡ listed_lines level left items
 rows_are level left Forest.nil = refl
 rows_are level left (Forest.cons label inner rest) =
     let here = left_for (sort_of label.kind) left in
@@ -58,7 +58,7 @@ rows_are level left (Forest.cons label inner rest) =
     ∙ rw (lead_row (level - 1) (next_lead here), shape_line label.kind label.parts)
     (ap (λ z. listed_fixed (level - 1) (next_lead here) ++ (record { line = head_line level label; opens = true } ∷ z))
     (map_more own (last ++ more) ∙ rw (rows_are (level + 1) (row_of label.kind).sections inner)
-    (ap (λ z. listed (level + 1) (row_of label.kind).sections inner ++ z)
+    (ap (λ z. listed_lines (level + 1) (row_of label.kind).sections inner ++ z)
     (map_more last more ∙ rw (last_row level (row_of label.kind).last, rows_are level (left_after here) rest) refl))))
 
 abbrev line_of : ListedLine → Line
@@ -72,13 +72,13 @@ fixed_lines : (level : ℕ) (text : Option (List ℕ)) → map line_of (listed_f
 fixed_lines level None = refl
 fixed_lines level (Some text) = refl
 
-pub lines_are : (level : ℕ) (left : List PlainSection) (items : Forest) → map line_of (listed level left items) ≡ lines false level left items
+pub lines_are : (level : ℕ) (left : List PlainSection) (items : Forest) → map line_of (listed_lines level left items) ≡ lines false level left items
 lines_are level left Forest.nil = refl
 lines_are level left (Forest.cons label inner rest) =
     let here = left_for (sort_of label.kind) left in
-    let own = listed (level + 1) (row_of label.kind).sections inner in
+    let own = listed_lines (level + 1) (row_of label.kind).sections inner in
     let last = listed_fixed level (row_of label.kind).last in
-    let more = listed level (left_after here) rest in
+    let more = listed_lines level (left_after here) rest in
     map_lines (listed_fixed (level - 1) (next_lead here)) (record { line = head_line level label; opens = true } ∷ (own ++ (last ++ more)))
     ∙ rw (fixed_lines (level - 1) (next_lead here))
     (ap (λ z. fixed_line (level - 1) (next_lead here) ++ (head_line level label ∷ z))
@@ -95,10 +95,10 @@ text_said [] = refl
 text_said (said ∷ ls) = ap (λ z. said_bytes said ++ (10 ∷ z)) (text_said ls)
 
 -- the listing of a program is the text of its lines
-pub listing_said : (items : Forest) → bytes_of (listing_lines items) ≡ said_text (sayings 0 program_sections items)
+pub listing_said : (items : Forest) → bytes_of_lines (listing_lines items) ≡ said_text (sayings 0 program_sections items)
 listing_said items =
-    ap bytes_of (sym (lines_are 0 program_sections items))
-    ∙ ap (λ rows. bytes_of (map line_of rows)) (sym (rows_are 0 program_sections items))
+    ap bytes_of_lines (sym (lines_are 0 program_sections items))
+    ∙ ap (λ rows. bytes_of_lines (map line_of rows)) (sym (rows_are 0 program_sections items))
     ∙ text_said (sayings 0 program_sections items)
 
 -- ---- each line says something
@@ -192,5 +192,5 @@ one_program laws a b x h k =
     let same = one_text laws (sayings 0 program_sections a) (sayings 0 program_sections b) (program_sayings a h.program) (program_sayings b k.program) text in
     let first = program_arrives a h.program in
     let second = program_arrives b k.program in
-    let stacks : first.0 ≡ second.0 = some_is (sym first.1 ∙ ap (run unread) same ∙ second.1) in
+    let stacks : first.0 ≡ second.0 = some_is (sym first.1 ∙ ap (lines_taken unread) same ∙ second.1) in
     some_is (sym first.2 ∙ ap program_of stacks ∙ second.2)

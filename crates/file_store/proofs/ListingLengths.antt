@@ -19,11 +19,11 @@ use Rattle.template_tree.specs.Limit.{deepest_path, most_slots}
 use Rattle.template_tree.specs.Line.{part_text, segments_text}
 use Rattle.template_tree.specs.Listing.{Listing, Spells}
 use Rattle.template_tree.specs.PlainTree.{Forest}
-use Rattle.template_tree.specs.Program.{AreNodes, AreParts, IsPart, IsPhrase, IsProgram, parts_of, sort_of}
+use Rattle.template_tree.specs.Program.{AreNodes, AreParts, IsPart, IsPartPhrase, IsProgram, parts_of, sort_of}
 use Rattle.template_tree.specs.Section.{left_for, left_after, next_lead}
 use Rattle.template_tree.specs.Slots.{count, depth}
 use Rattle.file_store.specs.Limit.{longest_listing}
-use Rattle.file_store.specs.Private.LineReading.{blanks, said_bytes}
+use Rattle.file_store.specs.Private.LineReading.{blank_bytes, said_bytes}
 use Rattle.file_store.specs.Private.Reader.{Said, Saying, shape, said_lead, said_last, sayings, text_of}
 use Rattle.file_store.proofs.ListedLines.{else_leads, last_sayings, lead_sayings, leads_after, leads_for, listing_said, row_leads, shape_line}
 use Rattle.file_store.proofs.ReadListings.{said_append}
@@ -64,7 +64,7 @@ name_short : (phrase : PlainPhrase) → HasReading Category.Variable (Canon phra
 name_short phrase (inl (pieces, cut)) = form_short phrase pieces cut.cuts cut.form.0 cut.form.1
 name_short phrase (inr comment) = let e : Category.Variable ≡ Category.CommentText = comment.category_is in absurd (cc)
 
-phrase_short : (category : Category) (phrase : PlainPhrase) → IsPhrase category phrase → length (Canon phrase) ≤ most_of category
+phrase_short : (category : Category) (phrase : PlainPhrase) → IsPartPhrase category phrase → length (Canon phrase) ≤ most_of category
 phrase_short Category.Variable phrase h = name_short phrase h.well_formed.0
 phrase_short category phrase h = h.short
 
@@ -114,7 +114,7 @@ line_length said rest =
     omega (
       arith,
       length-append (said_bytes said) (10 ∷ said_text rest),
-      length-append (blanks said.level) (text_of said.saying),
+      length-append (blank_bytes said.level) (text_of said.saying),
       length-replicate {A = ℕ} (2 * said.level) 32,
     )
 

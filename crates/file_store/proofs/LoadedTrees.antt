@@ -14,7 +14,7 @@ use Rattle.template_tree.specs.Slots.{count, depth, with_slots_from}
 use Rattle.template_tree.specs.Tree.{IsTree}
 use Rattle.template_tree.specs.Bare.{Bare}
 use Rattle.file_store.specs.Loaded.{IsListingOf}
-use Rattle.file_store.specs.Private.Reader.{program_of, run, sayings, unread}
+use Rattle.file_store.specs.Private.Reader.{program_of, lines_taken, sayings, unread}
 use Rattle.file_store.specs.Private.Reading.{Come}
 use Rattle.file_store.proofs.Arrivals.{program_arrives}
 use Rattle.file_store.proofs.Continuations.{ended}
@@ -136,7 +136,7 @@ loaded x rest come list tree far empty e is is_tree =
     let all = program_arrives (roomless items) read.0 in
     let same : sayings 0 program_sections (roomless items) ≡ far.ls = sayings_alike (roomless items) items (bare_roomless items) ∙ read.1 in
     let bare : roomless items ≡ Bare (roomless items) =
-    some_is (sym e ∙ ap program_of (some_is (sym far.ran ∙ ap (run unread) (sym same) ∙ all.1)) ∙ all.2) in
+    some_is (sym e ∙ ap program_of (some_is (sym far.ran ∙ ap (lines_taken unread) (sym same) ∙ all.1)) ∙ all.2) in
     let sayings_are : far.ls ≡ sayings 0 program_sections (with_slots_from 0 items) =
     sym read.1 ∙ sayings_alike items (with_slots_from 0 items) (sym (bare_slots 0 items)) in
     let items_are : tree.items ≡ with_slots_from 0 items = ap (λ (t : PlainTree). t.items) is in

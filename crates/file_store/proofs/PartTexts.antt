@@ -21,7 +21,7 @@ use Rattle.template_tree.specs.Program.{IsPart, may_be_empty}
 use Rattle.file_store.specs.declared.reader.fault.ReadFault.{ReadFault}
 use Rattle.file_store.specs.Private.Gives.{Finds, LacksUnless}
 use Rattle.file_store.specs.Private.LineLaws.{LineLaws}
-use Rattle.file_store.specs.Private.LineReading.{AreNoSegments, AreReadBehind, IsCut, IsFront, IsNoPart, IsPartText, IsSegmentsText, taken_off}
+use Rattle.file_store.specs.Private.LineReading.{AreNoSegments, AreReadAfter, IsCut, IsLineFront, IsNoPart, IsPartText, IsSegmentsText, taken_off}
 use Rattle.file_store.proofs.Fillings.{some_is}
 use Rattle.file_store.proofs.Heads.{line_part}
 
@@ -109,9 +109,9 @@ own_part category x phrase well same short = (record { well_formed = well; short
 -- ---- the part at the front
 
 pub last_front : (category : Category) (w x text : List ℕ) (part : Option PlainPhrase) (segments : List PlainSegment) → segments ≡ PlainSegment.words w ∷ []
-    → x ≡ text ++ w → IsPartText category text part → IsFront category segments x part [] []
+    → x ≡ text ++ w → IsPartText category text part → IsLineFront category segments x part [] []
 last_front category w x text part segments shape is h =
-    subst (λ s. IsFront category s x part [] []) (sym shape)
+    subst (λ s. IsLineFront category s x part [] []) (sym shape)
     record {
       whole = λ parts k. ends parts k;
       only = λ none. absurd (none [] tt refl);
@@ -149,9 +149,9 @@ divides category w (segment ∷ later) some h = h
 
 pub divided_front : LineLaws → (category : Category) (w x text rest : List ℕ) (part : Option PlainPhrase) (segments later : List PlainSegment)
     → segments ≡ PlainSegment.words w ∷ later → (later ≡ [] → ⊥) → IsCut (PlainSegment.part category ∷ segments)
-    → cut_at w x ≡ Some (text, rest) → IsPartText category text part → IsFront category segments x part later rest
+    → cut_at w x ≡ Some (text, rest) → IsPartText category text part → IsLineFront category segments x part later rest
 divided_front laws category w x text rest part segments later shape some cut is h =
-    subst (λ s. IsFront category s x part later rest) (sym shape)
+    subst (λ s. IsLineFront category s x part later rest) (sym shape)
     record {
       whole = λ parts k. ((h.0, k.0), ap (λ z. z ++ (w ++ segments_text later parts)) h.1 ∙ ap (λ z. text ++ (w ++ z)) k.1 ∙ sym joined);
       only = λ none. go none;
@@ -225,23 +225,23 @@ other_words w x segments none parts h e = none (segments_text segments parts) (s
 -- ---- all parts of a line
 
 pub nothing_read : (segments : List PlainSegment) (x : List ℕ) (parts : List (Option PlainPhrase)) → segments ≡ [] → x ≡ []
-    → AreReadBehind segments x parts parts
+    → AreReadAfter segments x parts parts
 nothing_read segments x parts none is =
-    subst (λ s. AreReadBehind s x parts parts) (sym none) ([], sym (append-nil parts), (tt, sym is))
+    subst (λ s. AreReadAfter s x parts parts) (sym none) ([], sym (append-nil parts), (tt, sym is))
 
 pub no_nothing : (segments : List PlainSegment) (x : List ℕ) → segments ≡ [] → (x ≡ [] → ⊥) → AreNoSegments segments x
 no_nothing segments x none some = subst (λ s. AreNoSegments s x) (sym none) (λ parts h e. some (sym e))
 
 pub words_read : (w x rest : List ℕ) (segments later : List PlainSegment) (parts all : List (Option PlainPhrase))
-    → segments ≡ PlainSegment.words w ∷ later → x ≡ w ++ rest → AreReadBehind later rest parts all → AreReadBehind segments x parts all
+    → segments ≡ PlainSegment.words w ∷ later → x ≡ w ++ rest → AreReadAfter later rest parts all → AreReadAfter segments x parts all
 words_read w x rest segments later parts all shape is h =
-    subst (λ s. AreReadBehind s x parts all) (sym shape) (h.0, h.1, words_text w x rest later h.0 is h.2)
+    subst (λ s. AreReadAfter s x parts all) (sym shape) (h.0, h.1, words_text w x rest later h.0 is h.2)
 
 pub part_read : (category : Category) (x rest : List ℕ) (part : Option PlainPhrase) (segments behind later : List PlainSegment) (parts next all : List (Option PlainPhrase))
-    → segments ≡ PlainSegment.part category ∷ behind → IsFront category behind x part later rest → next ≡ parts ++ (part ∷ [])
-    → AreReadBehind later rest next all → AreReadBehind segments x parts all
+    → segments ≡ PlainSegment.part category ∷ behind → IsLineFront category behind x part later rest → next ≡ parts ++ (part ∷ [])
+    → AreReadAfter later rest next all → AreReadAfter segments x parts all
 part_read category x rest part segments behind later parts next all shape front pushed h =
-    subst (λ s. AreReadBehind s x parts all) (sym shape)
+    subst (λ s. AreReadAfter s x parts all) (sym shape)
     (part ∷ h.0, h.1 ∙ ap (λ z. z ++ h.0) pushed ∙ append_assoc parts (part ∷ []) h.0, front.whole h.0 h.2)
 
 pub no_words_read : (w x rest : List ℕ) (segments later : List PlainSegment) → segments ≡ PlainSegment.words w ∷ later → x ≡ w ++ rest
@@ -249,7 +249,7 @@ pub no_words_read : (w x rest : List ℕ) (segments later : List PlainSegment) �
 no_words_read w x rest segments later shape is none =
     subst (λ s. AreNoSegments s x) (sym shape) (no_words_text w x rest later is none)
 
-pub read_whole : (segments : List PlainSegment) (x : List ℕ) (parts all : List (Option PlainPhrase)) → parts ≡ [] → AreReadBehind segments x parts all
+pub read_whole : (segments : List PlainSegment) (x : List ℕ) (parts all : List (Option PlainPhrase)) → parts ≡ [] → AreReadAfter segments x parts all
     → IsSegmentsText segments x all
 read_whole segments x parts all none h =
     subst (λ z. IsSegmentsText segments x z) (sym (h.1 ∙ ap (λ z. z ++ h.0) none)) h.2

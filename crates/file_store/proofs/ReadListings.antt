@@ -17,7 +17,7 @@ use Rattle.file_store.specs.ListedLine.{ListedLine, listed_program, text_of_line
 use Rattle.file_store.specs.Loaded.{BeginsListing, Fine, HasNoEnd, NextLine, OpensTooDeep, OpensTooMany, RefusalSays, Refused, opened}
 use Rattle.file_store.specs.Private.LineLaws.{LineLaws}
 use Rattle.file_store.specs.Private.LineReading.{Says, said_bytes}
-use Rattle.file_store.specs.Private.Reader.{shape, Said, Saying, Stack, opens, program_of, run, sayings, said_lead, said_last, step, unread}
+use Rattle.file_store.specs.Private.Reader.{shape, Said, Saying, OpenNodes, opens, program_of, lines_taken, sayings, said_lead, said_last, line_taken, unread}
 use Rattle.file_store.specs.Private.Reading.{Come, GoesOn, IsPast, IsLineRefused, IsTaken}
 use Rattle.file_store.proofs.Arrivals.{program_arrives, run_append}
 use Rattle.file_store.proofs.Continuations.{alive}
@@ -38,7 +38,7 @@ pub record SoFar (x rest : List ℕ) (come : Come) : Type 0 where
   pub ls : List Said
   pub sayings : AreSayings ls
   pub is : x ≡ said_text ls ++ rest
-  pub ran : run unread ls ≡ Some come.stack
+  pub ran : lines_taken unread ls ≡ Some come.stack
   pub lines : come.lines ≡ length ls
   pub opened : come.opened ≡ opened_in ls
   pub shallow : AreShallow ls
@@ -63,10 +63,10 @@ shallow_append : (a : List Said) (said : Said) → AreShallow a → (opens said.
 shallow_append [] said h k = (k, tt)
 shallow_append (x ∷ a) said h k = (h.0, shallow_append a said h.1 k)
 
-run_more : (ls : List Said) (said : Said) (stack : Stack) → run unread ls ≡ Some stack → run unread (ls ++ (said ∷ [])) ≡ step stack said
-run_more ls said stack e = run_append ls (said ∷ []) unread ∙ ap (option_and_then (λ s. run s (said ∷ []))) e ∙ one (step stack said)
+run_more : (ls : List Said) (said : Said) (stack : OpenNodes) → lines_taken unread ls ≡ Some stack → lines_taken unread (ls ++ (said ∷ [])) ≡ line_taken stack said
+run_more ls said stack e = run_append ls (said ∷ []) unread ∙ ap (option_and_then (λ s. lines_taken s (said ∷ []))) e ∙ one (line_taken stack said)
   where
-    one : (o : Option Stack) → option_and_then (λ s. run s []) o ≡ o
+    one : (o : Option OpenNodes) → option_and_then (λ s. lines_taken s []) o ≡ o
     one None = refl
     one (Some s) = refl
 
@@ -104,7 +104,7 @@ all_shallow : (ls : List Said) → AreShallow ls → All (λ row. OpensTooDeep r
 all_shallow [] h = λ k d i. absurd (omega (arith, i))
 all_shallow (said ∷ ls) h = All-cons (λ row. OpensTooDeep row → ⊥) (listed_row said) (map listed_row ls) (not_deep said h.0) (all_shallow ls h.1)
 
-begins : (ls : List Said) (stack : Stack) → AreSayings ls → run unread ls ≡ Some stack → BeginsListing (map listed_row ls)
+begins : (ls : List Said) (stack : OpenNodes) → AreSayings ls → lines_taken unread ls ≡ Some stack → BeginsListing (map listed_row ls)
 begins ls stack h e =
     let goes = alive ls stack h e in
     (goes.0, map listed_row goes.1, goes.2, sym (rows_are 0 program_sections goes.0) ∙ ap (map listed_row) goes.3 ∙ map_more ls goes.1)
@@ -140,13 +140,13 @@ next_says laws ls items line y h noend spells =
         let both = first_lines line (said_bytes said) y (said_text rest) noend (no_end _ (line_printable laws said k.0)) e in
         (said, rest, (k.0, sym both.0), is)
 
-runs_on : (ls rest : List Said) (said : Said) (items : Forest) (stack : Stack) → IsProgram items → sayings 0 program_sections items ≡ ls ++ (said ∷ rest)
-    → run unread ls ≡ Some stack → step stack said ≡ None → ⊥
+runs_on : (ls rest : List Said) (said : Said) (items : Forest) (stack : OpenNodes) → IsProgram items → sayings 0 program_sections items ≡ ls ++ (said ∷ rest)
+    → lines_taken unread ls ≡ Some stack → line_taken stack said ≡ None → ⊥
 runs_on ls rest said items stack program is ran none =
     let all = program_arrives items program in
     none-some all.0
-    (sym (run_append ls (said ∷ rest) unread ∙ ap (option_and_then (λ s. run s (said ∷ rest))) ran ∙ ap (option_and_then (λ s. run s rest)) none)
-    ∙ ap (run unread) (sym is) ∙ all.1)
+    (sym (run_append ls (said ∷ rest) unread ∙ ap (option_and_then (λ s. lines_taken s (said ∷ rest))) ran ∙ ap (option_and_then (λ s. lines_taken s rest)) none)
+    ∙ ap (lines_taken unread) (sym is) ∙ all.1)
 
 next_line : (x rest line more : List ℕ) (come : Come) (far : SoFar x rest come) (said : Said) → GoesOn line come said → rest ≡ line ++ (10 ∷ more)
     → (P : List ListedLine → ListedLine → Type 0) → P (map listed_row far.ls) (listed_row said) → NextLine x P
@@ -229,7 +229,7 @@ unfinished laws x rest come k short far empty is none = (
         sym (append-nil (said_text far.ls)) ∙ ap (λ z. said_text far.ls ++ z) (sym empty) ∙ sym far.is ∙ spells.listed ∙ listing_said items in
         let same = one_text laws far.ls (sayings 0 program_sections items) far.sayings (program_sayings items spells.program) text in
         let all = program_arrives items spells.program in
-        let stack : come.stack ≡ all.0 = some_is (sym far.ran ∙ ap (run unread) same ∙ all.1) in
+        let stack : come.stack ≡ all.0 = some_is (sym far.ran ∙ ap (lines_taken unread) same ∙ all.1) in
         none-some _ (sym none ∙ ap program_of stack ∙ all.2)
 
 -- ---- the limits of a whole listing
@@ -294,7 +294,7 @@ few_lines x rest come far = omega (arith, far.lines, said_long far.ls, ap length
 pub line_left : (rest line more : List ℕ) → rest ≡ line ++ (10 ∷ more) → 1 ≤ length rest
 line_left rest line more is = omega (arith, ap length is, length-append line (10 ∷ more))
 
-pub past_refused : (line : List ℕ) (come : Come) (said : Said) (after : Stack) (refusal : FileRefusal) → Says line said → step come.stack said ≡ Some after
+pub past_refused : (line : List ℕ) (come : Come) (said : Said) (after : OpenNodes) (refusal : FileRefusal) → Says line said → line_taken come.stack said ≡ Some after
     → IsPast (opens said.saying) said.level come.opened (Some refusal) → IsLineRefused line come refusal
 past_refused line come said after FileRefusal.TooDeep h s past = (said, (after, h, s, past.0), past.1)
 past_refused line come said after FileRefusal.TooLarge h s past = (said, (after, h, s, past.0), past.1, past.2)

@@ -18,7 +18,7 @@ use Rattle.template_tree.specs.Line.{part_text, segments_text}
 use Rattle.template_tree.specs.Program.{AreParts, IsPart, parts_of}
 use Rattle.file_store.specs.Loaded.{HasNoEnd}
 use Rattle.file_store.specs.Private.LineLaws.{LineLaws}
-use Rattle.file_store.specs.Private.LineReading.{blanks, said_bytes}
+use Rattle.file_store.specs.Private.LineReading.{blank_bytes, said_bytes}
 use Rattle.file_store.specs.Private.Reader.{Saying, Said, text_of, IsSaying}
 use Rattle.file_store.proofs.Heads.{one_saying}
 
@@ -135,23 +135,23 @@ nil_cons byte rest e = omega (arith, ap length e)
 
 -- ---- levels
 
-pub more_blanks : (level : ℕ) → blanks (suc level) ≡ 32 ∷ (32 ∷ blanks level)
+pub more_blanks : (level : ℕ) → blank_bytes (suc level) ≡ 32 ∷ (32 ∷ blank_bytes level)
 more_blanks level = ap (λ n. replicate n 32) (two_more level)
   where
     two_more : (level : ℕ) → 2 * suc level ≡ suc (suc (2 * level))
     two_more level = omega arith
 
 -- blanks before a text tell its level
-pub one_level : (a b : ℕ) (x y : List ℕ) → Begun x → Begun y → blanks a ++ x ≡ blanks b ++ y → (a ≡ b) × (x ≡ y)
+pub one_level : (a b : ℕ) (x y : List ℕ) → Begun x → Begun y → blank_bytes a ++ x ≡ blank_bytes b ++ y → (a ≡ b) × (x ≡ y)
 one_level zero zero x y h k e = (refl, e)
 one_level zero (suc b) x y h k e = absurd (go x h (e ∙ ap (λ z. z ++ y) (more_blanks b)))
   where
-    go : (x : List ℕ) → Begun x → x ≡ (32 ∷ (32 ∷ blanks b)) ++ y → ⊥
+    go : (x : List ℕ) → Begun x → x ≡ (32 ∷ (32 ∷ blank_bytes b)) ++ y → ⊥
     go [] h e = h
     go (byte ∷ x) h e = h (ap (first_of_text 32) e)
 one_level (suc a) zero x y h k e = absurd (go y k (sym e ∙ ap (λ z. z ++ x) (more_blanks a)))
   where
-    go : (y : List ℕ) → Begun y → y ≡ (32 ∷ (32 ∷ blanks a)) ++ x → ⊥
+    go : (y : List ℕ) → Begun y → y ≡ (32 ∷ (32 ∷ blank_bytes a)) ++ x → ⊥
     go [] h e = h
     go (byte ∷ y) h e = h (ap (first_of_text 32) e)
 one_level (suc a) (suc b) x y h k e =
@@ -173,7 +173,7 @@ blanks_printable zero = refl
 blanks_printable (suc n) = blanks_printable n
 
 pub line_printable : LineLaws → (said : Said) → IsSaying said.saying → IsTrue (printable (said_bytes said))
-line_printable laws said h = printable_append (blanks said.level) (text_of said.saying) (blanks_printable (2 * said.level)) (saying_printable laws said.saying h)
+line_printable laws said h = printable_append (blank_bytes said.level) (text_of said.saying) (blanks_printable (2 * said.level)) (saying_printable laws said.saying h)
 
 pub one_line : LineLaws → (x y : Said) → IsSaying x.saying → IsSaying y.saying → said_bytes x ≡ said_bytes y → x ≡ y
 one_line laws x y h k e =

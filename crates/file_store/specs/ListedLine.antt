@@ -2,7 +2,7 @@
 use Rattle.std.specs.Prelude.{ℕ, ◌+◌, ◌-◌, Bool, true, false, List, [], ◌∷◌, ◌++◌, map, Option}
 use Rattle.plcs_grammar.specs.Template.{PlainSection, row_of, program_sections}
 use Rattle.template_tree.specs.Line.{Line, fixed_line, head_line}
-use Rattle.template_tree.specs.Listing.{bytes_of}
+use Rattle.template_tree.specs.Listing.{bytes_of_lines}
 use Rattle.template_tree.specs.PlainTree.{Forest}
 use Rattle.template_tree.specs.Program.{sort_of}
 use Rattle.template_tree.specs.Section.{left_for, left_after, next_lead}
@@ -18,20 +18,20 @@ listed_fixed level text = map (λ line. record { line = line; opens = false }) (
 
 -- the lines of a listing that nodes in order have at a level, each with whether a node begins in it, where these
 -- sections are left for the nodes; nothing is elided in them
-abbrev pub listed : (level : ℕ) (left : List PlainSection) → Forest → List ListedLine
-listed level left Forest.nil = []
-listed level left (Forest.cons label inner rest) =
+abbrev pub listed_lines : (level : ℕ) (left : List PlainSection) → Forest → List ListedLine
+listed_lines level left Forest.nil = []
+listed_lines level left (Forest.cons label inner rest) =
     let here = left_for (sort_of label.kind) left in
     listed_fixed (level - 1) (next_lead here)
     ++ (record { line = head_line level label; opens = true }
-    ∷ (listed (level + 1) (row_of label.kind).sections inner
+    ∷ (listed_lines (level + 1) (row_of label.kind).sections inner
     ++ (listed_fixed level (row_of label.kind).last
-    ++ listed level (left_after here) rest)))
+    ++ listed_lines level (left_after here) rest)))
 
 -- the lines of a program's listing, each with whether a node begins in it
 abbrev pub listed_program : Forest → List ListedLine
-listed_program = listed 0 program_sections
+listed_program = listed_lines 0 program_sections
 
 -- the bytes of these lines of a listing, each with its line end
 abbrev pub text_of_lines : List ListedLine → List ℕ
-text_of_lines rows = bytes_of (map (λ row. row.line) rows)
+text_of_lines rows = bytes_of_lines (map (λ row. row.line) rows)

@@ -21,15 +21,15 @@ mod lines;
 mod open_list;
 mod parts;
 mod said;
-mod stack;
+mod open_nodes;
 
 use crate::limit::LONGEST_LISTING;
 use crate::line_laws::line_laws;
 use crate::reader::fault::ReadFault;
 use crate::reader::lines::read_line;
-use crate::reader::open_list::Stack;
+use crate::reader::open_list::OpenNodes;
 use crate::reader::said::Saying;
-use crate::reader::stack::{finish, step};
+use crate::reader::open_nodes::{finish, line_taken};
 use crate::refusal::FileRefusal;
 use std::alloc::Global;
 use template_tree::{DEEPEST_PATH, MOST_SLOTS, Nodes, Tree};
@@ -60,7 +60,7 @@ fn read_lines(alloc: Global, bytes: &[u8]) -> Result<Tree, FileRefusal>
         return Err(FileRefusal::TooLong);
     }
     let mut reader = Reader {
-        stack: Stack::new(alloc),
+        stack: OpenNodes::new(alloc),
         lines: 0,
         opened: 0,
     };
@@ -86,7 +86,7 @@ fn read_lines(alloc: Global, bytes: &[u8]) -> Result<Tree, FileRefusal>
 /// How far the reader of a listing has come.
 #[derive(Drop)]
 struct Reader {
-    stack: Stack,
+    stack: OpenNodes,
     /// How many lines were read.
     lines: u32,
     /// In how many of them a node began.
@@ -115,7 +115,7 @@ impl Reader {
         };
         let level = said.level;
         let opens = opens(&said.saying);
-        let stack = match step(alloc, stack, said) {
+        let stack = match line_taken(alloc, stack, said) {
             Ok(stack) => stack,
             Err(ReadFault::OutOfMemory) => return Err(FileRefusal::OutOfMemory),
             Err(ReadFault::Refused) => return Err(FileRefusal::NotAListing(lines + 1)),

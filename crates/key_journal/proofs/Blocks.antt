@@ -5,7 +5,7 @@ use Rattle.std.proofs.lemmas.Grind.{common_steps}
 use Rattle.std.proofs.lemmas.Bool.Decides.{nat_tests}
 use Rattle.std.proofs.lemmas.List.{take-append-drop}
 use Rattle.std.proofs.Math.Seq.{take-append_seam, drop-append-add}
-use Rattle.key_journal.specs.Disk.{Torn, written}
+use Rattle.key_journal.specs.Disk.{Torn, overwritten}
 use Rattle.key_journal.specs.Recovered.{recovered}
 use Rattle.key_journal.specs.Private.Stages.{blocks, IsShut, IsCut}
 
@@ -85,7 +85,7 @@ image_front at front rest bytes image many whole same =
 
 -- the bytes with a piece written behind the front
 pub written_front : (at : ℕ) (front rest bytes piece : List ℕ) → length front ≡ at →
-    bytes ≡ front ++ rest → written bytes at piece ≡ front ++ (piece ++ drop (length piece) rest)
+    bytes ≡ front ++ rest → overwritten bytes at piece ≡ front ++ (piece ++ drop (length piece) rest)
 written_front at front rest bytes piece many whole =
     rw (whole, ← many, take-append_seam front rest, drop-append-add front rest (length piece))
     (append_assoc front piece (drop (length piece) rest))
@@ -120,7 +120,7 @@ torn_key count bytes image shut torn =
 
 -- a key that is written behind its gate
 pub written_key : (count key : ℕ) (bytes : List ℕ) (shut : IsShut count bytes) →
-    (has : HasKey count key (written bytes (2 * count + 1) (key ∷ 0 ∷ []))) × (has.keys ≡ shut.keys)
+    (has : HasKey count key (overwritten bytes (2 * count + 1) (key ∷ 0 ∷ []))) × (has.keys ≡ shut.keys)
 written_key count key bytes shut =
     let whole : bytes ≡ (blocks shut.keys ++ shut.gate ∷ []) ++ shut.rest =
     shut.whole ∙ sym (append_assoc (blocks shut.keys) (shut.gate ∷ []) shut.rest) in (
@@ -179,11 +179,11 @@ key_recovers count key bytes has =
 
 -- a gate that is opened
 pub written_gate : (count key : ℕ) (bytes : List ℕ) (has : HasKey count key bytes) →
-    (shut : IsShut (count + 1) (written bytes (2 * count) (1 ∷ []))) × (shut.keys ≡ has.keys ++ key ∷ [])
+    (shut : IsShut (count + 1) (overwritten bytes (2 * count) (1 ∷ []))) × (shut.keys ≡ has.keys ++ key ∷ [])
 written_gate count key bytes has =
     let many : length (blocks has.keys) ≡ 2 * count =
     length_blocks has.keys ∙ ap (λ (n : ℕ). 2 * n) has.many in
-    let open_gate : written bytes (2 * count) (1 ∷ []) ≡ blocks has.keys ++ 1 ∷ key ∷ 0 ∷ has.rest =
+    let open_gate : overwritten bytes (2 * count) (1 ∷ []) ≡ blocks has.keys ++ 1 ∷ key ∷ 0 ∷ has.rest =
     written_front (2 * count) (blocks has.keys) (has.gate ∷ key ∷ 0 ∷ has.rest) bytes (1 ∷ []) many has.whole in (
       record {
         keys = has.keys ++ key ∷ [];
@@ -212,7 +212,7 @@ torn_cut count bytes image cut torn =
 
 -- and whole
 pub written_cut : (count : ℕ) (bytes : List ℕ) → IsCut count bytes →
-    IsShut count (written bytes (2 * count) (0 ∷ []))
+    IsShut count (overwritten bytes (2 * count) (0 ∷ []))
 written_cut count bytes cut =
     let many : length (blocks cut.keys) ≡ 2 * count =
     length_blocks cut.keys ∙ ap (λ (n : ℕ). 2 * n) cut.many in

@@ -8,7 +8,7 @@ use Rattle.key_journal.specs.Crash.{LeavesAtLeast, LeavesOneOf, Throughout}
 use Rattle.key_journal.specs.Disk.{DiskState, Newest}
 use Rattle.key_journal.specs.Journal.{left_of_both}
 use Rattle.key_journal.specs.JournalRead.{Ends, ReadsKey}
-use Rattle.key_journal.specs.Recovered.{recovered, kept}
+use Rattle.key_journal.specs.Recovered.{recovered, kept_keys}
 use Rattle.key_journal.proofs.Moments.{newest_after, not_empty, throughout_weaker}
 
 -- the element at a place, as the first behind it
@@ -169,8 +169,8 @@ gives_fault left left_after given past now buf fault least reads room = record {
 
   loses : (left left_after : Option (List ℕ)) (past now : List DiskState) → Newest (LeavesAtLeast given) past →
       length reads.taken ≤ 1 → Consumes left left_after reads.taken →
-      (reads.taken ≡ []) ⊎ (drop given (kept past) ≡ []) →
-      Throughout (LeavesOneOf (kept past) reads.taken) past now →
+      (reads.taken ≡ []) ⊎ (drop given (kept_keys past) ≡ []) →
+      Throughout (LeavesOneOf (kept_keys past) reads.taken) past now →
       LosesAtMost (left_of_both left past given) (left_of_both left_after now given) (length buf)
   loses None left_after past now least few consumes behind each =
       none_lost None (left_of_both left_after now given) tt

@@ -4,9 +4,9 @@ use Rattle.std.specs.Prelude.{OnOk, OnErr}
 use Rattle.synth_outside.specs.Cause.{HasCause}
 use Rattle.key_journal.specs.ClearedJournal.{Clears, CouldLeave, LeavesNothingOr}
 use Rattle.key_journal.specs.Crash.{LeavesAtLeast, LeavesOnly, Throughout}
-use Rattle.key_journal.specs.Disk.{DiskState, Leaves, Newest, Syncs, Tears, Torn, Writes, with_range, with_sync, written}
+use Rattle.key_journal.specs.Disk.{DiskState, Leaves, Newest, Syncs, Tears, Torn, WritesToDisk, with_range, with_sync, overwritten}
 use Rattle.key_journal.specs.OpenedJournal.{OpensDisk}
-use Rattle.key_journal.specs.Recovered.{recovered, kept}
+use Rattle.key_journal.specs.Recovered.{recovered, kept_keys}
 use Rattle.key_journal.specs.declared.disk.DiskFault.{DiskFault}
 use Rattle.key_journal.proofs.Blocks.{shut_recovers, torn_first}
 use Rattle.key_journal.proofs.Moments.{newest_after, throughout_same, throughout_one}
@@ -15,7 +15,7 @@ use Rattle.key_journal.proofs.SyncedWrites.{torn_written}
 use Rattle.key_journal.proofs.FoundKeys.{synced_leaves}
 
 -- once it is synced, a crash leaves the kept keys alone
-pub sync_safe : (past now : List DiskState) → Syncs past now → Newest (LeavesOnly (kept past)) now
+pub sync_safe : (past now : List DiskState) → Syncs past now → Newest (LeavesOnly (kept_keys past)) now
 sync_safe [] now syncs =
     subst (λ (states : List DiskState). Newest (LeavesOnly []) states) (sym syncs) tt
 sync_safe (state ∷ past) now syncs =
@@ -70,11 +70,11 @@ clear_fails (state ∷ past) now fault least tears =
     clears_so (state ∷ past) now (Err fault) each tt
 
 -- nothing is recovered behind a first gate that was shut
-zero_first : (bytes : List ℕ) → recovered (written bytes 0 (0 ∷ [])) ≡ []
+zero_first : (bytes : List ℕ) → recovered (overwritten bytes 0 (0 ∷ [])) ≡ []
 zero_first bytes = shut_recovers 0 (drop 1 bytes) (λ never. cc)
 
 pub clear_ends : {E : Type 0} (past between now : List DiskState) (result : Result (Unit {0}) E) →
-    Newest (LeavesAtLeast 1) past → Writes 0 (0 ∷ []) past between →
+    Newest (LeavesAtLeast 1) past → WritesToDisk 0 (0 ∷ []) past between →
     OnOk result (Syncs between now) → OnErr result (now ≡ between) → Clears {E = E} past now result
 clear_ends [] between now (Ok done) least writes syncs same =
     let none : now ≡ [] = subst (λ (states : List DiskState). Syncs states now) writes syncs in
@@ -82,10 +82,10 @@ clear_ends [] between now (Ok done) least writes syncs same =
 clear_ends [] between now (Err fault) least writes syncs same =
     clears_so [] now (Err fault) (same ∙ writes) tt
 clear_ends (state ∷ past) between now (Ok done) least writes syncs same =
-    let next : DiskState = with_range state 0 1 (written state.bytes 0 (0 ∷ [])) in
+    let next : DiskState = with_range state 0 1 (overwritten state.bytes 0 (0 ∷ [])) in
     let is : now ≡ with_sync next ∷ next ∷ state ∷ past = subst (λ (states : List DiskState). Syncs states now) writes syncs in
     let torn : LeavesNothingOr (state ∷ past) next =
-    first_torn state past (written state.bytes 0 (0 ∷ [])) least
+    first_torn state past (overwritten state.bytes 0 (0 ∷ [])) least
     (torn_written 0 (0 ∷ []) state.bytes (omega arith)) in
     clears_so (state ∷ past) now (Ok done) (
       with_sync next ∷ next ∷ [],
@@ -106,6 +106,6 @@ clear_ends (state ∷ past) between now (Ok done) least writes syncs same =
 clear_ends (state ∷ past) between now (Err fault) least writes syncs same =
     clears_so (state ∷ past) now (Err fault)
     (throughout_one _ state past _ now (same ∙ writes)
-    (first_torn state past (written state.bytes 0 (0 ∷ [])) least
+    (first_torn state past (overwritten state.bytes 0 (0 ∷ [])) least
     (torn_written 0 (0 ∷ []) state.bytes (omega arith))))
     tt

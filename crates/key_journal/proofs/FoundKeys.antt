@@ -4,13 +4,13 @@ use Rattle.std.specs.Prelude.{slice_get}
 use Rattle.std.proofs.lemmas.Grind.{common_steps}
 use Rattle.std.proofs.lemmas.Result.{on_ok_weaker}
 use Rattle.key_journal.specs.Crash.{LeavesOnly, Throughout}
-use Rattle.key_journal.specs.Disk.{DiskState, Newest, bytes_of, written as written_to}
+use Rattle.key_journal.specs.Disk.{DiskState, Newest, disk_bytes, overwritten as written_to}
 use Rattle.key_journal.specs.JournalRead.{Gave}
-use Rattle.key_journal.specs.Recovered.{recovered, kept}
+use Rattle.key_journal.specs.Recovered.{recovered, kept_keys}
 use Rattle.key_journal.specs.Private.Keeping.{FindsKey, ShutsGate, Replays}
-use Rattle.key_journal.specs.Private.Stages.{Begins, IsAppending, IsCutOff, IsReplaying, IsShut, blocks}
+use Rattle.key_journal.specs.Private.Stages.{BeginsWithGate, IsAppending, IsCutOff, IsReplaying, IsShut, blocks}
 use Rattle.key_journal.specs.Private.Writes.{IsSynced, IsSyncedAs, IsTornFrom, WritesSynced}
-use Rattle.key_journal.specs.declared.stage.Block.TheVariants.{Open, Shut, Cut}
+use Rattle.key_journal.specs.declared.stage.GateContent.TheVariants.{Open, Shut, Cut}
 use Rattle.key_journal.proofs.Blocks.{blocks_of, recovered_blocks, length_blocks, torn_cut, written_cut}
 use Rattle.key_journal.proofs.Moments.{throughout_same, throughout_weaker}
 use Rattle.key_journal.proofs.SyncedWrites.{synced_images}
@@ -33,7 +33,7 @@ taken_length count keys enough = grind (arith, common_steps)
 
 -- an open gate stands behind so many keys
 found_open : (given key : ℕ) (state : DiskState) → IsReplaying given state →
-    Begins (Open key) (drop (2 * given) state.bytes) →
+    BeginsWithGate (Open key) (drop (2 * given) state.bytes) →
     Gave given key (recovered state.bytes) state × IsReplaying (given + 1) state
 found_open given key state replaying begins =
     let keys : List ℕ = recovered state.bytes in
@@ -55,14 +55,14 @@ found_open given key state replaying begins =
     )
 
 pub finds_open : (given key : ℕ) (past : List DiskState) → Newest (IsReplaying given) past →
-    Newest (λ state. Begins (Open key) (drop (2 * given) state.bytes)) past →
-    FindsKey (Some key) given (kept past) past
+    Newest (λ state. BeginsWithGate (Open key) (drop (2 * given) state.bytes)) past →
+    FindsKey (Some key) given (kept_keys past) past
 finds_open given key [] replaying begins = (tt, tt)
 finds_open given key (state ∷ past) replaying begins = found_open given key state replaying begins
 
 -- a gate that isn't open stands there
 pub finds_shut : (given : ℕ) (past : List DiskState) → Newest (IsReplaying given) past →
-    Newest (λ state. Begins Shut (drop (2 * given) state.bytes)) past →
+    Newest (λ state. BeginsWithGate Shut (drop (2 * given) state.bytes)) past →
     Newest (IsAppending given) past
 finds_shut given [] replaying begins = tt
 finds_shut given (state ∷ past) replaying begins = record {
@@ -80,7 +80,7 @@ finds_shut given (state ∷ past) replaying begins = record {
 
 -- less than a block stands there
 pub finds_cut : (given : ℕ) (past : List DiskState) → Newest (IsReplaying given) past →
-    Newest (λ state. Begins Cut (drop (2 * given) state.bytes)) past → Newest (IsCutOff given) past
+    Newest (λ state. BeginsWithGate Cut (drop (2 * given) state.bytes)) past → Newest (IsCutOff given) past
 finds_cut given [] replaying begins = tt
 finds_cut given (state ∷ past) replaying begins = record {
   synced = replaying.synced;
@@ -109,8 +109,8 @@ cut_synced given (state ∷ past) cut = cut.synced
 
 -- once the gate is shut
 gate_shut : (given : ℕ) (past now : List DiskState) → Newest (IsCutOff given) past →
-    Throughout (IsTornFrom (2 * given) 1 (bytes_of past)) past now →
-    Newest (IsSyncedAs (written_to (bytes_of past) (2 * given) (0 ∷ []))) now →
+    Throughout (IsTornFrom (2 * given) 1 (disk_bytes past)) past now →
+    Newest (IsSyncedAs (written_to (disk_bytes past) (2 * given) (0 ∷ []))) now →
     Newest (IsAppending given) now
 gate_shut given [] now cut each done =
     subst (λ (states : List DiskState). Newest (IsAppending given) states) (sym each) tt
@@ -121,8 +121,8 @@ gate_shut given (state ∷ past) (next ∷ now) cut each done = record {
 }
 
 cut_moments : (given : ℕ) (past now : List DiskState) → Newest (IsCutOff given) past →
-    Throughout (IsTornFrom (2 * given) 1 (bytes_of past)) past now →
-    Throughout (LeavesOnly (kept past)) past now
+    Throughout (IsTornFrom (2 * given) 1 (disk_bytes past)) past now →
+    Throughout (LeavesOnly (kept_keys past)) past now
 cut_moments given [] now cut each = each
 cut_moments given (state ∷ past) now cut each =
     throughout_weaker _ _ (state ∷ past) now
@@ -143,17 +143,17 @@ shuts_gate given past now result cut written = record {
 -- a kept key is found, and nothing is written
 pub replays_open : {E : Type 0} (given key : ℕ) (past now : List DiskState) →
     Newest (IsReplaying given) past →
-    Newest (λ state. Begins (Open key) (drop (2 * given) state.bytes)) past → now ≡ past →
+    Newest (λ state. BeginsWithGate (Open key) (drop (2 * given) state.bytes)) past → now ≡ past →
     Replays {E = E} given past now (Ok (Some key))
 replays_open given key past now replaying begins same = record {
   each = throughout_same _ past now same;
-  found = subst (λ (states : List DiskState). FindsKey (Some key) given (kept past) states) (sym same) (finds_open given key past replaying begins);
+  found = subst (λ (states : List DiskState). FindsKey (Some key) given (kept_keys past) states) (sym same) (finds_open given key past replaying begins);
 }
 
 -- none is found behind a gate that isn't open
 pub replays_shut : {E : Type 0} (given : ℕ) (past now : List DiskState) →
     Newest (IsReplaying given) past →
-    Newest (λ state. Begins Shut (drop (2 * given) state.bytes)) past → now ≡ past →
+    Newest (λ state. BeginsWithGate Shut (drop (2 * given) state.bytes)) past → now ≡ past →
     Replays {E = E} given past now (Ok None)
 replays_shut given past now replaying begins same = record {
   each = throughout_same _ past now same;

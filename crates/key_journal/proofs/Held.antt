@@ -3,7 +3,7 @@ use Rattle.std.proofs.Common.{◌≡◌, ℕ, ◌+◌, ◌≤◌, ◌⊎◌, inl
 use Rattle.key_journal.specs.JournalRead.{ReadsKey}
 use Rattle.key_journal.specs.Crash.{LeavesAtLeast, LeavesOneOf, Throughout}
 use Rattle.key_journal.specs.Disk.{DiskState, Newest}
-use Rattle.key_journal.specs.Recovered.{recovered, kept}
+use Rattle.key_journal.specs.Recovered.{recovered, kept_keys}
 use Rattle.key_journal.specs.Private.Stages.{HoldsAt, Stays}
 use Rattle.key_journal.specs.declared.stage.Stage.{Stage}
 use Rattle.key_journal.specs.declared.stage.Stage.TheVariants.{Unsynced, Replaying, Appending}
@@ -35,7 +35,7 @@ holds_least Appending given (state ∷ past) holds =
 
 -- a call that leaves the kept keys or more leaves at least as many
 pub least_after : (given : ℕ) (taken : List ℕ) (past now : List DiskState) →
-    Newest (LeavesAtLeast given) past → Throughout (LeavesOneOf (kept past) taken) past now →
+    Newest (LeavesAtLeast given) past → Throughout (LeavesOneOf (kept_keys past) taken) past now →
     Newest (LeavesAtLeast given) now
 least_after given taken [] now least each =
     newest_after (LeavesAtLeast given) [] now tt each

@@ -2,8 +2,8 @@
 use Rattle.std.proofs.Common.{◌≡◌, ℕ, ◌+◌, ◌*◌, ◌≤◌, ◌⊎◌, inl, List, [], ◌∷◌, ◌++◌, length, refl, sym, ap, ◌∙◌, subst, arith, length-append, Ok, Err, Result}
 use Rattle.std.proofs.lemmas.Result.{on_ok_weaker}
 use Rattle.key_journal.specs.Crash.{LeavesOnly, LeavesOneOf, Throughout}
-use Rattle.key_journal.specs.Disk.{DiskState, Torn, Newest, bytes_of, written as written_to}
-use Rattle.key_journal.specs.Recovered.{recovered, kept}
+use Rattle.key_journal.specs.Disk.{DiskState, Torn, Newest, disk_bytes, overwritten as written_to}
+use Rattle.key_journal.specs.Recovered.{recovered, kept_keys}
 use Rattle.key_journal.specs.Private.Keeping.{KeepsKey}
 use Rattle.key_journal.specs.Private.Stages.{IsAppending, IsShut, blocks}
 use Rattle.key_journal.specs.Private.Writes.{IsSynced, IsSyncedAs, IsTornFrom, WritesSynced}
@@ -19,8 +19,8 @@ pub record Stands (given key : ℕ) (keys : List ℕ) (state : DiskState) : Type
 
 -- the key stands behind its gate
 pub record PutsKey (given key : ℕ) (past between : List DiskState) : Type 0 where
-  pub each : Throughout (LeavesOneOf (kept past) (key ∷ [])) past between
-  pub stands : Newest (Stands given key (kept past)) between
+  pub each : Throughout (LeavesOneOf (kept_keys past) (key ∷ [])) past between
+  pub stands : Newest (Stands given key (kept_keys past)) between
 
 -- the gate's place and the key's are within the disk
 pub key_within : (given : ℕ) (past : List DiskState) → Newest (IsAppending given) past →
@@ -54,8 +54,8 @@ stands_synced given key keys (state ∷ past) stands = stands.synced
 
 -- while the key is written, the same keys are recovered
 pub key_moments : (given key : ℕ) (past between : List DiskState) → Newest (IsAppending given) past →
-    Throughout (IsTornFrom (2 * given + 1) 2 (bytes_of past)) past between →
-    Throughout (LeavesOneOf (kept past) (key ∷ [])) past between
+    Throughout (IsTornFrom (2 * given + 1) 2 (disk_bytes past)) past between →
+    Throughout (LeavesOneOf (kept_keys past) (key ∷ [])) past between
 key_moments given key [] between appending each = each
 key_moments given key (state ∷ past) between appending each =
     throughout_weaker _ _ (state ∷ past) between
@@ -67,9 +67,9 @@ key_moments given key (state ∷ past) between appending each =
 
 -- once it is written it stands there
 key_stands : (given key : ℕ) (past between : List DiskState) → Newest (IsAppending given) past →
-    Throughout (IsTornFrom (2 * given + 1) 2 (bytes_of past)) past between →
-    Newest (IsSyncedAs (written_to (bytes_of past) (2 * given + 1) (key ∷ 0 ∷ []))) between →
-    Newest (Stands given key (kept past)) between
+    Throughout (IsTornFrom (2 * given + 1) 2 (disk_bytes past)) past between →
+    Newest (IsSyncedAs (written_to (disk_bytes past) (2 * given + 1) (key ∷ 0 ∷ []))) between →
+    Newest (Stands given key (kept_keys past)) between
 key_stands given key [] between appending each done =
     subst (λ (states : List DiskState). Newest (Stands given key []) states) (sym each) tt
 key_stands given key (state ∷ past) [] appending each done = tt
@@ -99,7 +99,7 @@ puts_key given key past between appending written = record {
 -- where the key isn't written whole
 pub key_fails : {E : Type 0} (given key : ℕ) (past now : List DiskState) (fault : E) →
     Newest (IsAppending given) past →
-    Throughout (IsTornFrom (2 * given + 1) 2 (bytes_of past)) past now →
+    Throughout (IsTornFrom (2 * given + 1) 2 (disk_bytes past)) past now →
     KeepsKey {E = E} given key past now (Err fault)
 key_fails given key past now fault appending each =
     record { each = key_moments given key past now appending each; safe = tt; holds = tt }
@@ -107,7 +107,7 @@ key_fails given key past now fault appending each =
 -- while the gate is opened, the key is recovered or isn't
 gate_moments : (given key : ℕ) (keys : List ℕ) (between now : List DiskState) →
     Newest (Stands given key keys) between →
-    Throughout (IsTornFrom (2 * given) 1 (bytes_of between)) between now →
+    Throughout (IsTornFrom (2 * given) 1 (disk_bytes between)) between now →
     Throughout (LeavesOneOf keys (key ∷ [])) between now
 gate_moments given key keys [] now stands each = each
 gate_moments given key keys (state ∷ past) now stands each =
@@ -125,8 +125,8 @@ gate_moments given key keys (state ∷ past) now stands each =
 -- once it is open
 gate_open : (given key : ℕ) (keys : List ℕ) (between now : List DiskState) →
     Newest (Stands given key keys) between →
-    Throughout (IsTornFrom (2 * given) 1 (bytes_of between)) between now →
-    Newest (IsSyncedAs (written_to (bytes_of between) (2 * given) (1 ∷ []))) now →
+    Throughout (IsTornFrom (2 * given) 1 (disk_bytes between)) between now →
+    Newest (IsSyncedAs (written_to (disk_bytes between) (2 * given) (1 ∷ []))) now →
     Newest (LeavesOnly (keys ++ key ∷ [])) now × Newest (IsAppending (given + 1)) now
 gate_open given key keys [] now stands each done =
     subst (λ (states : List DiskState). Newest (LeavesOnly (keys ++ key ∷ [])) states × Newest (IsAppending (given + 1)) states) (sym each) (tt, tt)
@@ -152,12 +152,12 @@ pub keeps_key : {E : Type 0} (given key : ℕ) (past between now : List DiskStat
     WritesSynced {E = E} (2 * given) (1 ∷ []) between now result →
     KeepsKey {E = E} given key past now result
 keeps_key given key past between now result puts written =
-    let whole : Newest (IsSyncedAs (written_to (bytes_of between) (2 * given) (1 ∷ []))) now →
-    Newest (LeavesOnly (kept past ++ key ∷ [])) now × Newest (IsAppending (given + 1)) now =
-    gate_open given key (kept past) between now puts.stands written.each in
+    let whole : Newest (IsSyncedAs (written_to (disk_bytes between) (2 * given) (1 ∷ []))) now →
+    Newest (LeavesOnly (kept_keys past ++ key ∷ [])) now × Newest (IsAppending (given + 1)) now =
+    gate_open given key (kept_keys past) between now puts.stands written.each in
     record {
       each = throughout_both _ past between now puts.each
-          (gate_moments given key (kept past) between now puts.stands written.each);
+          (gate_moments given key (kept_keys past) between now puts.stands written.each);
       safe = on_ok_weaker result (λ done. (whole done).0) written.done;
       holds = on_ok_weaker result (λ done. (whole done).1) written.done;
     }

@@ -3,7 +3,7 @@ use Rattle.std.proofs.Common.{◌≡◌, ℕ, ◌+◌, ◌-◌, ◌≤◌, ◌^�
 use Rattle.std.specs.Prelude.{fold}
 use Rattle.std.proofs.lemmas.Grind.{common_steps}
 use Rattle.std.proofs.lemmas.List.Sums.{fold-append}
-use Rattle.key_journal.specs.Disk.{DiskState, Newest, bytes_of, with_range, with_sync, written}
+use Rattle.key_journal.specs.Disk.{DiskState, Newest, disk_bytes, with_range, with_sync, overwritten}
 use Rattle.key_journal.specs.MemDisk.{empty_state, states, with_call}
 use Rattle.key_journal.specs.Private.MemDiskFields.{HoldsBytes}
 use Rattle.key_journal.specs.declared.mem_disk.DiskCall.{DiskCall}
@@ -14,7 +14,7 @@ told_from : (calls : List DiskCall) (state : DiskState) (past : List DiskState) 
     (next : DiskState) × (older : List DiskState) × (fold with_call (state ∷ past) calls ≡ next ∷ older)
 told_from [] state past = (state, past, refl)
 told_from (Write at piece ∷ calls) state past =
-    told_from calls (with_range state at (length piece) (written state.bytes at piece)) (state ∷ past)
+    told_from calls (with_range state at (length piece) (overwritten state.bytes at piece)) (state ∷ past)
 told_from (Sync ∷ calls) state past = told_from calls (with_sync state) (state ∷ past)
 
 -- one call more puts one state in front
@@ -28,24 +28,24 @@ pub place_within : (at : ℕ) (bytes : List ℕ) (done : List DiskCall) → Hold
 place_within at bytes done holds within =
     let told : (next : DiskState) × (older : List DiskState) × (states done ≡ next ∷ older) = told_from done empty_state [] in
     let here : at ≤ length told.0.bytes = subst (λ (past : List DiskState). Newest (λ state. at ≤ length state.bytes) past) told.2 within in
-    let same : bytes ≡ told.0.bytes = holds.same ∙ ap bytes_of told.2 in
+    let same : bytes ≡ told.0.bytes = holds.same ∙ ap disk_bytes told.2 in
     subst (λ (bytes : List ℕ). at ≤ length bytes) (sym same) here
 
 bytes_written : (past : List DiskState) (at : ℕ) (piece : List ℕ) (next : DiskState) (older : List DiskState) →
-    past ≡ next ∷ older → bytes_of (with_call past (Write at piece)) ≡ written (bytes_of past) at piece
+    past ≡ next ∷ older → disk_bytes (with_call past (Write at piece)) ≡ overwritten (disk_bytes past) at piece
 bytes_written [] at piece next older told = absurd (cc)
 bytes_written (state ∷ past) at piece next older told = refl
 
 -- the bytes hold once a write is done
 pub holds_written : (bytes after : List ℕ) (at : ℕ) (piece : List ℕ) (done : List DiskCall) →
     HoldsBytes bytes done → at ≤ length bytes → at + length piece ≤ 2 ^ 62 →
-    after ≡ written bytes at piece → HoldsBytes after (done ++ Write at piece ∷ [])
+    after ≡ overwritten bytes at piece → HoldsBytes after (done ++ Write at piece ∷ [])
 holds_written bytes after at piece done holds within inside is =
     let told : (next : DiskState) × (older : List DiskState) × (states done ≡ next ∷ older) = told_from done empty_state [] in
-    let many : length (written bytes at piece) ≡ at + length piece + (length bytes - (at + length piece)) =
+    let many : length (overwritten bytes at piece) ≡ at + length piece + (length bytes - (at + length piece)) =
     grind (arith, common_steps) in
     record {
-      same = is ∙ ap (λ (bytes : List ℕ). written bytes at piece) holds.same ∙
-          sym (ap bytes_of (one_more done (Write at piece)) ∙ bytes_written (states done) at piece told.0 told.1 told.2);
+      same = is ∙ ap (λ (bytes : List ℕ). overwritten bytes at piece) holds.same ∙
+          sym (ap disk_bytes (one_more done (Write at piece)) ∙ bytes_written (states done) at piece told.0 told.1 told.2);
       inside = rw is (omega (arith, many, within, inside, holds.inside));
     }

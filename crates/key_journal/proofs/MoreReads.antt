@@ -3,12 +3,12 @@ use Rattle.std.proofs.Common.{◌≡◌, ℕ, ◌+◌, ◌≤◌, ◌<◌, ◌�
 use Rattle.std.specs.Prelude.{◌≢◌, IsSome}
 use Rattle.plcs_base.specs.Count.{raised}
 use Rattle.std.specs.Io.KnownBytes.{Consumes, IsAtEnd}
-use Rattle.key_journal.specs.AfterReads.{BreaksAt, CountsEnds, CountsFault, KeepsAll, KeepsAllButLast, LeadsTo}
+use Rattle.key_journal.specs.AfterReads.{BreaksAt, CountsEnds, CountsJournalFault, KeepsAll, KeepsAllButLast, LeadsTo}
 use Rattle.key_journal.specs.Crash.{LeavesBetween, LeavesOneOf, LeavesOnly, Throughout}
 use Rattle.key_journal.specs.Disk.{DiskState, Newest}
-use Rattle.key_journal.specs.Journal.{PlainJournal}
+use Rattle.key_journal.specs.Journal.{PlainJournalKeys}
 use Rattle.key_journal.specs.JournalRead.{Ends, Gave, ReadsKey}
-use Rattle.key_journal.specs.Recovered.{recovered, kept}
+use Rattle.key_journal.specs.Recovered.{recovered, kept_keys}
 use Rattle.key_journal.proofs.BytesLeft.{ends_before, get_below, told_after}
 use Rattle.key_journal.proofs.Moments.{newest_after, throughout_both, throughout_weaker}
 
@@ -50,13 +50,13 @@ between_one first taken more state one = record {
 
 -- at each moment over both
 moments_grown : (first old now : List DiskState) (given : ℕ) (taken more : List ℕ) →
-    KeepsAll first old given taken → kept old ≡ kept first ++ taken →
-    Throughout (LeavesOneOf (kept old) more) old now →
-    Throughout (LeavesBetween (kept first) (kept first ++ (taken ++ more))) first now
+    KeepsAll first old given taken → kept_keys old ≡ kept_keys first ++ taken →
+    Throughout (LeavesOneOf (kept_keys old) more) old now →
+    Throughout (LeavesBetween (kept_keys first) (kept_keys first ++ (taken ++ more))) first now
 moments_grown first old now given taken more keeps same each =
     throughout_both _ first old now
-    (throughout_weaker _ _ first old (between_grown (kept first) taken more) keeps.each)
-    (throughout_weaker _ _ old now (between_one (kept first) taken more)
+    (throughout_weaker _ _ first old (between_grown (kept_keys first) taken more) keeps.each)
+    (throughout_weaker _ _ old now (between_one (kept_keys first) taken more)
     (subst (λ (keys : List ℕ). Throughout (LeavesOneOf keys more) old now) same each))
 
 -- a disk that tells nothing keeps what it keeps
@@ -67,8 +67,8 @@ untold_keeps now given taken none =
 
 -- one more key was given
 pub keeps_key : (first old now : List DiskState) (given key : ℕ) (taken more : List ℕ) →
-    KeepsAll first old given taken → length more ≤ 1 → (more ≡ []) ⊎ (drop given (kept old) ≡ []) →
-    Throughout (LeavesOneOf (kept old) more) old now → Newest (Gave given key (kept old ++ more)) now →
+    KeepsAll first old given taken → length more ≤ 1 → (more ≡ []) ⊎ (drop given (kept_keys old) ≡ []) →
+    Throughout (LeavesOneOf (kept_keys old) more) old now → Newest (Gave given key (kept_keys old ++ more)) now →
     KeepsAll first now (given + 1) (taken ++ more)
 keeps_key [] [] now given key taken more keeps few behind each gave = untold_keeps now (given + 1) (taken ++ more) each
 keeps_key [] (state ∷ old) now given key taken more keeps few behind each gave = absurd (cc (keeps.each))
@@ -111,7 +111,7 @@ keeps_key (start ∷ first) (state ∷ old) (next ∷ now) given key taken more 
 -- it was the end
 pub keeps_end : (first old now : List DiskState) (given : ℕ) (taken more : List ℕ)
     (left : Option (List ℕ)) → KeepsAll first old given taken →
-    Throughout (LeavesOneOf (kept old) more) old now → Ends left given (kept old) more now →
+    Throughout (LeavesOneOf (kept_keys old) more) old now → Ends left given (kept_keys old) more now →
     KeepsAll first now given (taken ++ more)
 keeps_end [] [] now given taken more left keeps each ends = untold_keeps now given (taken ++ more) each
 keeps_end [] (state ∷ old) now given taken more left keeps each ends = absurd (cc (keeps.each))
@@ -132,8 +132,8 @@ keeps_end (start ∷ first) (state ∷ old) (next ∷ now) given taken more left
 
 -- it wasn't Ok
 pub keeps_fault : (first old now : List DiskState) (given : ℕ) (taken more : List ℕ) →
-    KeepsAll first old given taken → (more ≡ []) ⊎ (drop given (kept old) ≡ []) →
-    Throughout (LeavesOneOf (kept old) more) old now → KeepsAllButLast first now given taken more
+    KeepsAll first old given taken → (more ≡ []) ⊎ (drop given (kept_keys old) ≡ []) →
+    Throughout (LeavesOneOf (kept_keys old) more) old now → KeepsAllButLast first now given taken more
 keeps_fault [] [] now given taken more keeps behind each =
     subst (λ (states : List DiskState). KeepsAllButLast [] states given taken more) (sym each)
     (record { each = refl; safe = tt; within = tt; behind = inr tt })
@@ -195,14 +195,14 @@ ended_takes (Some left) (Some after) taken bytes told ended consumes =
 
 -- and no key is given
 no_key_behind : (old now : List DiskState) (given key : ℕ) (more : List ℕ) → more ≡ [] →
-    drop given (kept old) ≡ [] → Throughout (LeavesOneOf (kept old) more) old now → now ≢ [] →
-    Newest (Gave given key (kept old ++ more)) now → ⊥
+    drop given (kept_keys old) ≡ [] → Throughout (LeavesOneOf (kept_keys old) more) old now → now ≢ [] →
+    Newest (Gave given key (kept_keys old ++ more)) now → ⊥
 no_key_behind old [] given key more none all each told gave = told refl
 no_key_behind old (next ∷ now) given key more none all each told gave =
-    let below : given < length (kept old ++ more) = get_below _ given key gave.next in
-    let total : length (kept old ++ more) ≡ length (kept old) + length more = length-append (kept old) more in
+    let below : given < length (kept_keys old ++ more) = get_below _ given key gave.next in
+    let total : length (kept_keys old ++ more) ≡ length (kept_keys old) + length more = length-append (kept_keys old) more in
     let zero_more : length more ≡ 0 = ap length none in
-    let ends : length (kept old) ≤ given = ends_before _ given all in
+    let ends : length (kept_keys old) ≤ given = ends_before _ given all in
     omega (arith, below, total, zero_more, ends)
 
 -- a disk that told nothing before tells nothing
@@ -213,7 +213,7 @@ untold_before (state ∷ before) now P none each = absurd (cc)
 
 -- the ends behind one more key
 counts_key : {S D E : Type 0} (left : S → Option (List ℕ)) (past : D → List DiskState)
-    (first old now : PlainJournal S D) (key : ℕ) (taken : List ℕ) → CountsEnds left past first old →
+    (first old now : PlainJournalKeys S D) (key : ℕ) (taken : List ℕ) → CountsEnds left past first old →
     Consumes (left first.inner) (left old.inner) taken →
     ReadsKey {E = E} (left old.inner) (left now.inner) old.given (past old.disk) (past now.disk) (Ok (Some key)) →
     now.given ≡ old.given + 1 → now.reads ≡ raised old.reads → now.ended ≡ false →
@@ -236,24 +236,24 @@ counts_key left past first old now key taken counts consumes reads one read not_
   still fresh told disk (inr ended) =
       let there : (bytes : List ℕ) × (left old.inner ≡ Some bytes) =
       told_left (left first.inner) (left old.inner) taken consumes told in
-      let end : IsAtEnd (left old.inner) × (drop old.given (kept (past old.disk)) ≡ []) = counts.at_end fresh ended in
+      let end : IsAtEnd (left old.inner) × (drop old.given (kept_keys (past old.disk)) ≡ []) = counts.at_end fresh ended in
       let none : reads.taken ≡ [] =
       ended_takes (left old.inner) (left now.inner) reads.taken there.0 there.1 end.0 reads.consumes in
       absurd (no_key_behind (past old.disk) (past now.disk) old.given key reads.taken none end.1 reads.each disk reads.answer)
 
 -- what is kept doesn't change at the end
 kept_end : (old now : List DiskState) (given : ℕ) (more : List ℕ) (left : Option (List ℕ)) →
-    Throughout (LeavesOneOf (kept old) more) old now → Ends left given (kept old) more now →
-    drop given (kept now) ≡ []
+    Throughout (LeavesOneOf (kept_keys old) more) old now → Ends left given (kept_keys old) more now →
+    drop given (kept_keys now) ≡ []
 kept_end [] now given more left each ends =
-    ap (λ (states : List DiskState). drop given (kept states)) each ∙ ends.all
+    ap (λ (states : List DiskState). drop given (kept_keys states)) each ∙ ends.all
 kept_end (state ∷ old) [] given more left each ends = absurd (told_after _ state old each)
 kept_end (state ∷ old) (next ∷ now) given more left each ends =
     ap (λ (keys : List ℕ). drop given keys) ends.safe.reads ∙ ends.all
 
 -- the ends behind one more
 counts_end : {S D E : Type 0} (left : S → Option (List ℕ)) (past : D → List DiskState)
-    (first old now : PlainJournal S D) → CountsEnds left past first old →
+    (first old now : PlainJournalKeys S D) → CountsEnds left past first old →
     ReadsKey {E = E} (left old.inner) (left now.inner) old.given (past old.disk) (past now.disk) (Ok None) →
     now.given ≡ old.given → now.reads ≡ raised old.reads → now.ended ≡ true →
     CountsEnds left past first now
@@ -265,7 +265,7 @@ counts_end left past first old now counts reads same read ended = record {
   noted = λ fresh none. absurd (omega (arith, none));
   at_end = λ fresh noted. (
     reads.answer.source,
-    subst (λ (given : ℕ). drop given (kept (past now.disk)) ≡ []) (sym same)
+    subst (λ (given : ℕ). drop given (kept_keys (past now.disk)) ≡ []) (sym same)
         (kept_end (past old.disk) (past now.disk) old.given reads.taken (left now.inner) reads.each reads.answer),
   );
   stays = λ fresh told disk. inr ended;
@@ -273,10 +273,10 @@ counts_end left past first old now counts reads same read ended = record {
 
 -- the ends before a read that wasn't Ok
 counts_fault : {S D E : Type 0} (left : S → Option (List ℕ)) (past : D → List DiskState)
-    (first old now : PlainJournal S D) (fault : E) (taken : List ℕ) → CountsEnds left past first old →
+    (first old now : PlainJournalKeys S D) (fault : E) (taken : List ℕ) → CountsEnds left past first old →
     Consumes (left first.inner) (left old.inner) taken →
     (reads : ReadsKey {E = E} (left old.inner) (left now.inner) old.given (past old.disk) (past now.disk) (Err fault)) →
-    now.given ≡ old.given → now.reads ≡ raised old.reads → CountsFault left past first now reads.taken
+    now.given ≡ old.given → now.reads ≡ raised old.reads → CountsJournalFault left past first now reads.taken
 counts_fault left past first old now fault taken counts consumes reads same read = record {
   ends = counts.ends;
   counted = λ few.
@@ -298,7 +298,7 @@ counts_fault left past first old now fault taken counts consumes reads same read
 -- a journal after one more key
 pub leads_key : {S D E : Type 0} (left : S → Option (List ℕ)) (source_faults : S → ℕ)
     (leads_to : S → S → Type 0) (past : D → List DiskState) (disk_faults : D → ℕ)
-    (first old now : PlainJournal S D) (key : ℕ) →
+    (first old now : PlainJournalKeys S D) (key : ℕ) →
     LeadsTo left source_faults leads_to past disk_faults first old →
     (leads_to first.inner old.inner → leads_to first.inner now.inner) →
     source_faults now.inner ≡ source_faults old.inner → disk_faults now.disk ≡ disk_faults old.disk →
@@ -322,7 +322,7 @@ leads_key left source_faults leads_to past disk_faults first old now key leads l
 -- a journal at the end
 pub leads_end : {S D E : Type 0} (left : S → Option (List ℕ)) (source_faults : S → ℕ)
     (leads_to : S → S → Type 0) (past : D → List DiskState) (disk_faults : D → ℕ)
-    (first old now : PlainJournal S D) →
+    (first old now : PlainJournalKeys S D) →
     LeadsTo left source_faults leads_to past disk_faults first old →
     (leads_to first.inner old.inner → leads_to first.inner now.inner) →
     source_faults now.inner ≡ source_faults old.inner → disk_faults now.disk ≡ disk_faults old.disk →
@@ -346,7 +346,7 @@ leads_end left source_faults leads_to past disk_faults first old now leads led s
 -- a journal after a read that wasn't Ok
 pub breaks : {S D E : Type 0} (left : S → Option (List ℕ)) (source_faults : S → ℕ)
     (leads_to breaks_at : S → S → Type 0) (past : D → List DiskState) (disk_faults : D → ℕ)
-    (first old now : PlainJournal S D) (fault : E) →
+    (first old now : PlainJournalKeys S D) (fault : E) →
     LeadsTo left source_faults leads_to past disk_faults first old →
     (leads_to first.inner old.inner → leads_to first.inner now.inner ⊎ breaks_at first.inner now.inner) →
     source_faults old.inner ≤ source_faults now.inner → disk_faults old.disk ≤ disk_faults now.disk →

@@ -7,7 +7,7 @@ use Rattle.std.proofs.Math.ListN.{drop_of_length-le}
 use Rattle.key_journal.specs.Crash.{LeavesOnly, LeavesOneOf, Throughout}
 use Rattle.key_journal.specs.Disk.{DiskState, Newest, Syncs, with_sync}
 use Rattle.key_journal.specs.JournalRead.{NextOrEnd, Gave, ReadsKey}
-use Rattle.key_journal.specs.Recovered.{recovered, kept}
+use Rattle.key_journal.specs.Recovered.{recovered, kept_keys}
 use Rattle.key_journal.specs.Private.Keeping.{FindsKey, KeepsKey, Replays, ReplaysAt}
 use Rattle.key_journal.specs.Private.Stages.{IsAppending}
 use Rattle.key_journal.specs.declared.stage.Stage.{Stage}
@@ -17,7 +17,7 @@ use Rattle.key_journal.proofs.Moments.{throughout_same, throughout_one, througho
 
 -- where all keys were given, none is left on the disk
 none_behind : (given : ℕ) (past : List DiskState) → Newest (IsAppending given) past →
-    drop given (kept past) ≡ []
+    drop given (kept_keys past) ≡ []
 none_behind given [] appending = drop_of_length-le [] (omega arith)
 none_behind given (state ∷ past) appending =
     let many : length (recovered state.bytes) ≡ given =
@@ -39,7 +39,7 @@ source_fails left left_after given past answered appending lost = record {
 
 -- the source is at its end
 appending_leaves : (given : ℕ) (past : List DiskState) → Newest (IsAppending given) past →
-    Newest (LeavesOnly (kept past)) past
+    Newest (LeavesOnly (kept_keys past)) past
 appending_leaves given [] appending = tt
 appending_leaves given (state ∷ past) appending = synced_leaves state appending.synced
 
@@ -77,9 +77,9 @@ keep_fails left left_after given key past now fault answered appending gives kee
 
 -- it was kept
 key_gave : (given key : ℕ) (past now : List DiskState) → Newest (IsAppending given) past →
-    Throughout (LeavesOneOf (kept past) (key ∷ [])) past now →
-    Newest (LeavesOnly (kept past ++ key ∷ [])) now →
-    Newest (Gave given key (kept past ++ key ∷ [])) now
+    Throughout (LeavesOneOf (kept_keys past) (key ∷ [])) past now →
+    Newest (LeavesOnly (kept_keys past ++ key ∷ [])) now →
+    Newest (Gave given key (kept_keys past ++ key ∷ [])) now
 key_gave given key [] now appending each safe =
     subst (λ (states : List DiskState). Newest (Gave given key (key ∷ [])) states) (sym each) tt
 key_gave given key (state ∷ past) [] appending each safe = tt
@@ -129,14 +129,14 @@ found_kept left given key past now replays = record {
   few = omega arith;
   consumes = takes_none left;
   behind = inl refl;
-  each = only_one_of (kept past) [] past now replays.each;
-  answer = subst (λ (keys : List ℕ). Newest (Gave given key keys) now) (sym (append-nil (kept past))) replays.found.0;
+  each = only_one_of (kept_keys past) [] past now replays.each;
+  answer = subst (λ (keys : List ℕ). Newest (Gave given key keys) now) (sym (append-nil (kept_keys past))) replays.found.0;
 }
 
 -- a call after which the same keys are recovered
-pub same_kept : (past now : List DiskState) → Throughout (LeavesOnly (kept past)) past now →
-    kept now ≡ kept past
-same_kept [] now each = ap kept each
+pub same_kept : (past now : List DiskState) → Throughout (LeavesOnly (kept_keys past)) past now →
+    kept_keys now ≡ kept_keys past
+same_kept [] now each = ap kept_keys each
 same_kept (state ∷ past) now each =
     let reads : Newest (λ next. recovered next.bytes ≡ recovered state.bytes) now =
     newest_after _ (state ∷ past) now refl
@@ -147,41 +147,41 @@ same_kept (state ∷ past) now each =
       not_none (first ∷ added) never = cc
 
       newest_kept : (now : List DiskState) → Throughout (LeavesOnly (recovered state.bytes)) (state ∷ past) now →
-          Newest (λ next. recovered next.bytes ≡ recovered state.bytes) now → kept now ≡ recovered state.bytes
+          Newest (λ next. recovered next.bytes ≡ recovered state.bytes) now → kept_keys now ≡ recovered state.bytes
       newest_kept [] each reads = absurd (not_none each.0 each.1)
       newest_kept (next ∷ now) each reads = reads
 
 -- a read goes on behind a call after which the same keys are recovered
 pub read_behind : {E : Type 0} (left left_after : Option (List ℕ)) (given : ℕ)
     (past between now : List DiskState) (result : Result (Option ℕ) E) →
-    Throughout (LeavesOnly (kept past)) past between →
+    Throughout (LeavesOnly (kept_keys past)) past between →
     ReadsKey {E = E} left left_after given between now result →
     ReadsKey {E = E} left left_after given past now result
 read_behind left left_after given past between now result each reads =
-    let same : kept between ≡ kept past = same_kept past between each in
+    let same : kept_keys between ≡ kept_keys past = same_kept past between each in
     record {
       taken = reads.taken;
       few = reads.few;
       consumes = reads.consumes;
       behind = subst (λ (keys : List ℕ). (reads.taken ≡ []) ⊎ (drop given keys ≡ [])) same reads.behind;
-      each = throughout_both _ past between now (only_one_of (kept past) reads.taken past between each)
+      each = throughout_both _ past between now (only_one_of (kept_keys past) reads.taken past between each)
           (subst (λ (keys : List ℕ). Throughout (LeavesOneOf keys reads.taken) between now) same reads.each);
       answer = subst (λ (keys : List ℕ). IfOk result (λ key. NextOrEnd key left_after given keys reads.taken now)) same reads.answer;
     }
 
 -- a disk that is synced first
 pub sync_leaves : (past between : List DiskState) → Syncs past between →
-    Throughout (LeavesOnly (kept past)) past between
+    Throughout (LeavesOnly (kept_keys past)) past between
 sync_leaves [] between syncs = syncs
 sync_leaves (state ∷ past) between syncs =
     throughout_one _ state past (with_sync state) between syncs
     (synced_leaves (with_sync state) (record { none = refl; synced = refl; reads = refl }))
 
 pub replay_behind : {E : Type 0} (stage : Stage) (given : ℕ) (past between now : List DiskState)
-    (result : Result (Option ℕ) E) → Throughout (LeavesOnly (kept past)) past between →
+    (result : Result (Option ℕ) E) → Throughout (LeavesOnly (kept_keys past)) past between →
     ReplaysAt {E = E} stage given between now result → ReplaysAt {E = E} stage given past now result
 replay_behind stage given past between now result each replays =
-    let same : kept between ≡ kept past = same_kept past between each in
+    let same : kept_keys between ≡ kept_keys past = same_kept past between each in
     record {
       replays = record {
         each = throughout_both _ past between now each

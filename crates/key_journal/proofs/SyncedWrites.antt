@@ -1,7 +1,7 @@
 -- A write that is synced at once, over a disk that is synced.
 use Rattle.std.proofs.Common.{◌≡◌, ℕ, ◌+◌, ◌-◌, ◌≤◌, inl, inr, List, [], ◌∷◌, ◌++◌, length, take, refl, sym, ◌∙◌, subst, arith, Ok, Err}
 use Rattle.std.proofs.lemmas.Grind.{common_steps}
-use Rattle.key_journal.specs.Disk.{DiskState, Torn, Leaves, MayLeave, Newest, Writes, Tears, Syncs, written, with_range, with_sync}
+use Rattle.key_journal.specs.Disk.{DiskState, Torn, Leaves, MayLeave, Newest, WritesToDisk, Tears, Syncs, overwritten, with_range, with_sync}
 use Rattle.key_journal.specs.Private.Writes.{IsSyncedAs, IsSynced, IsTornFrom, WritesSynced}
 use Rattle.key_journal.proofs.Moments.{throughout_same, throughout_one}
 
@@ -12,11 +12,11 @@ torn_same at count bytes =
 
 -- written bytes are torn ones
 pub torn_written : (at : ℕ) (piece bytes : List ℕ) → at ≤ length bytes →
-    Torn at (length piece) bytes (written bytes at piece)
+    Torn at (length piece) bytes (overwritten bytes at piece)
 torn_written at piece bytes within =
     let front_length : length (take at bytes) ≡ at = grind (arith, common_steps) in
     let both_length : length (take at bytes ++ piece) ≡ at + length piece = grind (arith, common_steps) in
-    let whole_length : length (written bytes at piece) ≡ at + length piece + (length bytes - (at + length piece)) = grind (arith, common_steps) in
+    let whole_length : length (overwritten bytes at piece) ≡ at + length piece + (length bytes - (at + length piece)) = grind (arith, common_steps) in
     record {
       front = grind (arith, common_steps);
       back = grind (arith, common_steps);
@@ -57,14 +57,14 @@ write_fails at piece (state ∷ past) now fault synced tears = record {
 -- what a crash leaves once the piece was written
 written_state : (at : ℕ) (piece : List ℕ) (state : DiskState) → IsSynced state →
     at ≤ length state.bytes →
-    IsTornFrom at (length piece) state.bytes (with_range state at (length piece) (written state.bytes at piece))
+    IsTornFrom at (length piece) state.bytes (with_range state at (length piece) (overwritten state.bytes at piece))
 written_state at piece state synced within =
-    torn_state state at (length piece) (written state.bytes at piece) synced (torn_written at piece state.bytes within)
+    torn_state state at (length piece) (overwritten state.bytes at piece) synced (torn_written at piece state.bytes within)
 
 -- the sync behind it isn't Ok
 pub sync_fails : {E : Type 0} (at : ℕ) (piece : List ℕ) (before between now : List DiskState)
     (fault : E) → Newest IsSynced before → Newest (λ state. at ≤ length state.bytes) before →
-    Writes at piece before between → now ≡ between →
+    WritesToDisk at piece before between → now ≡ between →
     WritesSynced {E = E} at piece before now (Err fault)
 sync_fails at piece [] between now fault synced within writes same =
     record { each = same ∙ writes; done = tt }
@@ -76,13 +76,13 @@ sync_fails at piece (state ∷ past) between now fault synced within writes same
 -- both are Ok
 pub both_done : {E : Type 0} (at : ℕ) (piece : List ℕ) (before between now : List DiskState) →
     Newest IsSynced before → Newest (λ state. at ≤ length state.bytes) before →
-    Writes at piece before between → Syncs between now →
+    WritesToDisk at piece before between → Syncs between now →
     WritesSynced {E = E} at piece before now (Ok tt)
 both_done at piece [] between now synced within writes syncs =
     let none : now ≡ [] = subst (λ (past : List DiskState). Syncs past now) writes syncs in
-    record { each = none; done = subst (λ (past : List DiskState). Newest (IsSyncedAs (written [] at piece)) past) (sym none) tt }
+    record { each = none; done = subst (λ (past : List DiskState). Newest (IsSyncedAs (overwritten [] at piece)) past) (sym none) tt }
 both_done at piece (state ∷ past) between now synced within writes syncs =
-    let next : DiskState = with_range state at (length piece) (written state.bytes at piece) in
+    let next : DiskState = with_range state at (length piece) (overwritten state.bytes at piece) in
     let is : now ≡ with_sync next ∷ next ∷ state ∷ past = subst (λ (past : List DiskState). Syncs past now) writes syncs in
     let torn : IsTornFrom at (length piece) state.bytes next = written_state at piece state synced within in
     record {
@@ -97,6 +97,6 @@ both_done at piece (state ∷ past) between now synced within writes syncs =
           (torn, tt),
         ),
       );
-      done = subst (λ (past : List DiskState). Newest (IsSyncedAs (written state.bytes at piece)) past) (sym is)
+      done = subst (λ (past : List DiskState). Newest (IsSyncedAs (overwritten state.bytes at piece)) past) (sym is)
           (record { none = refl; synced = refl; reads = refl });
     }

@@ -2,7 +2,7 @@
 use Rattle.std.specs.Prelude.{◌≡◌, ℕ, ◌⊎◌, List, [], ◌∷◌, Result, OnOk}
 use Rattle.key_journal.specs.Crash.{LeavesOnly, Throughout}
 use Rattle.key_journal.specs.Disk.{DiskState, MayLeave, Newest}
-use Rattle.key_journal.specs.Recovered.{recovered, kept}
+use Rattle.key_journal.specs.Recovered.{recovered, kept_keys}
 
 -- a crash just before the journal is cleared could leave these keys
 abbrev pub CouldLeave : List DiskState → List ℕ → Type 0
@@ -14,7 +14,7 @@ CouldLeave (state ∷ past) keys =
 pub record LeavesNothingOr (before : List DiskState) (state : DiskState) : Type 0 where
   pub images : (image : List ℕ) → MayLeave state image →
       (recovered image ≡ []) ⊎ CouldLeave before (recovered image)
-  pub reads : (recovered state.bytes ≡ []) ⊎ (recovered state.bytes ≡ kept before)
+  pub reads : (recovered state.bytes ≡ []) ⊎ (recovered state.bytes ≡ kept_keys before)
 
 -- a journal is cleared: at each moment, and then, a crash leaves nothing or what it could leave just
 -- before, and once it is Ok nothing

@@ -32,18 +32,18 @@ Newest P [] = Unit {0}
 Newest P (state ∷ past) = P state
 
 -- what a disk reads as; one that doesn't tell counts as empty
-abbrev pub bytes_of : List DiskState → List ℕ
-bytes_of [] = []
-bytes_of (state ∷ past) = state.bytes
+abbrev pub disk_bytes : List DiskState → List ℕ
+disk_bytes [] = []
+disk_bytes (state ∷ past) = state.bytes
 
 -- a disk gives these bytes from a place on, up to so many or to its end
-pub record Gives (at most count : ℕ) (given : List ℕ) (state : DiskState) : Type 0 where
+pub record ReadsRange (at most count : ℕ) (given : List ℕ) (state : DiskState) : Type 0 where
   pub exact : count ≡ min most (length state.bytes - at)
   pub same : given ≡ take count (drop at state.bytes)
 
 -- the bytes of a disk with the piece written over them from a place on
-abbrev pub written : List ℕ → ℕ → List ℕ → List ℕ
-written bytes at piece = take at bytes ++ piece ++ drop (at + length piece) bytes
+abbrev pub overwritten : List ℕ → ℕ → List ℕ → List ℕ
+overwritten bytes at piece = take at bytes ++ piece ++ drop (at + length piece) bytes
 
 -- the state of a disk with other bytes in a range, which isn't synced
 abbrev pub with_range : DiskState → ℕ → ℕ → List ℕ → DiskState
@@ -55,10 +55,10 @@ abbrev pub with_sync : DiskState → DiskState
 with_sync state = record { bytes = state.bytes; synced = state.bytes; pending = [] }
 
 -- the piece was written to a disk: there is one more state
-abbrev pub Writes : ℕ → List ℕ → List DiskState → List DiskState → Type 0
-Writes at piece [] now = now ≡ []
-Writes at piece (state ∷ past) now =
-    now ≡ with_range state at (length piece) (written state.bytes at piece) ∷ state ∷ past
+abbrev pub WritesToDisk : ℕ → List ℕ → List DiskState → List DiskState → Type 0
+WritesToDisk at piece [] now = now ≡ []
+WritesToDisk at piece (state ∷ past) now =
+    now ≡ with_range state at (length piece) (overwritten state.bytes at piece) ∷ state ∷ past
 
 -- a range of a disk was written in part, which is one more state, or not at all
 abbrev pub Tears : ℕ → ℕ → List DiskState → List DiskState → Type 0
@@ -79,7 +79,7 @@ ReadsAsImage state = MayLeave state state.bytes
 abbrev pub WritesKeepImages : Type 0
 WritesKeepImages = (state : DiskState) (at : ℕ) (piece : List ℕ) → at ≤ length state.bytes →
     ReadsAsImage state →
-    ReadsAsImage (with_range state at (length piece) (written state.bytes at piece))
+    ReadsAsImage (with_range state at (length piece) (overwritten state.bytes at piece))
 
 -- a write that was done in part keeps what a disk reads as among these images, too
 abbrev pub TearsKeepImages : Type 0

@@ -5,7 +5,7 @@ use Rattle.key_journal.specs.Recovered.{recovered}
 
 -- what a journal is seen as: the source of new keys, the disk, how many keys were given, whether the
 -- last answer was the end, and how many reads there were
-pub record PlainJournal (S D : Type 0) : Type 0 where
+pub record PlainJournalKeys (S D : Type 0) : Type 0 where
   pub inner : S
   pub disk : D
   pub given : ℕ

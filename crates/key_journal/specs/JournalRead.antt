@@ -6,8 +6,8 @@ use Rattle.synth_outside.specs.declared.faults.SourceFault.{SourceFault}
 use Rattle.synth_outside.specs.declared.faults.SourceFault.TheVariants.{Failed}
 use Rattle.key_journal.specs.Crash.{LeavesOnly, LeavesOneOf, Throughout}
 use Rattle.key_journal.specs.Disk.{DiskState, Newest}
-use Rattle.key_journal.specs.Journal.{PlainJournal, both_counts}
-use Rattle.key_journal.specs.Recovered.{kept}
+use Rattle.key_journal.specs.Journal.{PlainJournalKeys, both_counts}
+use Rattle.key_journal.specs.Recovered.{kept_keys}
 
 -- what a read gave: this key, which stands among the keys at this place, counted from 0; a crash leaves
 -- these keys alone
@@ -36,10 +36,10 @@ pub record ReadsKey {E : Type 0} (left left_after : Option (List ℕ)) (place : 
   pub taken : List ℕ
   pub few : length taken ≤ 1
   pub consumes : Consumes left left_after taken
-  pub behind : (taken ≡ []) ⊎ (drop place (kept past) ≡ [])
+  pub behind : (taken ≡ []) ⊎ (drop place (kept_keys past) ≡ [])
   -- at each moment a crash leaves the kept keys, or these and then what was taken
-  pub each : Throughout (LeavesOneOf (kept past) taken) past past_after
-  pub answer : IfOk result (λ key. NextOrEnd key left_after place (kept past) taken past_after)
+  pub each : Throughout (LeavesOneOf (kept_keys past) taken) past past_after
+  pub answer : IfOk result (λ key. NextOrEnd key left_after place (kept_keys past) taken past_after)
 
 -- the sum of the counts of faults of source and disk has the cause of the answer in it; neither falls,
 -- and both stay where a key or the end is answered
@@ -69,7 +69,7 @@ is_end (Ok (suc count)) = false
 is_end (Err fault) = false
 
 -- a read gave at most one byte, which is counted, and it is noted whether it was the end
-pub record CountsKey {S D E : Type 0} (before now : PlainJournal S D) (result : Result ℕ E)
+pub record CountsKey {S D E : Type 0} (before now : PlainJournalKeys S D) (result : Result ℕ E)
     : Type 0 where
   pub one : IfOk result (λ count. count ≤ 1)
   pub given : now.given ≡ given_after before.given result

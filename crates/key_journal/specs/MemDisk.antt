@@ -1,7 +1,7 @@
 -- What a disk in memory is seen as.
 use Rattle.std.specs.Prelude.{ℕ, List, [], ◌∷◌, fold, length}
 use Rattle.synth_outside.specs.Calls.{PlainCalls}
-use Rattle.key_journal.specs.Disk.{DiskState, with_range, with_sync, written}
+use Rattle.key_journal.specs.Disk.{DiskState, with_range, with_sync, overwritten}
 use Rattle.key_journal.specs.declared.mem_disk.DiskCall.{DiskCall}
 use Rattle.key_journal.specs.declared.mem_disk.DiskCall.TheVariants.{Write, Sync}
 
@@ -16,7 +16,7 @@ pub record PlainMemDisk : Type 0 where
 abbrev pub with_call : List DiskState → DiskCall → List DiskState
 with_call [] call = []
 with_call (state ∷ past) (Write at piece) =
-    with_range state at (length piece) (written state.bytes at piece) ∷ state ∷ past
+    with_range state at (length piece) (overwritten state.bytes at piece) ∷ state ∷ past
 with_call (state ∷ past) Sync = with_sync state ∷ state ∷ past
 
 -- the state of a disk in memory that is empty

@@ -1,7 +1,7 @@
 -- Which keys are recovered from a journal's bytes: each key stands behind its gate, which is 1 where
 -- it is open.
 use Rattle.std.specs.Prelude.{ℕ, ◌==◌, List, [], ◌∷◌, if◌then◌else◌}
-use Rattle.key_journal.specs.Disk.{DiskState, bytes_of}
+use Rattle.key_journal.specs.Disk.{DiskState, disk_bytes}
 
 -- the keys that are recovered from bytes: those behind the gates, up to the first gate that isn't open
 -- or has no key behind it
@@ -11,5 +11,5 @@ recovered (gate ∷ []) = []
 recovered (gate ∷ key ∷ rest) = if gate == 1 then key ∷ recovered rest else []
 
 -- the keys that are recovered from what a disk reads as
-abbrev pub kept : List DiskState → List ℕ
-kept past = recovered (bytes_of past)
+abbrev pub kept_keys : List DiskState → List ℕ
+kept_keys past = recovered (disk_bytes past)

@@ -1,7 +1,7 @@
 //! The trait of disks, and their faults.
 
 ghost use Rattle.std.specs.Prelude.{◌≡◌, ℕ, ◌+◌, ◌<◌, ◌≤◌, List, length, take, IfOk, OnOk, OnErr, IsErrOf};
-ghost use Rattle.key_journal.specs.Disk.{DiskState, Newest, Gives, Writes, Tears, Syncs, WritesKeepImages, TearsKeepImages, SyncsMakeImages};
+ghost use Rattle.key_journal.specs.Disk.{DiskState, Newest, ReadsRange, WritesToDisk, Tears, Syncs, WritesKeepImages, TearsKeepImages, SyncsMakeImages};
 ghost use Rattle.synth_outside.specs.Cause.{HasCause};
 
 use std::alloc::AllocError;
@@ -67,7 +67,7 @@ pub trait Disk {
     fn read_at(&mut self, at: u64, buf: &mut [u8]) -> Result<usize, DiskFault>
         ensures count { IfOk result (λ count. count ≤ length buf.new) }
         ensures bytes { IfOk result (λ count.
-            Newest (Gives at (length buf.new) count (take count buf.new)) (past self.old)) }
+            Newest (ReadsRange at (length buf.new) count (take count buf.new)) (past self.old)) }
         ensures inside { IfOk result (λ count. 0 < count → at + count ≤ DISK_END) }
         ensures same { past self.new ≡ past self.old }
         ensures cause { HasCause DiskFault.Failed (faults self.old) (faults self.new) result };
@@ -77,7 +77,7 @@ pub trait Disk {
     /// A write that isn't `Ok` may have been done in part.
     fn write_at(&mut self, at: u64, piece: &[u8]) -> Result<(), DiskFault>
         requires { Newest (λ state. at ≤ length state.bytes) (past self.old) }
-        ensures whole { OnOk result (Writes at piece.now (past self.old) (past self.new)) }
+        ensures whole { OnOk result (WritesToDisk at piece.now (past self.old) (past self.new)) }
         ensures torn { OnErr result (Tears at (length piece.now) (past self.old) (past self.new)) }
         ensures outside { DISK_END < at + length piece.now → IsErrOf result DiskFault.Failed }
         ensures cause { HasCause DiskFault.Failed (faults self.old) (faults self.new) result };

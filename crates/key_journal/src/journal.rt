@@ -34,10 +34,10 @@ pub struct JournalKeys<S: Source, D: Disk> {
 }
 
 impl<S: Source, D: Disk> Model for JournalKeys<S, D> {
-    ghost use Rattle.key_journal.specs.Journal.{PlainJournal};
+    ghost use Rattle.key_journal.specs.Journal.{PlainJournalKeys};
     ghost use Rattle.key_journal.specs.Private.Stages.{Stays};
 
-    ghost Value = { PlainJournal S D };
+    ghost Value = { PlainJournalKeys S D };
 
     ghost view = { λ journal. record {
       inner = journal.inner;

@@ -3,7 +3,7 @@
 ghost use Rattle.std.specs.Prelude.{◌≡◌, ◌+◌, ◌^◌, ◌≤◌, ◌⊎◌, IfOk, OnOk, OnErr};
 ghost use Rattle.key_journal.specs.Disk.{Newest};
 ghost use Rattle.key_journal.specs.JournalRead.{HasEitherCause, ReadsKey};
-ghost use Rattle.key_journal.specs.Private.Keeping.{GivesByte, KeepsKey, HoldsBehind};
+ghost use Rattle.key_journal.specs.Private.Keeping.{GivesByte, KeepsKey, HoldsAfter};
 ghost use Rattle.key_journal.specs.Private.Stages.{HoldsAt, IsAppending};
 ghost use Rattle.synth_outside.specs.Cause.{HasCause};
 
@@ -25,7 +25,7 @@ pub(crate) fn next_key<S: Source, D: Disk>(
     requires few { given ≤ 2 ^ 61 }
     ensures read { ReadsKey (S.left inner.old) (S.left inner.new) given
         (D.past disk.old) (D.past disk.new) result }
-    ensures holds { IfOk result (λ key. HoldsBehind stage.new given key (D.past disk.new)) }
+    ensures holds { IfOk result (λ key. HoldsAfter stage.new given key (D.past disk.new)) }
     ensures led { IfOk result
         (λ _. (first : S) → S.leads_to first inner.old → S.leads_to first inner.new) }
     ensures broke { OnErr result ((first : S) → S.leads_to first inner.old →
@@ -49,7 +49,7 @@ fn append<S: Source, D: Disk>(
     requires few { given ≤ 2 ^ 61 }
     ensures read { ReadsKey (S.left inner.old) (S.left inner.new) given
         (D.past disk.old) (D.past disk.new) result }
-    ensures holds { IfOk result (λ key. HoldsBehind Stage.Appending given key (D.past disk.new)) }
+    ensures holds { IfOk result (λ key. HoldsAfter Stage.Appending given key (D.past disk.new)) }
     ensures led { IfOk result
         (λ _. (first : S) → S.leads_to first inner.old → S.leads_to first inner.new) }
     ensures broke { OnErr result ((first : S) → S.leads_to first inner.old →

@@ -3,7 +3,7 @@
 ghost use Rattle.std.specs.Prelude.{◌≡◌, ◌+◌, ◌<◌, ◌≤◌, ◌-◌, ◌⊎◌, ◌↔◌, [], ◌∷◌, ◌++◌, min, length, take, drop, IsTrue, IfOk, OnOk, OnErr, IsErrOf};
 ghost use Rattle.synth_outside.specs.Calls.{after_call, is_failing};
 ghost use Rattle.synth_outside.specs.Cause.{HasCause};
-ghost use Rattle.key_journal.specs.Disk.{Newest, Gives, Writes, Tears, Syncs, bytes_of, written};
+ghost use Rattle.key_journal.specs.Disk.{Newest, ReadsRange, WritesToDisk, Tears, Syncs, disk_bytes, overwritten};
 
 use super::{DISK_END, Disk, DiskFault};
 use std::alloc::{AllocError, Global};
@@ -89,7 +89,7 @@ impl MemDisk {
 
     /// What the disk in memory reads as.
     pub fn bytes(&self) -> &[u8]
-        ensures { result.now ≡ bytes_of (states self.now.done) }
+        ensures { result.now ≡ disk_bytes (states self.now.done) }
     {
         self.bytes.as_slice()
     }
@@ -112,7 +112,7 @@ impl Disk for MemDisk {
     fn read_at(&mut self, at: u64, buf: &mut [u8]) -> Result<usize, DiskFault>
         ensures count { IfOk result (λ count. count ≤ length buf.new) }
         ensures bytes { IfOk result (λ count. Newest
-            (Gives at (length buf.new) count (take count buf.new)) (states self.old.done)) }
+            (ReadsRange at (length buf.new) count (take count buf.new)) (states self.old.done)) }
         ensures inside { IfOk result (λ count. 0 < count → at + count ≤ DISK_END) }
         ensures same { self.new.done ≡ self.old.done }
         ensures cause { HasCause DiskFault.Failed self.old.faults self.new.faults result }
@@ -130,7 +130,7 @@ impl Disk for MemDisk {
 
     fn write_at(&mut self, at: u64, piece: &[u8]) -> Result<(), DiskFault>
         requires { Newest (λ state. at ≤ length state.bytes) (states self.old.done) }
-        ensures whole { OnOk result (Writes at piece.now (states self.old.done) (states self.new.done)) }
+        ensures whole { OnOk result (WritesToDisk at piece.now (states self.old.done) (states self.new.done)) }
         ensures torn { OnErr result
             (Tears at (length piece.now) (states self.old.done) (states self.new.done)) }
         ensures outside { DISK_END < at + length piece.now → IsErrOf result DiskFault.Failed }
@@ -194,7 +194,7 @@ fn copy_from(bytes: &[u8], at: u64, buf: &mut [u8]) -> usize
 fn written_over(alloc: Global, bytes: &[u8], at: u64, piece: &[u8]) -> Result<Vec<u8>, AllocError>
     requires within { at ≤ length bytes.now }
     requires inside { at + length piece.now ≤ DISK_END }
-    ensures { IfOk result (λ next. next.items ≡ written bytes.now at piece.now) }
+    ensures { IfOk result (λ next. next.items ≡ overwritten bytes.now at piece.now) }
 {
     let at = at as usize;
     let behind = (at + piece.len()).min(bytes.len());

@@ -3,11 +3,11 @@
 ghost use Rattle.std.specs.Prelude.{◌≡◌, ◌+◌, ◌*◌, ◌^◌, ◌≤◌, drop, IfOk, OnOk, IfSome};
 ghost use Rattle.key_journal.specs.Disk.{Newest};
 ghost use Rattle.key_journal.specs.Private.Keeping.{Replays, ReplaysAt, ShutsGate};
-ghost use Rattle.key_journal.specs.Private.Stages.{Begins, HoldsAt, IsCutOff, IsReplaying};
+ghost use Rattle.key_journal.specs.Private.Stages.{BeginsWithGate, HoldsAt, IsCutOff, IsReplaying};
 ghost use Rattle.synth_outside.specs.Cause.{HasCause};
 
 use super::keeping::{OPEN, SHUT};
-use super::stage::{Block, Stage};
+use super::stage::{GateContent, Stage};
 use super::writes::write_synced;
 use super::{Disk, DiskFault};
 
@@ -64,9 +64,9 @@ fn replayed<D: Disk>(disk: &mut D, given: u64) -> Result<Option<u8>, DiskFault>
     ensures cause { HasCause DiskFault.Failed (D.faults disk.old) (D.faults disk.new) result }
 {
     match block_behind(disk, given)? {
-        Block::Open(key) => Ok(Some(key)),
-        Block::Shut => Ok(None),
-        Block::Cut => {
+        GateContent::Open(key) => Ok(Some(key)),
+        GateContent::Shut => Ok(None),
+        GateContent::Cut => {
             shut_gate(disk, given)?;
             Ok(None)
         }
@@ -74,11 +74,11 @@ fn replayed<D: Disk>(disk: &mut D, given: u64) -> Result<Option<u8>, DiskFault>
 }
 
 // What stands on the disk behind so many blocks.
-fn block_behind<D: Disk>(disk: &mut D, given: u64) -> Result<Block, DiskFault>
+fn block_behind<D: Disk>(disk: &mut D, given: u64) -> Result<GateContent, DiskFault>
     requires few { given ≤ 2 ^ 61 }
     ensures block { IfOk result (λ block.
-        Newest (λ state. Begins block (drop (2 * given) state.bytes)) (D.past disk.old)) }
-    ensures few { (key : _) → result ≡ Ok (Block.Open key) → given + 1 ≤ 2 ^ 61 }
+        Newest (λ state. BeginsWithGate block (drop (2 * given) state.bytes)) (D.past disk.old)) }
+    ensures few { (key : _) → result ≡ Ok (GateContent.Open key) → given + 1 ≤ 2 ^ 61 }
     ensures same { D.past disk.new ≡ D.past disk.old }
     ensures cause { HasCause DiskFault.Failed (D.faults disk.old) (D.faults disk.new) result }
 {
@@ -86,15 +86,15 @@ fn block_behind<D: Disk>(disk: &mut D, given: u64) -> Result<Block, DiskFault>
     let count = disk.read_at(2 * given, &mut bytes)?;
     let [gate, key] = bytes;
     if count == 0 {
-        return Ok(Block::Cut);
+        return Ok(GateContent::Cut);
     }
     if gate != OPEN {
-        return Ok(Block::Shut);
+        return Ok(GateContent::Shut);
     }
     if count == 1 {
-        return Ok(Block::Cut);
+        return Ok(GateContent::Cut);
     }
-    Ok(Block::Open(key))
+    Ok(GateContent::Open(key))
 }
 
 // Puts a gate that isn't open behind the last whole block.

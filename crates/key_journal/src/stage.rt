@@ -13,7 +13,7 @@ pub(crate) enum Stage {
 
 /// What stands in a journal at the place of a gate.
 #[derive(Clone, Copy, Debug, PartialEq, Eq)]
-pub(crate) enum Block {
+pub(crate) enum GateContent {
     /// An open gate with its key.
     Open(u8),
     /// A gate that isn't open.

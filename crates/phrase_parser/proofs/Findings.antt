@@ -14,7 +14,7 @@ pub mod PlacedTokens
 -- `says` of `parse`: what is found says what the text is
 pub mod FindingsOfText
 -- no cast in `phrase` loses a place
-pub mod FindingPlaces
+pub mod FindingOffsets
 -- `ensures` of `phrase`
 pub mod CheckAnswers
 -- `ensures` of `next_operator`

@@ -44,8 +44,8 @@ pub data Divides : Category → List ℕ → Type 0 where
   parameters : Divides ProcedureName (codes ": PROCEDURE ( ")
 
 -- the text of a part of a line: the canonical text of a well-formed phrase of the category, or its placeholder
-abbrev pub IsPart : Category → List ℕ → Type 0
-IsPart category x =
+abbrev pub IsPartOfLine : Category → List ℕ → Type 0
+IsPartOfLine category x =
     ((phrase : PlainPhrase) × IsWellFormed category phrase × (x ≡ Canon phrase)) ⊎ (x ≡ placeholder category)
 
 -- the line begins with a keyword, behind which a word ends, as no part begins but a comment's

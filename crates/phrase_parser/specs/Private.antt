@@ -1,12 +1,12 @@
 -- Words that private contracts alone cite: nobody has to believe them.
 -- ---- tokens of a text
-pub mod Kept
+pub mod PlacedToken
 pub mod Front
 pub mod Unquoted
 pub mod TokenIn
 -- ---- the machine that reads tokens, and the builder
 pub mod Machine
-pub mod Trace
+pub mod MachineLevels
 pub mod Gives
 pub mod Views
 pub mod Reduction

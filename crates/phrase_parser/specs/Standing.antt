@@ -4,7 +4,7 @@ use Rattle.plcs_grammar.specs.declared.category.Category.{Category}
 use Rattle.plcs_grammar.specs.PlainPhrase.{PlainPhrase}
 use Rattle.plcs_grammar.specs.OverLimit.{OverLimit}
 use Rattle.plcs_grammar.specs.Reads.{Outline, Reads, IsOver}
-use Rattle.plcs_grammar.specs.SyntaxPlace.{SyntaxAt}
+use Rattle.plcs_grammar.specs.SyntaxOffset.{SyntaxAt}
 
 -- a standing: a phrase within the limits, what goes past a limit first, or the place where the text goes wrong
 pub data Standing : Type 0 where

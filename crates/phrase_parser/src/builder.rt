@@ -1,7 +1,7 @@
 //! The builder: the phrase that tokens are, built of them one by one.
 ghost use Rattle.std.specs.Prelude.{◌≡◌, map, All};
 ghost use Rattle.plcs_grammar.specs.PlainPhrase.{plain_phrase};
-ghost use Rattle.phrase_parser.specs.Private.Machine.{start, run, phrase_of_if};
+ghost use Rattle.phrase_parser.specs.Private.Machine.{start_state, shift_all, phrase_of_if};
 ghost use Rattle.phrase_parser.specs.Private.TokenIn.{IsPlacedIn, token_in};
 ghost use Rattle.phrase_parser.specs.Private.Gives.{Gives};
 
@@ -16,7 +16,7 @@ mod state;
 mod token_value;
 
 pub use crate::builder::fault::BuildError;
-use crate::builder::state::{phrase_of, start, step};
+use crate::builder::state::{phrase_of, start_state, shift};
 use crate::token::Placed;
 use plcs_grammar::{Category, Phrase};
 use std::alloc::Global;
@@ -31,11 +31,11 @@ pub fn build(
     tokens: &[Placed],
 ) -> Result<Phrase, BuildError>
     requires { All (IsPlacedIn text.now) tokens.now }
-    ensures { Gives plain_phrase result (phrase_of_if (run (map (token_in text.now) tokens.now) (start category))) }
+    ensures { Gives plain_phrase result (phrase_of_if (shift_all (map (token_in text.now) tokens.now) (start_state category))) }
 {
-    let mut state = start(alloc, category)?;
+    let mut state = start_state(alloc, category)?;
     for token in tokens {
-        state = step(alloc, state, text, *token)?;
+        state = shift(alloc, state, text, *token)?;
     }
     phrase_of(alloc, state)
 }

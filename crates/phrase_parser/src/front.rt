@@ -1,7 +1,7 @@
 //! The token that a text begins with.
 ghost use Rattle.std.specs.Prelude.{◌≡◌, min};
 ghost use Rattle.plcs_grammar.specs.Token.{numeral_value};
-ghost use Rattle.phrase_parser.specs.Private.Kept.{greatest_kept};
+ghost use Rattle.phrase_parser.specs.Private.PlacedToken.{greatest_kept};
 ghost use Rattle.phrase_parser.specs.Private.Front.{front_of, word_front, number_front, constant_front, sign_front, sign_kept};
 
 use crate::byte_class::{ByteClass, leading};

@@ -1,7 +1,7 @@
 //! A text cut into tokens.
 ghost use Rattle.std.specs.Prelude.{◌≡◌, ◌+◌, ◌≤◌, drop, length, IfOk};
 ghost use Rattle.plcs_grammar.specs.Cuts.{blanks};
-ghost use Rattle.phrase_parser.specs.Private.Kept.{AreTokens};
+ghost use Rattle.phrase_parser.specs.Private.PlacedToken.{AreTokens};
 ghost use Rattle.phrase_parser.specs.Private.Front.{front_of, placed_at};
 
 use crate::byte_class::{ByteClass, leading};

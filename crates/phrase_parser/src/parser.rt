@@ -4,12 +4,12 @@ ghost use Rattle.plcs_grammar.specs.Canon.{IsWellFormed};
 ghost use Rattle.plcs_grammar.specs.OverLimit.{OverLimit};
 ghost use Rattle.plcs_grammar.specs.PlainPhrase.{PlainPhrase, category_of, plain_phrase};
 ghost use Rattle.plcs_grammar.specs.Reads.{Outline, Reads, IsOver};
-ghost use Rattle.plcs_grammar.specs.SyntaxPlace.{SyntaxAt};
+ghost use Rattle.plcs_grammar.specs.SyntaxOffset.{SyntaxAt};
 ghost use Rattle.phrase_parser.specs.declared.fault.PhraseFault.TheVariants.{Syntax};
-ghost use Rattle.phrase_parser.specs.Private.Machine.{start, run, phrase_of_if};
+ghost use Rattle.phrase_parser.specs.Private.Machine.{start_state, shift_all, phrase_of_if};
 ghost use Rattle.phrase_parser.specs.Private.Recognizer.{first_shape};
 ghost use Rattle.phrase_parser.specs.Private.TokenIn.{IsPlacedIn, token_in};
-ghost use Rattle.phrase_parser.specs.Private.Shapes.{shape_of, over_of, over_place};
+ghost use Rattle.phrase_parser.specs.Private.Shapes.{shape_of, over_of, over_offset};
 ghost use Rattle.phrase_parser.specs.Answers.{Answers, Only, OnlyFault, over_fault};
 
 use crate::builder::{BuildError, build};
@@ -71,7 +71,7 @@ fn phrase(
 
 /// What the check finds past a limit, which the parser turns into the fault that it answers.
 fn over_fault(over: Over) -> PhraseFault
-    requires { over_place (over_of over) < 2 ^ 32 }
+    requires { over_offset (over_of over) < 2 ^ 32 }
     ensures { result ≡ over_fault (over_of over) }
 {
     match over {

@@ -7,14 +7,14 @@ use Rattle.plcs_grammar.specs.declared.operator.InfixOp.TheVariants.{Equal, Plus
 use Rattle.plcs_grammar.specs.PlainPhrase.{PlainExpr, PlainExprs, PlainVarRef, PlainPhrase}
 use Rattle.plcs_grammar.specs.declared.sign.Sign.{Sign}
 use Rattle.plcs_grammar.specs.Sign.{sign_bytes, infix_sign}
-use Rattle.plcs_grammar.specs.Token.{Token, IsToken, IsNumeral, First, quoted, bit_bytes, numeral_value}
+use Rattle.plcs_grammar.specs.Token.{Token, IsToken, IsNumeral, LongestToken, quoted, bit_bytes, numeral_value}
 use Rattle.plcs_grammar.specs.Cuts.{Piece, Cuts}
 use Rattle.plcs_grammar.specs.Level.{Level, in_parentheses}
 use Rattle.plcs_grammar.specs.Comment.{comment_syntax, trimmed}
 use Rattle.plcs_grammar.specs.OpenedLevel.{phrase_opened_levels}
 use Rattle.plcs_grammar.specs.OverLimit.{OverLimit, first_over}
 use Rattle.plcs_grammar.specs.PhraseForm.{Form}
-use Rattle.plcs_grammar.specs.SyntaxPlace.{GoesWrong, SyntaxAt}
+use Rattle.plcs_grammar.specs.SyntaxOffset.{GoesWrong, SyntaxAt}
 use Rattle.plcs_grammar.specs.Canon.{Canon}
 use Rattle.plcs_grammar.specs.declared.category.Category.TheVariants.{Assignment, Condition, Expression, ExpressionList, VariableList, Variable, CallRef, DeclaredList, ProcedureName, NameList, Length, CommentText}
 
@@ -178,7 +178,7 @@ less_equal_longest token (a ∷ b ∷ c ∷ rest) back e is =
     let first : 60 ≡ a = cc in
     absurd (short_at_less token b c rest back (subst (λ byte. IsToken token (byte ∷ b ∷ c ∷ rest) back) (sym first) is))
 
-less_equal_first : First (codes "<=b") (Token.sign Sign.LessEqual) (codes "<=") (codes "b")
+less_equal_first : LongestToken (codes "<=b") (Token.sign Sign.LessEqual) (codes "<=") (codes "b")
 less_equal_first = record { whole = refl; is_token = refl; longest = less_equal_longest }
 
 -- `  )` is one token, from place 2 up to place 3

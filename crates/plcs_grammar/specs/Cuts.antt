@@ -2,7 +2,7 @@
 use Rattle.std.specs.Prelude.{◌≡◌, ◌≢◌, ℕ, ◌+◌, List, [], ◌∷◌, map, length, drop, Option, Some, None}
 use Rattle.std.specs.List.{prefix_len}
 use Rattle.plcs_base.specs.Byte.{is_blank}
-use Rattle.plcs_grammar.specs.Token.{Token, First, NoToken}
+use Rattle.plcs_grammar.specs.Token.{Token, LongestToken, NoToken}
 
 -- a piece of a text: a token, the place of its first byte, and the place behind its last
 pub record Piece : Type 0 where
@@ -28,6 +28,6 @@ abbrev pub Cuts : List Piece → ℕ → List ℕ → Option ℕ → Type 0
 Cuts [] place x None = unblanked x ≡ []
 Cuts [] place x (Some stop) = (unblanked x ≢ []) × NoToken (unblanked x) × (stop ≡ place + blanks x)
 Cuts (piece ∷ pieces) place x stop =
-    (bytes behind : List ℕ) × First (unblanked x) piece.token bytes behind
+    (bytes behind : List ℕ) × LongestToken (unblanked x) piece.token bytes behind
     × (piece.start ≡ place + blanks x) × (piece.end ≡ piece.start + length bytes)
     × Cuts pieces piece.end behind stop

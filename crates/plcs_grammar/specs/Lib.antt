@@ -17,7 +17,7 @@ pub mod OpenedLevel
 pub mod OverLimit
 -- ---- what a text reads as, and where it goes wrong
 pub mod Reads
-pub mod SyntaxPlace
+pub mod SyntaxOffset
 -- ---- what is written
 pub mod Canon
 pub mod Placeholder

@@ -75,27 +75,27 @@ reference_with name None = PlainVarRef.simple name
 reference_with name (Some index) = PlainVarRef.subscripted name index.value
 
 -- the plain form of one level of an expression, with what is inside already in plain form
-abbrev pub expr_step : Expr-F PlainExpr PlainVarRef → PlainExpr
-expr_step (Expr-F.Number z) = PlainExpr.number z
-expr_step (Expr-F.Text v) = PlainExpr.text v.value
-expr_step (Expr-F.Bit b) = PlainExpr.bit b
-expr_step (Expr-F.Var r) = PlainExpr.variable r
-expr_step (Expr-F.Prefix op a) = PlainExpr.unary op a.value
-expr_step (Expr-F.Infix op a b) = PlainExpr.binary op a.value b.value
-expr_step (Expr-F.Builtin function arguments) = PlainExpr.builtin function (exprs_from arguments.items)
-expr_step (Expr-F.Paren a) = PlainExpr.parenthesized a.value
+abbrev pub plain_expr_level : Expr-F PlainExpr PlainVarRef → PlainExpr
+plain_expr_level (Expr-F.Number z) = PlainExpr.number z
+plain_expr_level (Expr-F.Text v) = PlainExpr.text v.value
+plain_expr_level (Expr-F.Bit b) = PlainExpr.bit b
+plain_expr_level (Expr-F.Var r) = PlainExpr.variable r
+plain_expr_level (Expr-F.Prefix op a) = PlainExpr.unary op a.value
+plain_expr_level (Expr-F.Infix op a b) = PlainExpr.binary op a.value b.value
+plain_expr_level (Expr-F.Builtin function arguments) = PlainExpr.builtin function (exprs_from arguments.items)
+plain_expr_level (Expr-F.Paren a) = PlainExpr.parenthesized a.value
 
 -- the plain form of one level of a variable, with its subscript already in plain form
-abbrev pub reference_step : VarRef-F PlainExpr PlainVarRef → PlainVarRef
-reference_step r = reference_with r.name r.index
+abbrev pub plain_var_ref_level : VarRef-F PlainExpr PlainVarRef → PlainVarRef
+plain_var_ref_level r = reference_with r.name r.index
 
 -- the plain form of an expression
 abbrev pub plain_expr : Expr → PlainExpr
-plain_expr = fold-Expr PlainExpr PlainVarRef expr_step reference_step
+plain_expr = fold-Expr PlainExpr PlainVarRef plain_expr_level plain_var_ref_level
 
 -- the plain form of a variable
 abbrev pub plain_var_ref : VarRef → PlainVarRef
-plain_var_ref = fold-VarRef PlainExpr PlainVarRef expr_step reference_step
+plain_var_ref = fold-VarRef PlainExpr PlainVarRef plain_expr_level plain_var_ref_level
 
 -- the plain form of a list of expressions
 abbrev pub plain_exprs : List Expr → PlainExprs

@@ -41,12 +41,12 @@ abbrev pub body : PlainSection
 body = record { lead = None; sort = Sort.Statement; amount = Amount.One }
 
 -- the section of one statement behind a line of its own
-abbrev pub body_behind : List ℕ → PlainSection
-body_behind lead = record { lead = Some lead; sort = Sort.Statement; amount = Amount.One }
+abbrev pub body_after : List ℕ → PlainSection
+body_after lead = record { lead = Some lead; sort = Sort.Statement; amount = Amount.One }
 
 -- the sections that stand inside a procedure
-abbrev pub block : List PlainSection
-block = list_of Sort.Declaration ∷ list_of Sort.Statement ∷ []
+abbrev pub procedure_sections : List PlainSection
+procedure_sections = list_of Sort.Declaration ∷ list_of Sort.Statement ∷ []
 
 -- the last line of each template that encloses a list
 abbrev pub closing : Option (List ℕ)
@@ -59,7 +59,7 @@ hole_row sort word = record { sort = sort; command = None; line = PlainSegment.w
 -- the row of a procedure
 abbrev pub procedure_row : List ℕ → List PlainSegment → PlainRow
 procedure_row command line =
-    record { sort = Sort.Procedure; command = Some command; line = line; sections = block; last = closing }
+    record { sort = Sort.Procedure; command = Some command; line = line; sections = procedure_sections; last = closing }
 
 -- the row of a declaration
 abbrev pub declaration_row : List ℕ → List PlainSegment → PlainRow
@@ -100,7 +100,7 @@ template_row Template.If =
 template_row Template.IfElse =
     choice_row (codes "ifelse")
     (PlainSegment.words (codes "IF ( ") ∷ PlainSegment.part Category.Condition ∷ PlainSegment.words (codes " ) THEN") ∷ [])
-    (body ∷ body_behind (codes "ELSE") ∷ [])
+    (body ∷ body_after (codes "ELSE") ∷ [])
 template_row Template.While =
     loop_row (codes "while")
     (PlainSegment.words (codes "DO WHILE ( ") ∷ PlainSegment.part Category.Condition ∷ PlainSegment.words (codes " );") ∷ [])
@@ -164,7 +164,7 @@ row_of Main =
       sort = Sort.Main;
       command = None;
       line = PlainSegment.words (codes "main: PROCEDURE OPTIONS ( MAIN );") ∷ [];
-      sections = block;
+      sections = procedure_sections;
       last = closing;
     }
 row_of Assign =

@@ -74,7 +74,7 @@ IsToken (bit value) bytes behind = (bytes ≡ bit_bytes value) × EndsWord behin
 IsToken (sign s) bytes behind = bytes ≡ sign_bytes s
 
 -- x is the bytes of the token and what stands behind them, and no longer token stands at the front of x
-pub record First (x : List ℕ) (token : Token) (bytes behind : List ℕ) : Type 0 where
+pub record LongestToken (x : List ℕ) (token : Token) (bytes behind : List ℕ) : Type 0 where
   pub whole : x ≡ bytes ++ behind
   pub is_token : IsToken token bytes behind
   pub longest : (other : Token) (front back : List ℕ) → x ≡ front ++ back → IsToken other front back → length front ≤ length bytes

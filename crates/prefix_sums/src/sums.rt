@@ -2,7 +2,7 @@
 ghost use Rattle.std.specs.Prelude.{◌≡◌, ◌+◌, ◌*◌, ◌^◌, ◌<◌, ◌≤◌, [], OnOk, Some, length, slice_get, slice_set, sum, take, vec_capacity, vec_len};
 ghost use Rattle.std.specs.List.{insert};
 ghost use Rattle.prefix_sums.specs.Found.{IsFound};
-ghost use Rattle.prefix_sums.specs.PlainSums.{with_more, with_number, without};
+ghost use Rattle.prefix_sums.specs.PlainPrefixSums.{with_number_inserted, with_number_set, with_number_removed};
 
 use crate::position::Position;
 use std::alloc::{AllocError, Global};
@@ -21,9 +21,9 @@ pub struct PrefixSums {
 }
 
 impl Model for PrefixSums {
-    ghost use Rattle.prefix_sums.specs.PlainSums.{PlainSums};
+    ghost use Rattle.prefix_sums.specs.PlainPrefixSums.{PlainPrefixSums};
 
-    ghost Value = { PlainSums };
+    ghost Value = { PlainPrefixSums };
 
     ghost use Rattle.prefix_sums.specs.Private.RunningSums.{IsRight, seen};
 
@@ -140,7 +140,7 @@ impl PrefixSums {
     pub fn set(&mut self, k: usize, number: u32)
         requires there { k < length self.old.numbers }
         requires fits { sum (slice_set self.old.numbers k number) < 2 ^ 32 }
-        ensures { self.new ≡ with_number self.old k number }
+        ensures { self.new ≡ with_number_set self.old k number }
     {
         let old = self.numbers[k];
         self.numbers[k] = number;
@@ -155,7 +155,7 @@ impl PrefixSums {
         requires there { k ≤ length self.old.numbers }
         requires room { 0 < self.old.spare }
         requires fits { sum (insert self.old.numbers k number) < 2 ^ 32 }
-        ensures { self.new ≡ with_more self.old k number }
+        ensures { self.new ≡ with_number_inserted self.old k number }
     {
         insert_reserved(&mut self.numbers, k, number);
         for b in k / BLOCK..self.marks.len() {
@@ -171,7 +171,7 @@ impl PrefixSums {
     pub fn remove(&mut self, k: usize) -> u32
         requires there { k < length self.old.numbers }
         ensures taken { Some result ≡ slice_get self.old.numbers k }
-        ensures left { self.new ≡ without self.old k }
+        ensures left { self.new ≡ with_number_removed self.old k }
     {
         self.marks.truncate((self.numbers.len() - 1) / BLOCK);
         let number = self.numbers.remove(k);

@@ -2,8 +2,8 @@
 ghost use Rattle.std.specs.Prelude.{◌≡◌, IfSome};
 ghost use Rattle.decl_table.specs.Agreement.{IsDeclsOf};
 ghost use Rattle.template_tree.specs.Marks.{Verdicts};
-ghost use Rattle.template_tree.specs.Part.{IsPlace};
-ghost use Rattle.template_tree.specs.PlainPlace.{plain_place};
+ghost use Rattle.template_tree.specs.Part.{IsPhrasePlace};
+ghost use Rattle.template_tree.specs.PlainPhrasePlace.{plain_phrase_place};
 ghost use Rattle.template_tree.specs.Tree.{IsTree};
 
 use crate::phrase_text::{phrase_of, text_of};
@@ -50,7 +50,7 @@ pub fn check(rt: &HostRuntime, tree: &mut Tree, words: &[Vec<u8>]) -> io::Result
 /// What the text reads as in the part at the stop.
 fn place_at(rt: &HostRuntime, tree: &Tree, stop: &Stop, text: &[u8]) -> Option<PhrasePlace>
     requires { IsTree tree.now }
-    ensures { IfSome result (λ place. IsPlace (plain_place place)) }
+    ensures { IfSome result (λ place. IsPhrasePlace (plain_phrase_place place)) }
 {
     let kind = tree.node(&stop.path)?.kind();
     let category = part_category(kind, stop.part?)?;

@@ -1,7 +1,7 @@
 //! Phrases and their texts.
 ghost use Rattle.std.specs.Prelude.{IfSome, Some};
 ghost use Rattle.plcs_grammar.specs.PlainPhrase.{plain_phrase};
-ghost use Rattle.template_tree.specs.Part.{IsPlace};
+ghost use Rattle.template_tree.specs.Part.{IsPhrasePlace};
 
 use phrase_parser::parse;
 use plcs_base::ByteOut;
@@ -11,7 +11,7 @@ use template_tree::LONGEST_PHRASE;
 
 /// What the text reads as, where it may stand in a part.
 pub fn phrase_of(alloc: Global, category: Category, text: &[u8]) -> Option<Phrase>
-    ensures { IfSome result (λ phrase. IsPlace (Some (plain_phrase phrase))) }
+    ensures { IfSome result (λ phrase. IsPhrasePlace (Some (plain_phrase phrase))) }
 {
     if text.len() > 1000 {
         return None;

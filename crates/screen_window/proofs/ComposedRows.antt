@@ -3,7 +3,7 @@ use Rattle.std.proofs.Common.{◌≡◌, ◌<◌, ℕ, ◌+◌, List, [], length
 use Rattle.std.specs.List.{range_with_len}
 use Rattle.std.proofs.lemmas.List.Edits.{fill_by_more}
 use Rattle.std.proofs.lemmas.List.FromFn.{fill_by_all}
-use Rattle.screen_window.specs.Cursor.{cursor_place}
+use Rattle.screen_window.specs.Cursor.{cursor_position}
 use Rattle.screen_window.specs.PlainGrid.{PlainGrid}
 use Rattle.screen_window.specs.PlainView.{PlainView}
 use Rattle.screen_window.specs.Screen.{Screen, screen_row}
@@ -28,7 +28,7 @@ more_drawn view old g new row drawn below same =
 
 -- all rows are drawn, and the cursor is placed
 pub screen_drawn : (view : PlainView) (old new : PlainGrid) (rows cols row col : ℕ) → IsDrawn (λ r. shown_row old.cols (screen_row old.rows old.cols view r)) old.rows old new
-    → length new.lines ≡ rows → rows ≡ new.rows → cols ≡ new.cols → row ≡ (cursor_place rows cols view).row → col ≡ (cursor_place rows cols view).col
+    → length new.lines ≡ rows → rows ≡ new.rows → cols ≡ new.cols → row ≡ (cursor_position rows cols view).row → col ≡ (cursor_position rows cols view).col
     → record new { row = row; col = col } ≡ Screen old.rows old.cols view
 unfolding Screen
 screen_drawn view old new rows cols row col drawn count is_rows is_cols is_row is_col =
@@ -40,6 +40,6 @@ screen_drawn view old new rows cols row col drawn count is_rows is_cols is_row i
     ∙ ap (λ n. record { rows = old.rows; cols = n; lines = new.lines; row = row; col = col }) drawn.cols
     ∙ ap (λ ls. record { rows = old.rows; cols = old.cols; lines = ls; row = row; col = col }) all
     ∙ ap (λ n. record { rows = old.rows; cols = old.cols; lines = map draw (range_with_len 0 old.rows); row = n; col = col })
-    (is_row ∙ ap (λ n. (cursor_place n cols view).row) rows_old ∙ ap (λ n. (cursor_place old.rows n view).row) cols_old)
-    ∙ ap (λ n. record { rows = old.rows; cols = old.cols; lines = map draw (range_with_len 0 old.rows); row = (cursor_place old.rows old.cols view).row; col = n })
-    (is_col ∙ ap (λ n. (cursor_place n cols view).col) rows_old ∙ ap (λ n. (cursor_place old.rows n view).col) cols_old)
+    (is_row ∙ ap (λ n. (cursor_position n cols view).row) rows_old ∙ ap (λ n. (cursor_position old.rows n view).row) cols_old)
+    ∙ ap (λ n. record { rows = old.rows; cols = old.cols; lines = map draw (range_with_len 0 old.rows); row = (cursor_position old.rows old.cols view).row; col = n })
+    (is_col ∙ ap (λ n. (cursor_position n cols view).col) rows_old ∙ ap (λ n. (cursor_position old.rows n view).col) cols_old)

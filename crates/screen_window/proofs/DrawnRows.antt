@@ -3,7 +3,7 @@ use Rattle.std.proofs.Common.{◌≡◌, ◌<◌, ◌≤◌, ℕ, ◌+◌, ◌-�
 use Rattle.std.proofs.Math.ListN.{set}
 use Rattle.std.proofs.lemmas.List.{map-set, length-map, length-set, get_or-map}
 use Rattle.std.proofs.lemmas.List.Elements.{All-get_or, All-set, All-same}
-use Rattle.screen_window.specs.Cell.{is_cell}
+use Rattle.screen_window.specs.ScreenCell.{is_screen_cell}
 use Rattle.screen_window.specs.Limit.{IsSize}
 use Rattle.screen_window.specs.PlainGrid.{PlainGrid, IsGrid, IsRow}
 use Rattle.screen_window.specs.ShownRow.{cell_in, shown_cell, shown_row}
@@ -11,17 +11,17 @@ use Rattle.screen_window.specs.Private.WithRow.{with_row}
 use Rattle.screen_window.proofs.ShownRows.{length-shown_row, get_or-shown_row}
 
 -- what is shown in a cell is one
-shown_cell_is : (cell : ℕ) → IsTrue (is_cell (shown_cell cell))
-shown_cell_is cell = by_test (is_cell cell) refl
+shown_cell_is : (cell : ℕ) → IsTrue (is_screen_cell (shown_cell cell))
+shown_cell_is cell = by_test (is_screen_cell cell) refl
   where
-    by_test : (b : Bool) → is_cell cell ≡ b → IsTrue (is_cell (cond b cell 32))
+    by_test : (b : Bool) → is_screen_cell cell ≡ b → IsTrue (is_screen_cell (cond b cell 32))
     by_test true is = is
     by_test false is = refl
 
-cell_in_is : (cols : ℕ) (cells : List ℕ) (k : ℕ) → IsTrue (is_cell (cell_in cols cells k))
+cell_in_is : (cols : ℕ) (cells : List ℕ) (k : ℕ) → IsTrue (is_screen_cell (cell_in cols cells k))
 cell_in_is cols cells k = by_test (nat_lt (k + 1) cols)
   where
-    by_test : (b : Bool) → IsTrue (is_cell (cond b (shown_cell (get_or cells k 32)) 32))
+    by_test : (b : Bool) → IsTrue (is_screen_cell (cond b (shown_cell (get_or cells k 32)) 32))
     by_test true = shown_cell_is (get_or cells k 32)
     by_test false = refl
 
@@ -30,7 +30,7 @@ pub row_is : (cols : ℕ) (cells : List ℕ) → 0 < cols → IsRow cols (shown_
 row_is cols cells some = record {
   width = length-shown_row cols cells;
   cells = λ k d below.
-      ap is_cell (get_or-shown_row cols cells k d (subst (λ n. k < n) (length-shown_row cols cells) below)) ∙ cell_in_is cols cells k;
+      ap is_screen_cell (get_or-shown_row cols cells k d (subst (λ n. k < n) (length-shown_row cols cells) below)) ∙ cell_in_is cols cells k;
   last = get_or-shown_row cols cells (cols - 1) 32 (omega (arith, some)) ∙ ap (λ b. cond b (shown_cell (get_or cells (cols - 1) 32)) 32) outside;
 }
   where

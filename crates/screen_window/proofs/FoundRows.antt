@@ -5,7 +5,7 @@ use Rattle.std.specs.List.{range_with_len}
 use Rattle.std.proofs.lemmas.Bool.{cases_lt, lt-ltb}
 use Rattle.template_tree.specs.Path.{node_at, slot_at}
 use Rattle.template_tree.specs.PlainTree.{PlainNode}
-use Rattle.screen_window.specs.Cursor.{cursor_place, node_row, place_in_row, stop_place}
+use Rattle.screen_window.specs.Cursor.{cursor_position, node_row, position_in_row, stop_position}
 use Rattle.screen_window.specs.PlainView.{PlainView}
 use Rattle.screen_window.specs.Window.{window_line}
 use Rattle.screen_window.specs.Private.Drawing.{begins_stop, found_before, found_or, row_from, row_line}
@@ -89,17 +89,17 @@ row_within view slot window row found =
     let within = found_within (λ r. begins_stop slot (window_line view r)) 0 window row found in omega (arith, within)
 
 -- the cursor stands in the row found
-at_row : (cols col row : ℕ) (o : Option ℕ) → Some row ≡ o → row + 1 ≡ (place_in_row cols col o).row
+at_row : (cols col row : ℕ) (o : Option ℕ) → Some row ≡ o → row + 1 ≡ (position_in_row cols col o).row
 at_row cols col row None found = absurd (cc)
 at_row cols col row (Some other) found = let same : row ≡ other = cc in ap (λ n. n + 1) same
 
 at_stop : (rows cols : ℕ) (view : PlainView) (node : PlainNode) (row : ℕ) (o : Option PlainNode) → Some node ≡ o
-    → Some row ≡ row_from view (option_map (λ n. n.label.slot) o) 0 (rows - 6) → row + 1 ≡ (stop_place rows cols view o).row
+    → Some row ≡ row_from view (option_map (λ n. n.label.slot) o) 0 (rows - 6) → row + 1 ≡ (stop_position rows cols view o).row
 at_stop rows cols view node row None there found = absurd (cc)
 at_stop rows cols view node row (Some other) there found = at_row cols _ row (node_row (rows - 6) view other.label.slot) found
 
 pub cursor_row : (rows cols : ℕ) (view : PlainView) (node : PlainNode) (row : ℕ) → length view.typed ≡ 0 → Some node ≡ node_at view.items view.stop.path
-    → Some row ≡ row_from view (slot_at view.items view.stop.path) 0 (rows - 6) → row + 1 ≡ (cursor_place rows cols view).row
+    → Some row ≡ row_from view (slot_at view.items view.stop.path) 0 (rows - 6) → row + 1 ≡ (cursor_position rows cols view).row
 cursor_row rows cols view node row empty there found = rw empty (at_stop rows cols view node row (node_at view.items view.stop.path) there found)
 
 is_not : (row window : ℕ) → window ≤ row → nat_lt row window ≡ false

@@ -6,7 +6,7 @@ use Rattle.screen_window.specs.Paint.{Paint, go_to, rows_paint}
 use Rattle.screen_window.specs.PaintShows.{PaintShows}
 use Rattle.screen_window.specs.PlainGrid.{IsRow}
 use Rattle.screen_window.specs.PlainTerminal.{Shows}
-use Rattle.screen_window.specs.Terminal.{Term, moved, nearest, with_sequence}
+use Rattle.screen_window.specs.Terminal.{Term, with_cursor_at, nearest, with_sequence}
 use Rattle.screen_window.proofs.TakenBytes.{after_both}
 use Rattle.screen_window.proofs.TakenNumbers.{gone_to}
 use Rattle.screen_window.proofs.TakenRows.{rows_taken}
@@ -28,7 +28,7 @@ paint_shows z old new is_old is_new same_rows same_cols shows =
     let y = record z { lines = new.lines; above = rows.above; before = rows.before; negative = false; sequence = Absent } in
     let begun : z ≡ with_sequence z Absent = ap (with_sequence z) shows.finished in
     let cursor = gone_to y new.row new.col (omega (arith, is_new.most_row, is_new.size.most_rows)) (omega (arith, is_new.most_col, is_new.size.most_cols)) in
-    let total : Term z (Paint old new) ≡ moved y new.row new.col =
+    let total : Term z (Paint old new) ≡ with_cursor_at y new.row new.col =
     ap (λ t. Term t (Paint old new)) begun ∙ after_both _ _ _ (rows_paint 1 old.lines new.lines) (go_to new.row new.col) rows.taken cursor in
     subst (λ t. Shows t new) (sym total)
     (record {

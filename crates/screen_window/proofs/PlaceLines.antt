@@ -6,7 +6,7 @@ use Rattle.std.proofs.lemmas.Option.{slice_get_within, get_or_from_slice_get, sl
 use Rattle.template_tree.specs.PlainTree.{Forest, PlainNode, forest, nodes, forest_nodes}
 use Rattle.template_tree.specs.Slots.{count}
 use Rattle.screen_window.specs.declared.node_line.NodeLine.{NodeLine}
-use Rattle.screen_window.specs.NodeLine.{first_line, place_line}
+use Rattle.screen_window.specs.NodeLine.{found_line, place_line}
 use Rattle.screen_window.specs.Private.ItemLine.{item_line}
 
 -- a list has no more items than nodes
@@ -39,24 +39,24 @@ item_few items k node there =
 
 -- what is found in an item or behind it
 line_by_node : (slot point : ℕ) (items : List PlainNode) (k : ℕ) (node : PlainNode) → slice_get items k ≡ Some node
-    → place_line slot point (forest (drop k items)) ≡ first_line (item_line slot point (Some node)) (place_line slot point (forest (drop (k + 1) items)))
+    → place_line slot point (forest (drop k items)) ≡ found_line (item_line slot point (Some node)) (place_line slot point (forest (drop (k + 1) items)))
 line_by_node slot point items k node there =
     ap (λ l. place_line slot point (forest l)) (left_items items k node there)
     ∙ behind _ (place_line slot point (forest (drop (k + 1) items)))
   where
-    behind : (here rest : Option NodeLine) → first_line here rest ≡ first_line (first_line here None) rest
+    behind : (here rest : Option NodeLine) → found_line here rest ≡ found_line (found_line here None) rest
     behind None rest = refl
     behind (Some line) rest = refl
 
 line_by_item : (slot point : ℕ) (items : List PlainNode) (k : ℕ) → k < length items
-    → place_line slot point (forest (drop k items)) ≡ first_line (item_line slot point (slice_get items k)) (place_line slot point (forest (drop (k + 1) items)))
+    → place_line slot point (forest (drop k items)) ≡ found_line (item_line slot point (slice_get items k)) (place_line slot point (forest (drop (k + 1) items)))
 line_by_item slot point items k below = by_place (slice_get_cases items k).1
   where
     by_place : (((x : PlainNode) × (k < length items) × (slice_get items k ≡ Some x) × (get_or items k x ≡ x)) ⊎ ((length items ≤ k) × (slice_get items k ≡ None)))
-        → place_line slot point (forest (drop k items)) ≡ first_line (item_line slot point (slice_get items k)) (place_line slot point (forest (drop (k + 1) items)))
+        → place_line slot point (forest (drop k items)) ≡ found_line (item_line slot point (slice_get items k)) (place_line slot point (forest (drop (k + 1) items)))
     by_place (inl (node, inside, there, same)) =
         line_by_node slot point items k node there
-        ∙ ap (λ o. first_line (item_line slot point o) (place_line slot point (forest (drop (k + 1) items)))) (sym there)
+        ∙ ap (λ o. found_line (item_line slot point o) (place_line slot point (forest (drop (k + 1) items)))) (sym there)
     by_place (inr (past, none)) = absurd (omega (arith, below, past))
 
 -- found in an item
@@ -65,7 +65,7 @@ pub found_in_item : (slot point : ℕ) (items : Forest) (k : ℕ) (line : NodeLi
     → Some line ≡ place_line slot point items
 found_in_item slot point items k line below so_far found =
     let rest = place_line slot point (forest (drop (k + 1) (nodes items))) in
-    sym (so_far ∙ line_by_item slot point (nodes items) k below ∙ ap (λ o. first_line o rest) (sym found))
+    sym (so_far ∙ line_by_item slot point (nodes items) k below ∙ ap (λ o. found_line o rest) (sym found))
 
 -- not found in an item
 pub not_in_item : (slot point : ℕ) (items : Forest) (k : ℕ) → k < length (nodes items)
@@ -73,7 +73,7 @@ pub not_in_item : (slot point : ℕ) (items : Forest) (k : ℕ) → k < length (
     → place_line slot point items ≡ place_line slot point (forest (drop (k + 1) (nodes items)))
 not_in_item slot point items k below so_far none =
     let rest = place_line slot point (forest (drop (k + 1) (nodes items))) in
-    so_far ∙ line_by_item slot point (nodes items) k below ∙ ap (λ o. first_line o rest) (sym none)
+    so_far ∙ line_by_item slot point (nodes items) k below ∙ ap (λ o. found_line o rest) (sym none)
 
 -- all items are left
 pub all_left : (slot point : ℕ) (items : Forest) → place_line slot point items ≡ place_line slot point (forest (nodes items))

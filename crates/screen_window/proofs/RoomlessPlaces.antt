@@ -2,14 +2,14 @@
 use Rattle.std.proofs.Common.{◌≡◌, ℕ, Option, Some, None, refl}
 use Rattle.std.specs.Prelude.{◌==◌, if◌then◌else◌, option_map}
 use Rattle.template_tree.specs.PlainTree.{Forest, roomless}
-use Rattle.screen_window.specs.NodeLine.{first_line, line_inside, place_line, point_line}
+use Rattle.screen_window.specs.NodeLine.{found_line, line_inside, place_line, point_line}
 
 -- the line of a place of a run
 pub place_roomless : (slot point : ℕ) (items : Forest) → place_line slot point (roomless items) ≡ place_line slot point items
 place_roomless slot point Forest.nil = refl
 place_roomless slot point (Forest.cons label inner rest) =
     λ i.
-    first_line (if label.slot == slot then Some (point_line label point) else line_inside label (place_roomless slot point inner i))
+    found_line (if label.slot == slot then Some (point_line label point) else line_inside label (place_roomless slot point inner i))
     (place_roomless slot point rest i)
 
 -- one function after the other on what is there

@@ -8,10 +8,10 @@ use Rattle.std.proofs.lemmas.List.{length-append}
 use Rattle.std.proofs.Math.Seq.{get_or-append_seam, set-append_seam}
 use Rattle.plcs_base.specs.Byte.{is_printable}
 use Rattle.screen_window.specs.declared.sequence.Sequence.TheVariants.{Absent}
-use Rattle.screen_window.specs.Cell.{cell_of, is_cell, is_negative}
+use Rattle.screen_window.specs.ScreenCell.{screen_cell, is_screen_cell, is_negative}
 use Rattle.screen_window.specs.Paint.{image_change, spelled}
 use Rattle.screen_window.specs.PlainTerminal.{PlainTerminal}
-use Rattle.screen_window.specs.Terminal.{Term, step, typed}
+use Rattle.screen_window.specs.Terminal.{Term, terminal_after, typed}
 use Rattle.screen_window.proofs.TakenBytes.{after_both}
 
 -- a terminal with its cursor in a row between others
@@ -37,19 +37,19 @@ image_taken z aboves belows line before false false = refl
 byte_taken : (z : PlainTerminal) (aboves belows : List (List ℕ)) (front rest : List ℕ) (old byte : ℕ) (image : Bool)
     → is_printable byte ≡ true → length front + 1 < z.cols
     → Term (in_row z aboves belows (front ++ old ∷ rest) (length front) image) (byte ∷ [])
-    ≡ in_row z aboves belows (front ++ cell_of image byte ∷ rest) (length front + 1) image
+    ≡ in_row z aboves belows (front ++ screen_cell image byte ∷ rest) (length front + 1) image
 unfolding Term
 byte_taken z aboves belows front rest old byte image printable room =
     let y = in_row z aboves belows (front ++ old ∷ rest) (length front) image in
     let other : eqb byte 27 ≡ false = grind (arith, printable) in
-    let plain : step y byte ≡ typed y byte = rw (other, printable) refl in
+    let plain : terminal_after y byte ≡ typed y byte = rw (other, printable) refl in
     let right : min (length front + 1) (z.cols - 1) ≡ length front + 1 = omega (arith, room) in
-    let row : set (aboves ++ (front ++ old ∷ rest) ∷ belows) (length aboves) (set (get_or (aboves ++ (front ++ old ∷ rest) ∷ belows) (length aboves) []) (length front) (cell_of image byte))
-    ≡ aboves ++ (front ++ cell_of image byte ∷ rest) ∷ belows =
-    ap (λ l. set (aboves ++ (front ++ old ∷ rest) ∷ belows) (length aboves) (set l (length front) (cell_of image byte))) (get_or-append_seam aboves (front ++ old ∷ rest) belows [])
-    ∙ set-append_seam aboves (front ++ old ∷ rest) belows (set (front ++ old ∷ rest) (length front) (cell_of image byte))
-    ∙ ap (λ l. aboves ++ l ∷ belows) (set-append_seam front old rest (cell_of image byte)) in
-    plain ∙ ap (λ n. record y { lines = set (aboves ++ (front ++ old ∷ rest) ∷ belows) (length aboves) (set (get_or (aboves ++ (front ++ old ∷ rest) ∷ belows) (length aboves) []) (length front) (cell_of image byte)); before = n }) right
+    let row : set (aboves ++ (front ++ old ∷ rest) ∷ belows) (length aboves) (set (get_or (aboves ++ (front ++ old ∷ rest) ∷ belows) (length aboves) []) (length front) (screen_cell image byte))
+    ≡ aboves ++ (front ++ screen_cell image byte ∷ rest) ∷ belows =
+    ap (λ l. set (aboves ++ (front ++ old ∷ rest) ∷ belows) (length aboves) (set l (length front) (screen_cell image byte))) (get_or-append_seam aboves (front ++ old ∷ rest) belows [])
+    ∙ set-append_seam aboves (front ++ old ∷ rest) belows (set (front ++ old ∷ rest) (length front) (screen_cell image byte))
+    ∙ ap (λ l. aboves ++ l ∷ belows) (set-append_seam front old rest (screen_cell image byte)) in
+    plain ∙ ap (λ n. record y { lines = set (aboves ++ (front ++ old ∷ rest) ∷ belows) (length aboves) (set (get_or (aboves ++ (front ++ old ∷ rest) ∷ belows) (length aboves) []) (length front) (screen_cell image byte)); before = n }) right
     ∙ ap (λ ls. record y { lines = ls; before = length front + 1 }) row
 
 -- a printable byte lies in its range
@@ -58,26 +58,26 @@ printable_is byte printable = let parts = and_parts (nat_le 32 byte) (nat_le byt
 
 -- a byte in default image, or in negative image
 by_image : (cell : ℕ) → (is_printable cell ≡ true) ⊎ (is_printable (cell - 256) ≡ true)
-    → (is_printable (cell % 256) ≡ true) × (cell_of (is_negative cell) (cell % 256) ≡ cell)
+    → (is_printable (cell % 256) ≡ true) × (screen_cell (is_negative cell) (cell % 256) ≡ cell)
 by_image cell (inl default) =
     let range = printable_is cell default in
     let same : cell % 256 ≡ cell = mod-eq_of_lt (omega (arith, range.1)) in
     let positive : nat_le 256 cell ≡ false = grind (arith, range.1) in
-    (ap is_printable same ∙ default, ap (λ b. cell_of b (cell % 256)) positive ∙ same)
+    (ap is_printable same ∙ default, ap (λ b. screen_cell b (cell % 256)) positive ∙ same)
 by_image cell (inr negative) =
     let range = printable_is (cell - 256) negative in
     let from : 256 ≤ cell = omega (arith, range.0) in
     let same : cell % 256 ≡ cell - 256 = mod-eq-sub-mod from ∙ mod-eq_of_lt (omega (arith, range.1)) in
     let whole : cell - 256 + 256 ≡ cell = omega (arith, from) in
-    (ap is_printable same ∙ negative, ap (λ b. cell_of b (cell % 256)) (le-leb 256 cell from) ∙ ap (λ n. n + 256) same ∙ whole)
+    (ap is_printable same ∙ negative, ap (λ b. screen_cell b (cell % 256)) (le-leb 256 cell from) ∙ ap (λ n. n + 256) same ∙ whole)
 
 -- a cell is a printable byte in its image
-cell_is : (cell : ℕ) → IsTrue (is_cell cell) → (is_printable (cell % 256) ≡ true) × (cell_of (is_negative cell) (cell % 256) ≡ cell)
+cell_is : (cell : ℕ) → IsTrue (is_screen_cell cell) → (is_printable (cell % 256) ≡ true) × (screen_cell (is_negative cell) (cell % 256) ≡ cell)
 cell_is cell valid = by_image cell (or_cases (is_printable cell) (is_printable (cell - 256)) valid)
 
 -- cells that are spelled, one after the other
 pub cells_taken : (z : PlainTerminal) (aboves belows : List (List ℕ)) (front cells olds : List ℕ) (image : Bool)
-    → All (λ cell. IsTrue (is_cell cell)) cells → length front + length cells < z.cols → length cells ≤ length olds
+    → All (λ cell. IsTrue (is_screen_cell cell)) cells → length front + length cells < z.cols → length cells ≤ length olds
     → Term (in_row z aboves belows (front ++ olds) (length front) image) (spelled image cells)
     ≡ in_row z aboves belows (front ++ (cells ++ drop (length cells) olds)) (length front + length cells) false
 cells_taken z aboves belows front [] olds image valid room within =

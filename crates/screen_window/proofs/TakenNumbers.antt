@@ -9,7 +9,7 @@ use Rattle.screen_window.specs.declared.sequence.Gathered.{Gathered}
 use Rattle.screen_window.specs.declared.sequence.Gathered.TheVariants.{Nothing, Digit, Number, Row, Position}
 use Rattle.screen_window.specs.Paint.{go_to}
 use Rattle.screen_window.specs.PlainTerminal.{PlainTerminal}
-use Rattle.screen_window.specs.Terminal.{Term, step, longer, moved, with_digit, with_sequence}
+use Rattle.screen_window.specs.Terminal.{Term, terminal_after, longer, with_cursor_at, with_digit, with_sequence}
 use Rattle.screen_window.proofs.TakenBytes.{after_none, after_byte, after_both}
 
 -- the number that digits write behind a number
@@ -42,7 +42,7 @@ digit_is c cs digits = let range = digit_from_value c digits.0 in grind (arith, 
 digit_taken : (z : PlainTerminal) (gathered : Gathered) (c : ℕ) (cs ds : List ℕ) → AllDigits 10 (c ∷ cs)
     → Term (with_sequence z (Behind gathered)) (c ∷ ds) ≡ Term (with_sequence z (Behind (with_digit gathered (c - 48)))) ds
 digit_taken z gathered c cs ds digits =
-    let stepped : step (with_sequence z (Behind gathered)) c ≡ with_sequence z (Behind (with_digit gathered (c - 48))) = rw (digit_is c cs digits) refl in
+    let stepped : terminal_after (with_sequence z (Behind gathered)) c ≡ with_sequence z (Behind (with_digit gathered (c - 48))) = rw (digit_is c cs digits) refl in
     after_byte (with_sequence z (Behind gathered)) c ds ∙ ap (λ t. Term t ds) stepped
 
 -- the further digits of the first number
@@ -88,7 +88,7 @@ row_taken z (c ∷ c' ∷ cs) some digits cap =
 
 -- the second number and the `H` that ends the sequence
 col_taken : (z : PlainTerminal) (row : ℕ) (ds : List ℕ) → 0 < length ds → AllDigits 10 ds → after10 0 ds ≤ 9999
-    → Term (with_sequence z (Behind (Row row))) (ds ++ 72 ∷ []) ≡ with_sequence (moved z row (after10 0 ds)) Absent
+    → Term (with_sequence z (Behind (Row row))) (ds ++ 72 ∷ []) ≡ with_sequence (with_cursor_at z row (after10 0 ds)) Absent
 unfolding after10 Term
 col_taken z row [] some digits cap = absurd (omega (arith, some))
 col_taken z row (c ∷ cs) some digits cap =
@@ -104,7 +104,7 @@ begun z = refl
 
 -- the cursor goes where the sequence says
 pub gone_to : (z : PlainTerminal) (row col : ℕ) → row ≤ 999 → col ≤ 999
-    → Term (with_sequence z Absent) (go_to row col) ≡ with_sequence (moved z row col) Absent
+    → Term (with_sequence z Absent) (go_to row col) ≡ with_sequence (with_cursor_at z row col) Absent
 unfolding go_to
 gone_to z row col few_rows few_cols =
     let row_fits : row < 2 ^ 64 = omega (arith, few_rows) in
@@ -116,7 +116,7 @@ gone_to z row col few_rows few_cols =
     ∙ ap (λ n. with_sequence z (Behind (Row n))) row_is in
     let col_part =
     col_taken z row (decimal col) (decimal_is_IsNumeral col col_fits).0.0 (digits_decimal model col col_fits) (omega (arith, col_is, few_cols))
-    ∙ ap (λ n. with_sequence (moved z row n) Absent) col_is in
+    ∙ ap (λ n. with_sequence (with_cursor_at z row n) Absent) col_is in
     after_both _ _ _ (27 ∷ 91 ∷ []) (decimal row ++ (59 ∷ (decimal col ++ 72 ∷ []))) (begun z)
     (ap (Term (with_sequence z (Behind Nothing))) (sym (append_assoc (decimal row) (59 ∷ []) (decimal col ++ 72 ∷ [])))
     ∙ after_both _ _ _ (decimal row ++ 59 ∷ []) (decimal col ++ 72 ∷ []) row_part col_part)

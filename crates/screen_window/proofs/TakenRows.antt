@@ -7,7 +7,7 @@ use Rattle.std.proofs.Math.Seq.{get_or-append_seam, set-append_seam, take-append
 use Rattle.std.proofs.lemmas.List.{length-append, get_or_append_left}
 use Rattle.std.proofs.lemmas.Bool.{eqb-true, and_parts}
 use Rattle.screen_window.specs.declared.sequence.Sequence.TheVariants.{Absent}
-use Rattle.screen_window.specs.Cell.{is_cell}
+use Rattle.screen_window.specs.ScreenCell.{is_screen_cell}
 use Rattle.screen_window.specs.Paint.{cut_before, go_to, row_piece, rows_paint, spelled, visible}
 use Rattle.screen_window.specs.PlainGrid.{IsRow}
 use Rattle.screen_window.specs.PlainTerminal.{PlainTerminal}
@@ -63,10 +63,10 @@ visible_less (cell ∷ next ∷ rest) some last =
     omega (arith, cut_short cell (visible (next ∷ rest)), less)
 
 -- the cells before the last that isn't a blank are cells
-visible_cells : (cells : List ℕ) → All (λ cell. IsTrue (is_cell cell)) cells → All (λ cell. IsTrue (is_cell cell)) (visible cells)
+visible_cells : (cells : List ℕ) → All (λ cell. IsTrue (is_screen_cell cell)) cells → All (λ cell. IsTrue (is_screen_cell cell)) (visible cells)
 visible_cells cells valid = λ k d below.
     let blanks = replicate (length cells - length (visible cells)) 32 in
-    ap is_cell (sym (get_or_append_left (visible cells) blanks d k below) ∙ ap (λ l. get_or l k d) (visible_whole cells))
+    ap is_screen_cell (sym (get_or_append_left (visible cells) blanks d k below) ∙ ap (λ l. get_or l k d) (visible_whole cells))
     ∙ valid k d (omega (arith, below, visible_short cells))
 
 -- blanks from the cursor on

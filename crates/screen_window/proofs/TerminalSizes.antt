@@ -6,7 +6,7 @@ use Rattle.screen_window.specs.declared.sequence.Sequence.TheVariants.{Absent, E
 use Rattle.screen_window.specs.declared.sequence.Gathered.{Gathered}
 use Rattle.screen_window.specs.declared.sequence.Gathered.TheVariants.{Nothing, Digit, Number, Row, Position, Other}
 use Rattle.screen_window.specs.PlainTerminal.{PlainTerminal}
-use Rattle.screen_window.specs.Terminal.{Term, ended, step, step_in}
+use Rattle.screen_window.specs.Terminal.{Term, ended, terminal_after, terminal_after_in}
 
 -- a terminal of the same size
 pub record IsAsLarge (z y : PlainTerminal) : Type 0 where
@@ -34,7 +34,7 @@ ended_size z (Position row col) byte = by_test z (byte == 72) _ _ (record { rows
 ended_size z Other byte = same_size z
 
 -- one byte
-step_size : (sequence : Sequence) (z : PlainTerminal) (byte : ℕ) → IsAsLarge z (step_in sequence z byte)
+step_size : (sequence : Sequence) (z : PlainTerminal) (byte : ℕ) → IsAsLarge z (terminal_after_in sequence z byte)
 step_size Absent z byte =
     by_test z (byte == 27) _ _ (record { rows = refl; cols = refl })
     (by_test z (is_printable byte) _ _ (record { rows = refl; cols = refl }) (same_size z))
@@ -50,5 +50,5 @@ unfolding Term
 term_size z [] = same_size z
 term_size z (byte ∷ bytes) =
     let first = step_size z.sequence z byte in
-    let rest = term_size (step z byte) bytes in
+    let rest = term_size (terminal_after z byte) bytes in
     record { rows = rest.rows ∙ first.rows; cols = rest.cols ∙ first.cols }

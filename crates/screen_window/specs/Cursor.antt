@@ -5,7 +5,7 @@ use Rattle.plcs_grammar.specs.Template.{row_of}
 use Rattle.template_tree.specs.Path.{node_at}
 use Rattle.template_tree.specs.PlainTree.{PlainNode}
 use Rattle.unparse_layout.specs.declared.line.LineKind.TheVariants.{First}
-use Rattle.unparse_layout.specs.LaidLine.{LaidLine}
+use Rattle.unparse_layout.specs.LaidLine.{PlainLine}
 use Rattle.unparse_layout.specs.OwnedLine.{Stretch, stretches_of}
 use Rattle.screen_window.specs.NodeLine.{is_line}
 use Rattle.screen_window.specs.LowerRows.{input_row}
@@ -13,7 +13,7 @@ use Rattle.screen_window.specs.PlainView.{PlainView}
 use Rattle.screen_window.specs.Window.{window_line}
 
 -- a place of the cursor on the screen: a row and a column, which count from 1
-pub record CursorPlace : Type 0 where
+pub record CursorPosition : Type 0 where
   pub row : ℕ
   pub col : ℕ
 
@@ -24,8 +24,8 @@ cut_col cols col = min col (cols - 1)
 -- ---- behind the typed line
 
 -- the place of the cursor behind the typed line, in the last row
-abbrev pub typed_place : ℕ → ℕ → PlainView → CursorPlace
-typed_place rows cols view = record { row = rows; col = cut_col cols (length (input_row cols view) + 1) }
+abbrev pub typed_position : ℕ → ℕ → PlainView → CursorPosition
+typed_position rows cols view = record { row = rows; col = cut_col cols (length (input_row cols view) + 1) }
 
 -- ---- at the stop
 
@@ -51,7 +51,7 @@ stop_col path part node = 3 + 2 * (length path - 1) + stop_offset node part
 
 -- whether the program's line in a row of the window, if there is one, is that of the cursor's stop: the first of the
 -- node in the slot
-abbrev pub begins_node : ℕ → Option LaidLine → Bool
+abbrev pub begins_node : ℕ → Option PlainLine → Bool
 begins_node slot None = false
 begins_node slot (Some laid) = is_line record { slot = slot; kind = First } laid
 
@@ -62,19 +62,19 @@ node_row window view slot = find (λ row. begins_node slot (window_line view row
 
 -- the place of the cursor at its stop in this row of the window; where the window doesn't show its line, the first
 -- place
-abbrev pub place_in_row : ℕ → ℕ → Option ℕ → CursorPlace
-place_in_row cols col None = record { row = 1; col = 1 }
-place_in_row cols col (Some row) = record { row = row + 1; col = cut_col cols col }
+abbrev pub position_in_row : ℕ → ℕ → Option ℕ → CursorPosition
+position_in_row cols col None = record { row = 1; col = 1 }
+position_in_row cols col (Some row) = record { row = row + 1; col = cut_col cols col }
 
 -- the place of the cursor at its stop in the node; where there is no such node, the first place
-abbrev pub stop_place : (rows cols : ℕ) → PlainView → Option PlainNode → CursorPlace
-stop_place rows cols view None = record { row = 1; col = 1 }
-stop_place rows cols view (Some node) =
-    place_in_row cols (stop_col view.stop.path view.stop.part node) (node_row (rows - 6) view node.label.slot)
+abbrev pub stop_position : (rows cols : ℕ) → PlainView → Option PlainNode → CursorPosition
+stop_position rows cols view None = record { row = 1; col = 1 }
+stop_position rows cols view (Some node) =
+    position_in_row cols (stop_col view.stop.path view.stop.part node) (node_row (rows - 6) view node.label.slot)
 
 -- ---- the cursor
 
 -- the place of the cursor: behind the typed line, or where that is empty at its stop
-abbrev pub cursor_place : ℕ → ℕ → PlainView → CursorPlace
-cursor_place rows cols view =
-    if length view.typed == 0 then stop_place rows cols view (node_at view.items view.stop.path) else typed_place rows cols view
+abbrev pub cursor_position : ℕ → ℕ → PlainView → CursorPosition
+cursor_position rows cols view =
+    if length view.typed == 0 then stop_position rows cols view (node_at view.items view.stop.path) else typed_position rows cols view

@@ -1,6 +1,6 @@
 -- ---- screens
 pub mod Limit
-pub mod Cell
+pub mod ScreenCell
 pub mod PlainGrid
 pub mod ShownRow
 -- ---- what is shown on a screen, and where

@@ -7,31 +7,31 @@ use Rattle.plcs_grammar.specs.Template.{row_of}
 use Rattle.template_tree.specs.PlainTree.{Label, Forest}
 use Rattle.unparse_layout.specs.declared.line.LineKind.{LineKind}
 use Rattle.unparse_layout.specs.declared.line.LineKind.TheVariants.{First, Lead, Elision, Last}
-use Rattle.unparse_layout.specs.LaidLine.{LaidLine}
+use Rattle.unparse_layout.specs.LaidLine.{PlainLine}
 use Rattle.screen_window.specs.declared.node_line.NodeLine.{NodeLine}
 
 -- whether two kinds of a node's lines are the same
-abbrev pub same_kind : LineKind → LineKind → Bool
-same_kind First First = true
-same_kind First Lead = false
-same_kind First Elision = false
-same_kind First Last = false
-same_kind Lead First = false
-same_kind Lead Lead = true
-same_kind Lead Elision = false
-same_kind Lead Last = false
-same_kind Elision First = false
-same_kind Elision Lead = false
-same_kind Elision Elision = true
-same_kind Elision Last = false
-same_kind Last First = false
-same_kind Last Lead = false
-same_kind Last Elision = false
-same_kind Last Last = true
+abbrev pub same_line_kind : LineKind → LineKind → Bool
+same_line_kind First First = true
+same_line_kind First Lead = false
+same_line_kind First Elision = false
+same_line_kind First Last = false
+same_line_kind Lead First = false
+same_line_kind Lead Lead = true
+same_line_kind Lead Elision = false
+same_line_kind Lead Last = false
+same_line_kind Elision First = false
+same_line_kind Elision Lead = false
+same_line_kind Elision Elision = true
+same_line_kind Elision Last = false
+same_line_kind Last First = false
+same_line_kind Last Lead = false
+same_line_kind Last Elision = false
+same_line_kind Last Last = true
 
 -- whether a laid line is this line, which is told by its node
-abbrev pub is_line : NodeLine → LaidLine → Bool
-is_line line laid = (laid.slot == line.slot) && same_kind line.kind laid.kind
+abbrev pub is_line : NodeLine → PlainLine → Bool
+is_line line laid = (laid.slot == line.slot) && same_line_kind line.kind laid.kind
 
 -- ---- the line of a place of a run
 
@@ -58,13 +58,13 @@ line_inside label None = None
 line_inside label (Some line) = Some (if label.elided then record { slot = label.slot; kind = Elision } else line)
 
 -- the line that was found for a place of a run, or where none was the other one
-abbrev pub first_line : Option NodeLine → Option NodeLine → Option NodeLine
-first_line None other = other
-first_line (Some line) other = Some line
+abbrev pub found_line : Option NodeLine → Option NodeLine → Option NodeLine
+found_line None other = other
+found_line (Some line) other = Some line
 
 -- the line on which a place of a run is shown, a point of what stands in a slot, if the slot is live
 abbrev pub place_line : (slot point : ℕ) → Forest → Option NodeLine
 place_line slot point Forest.nil = None
 place_line slot point (Forest.cons label inner rest) =
-    first_line (if label.slot == slot then Some (point_line label point) else line_inside label (place_line slot point inner))
+    found_line (if label.slot == slot then Some (point_line label point) else line_inside label (place_line slot point inner))
     (place_line slot point rest)

@@ -1,7 +1,7 @@
 -- The bytes that turn one screen into another.
 use Rattle.std.specs.Prelude.{ℕ, ◌+◌, ◌%◌, ◌==◌, nat_eq, Bool, true, false, List, [], ◌∷◌, ◌++◌, codes, decimal, if◌then◌else◌}
 use Rattle.std.specs.Cmp.Lexicographic.{pointwise}
-use Rattle.screen_window.specs.Cell.{blank, is_negative}
+use Rattle.screen_window.specs.ScreenCell.{blank, is_negative}
 use Rattle.screen_window.specs.PlainGrid.{PlainGrid}
 
 -- the bytes of a control sequence: ESC, `[` and what it says

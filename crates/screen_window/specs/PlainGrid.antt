@@ -1,6 +1,6 @@
 -- Grids as plain data: what a screen shows.
 use Rattle.std.specs.Prelude.{◌≡◌, ℕ, ◌-◌, ◌≤◌, IsTrue, List, length, replicate, slice_index_or, All}
-use Rattle.screen_window.specs.Cell.{blank, is_cell}
+use Rattle.screen_window.specs.ScreenCell.{blank, is_screen_cell}
 use Rattle.screen_window.specs.Limit.{IsSize}
 
 -- a grid: how many rows and columns it has, its rows of cells from the top, and the cursor's row and column, which count
@@ -28,7 +28,7 @@ pub record AreLines (rows cols : ℕ) (lines : List (List ℕ)) : Type 0 where
 -- a row of a grid: as many cells as columns, the last of them blank
 pub record IsRow (cols : ℕ) (line : List ℕ) : Type 0 where
   pub width : length line ≡ cols
-  pub cells : All (λ cell. IsTrue (is_cell cell)) line
+  pub cells : All (λ cell. IsTrue (is_screen_cell cell)) line
   pub last : slice_index_or line (cols - 1) blank ≡ blank
 
 -- a grid's rows are rows of its size, and its cursor lies in it

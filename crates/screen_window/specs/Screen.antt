@@ -1,7 +1,7 @@
 -- The grid on which a view is shown, row by row, and how many of its rows the window has.
 use Rattle.std.specs.Prelude.{ℕ, ◌+◌, ◌-◌, ◌==◌, nat_lt, if◌then◌else◌, List, map, replicate}
 use Rattle.std.specs.List.{range_with_len}
-use Rattle.screen_window.specs.Cursor.{cursor_place}
+use Rattle.screen_window.specs.Cursor.{cursor_position}
 use Rattle.screen_window.specs.LowerRows.{input_row, message_row, output_row}
 use Rattle.screen_window.specs.PlainGrid.{PlainGrid}
 use Rattle.screen_window.specs.PlainView.{PlainView}
@@ -29,7 +29,7 @@ screen_row rows cols view row =
 -- the whole grid of so many rows and columns on which the view is shown
 unfoldable pub Screen : (rows cols : ℕ) → PlainView → PlainGrid
 Screen rows cols view =
-    let cursor = cursor_place rows cols view in
+    let cursor = cursor_position rows cols view in
     record {
       rows = rows;
       cols = cols;

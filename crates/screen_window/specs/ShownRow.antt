@@ -1,11 +1,11 @@
 -- Rows of a grid, and what is shown in them.
 use Rattle.std.specs.Prelude.{ℕ, ◌+◌, Bool, nat_lt, if◌then◌else◌, List, [], ◌∷◌, map, slice_index_or}
 use Rattle.std.specs.List.{range_with_len}
-use Rattle.screen_window.specs.Cell.{blank, is_cell}
+use Rattle.screen_window.specs.ScreenCell.{blank, is_screen_cell}
 
 -- the cell that a row of a grid shows: what is no cell is shown as a blank
 abbrev pub shown_cell : ℕ → ℕ
-shown_cell cell = if is_cell cell then cell else blank
+shown_cell cell = if is_screen_cell cell then cell else blank
 
 -- the cell of a row in a column, which counts from 0: the last column and what lies behind the row's text are blank
 abbrev pub cell_in : ℕ → List ℕ → ℕ → ℕ

@@ -5,7 +5,7 @@ use Rattle.screen_window.specs.declared.sequence.Sequence.{Sequence}
 use Rattle.screen_window.specs.declared.sequence.Sequence.TheVariants.{Absent, Escape, Behind}
 use Rattle.screen_window.specs.declared.sequence.Gathered.{Gathered}
 use Rattle.screen_window.specs.declared.sequence.Gathered.TheVariants.{Nothing, Digit, Number, Row, Position, Other}
-use Rattle.screen_window.specs.Cell.{blank, cell_of}
+use Rattle.screen_window.specs.ScreenCell.{blank, screen_cell}
 use Rattle.screen_window.specs.PlainGrid.{blank_lines}
 use Rattle.screen_window.specs.PlainTerminal.{PlainTerminal}
 
@@ -45,8 +45,8 @@ abbrev pub nearest : ℕ → ℕ → ℕ
 nearest count number = min (number - 1) (count - 1)
 
 -- the terminal with its cursor moved to a row and a column, which count from 1
-abbrev pub moved : PlainTerminal → ℕ → ℕ → PlainTerminal
-moved z row col = record z { above = nearest z.rows row; before = nearest z.cols col }
+abbrev pub with_cursor_at : PlainTerminal → ℕ → ℕ → PlainTerminal
+with_cursor_at z row col = record z { above = nearest z.rows row; before = nearest z.cols col }
 
 -- the cells of the terminal's row in which its cursor is
 abbrev pub cursor_line : PlainTerminal → List ℕ
@@ -59,7 +59,7 @@ with_line z line = record z { lines = slice_set z.lines z.above line }
 -- the terminal after a printable byte: the cell at the cursor is set in the current image, and the cursor moves right,
 -- but at the last column
 abbrev pub typed : PlainTerminal → ℕ → PlainTerminal
-typed z byte = record (with_line z (slice_set (cursor_line z) z.before (cell_of z.negative byte))) { before = min (z.before + 1) (z.cols - 1) }
+typed z byte = record (with_line z (slice_set (cursor_line z) z.before (screen_cell z.negative byte))) { before = min (z.before + 1) (z.cols - 1) }
 
 -- the terminal with blanks from the cursor to the row's end
 abbrev pub tail_blanked : PlainTerminal → PlainTerminal
@@ -76,8 +76,8 @@ with_image z negative = record z { negative = negative }
 -- ---- what ends a sequence
 
 -- what a terminal makes of one digit and then the byte that ends the sequence: `2J`, `7m` and `0m`
-abbrev pub ended_behind_digit : PlainTerminal → ℕ → ℕ → PlainTerminal
-ended_behind_digit z digit byte =
+abbrev pub ended_after_digit : PlainTerminal → ℕ → ℕ → PlainTerminal
+ended_after_digit z digit byte =
     if byte == 74 then (if digit == 2 then cleared z else z)
     else (if byte == 109 then (if digit == 7 then with_image z true else (if digit == 0 then with_image z false else z))
     else z)
@@ -86,27 +86,27 @@ ended_behind_digit z digit byte =
 -- stands behind one digit; any other does nothing
 abbrev pub ended : PlainTerminal → Gathered → ℕ → PlainTerminal
 ended z Nothing byte = if byte == 75 then tail_blanked z else z
-ended z (Digit digit) byte = ended_behind_digit z digit byte
+ended z (Digit digit) byte = ended_after_digit z digit byte
 ended z (Number value) byte = z
 ended z (Row row) byte = z
-ended z (Position row col) byte = if byte == 72 then moved z row col else z
+ended z (Position row col) byte = if byte == 72 then with_cursor_at z row col else z
 ended z Other byte = z
 
 -- ---- bytes
 
 -- what a terminal makes of one byte, by what was taken of a sequence
-abbrev pub step_in : Sequence → PlainTerminal → ℕ → PlainTerminal
-step_in Absent z byte = if byte == 27 then with_sequence z Escape else (if is_printable byte then typed z byte else z)
-step_in Escape z byte = with_sequence z (if byte == 91 then Behind Nothing else Absent)
-step_in (Behind gathered) z byte =
+abbrev pub terminal_after_in : Sequence → PlainTerminal → ℕ → PlainTerminal
+terminal_after_in Absent z byte = if byte == 27 then with_sequence z Escape else (if is_printable byte then typed z byte else z)
+terminal_after_in Escape z byte = with_sequence z (if byte == 91 then Behind Nothing else Absent)
+terminal_after_in (Behind gathered) z byte =
     if is_digit byte then with_sequence z (Behind (with_digit gathered (byte - 48)))
     else (if byte == 59 then with_sequence z (Behind (with_separator gathered))
     else with_sequence (ended z gathered byte) Absent)
 
 -- what a terminal makes of one byte
-abbrev pub step : PlainTerminal → ℕ → PlainTerminal
-step z byte = step_in z.sequence z byte
+abbrev pub terminal_after : PlainTerminal → ℕ → PlainTerminal
+terminal_after z byte = terminal_after_in z.sequence z byte
 
 -- the terminal after some bytes
 unfoldable pub Term : PlainTerminal → List ℕ → PlainTerminal
-Term z bytes = fold step z bytes
+Term z bytes = fold terminal_after z bytes

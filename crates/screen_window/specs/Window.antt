@@ -2,14 +2,14 @@
 use Rattle.std.specs.Prelude.{ℕ, ◌+◌, Bool, false, List, [], ◌++◌, slice_get, slice_index_or, Option, Some, None}
 use Rattle.plcs_base.specs.declared.place.Place.{Place}
 use Rattle.template_tree.specs.PlainTree.{Forest}
-use Rattle.unparse_layout.specs.LaidLine.{LaidLine, LaidLines}
+use Rattle.unparse_layout.specs.LaidLine.{PlainLine, LaidLines}
 use Rattle.screen_window.specs.declared.node_line.NodeLine.{NodeLine}
 use Rattle.screen_window.specs.NodeLine.{is_line, place_line}
 use Rattle.screen_window.specs.PlainView.{PlainView}
 use Rattle.screen_window.specs.ShownRow.{margin}
 
 -- the program's line in a row of the window, which counts from 0
-abbrev pub window_line : PlainView → ℕ → Option LaidLine
+abbrev pub window_line : PlainView → ℕ → Option PlainLine
 window_line view row = slice_get (LaidLines view.marks view.items) (view.top + row)
 
 -- the line at which the window shows that the run stands: that of its place, if a run stands, isn't ended, and the
@@ -19,12 +19,12 @@ run_line items None = None
 run_line items (Some place) = place_line place.slot.0 place.point.0 items
 
 -- whether a laid line of the window is the run's line, if there is one
-abbrev pub is_run_line : Option NodeLine → LaidLine → Bool
+abbrev pub is_run_line : Option NodeLine → PlainLine → Bool
 is_run_line None laid = false
 is_run_line (Some line) laid = is_line line laid
 
 -- a row of the window with a line of the program behind its margin, or nothing below the last
-abbrev pub line_row : Option NodeLine → Option LaidLine → List ℕ
+abbrev pub line_row : Option NodeLine → Option PlainLine → List ℕ
 line_row run None = []
 line_row run (Some laid) = margin (is_run_line run laid) ++ laid.cells
 
@@ -33,7 +33,7 @@ abbrev pub code_row : List (List ℕ) → ℕ → List ℕ
 code_row rows row = margin false ++ slice_index_or rows row []
 
 -- what stands in a row of the window: an instruction where code is shown, else a line of the program
-abbrev pub window_text : Option NodeLine → Option LaidLine → Option (List (List ℕ)) → ℕ → List ℕ
+abbrev pub window_text : Option NodeLine → Option PlainLine → Option (List (List ℕ)) → ℕ → List ℕ
 window_text run laid None row = line_row run laid
 window_text run laid (Some rows) row = code_row rows row
 

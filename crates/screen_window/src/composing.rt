@@ -11,7 +11,7 @@ ghost use Rattle.screen_window.specs.ShownRow.{shown_row};
 ghost use Rattle.screen_window.specs.View.{plain_view};
 ghost use Rattle.screen_window.specs.Window.{is_run_line, line_row, run_line};
 ghost use Rattle.screen_window.specs.Private.RowText.{text_cells};
-ghost use Rattle.screen_window.specs.Cursor.{begins_node, cursor_place, cut_col};
+ghost use Rattle.screen_window.specs.Cursor.{begins_node, cursor_position, cut_col};
 ghost use Rattle.screen_window.specs.LowerRows.{last_ones};
 ghost use Rattle.screen_window.specs.Private.Drawing.{IsDrawn, begins_stop, found_or, row_from, row_line};
 ghost use Rattle.screen_window.specs.Private.WithRow.{with_row};
@@ -45,7 +45,7 @@ pub fn compose<W: Work, M: Marked>(grid: &mut Grid, view: &View<'_, W, M>, work:
     ensures fetched { W.fetched work.new ≡ W.fetched work.old }
 {
     let found = draw_rows(grid, view, work);
-    let (row, col) = cursor_place(grid.rows(), grid.cols(), view, found);
+    let (row, col) = cursor_position(grid.rows(), grid.cols(), view, found);
     grid.place_cursor(row, col);
 }
 
@@ -156,7 +156,7 @@ fn found_or(found: Option<u16>, here: bool, row: u16) -> Option<u16>
 
 /// The row and the column of the cursor on the grid of a view, which count from 1, where the line of its
 /// stop was found in this row of the window, which counts from 0.
-fn cursor_place<W: Work, M: Marked>(
+fn cursor_position<W: Work, M: Marked>(
     rows: u16,
     cols: u16,
     view: &View<'_, W, M>,
@@ -169,8 +169,8 @@ fn cursor_place<W: Work, M: Marked>(
     requires most_cols { cols ≤ 160 }
     requires found { found ≡ row_from (plain_view M.marks view.now) (slot_at (roomless view.now.tree.now.items) view.now.stop.now.path.items) 0 (window_rows rows) }
     ensures within { result.0 ≤ rows }
-    ensures row { result.0 ≡ (cursor_place rows cols (plain_view M.marks view.now)).row }
-    ensures col { result.1 ≡ (cursor_place rows cols (plain_view M.marks view.now)).col }
+    ensures row { result.0 ≡ (cursor_position rows cols (plain_view M.marks view.now)).row }
+    ensures col { result.1 ≡ (cursor_position rows cols (plain_view M.marks view.now)).col }
 {
     if !view.typed.is_empty() {
         return (rows, typed_col(cols, view.prompt, view.typed));

@@ -1,7 +1,7 @@
 //! Rows of cells as grids and terminals keep them.
 
 ghost use Rattle.std.specs.Prelude.{◌≡◌, ◌+◌, ◌-◌, ◌≤◌, ◌<◌, [], ◌++◌, All, length, replicate, take, slice_set, slice_index_or, IfOk};
-ghost use Rattle.screen_window.specs.Cell.{blank};
+ghost use Rattle.screen_window.specs.ScreenCell.{blank};
 ghost use Rattle.screen_window.specs.PlainGrid.{blank_lines};
 ghost use Rattle.screen_window.specs.Private.PlainForm.{plain_lines};
 

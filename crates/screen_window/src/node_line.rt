@@ -5,7 +5,7 @@ ghost use Rattle.template_tree.specs.Limit.{most_slots};
 ghost use Rattle.template_tree.specs.PlainTree.{Forest, nodes};
 ghost use Rattle.template_tree.specs.Slots.{count};
 ghost use Rattle.template_tree.specs.Tree.{IsTree};
-ghost use Rattle.screen_window.specs.NodeLine.{is_line, is_outer, is_procedure, place_line, point_line, same_kind};
+ghost use Rattle.screen_window.specs.NodeLine.{is_line, is_outer, is_procedure, place_line, point_line, same_line_kind};
 ghost use Rattle.screen_window.specs.Private.ItemLine.{item_line};
 
 use plcs_base::{Place, Point};
@@ -31,7 +31,7 @@ pub fn is_line<W>(line: NodeLine, laid: &Line<W>) -> bool
 
 /// Whether two kinds of a node's lines are the same.
 fn same_kind(one: LineKind, other: LineKind) -> bool
-    ensures { result ≡ same_kind one other }
+    ensures { result ≡ same_line_kind one other }
 {
     match one {
         LineKind::First => matches!(other, LineKind::First),

@@ -2,7 +2,7 @@
 
 ghost use Rattle.std.specs.Prelude.{◌≡◌, ℕ, ◌-◌, List, ◌++◌, length, replicate};
 ghost use Rattle.plcs_base.specs.Byte.{is_printable};
-ghost use Rattle.screen_window.specs.Cell.{is_cell};
+ghost use Rattle.screen_window.specs.ScreenCell.{is_screen_cell};
 ghost use Rattle.screen_window.specs.ShownRow.{margin, shown_cell, shown_row};
 ghost use Rattle.screen_window.specs.Private.RowText.{text_cells};
 
@@ -101,12 +101,12 @@ fn show_dashes(line: &mut Vec<u16>)
 fn shown_cell(cell: u16) -> u16
     ensures { result ≡ shown_cell cell }
 {
-    if is_cell(cell) { cell } else { BLANK }
+    if is_screen_cell(cell) { cell } else { BLANK }
 }
 
 /// Whether a number that a row is to show is a cell.
-fn is_cell(cell: u16) -> bool
-    ensures { result ≡ is_cell cell }
+fn is_screen_cell(cell: u16) -> bool
+    ensures { result ≡ is_screen_cell cell }
 {
     is_in_range(cell) || is_in_range(cell.saturating_sub(256))
 }

@@ -2,10 +2,10 @@
 
 ghost use Rattle.std.specs.Prelude.{◌≡◌, ◌+◌, ◌-◌, ◌≤◌, ◌<◌, List, [], ◌++◌, length, replicate, take, slice_set, slice_index_or, IfOk};
 ghost use Rattle.screen_window.specs.declared.limit.TheConstants.{FEWEST_ROWS, MOST_ROWS, FEWEST_COLS, MOST_COLS};
-ghost use Rattle.screen_window.specs.Cell.{blank, cell_of};
+ghost use Rattle.screen_window.specs.ScreenCell.{blank, screen_cell};
 ghost use Rattle.screen_window.specs.PlainGrid.{blank_lines};
 ghost use Rattle.screen_window.specs.PlainTerminal.{IsTerminal, new_terminal};
-ghost use Rattle.screen_window.specs.Terminal.{Term, cleared, ended, ended_behind_digit, moved, nearest, step, step_in, tail_blanked, typed, with_sequence};
+ghost use Rattle.screen_window.specs.Terminal.{Term, cleared, ended, ended_after_digit, with_cursor_at, nearest, terminal_after, terminal_after_in, tail_blanked, typed, with_sequence};
 
 use crate::limit::{FEWEST_COLS, FEWEST_ROWS, MOST_COLS, MOST_ROWS};
 use crate::lines::{blank_all, blank_lines, set_cell, set_tail};
@@ -110,7 +110,7 @@ impl Terminal {
 
     /// Takes one byte on the terminal, by what it took of a sequence.
     fn take_byte(&mut self, byte: u8)
-        ensures { self.new ≡ step self.old byte }
+        ensures { self.new ≡ terminal_after self.old byte }
     {
         match self.sequence {
             Sequence::Absent => self.take_plain(byte),
@@ -118,14 +118,14 @@ impl Terminal {
                 self.sequence = Sequence::Behind(Gathered::Nothing);
             }
             Sequence::Escape => self.sequence = Sequence::Absent,
-            Sequence::Behind(gathered) => self.take_behind(gathered, byte),
+            Sequence::Behind(gathered) => self.take_after(gathered, byte),
         }
     }
 
     /// Takes a byte outside of sequences on the terminal: ESC, or a printable one.
     fn take_plain(&mut self, byte: u8)
         requires { self.old.sequence ≡ Sequence.Absent }
-        ensures { self.new ≡ step_in Sequence.Absent self.old byte }
+        ensures { self.new ≡ terminal_after_in Sequence.Absent self.old byte }
     {
         if byte == 0x1b {
             self.sequence = Sequence::Escape;
@@ -135,8 +135,8 @@ impl Terminal {
     }
 
     /// Takes a byte on the terminal behind `ESC [` and what was gathered.
-    fn take_behind(&mut self, gathered: Gathered, byte: u8)
-        ensures { self.new ≡ step_in (Sequence.Behind gathered) self.old byte }
+    fn take_after(&mut self, gathered: Gathered, byte: u8)
+        ensures { self.new ≡ terminal_after_in (Sequence.Behind gathered) self.old byte }
     {
         if is_digit(byte) {
             self.sequence = Sequence::Behind(gathered.with_digit(u16::from(byte - b'0')));
@@ -154,15 +154,15 @@ impl Terminal {
     {
         match gathered {
             Gathered::Nothing if byte == b'K' => set_tail(&mut self.lines, self.above, self.before),
-            Gathered::Digit(digit) => self.end_behind_digit(digit, byte),
+            Gathered::Digit(digit) => self.end_after_digit(digit, byte),
             Gathered::Position(row, col) if byte == b'H' => self.move_to(row, col),
             _ => {}
         }
     }
 
     /// Does to the terminal what a whole sequence of one digit and this byte says, if it says something.
-    fn end_behind_digit(&mut self, digit: u16, byte: u8)
-        ensures { self.new ≡ ended_behind_digit self.old digit byte }
+    fn end_after_digit(&mut self, digit: u16, byte: u8)
+        ensures { self.new ≡ ended_after_digit self.old digit byte }
     {
         if byte == b'J' {
             if digit == 2 {
@@ -179,7 +179,7 @@ impl Terminal {
 
     /// Moves the terminal's cursor to the cell nearest to a row and a column, which count from 1.
     fn move_to(&mut self, row: u16, col: u16)
-        ensures { self.new ≡ moved self.old row col }
+        ensures { self.new ≡ with_cursor_at self.old row col }
     {
         self.above = nearest(self.lines.len(), row);
         self.before = nearest(self.cols, col);
@@ -200,15 +200,15 @@ impl Terminal {
             &mut self.lines,
             self.above,
             self.before,
-            cell_of(self.negative, byte),
+            screen_cell(self.negative, byte),
         );
         self.before = (self.before + 1).min(self.cols - 1);
     }
 }
 
 /// A byte as a terminal's cell, in negative image or not.
-fn cell_of(negative: bool, byte: u8) -> u16
-    ensures { result ≡ cell_of negative byte }
+fn screen_cell(negative: bool, byte: u8) -> u16
+    ensures { result ≡ screen_cell negative byte }
 {
     if negative {
         u16::from(byte) + 256

@@ -7,7 +7,7 @@ mod key_cases;
 mod pieces;
 mod playing;
 mod repainting;
-mod run_cases;
+mod whole_run_cases;
 mod scene;
 mod screen_cases;
 mod session_cases;

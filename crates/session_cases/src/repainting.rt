@@ -29,7 +29,7 @@ pub fn repaint(rt: &HostRuntime, scene: &mut Scene, arguments: &[Vec<u8>]) -> io
 fn first_other(alloc: Global, keys: &[u8]) -> Result<Option<usize>, OutOfMemory> {
     let mut shown = Shown::new(alloc)?;
     paint_over(alloc, &mut shown.session, &mut shown.terminal)?;
-    other_behind(alloc, &mut shown, keys)
+    other_after(alloc, &mut shown, keys)
 }
 
 /// A session that is pressed byte by byte, and the terminal on which its screens are painted.
@@ -58,7 +58,7 @@ impl Shown {
 }
 
 /// The same of a session that is shown, once its screen is painted.
-fn other_behind(alloc: Global, shown: &mut Shown, keys: &[u8]) -> Result<Option<usize>, OutOfMemory>
+fn other_after(alloc: Global, shown: &mut Shown, keys: &[u8]) -> Result<Option<usize>, OutOfMemory>
     requires session { IsSession shown.old.session }
     requires rows { shown.old.terminal.rows ≡ 12 }
 {
@@ -97,14 +97,14 @@ fn paint_over(
 fn is_as_anew(alloc: Global, terminal: &Terminal, keys: &[u8]) -> Result<bool, OutOfMemory>
     requires { terminal.now.rows ≡ 12 }
 {
-    let bytes = painted_behind(alloc, keys)?;
+    let bytes = painted_after(alloc, keys)?;
     let mut other = Terminal::new(alloc, 12, 40)?;
     other.take(bytes.as_slice());
     Ok(show_the_same(terminal, &other))
 }
 
 /// What the screen behind these keys writes where it is painted anew.
-fn painted_behind(alloc: Global, keys: &[u8]) -> Result<Vec<u8>, OutOfMemory> {
+fn painted_after(alloc: Global, keys: &[u8]) -> Result<Vec<u8>, OutOfMemory> {
     let mut session = opened(alloc)?;
     let mut files = MemFiles::new(alloc, Vec::new(alloc));
     press_bytes(alloc, &mut session, &mut files, &mut KeyReader::new(), keys)?;

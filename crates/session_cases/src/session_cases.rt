@@ -3,7 +3,7 @@
 use crate::file_cases::{numbers_of, tell_content};
 use crate::pieces::tell_bytes;
 use crate::scene::Scene;
-use crate::session_keys::{behind_keys, opened, painted, press_all};
+use crate::session_keys::{after_keys, opened, painted, press_all};
 use case_script::quoted;
 use file_store::FileRefusal;
 use phrase_parser::PhraseFault;
@@ -27,7 +27,7 @@ pub fn on(rt: &HostRuntime, scene: &mut Scene, arguments: &[Vec<u8>]) -> io::Res
         return Ok(false);
     };
     scene.keys.extend_from_slice(keys.as_slice())?;
-    match answer_behind(rt.alloc(), scene.keys.as_slice()) {
+    match answer_after(rt.alloc(), scene.keys.as_slice()) {
         Ok((Some(answer), slots)) => println!(rt; "= {answer:?}, {slots} slots")?,
         Ok((None, slots)) => println!(rt; "= {slots} slots")?,
         Err(OutOfMemory) => return Ok(false),
@@ -36,7 +36,7 @@ pub fn on(rt: &HostRuntime, scene: &mut Scene, arguments: &[Vec<u8>]) -> io::Res
 }
 
 /// What the last of these keys answers in a session over a new program, and how many slots are live then.
-fn answer_behind(alloc: Global, keys: &[u8]) -> Result<(Option<Answer>, u32), OutOfMemory> {
+fn answer_after(alloc: Global, keys: &[u8]) -> Result<(Option<Answer>, u32), OutOfMemory> {
     let mut session = opened(alloc)?;
     let answer = press_all(alloc, &mut session, keys)?;
     Ok((answer, session.slots()))
@@ -44,7 +44,7 @@ fn answer_behind(alloc: Global, keys: &[u8]) -> Result<(Option<Answer>, u32), Ou
 
 /// `listing`: the listing of the session's program.
 pub fn listing(rt: &HostRuntime, scene: &mut Scene, arguments: &[Vec<u8>]) -> io::Result<bool> {
-    let Ok(text) = listing_behind(rt.alloc(), scene.keys.as_slice()) else {
+    let Ok(text) = listing_after(rt.alloc(), scene.keys.as_slice()) else {
         return Ok(false);
     };
     tell_bytes(rt, text.as_slice())?;
@@ -52,8 +52,8 @@ pub fn listing(rt: &HostRuntime, scene: &mut Scene, arguments: &[Vec<u8>]) -> io
 }
 
 /// The listing of the program behind these keys.
-fn listing_behind(alloc: Global, keys: &[u8]) -> Result<Vec<u8>, OutOfMemory> {
-    let session = behind_keys(alloc, keys)?;
+fn listing_after(alloc: Global, keys: &[u8]) -> Result<Vec<u8>, OutOfMemory> {
+    let session = after_keys(alloc, keys)?;
     let mut out = Bytes {
         bytes: Vec::new(alloc),
         fits: true,
@@ -149,7 +149,7 @@ fn painted_with(
     keys: &[u8],
     refusal: Refusal,
 ) -> Result<(Vec<u8>, Tick), OutOfMemory> {
-    let mut session = behind_keys(alloc, keys)?;
+    let mut session = after_keys(alloc, keys)?;
     let _ = painted(alloc, &mut session)?;
     session.show_message(refusal);
     let tick = session.tick();
@@ -177,6 +177,6 @@ fn rescued(
     keys: &[u8],
     files: &mut MemFiles,
 ) -> Result<Result<(), FileRefusal>, OutOfMemory> {
-    let session = behind_keys(alloc, keys)?;
+    let session = after_keys(alloc, keys)?;
     Ok(session.rescue(files))
 }

@@ -24,7 +24,7 @@ pub fn opened(alloc: Global) -> Result<Session<Counts>, OutOfMemory>
 }
 
 /// A session behind these keys.
-pub fn behind_keys(alloc: Global, keys: &[u8]) -> Result<Session<Counts>, OutOfMemory>
+pub fn after_keys(alloc: Global, keys: &[u8]) -> Result<Session<Counts>, OutOfMemory>
     ensures { IfOk result (λ session. IsSession session) }
 {
     let mut session = opened(alloc)?;

@@ -15,7 +15,7 @@ use Rattle.template_tree.specs.declared.tree_fault.TreeFault.{TreeFault}
 use Rattle.template_tree.specs.Edit.{hole_list, hole_of, lone, with_hole}
 use Rattle.template_tree.specs.EditAnswer.{Edits, IsEdit, IsListItem, Refuses}
 use Rattle.template_tree.specs.ListItem.{is_listed, sections_at}
-use Rattle.template_tree.specs.Path.{added_path, last_of, node_at, with_last}
+use Rattle.template_tree.specs.Path.{added_path, last_child_number, node_at, with_last}
 use Rattle.template_tree.specs.PlainTree.{Forest, PlainNode, PlainTree, nodes, roomless, roomless_node, roomless_tree}
 use Rattle.template_tree.specs.Program.{sort_of}
 use Rattle.template_tree.specs.Receipt.{PlainReceipt}
@@ -27,7 +27,7 @@ use Rattle.session_edit.specs.declared.applied.Applied.{Applied}
 use Rattle.session_edit.specs.AppliedEdit.{IsAnswer, IsApplied, IsRefused}
 use Rattle.template_tree.proofs.Lists.ListEdits.{last_small}
 use Rattle.session_edit.specs.Edited.{Edited, at_node, comes, edited, outcome_of_hole_beside, not_here}
-use Rattle.session_edit.specs.Here.{enclosing_item, is_item, nearest_item}
+use Rattle.session_edit.specs.Here.{enclosing_item, is_list_item, nearest_item}
 use Rattle.session_edit.specs.PlainEdit.{PlainEdit}
 use Rattle.session_edit.specs.Private.ShownPath.{IsShown}
 use Rattle.session_edit.proofs.DropCommands.{item_listed, item_roomless_is, item_true}
@@ -42,29 +42,29 @@ take_all : (path : List ℕ) → take (length path) path ≡ path
 take_all [] = refl
 take_all (k ∷ path) = ap (λ rest. k ∷ rest) (take_all path)
 
-pub enclosing_here : (items : Forest) (path : List ℕ) → is_item items path ≡ true → enclosing_item items path ≡ Some path
+pub enclosing_here : (items : Forest) (path : List ℕ) → is_list_item items path ≡ true → enclosing_item items path ≡ Some path
 enclosing_here items [] h = absurd (false≢true h)
 enclosing_here items (k ∷ path) h =
-    ap (λ q. if is_item items q then Some q else nearest_item items (k ∷ path) (length path)) (take_all (k ∷ path))
+    ap (λ q. if is_list_item items q then Some q else nearest_item items (k ∷ path) (length path)) (take_all (k ∷ path))
     ∙ ap (λ (b : Bool). if b then Some (k ∷ path) else nearest_item items (k ∷ path) (length path)) h
 
 nearest_front : (items : Forest) (path others : List ℕ) (n : ℕ) → n ≤ length path → nearest_item items (path ++ others) n ≡ nearest_item items path n
 nearest_front items path others zero within = refl
 nearest_front items path others (suc n) within =
-    ap (λ q. if is_item items q then Some q else nearest_item items (path ++ others) n) (take-append-le (suc n) path others within)
-    ∙ ap (λ found. if is_item items (take (suc n) path) then Some (take (suc n) path) else found) (nearest_front items path others n (omega arith))
+    ap (λ q. if is_list_item items q then Some q else nearest_item items (path ++ others) n) (take-append-le (suc n) path others within)
+    ∙ ap (λ found. if is_list_item items (take (suc n) path) then Some (take (suc n) path) else found) (nearest_front items path others n (omega arith))
 
 pub one_longer : (path : List ℕ) (k : ℕ) → length (path ++ k ∷ []) ≡ suc (length path)
 one_longer [] k = refl
 one_longer (j ∷ path) k = ap suc (one_longer path k)
 
-pub enclosing_outer : (items : Forest) (path : List ℕ) (k : ℕ) → is_item items (path ++ k ∷ []) ≡ false
+pub enclosing_outer : (items : Forest) (path : List ℕ) (k : ℕ) → is_list_item items (path ++ k ∷ []) ≡ false
     → enclosing_item items (path ++ k ∷ []) ≡ enclosing_item items path
 enclosing_outer items path k h =
     let longer : List ℕ = path ++ k ∷ [] in
     let all : take (suc (length path)) longer ≡ longer = ap (λ n. take n longer) (sym (one_longer path k)) ∙ take_all longer in
     ap (nearest_item items longer) (one_longer path k)
-    ∙ (ap (λ q. if is_item items q then Some q else nearest_item items longer (length path)) all
+    ∙ (ap (λ q. if is_list_item items q then Some q else nearest_item items longer (length path)) all
     ∙ (ap (λ (b : Bool). if b then Some longer else nearest_item items longer (length path)) h
     ∙ nearest_front items path (k ∷ []) (length path) (omega arith)))
 
@@ -187,7 +187,7 @@ held_edit tree after side path receipt adds =
     (held.0, held.1, edit_there (TreeEdit.add side) (node_at tree.items path) (IsListItem tree.items path) tree after receipt held.0 held.1 adds)
 
 pub added_small : (tree after : PlainTree) (side : Side) (path : List ℕ) (receipt : PlainReceipt) → IsTree tree → AddsHole side path tree after receipt
-    → last_of path < 4294967295
+    → last_child_number path < 4294967295
 added_small tree after side path receipt t adds =
     let made = held_edit tree after side path receipt adds
     in
@@ -204,11 +204,11 @@ beside_applied room law tree after side path receipt stop_after t shown adds the
     (node_stop (added_path side path)) made.2.1 (room.edits (TreeEdit.add side) (TreeEdit.add side) tree made.0.label.slot refl) (comes_beside room tree side path made.0 made.1 made.2.0) there
     (subst (λ s. IsStop (roomless after.items) s) (sym there) (hole_stands room law tree after side path made.0 receipt t shown made.1 made.2.0 made.2.1)) tt
 
-not_item : (items : Forest) (path : List ℕ) → (IsSomeAnd (node_at items path) (IsListItem items path) → ⊥) → is_item items path ≡ false
+not_item : (items : Forest) (path : List ℕ) → (IsSomeAnd (node_at items path) (IsListItem items path) → ⊥) → is_list_item items path ≡ false
 not_item items path missing =
-    is_false (is_item items path) (λ e. missing (found (node_at items path) refl e))
+    is_false (is_list_item items path) (λ e. missing (found (node_at items path) refl e))
   where
-    found : (there : Option PlainNode) → node_at items path ≡ there → is_item items path ≡ true → IsSomeAnd there (IsListItem items path)
+    found : (there : Option PlainNode) → node_at items path ≡ there → is_list_item items path ≡ true → IsSomeAnd there (IsListItem items path)
     found None same e =
         absurd (false≢true (sym (ap (λ o. option_map_or (λ (n : PlainNode). is_listed (sort_of n.label.kind) (sections_at program_sections items path)) o false) same) ∙ e))
     found (Some node) same e = item_listed items path node same e
@@ -222,7 +222,7 @@ beside_outer room tree side path outer k way missing =
     ap (outcome_of_hole_beside (roomless_tree tree) side)
     (ap (enclosing_item (roomless tree.items)) way
     ∙ enclosing_outer (roomless tree.items) outer k
-    (item_roomless_is room tree.items (outer ++ k ∷ []) ∙ (ap (is_item tree.items) (sym way) ∙ not_item tree.items path missing)))
+    (item_roomless_is room tree.items (outer ++ k ∷ []) ∙ (ap (is_list_item tree.items) (sym way) ∙ not_item tree.items path missing)))
 
 pub beside_nothing : (tree : PlainTree) (side : Side) (path : List ℕ) → path ≡ []
     → outcome_of_hole_beside (roomless_tree tree) side (enclosing_item (roomless_tree tree).items path) ≡ not_here

@@ -24,7 +24,7 @@ use Rattle.template_tree.specs.Edit.{edit_at, give_way}
 use Rattle.session_edit.specs.AppliedEdit.{IsApplied}
 use Rattle.session_edit.specs.Cursor.{has_sort, path_after_drop}
 use Rattle.session_edit.specs.Edited.{outcome_of_drop, edited, outcome_of_taking}
-use Rattle.session_edit.specs.Here.{is_item, is_spare_hole}
+use Rattle.session_edit.specs.Here.{is_list_item, is_spare_hole}
 use Rattle.session_edit.specs.PlainEdit.{PlainEdit}
 use Rattle.session_edit.proofs.Outcomes.{Node, applied_is, edited_is, items_after, node_there, stands_after}
 use Rattle.session_edit.proofs.PutCommands.{edit_there, of_found}
@@ -76,7 +76,7 @@ listed_found sections None = refl
 listed_found sections (Some node) = refl
 
 -- whether an item of a list stands at a path, with and without room
-pub item_roomless_is : RoomLaws → (items : Forest) (path : List ℕ) → is_item (roomless items) path ≡ is_item items path
+pub item_roomless_is : RoomLaws → (items : Forest) (path : List ℕ) → is_list_item (roomless items) path ≡ is_list_item items path
 item_roomless_is room items path =
     ap (λ s. option_map_or (λ (node : PlainNode). is_listed (sort_of node.label.kind) s) (node_at (roomless items) path) false)
     (sections_roomless room program_sections items path)
@@ -84,11 +84,11 @@ item_roomless_is room items path =
     (room.nodes items path)
     ∙ listed_found (sections_at program_sections items path) (node_at items path))
 
-pub item_true : (items : Forest) (path : List ℕ) (node : PlainNode) → node_at items path ≡ Some node → IsListItem items path node → is_item items path ≡ true
+pub item_true : (items : Forest) (path : List ℕ) (node : PlainNode) → node_at items path ≡ Some node → IsListItem items path node → is_list_item items path ≡ true
 item_true items path node e h =
     ap (λ found. option_map_or (λ (n : PlainNode). is_listed (sort_of n.label.kind) (sections_at program_sections items path)) found false) e ∙ h
 
-pub item_listed : (items : Forest) (path : List ℕ) (node : PlainNode) → node_at items path ≡ Some node → is_item items path ≡ true → IsListItem items path node
+pub item_listed : (items : Forest) (path : List ℕ) (node : PlainNode) → node_at items path ≡ Some node → is_list_item items path ≡ true → IsListItem items path node
 item_listed items path node e h =
     sym (ap (λ found. option_map_or (λ (n : PlainNode). is_listed (sort_of n.label.kind) (sections_at program_sections items path)) found false) e) ∙ h
 
@@ -115,11 +115,11 @@ spare_false room tree at n wrong =
     is_false (is_spare_hole (roomless_tree tree).items at (roomless_node n.node))
     (λ e.
     let halves = both (is_none at.part && is_hole n.node.label.kind)
-    (is_item (roomless tree.items) at.path
+    (is_list_item (roomless tree.items) at.path
     && nat_lt 1 (how_many (sort_of n.node.label.kind) (sorts (siblings_at (roomless tree.items) at.path)))) e
     in
     let first = both (is_none at.part) (is_hole n.node.label.kind) halves.0 in
-    let rest = both (is_item (roomless tree.items) at.path)
+    let rest = both (is_list_item (roomless tree.items) at.path)
     (nat_lt 1 (how_many (sort_of n.node.label.kind) (sorts (siblings_at (roomless tree.items) at.path)))) halves.1
     in
     wrong
@@ -159,7 +159,7 @@ part_not_dropped room tree at stop e =
     let n = node_there room tree at stop in
     deletes_as_take room tree at n
     (part_spares_none at.part (is_hole n.node.label.kind)
-    (is_item (roomless tree.items) at.path
+    (is_list_item (roomless tree.items) at.path
     && nat_lt 1 (how_many (sort_of n.node.label.kind) (sorts (siblings_at (roomless tree.items) at.path)))) e)
 
 pub not_dropped : RoomLaws → (tree : PlainTree) (at : PlainStop) → IsStop (roomless_tree tree).items at

@@ -5,7 +5,7 @@ use Rattle.std.proofs.lemmas.Bool.Decides.{Decides-ltb}
 use Rattle.template_tree.specs.declared.stop.Stop.{Stop}
 use Rattle.template_tree.specs.declared.tree_fault.TreeFault.{TreeFault}
 use Rattle.template_tree.specs.Edit.{edit_at, edit_slot, with_items}
-use Rattle.template_tree.specs.EditAnswer.{IsEdit, IsOver, IsWithin, Refuses}
+use Rattle.template_tree.specs.EditAnswer.{IsEdit, IsOverTreeLimit, IsWithin, Refuses}
 use Rattle.template_tree.specs.Limit.{deepest_path, most_slots, most_drawn_slots}
 use Rattle.template_tree.specs.Path.{node_at}
 use Rattle.template_tree.specs.PlainTree.{PlainNode, PlainTree, roomless, roomless_node, roomless_tree}
@@ -47,13 +47,13 @@ within_is room tree h =
 tree_within : (tree : PlainTree) → IsTree tree → IsWithin tree
 tree_within tree t = record { shallow = t.shallow; few = omega (arith, t.live, t.few); drawn_few = t.drawn_few }
 
-pub too_deep : RoomLaws → (tree : PlainTree) → IsOver TreeFault.TooDeep tree → limit_reached (roomless_tree tree) ≡ Some TreeFault.TooDeep
+pub too_deep : RoomLaws → (tree : PlainTree) → IsOverTreeLimit TreeFault.TooDeep tree → limit_reached (roomless_tree tree) ≡ Some TreeFault.TooDeep
 too_deep room tree h = rw (above deepest_path (depth (roomless tree.items)) (omega (arith, room.depths tree.items))) refl
 
-pub too_large : RoomLaws → (tree : PlainTree) → IsOver TreeFault.TooLarge tree → limit_reached (roomless_tree tree) ≡ Some TreeFault.TooLarge
+pub too_large : RoomLaws → (tree : PlainTree) → IsOverTreeLimit TreeFault.TooLarge tree → limit_reached (roomless_tree tree) ≡ Some TreeFault.TooLarge
 too_large room tree h = rw (within_depth room tree h.0) (rw (above most_slots tree.live h.1) refl)
 
-pub used_up : RoomLaws → (tree : PlainTree) → IsOver TreeFault.SlotsUsedUp tree → limit_reached (roomless_tree tree) ≡ Some TreeFault.SlotsUsedUp
+pub used_up : RoomLaws → (tree : PlainTree) → IsOverTreeLimit TreeFault.SlotsUsedUp tree → limit_reached (roomless_tree tree) ≡ Some TreeFault.SlotsUsedUp
 used_up room tree h =
     rw (within_depth room tree h.0) (rw (not_above most_slots tree.live h.1) (rw (above most_drawn_slots tree.drawn h.2) refl))
 

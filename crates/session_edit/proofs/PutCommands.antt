@@ -23,7 +23,7 @@ use Rattle.template_tree.specs.TreeLaws.{SlotEditIsPathEdit}
 use Rattle.clip_store.specs.PlainFragment.{PlainFragment}
 use Rattle.session_edit.specs.AppliedEdit.{IsApplied, IsRefused}
 use Rattle.session_edit.specs.Cursor.{onward}
-use Rattle.session_edit.specs.Edited.{Edited, comes, comes_onward, edited, entry, outcome_of_node_taking, not_here, outcome_of_taking}
+use Rattle.session_edit.specs.Edited.{Edited, comes, comes_onward, edited, phrase_entry, outcome_of_node_taking, not_here, outcome_of_taking}
 use Rattle.session_edit.specs.Here.{category_in, is_wanted, takes_nodes}
 use Rattle.session_edit.specs.PlainEdit.{PlainEdit}
 use Rattle.session_edit.proofs.Outcomes.{Node, applied_is, edited_is, node_there, not_here_is, onward_applied, refused_is, stands_after, without_memory}
@@ -139,7 +139,7 @@ assign_if room tree at n phrase b part e =
     ∙ (ap
     (λ (p : Option ℕ).
     if is_wanted phrase (category_in p n.node.label.kind)
-    then comes_onward (entry p phrase) (roomless_tree tree) n.node.label.slot at
+    then comes_onward (phrase_entry p phrase) (roomless_tree tree) n.node.label.slot at
     else not_here)
     part
     ∙ ap

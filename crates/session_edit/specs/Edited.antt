@@ -64,14 +64,14 @@ outcome_of_fill tree stop template node =
     else not_here
 
 -- the edit of the tree by which phrase text is entered: as an assignment at a node, or into a part
-abbrev pub entry : Option ℕ → PlainPhrase → TreeEdit
-entry None phrase = TreeEdit.put (assignment_node phrase)
-entry (Some part) phrase = TreeEdit.set_part part (Some phrase)
+abbrev pub phrase_entry : Option ℕ → PlainPhrase → TreeEdit
+phrase_entry None phrase = TreeEdit.put (assignment_node phrase)
+phrase_entry (Some part) phrase = TreeEdit.set_part part (Some phrase)
 
 -- what comes of phrase text: it comes where its category is wanted, and the cursor goes onward
-abbrev pub outcome_of_entry : PlainTree → PlainStop → PlainPhrase → PlainNode → Edited
-outcome_of_entry tree stop phrase node =
-    if is_wanted phrase (category_in stop.part node.label.kind) then comes_onward (entry stop.part phrase) tree node.label.slot stop else not_here
+abbrev pub outcome_of_phrase_entry : PlainTree → PlainStop → PlainPhrase → PlainNode → Edited
+outcome_of_phrase_entry tree stop phrase node =
+    if is_wanted phrase (category_in stop.part node.label.kind) then comes_onward (phrase_entry stop.part phrase) tree node.label.slot stop else not_here
 
 -- what comes of a phrase inserted: it comes into an empty part of its category, and the cursor stays there
 abbrev pub outcome_of_phrase_insertion : PlainTree → PlainStop → PlainPhrase → Option ℕ → PlainNode → Edited
@@ -121,7 +121,7 @@ outcome_of_hole_beside tree side (Some path) =
 -- what comes of an edit at the cursor's node: the one at the stop, or whose part the stop is
 abbrev pub outcome_at_node : PlainTree → PlainStop → PlainEdit → PlainNode → Edited
 outcome_at_node tree stop (PlainEdit.fill template) node = outcome_of_fill tree stop template node
-outcome_at_node tree stop (PlainEdit.enter phrase) node = outcome_of_entry tree stop phrase node
+outcome_at_node tree stop (PlainEdit.enter phrase) node = outcome_of_phrase_entry tree stop phrase node
 outcome_at_node tree stop (PlainEdit.insert fragment) node = outcome_of_insertion tree stop fragment node
 outcome_at_node tree stop PlainEdit.delete node = outcome_of_deletion tree stop node
 outcome_at_node tree stop PlainEdit.take node = outcome_of_taking tree stop stop.part node

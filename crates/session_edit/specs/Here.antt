@@ -54,21 +54,21 @@ abbrev pub takes_phrase : PlainPhrase → ℕ → PlainNode → Bool
 takes_phrase phrase part node = is_none (part_at node.label.parts part) && is_wanted phrase (part_category node.label.kind part)
 
 -- whether at the stop of the cursor a hole can come beside the node at this path: it is an item of a list
-abbrev pub is_item : Forest → List ℕ → Bool
-is_item items path =
+abbrev pub is_list_item : Forest → List ℕ → Bool
+is_list_item items path =
     option_map_or (λ node. is_listed (sort_of node.label.kind) (sections_at program_sections items path)) (node_at items path) false
 
 -- whether the node at the path is a hole in a list of two or more, and the cursor stands on it
 abbrev pub is_spare_hole : Forest → PlainStop → PlainNode → Bool
 is_spare_hole items stop node =
     (is_none stop.part && is_hole node.label.kind)
-    && (is_item items stop.path && nat_lt 1 (how_many (sort_of node.label.kind) (sorts (siblings_at items stop.path))))
+    && (is_list_item items stop.path && nat_lt 1 (how_many (sort_of node.label.kind) (sorts (siblings_at items stop.path))))
 
 -- the path of the nearest item of a list beside which a hole can come: the longest of the first so many numbers of a
 -- path that leads to one
 abbrev pub nearest_item : Forest → List ℕ → ℕ → Option (List ℕ)
 nearest_item items path zero = None
-nearest_item items path (suc n) = if is_item items (take (suc n) path) then Some (take (suc n) path) else nearest_item items path n
+nearest_item items path (suc n) = if is_list_item items (take (suc n) path) then Some (take (suc n) path) else nearest_item items path n
 
 -- the path of the item of a list beside which a hole comes: the nearest one that the node at the path is, or in which
 -- it stands

@@ -4,7 +4,7 @@ use Rattle.plcs_grammar.specs.PlainPhrase.{plain_phrase}
 use Rattle.plcs_grammar.specs.PlainPhrase.{PlainPhrase}
 use Rattle.plcs_grammar.specs.declared.template.Template.{Template}
 use Rattle.template_tree.specs.declared.side.Side.{Side}
-use Rattle.template_tree.specs.Part.{IsPlace}
+use Rattle.template_tree.specs.Part.{IsPhrasePlace}
 use Rattle.clip_store.specs.PlainFragment.{PlainFragment, IsFragment, plain_fragment, roomless_fragment}
 use Rattle.session_edit.specs.declared.edit.Edit.{Edit}
 
@@ -29,6 +29,6 @@ plain_edit (Edit.Beside side) = PlainEdit.beside side
 
 -- the phrase or fragment that an edit brings may stand in a program
 abbrev pub BringsWhatMayStand : Edit → Type 0
-BringsWhatMayStand (Edit.Enter phrase) = IsPlace (Some (plain_phrase phrase))
+BringsWhatMayStand (Edit.Enter phrase) = IsPhrasePlace (Some (plain_phrase phrase))
 BringsWhatMayStand (Edit.Insert fragment) = IsFragment (plain_fragment fragment)
 BringsWhatMayStand other = Unit {0}

@@ -1,7 +1,7 @@
 //! Templates and phrase text entered at the cursor.
 ghost use Rattle.std.specs.Prelude.{◌≡◌, IsSome, None, Some, false, true};
 ghost use Rattle.plcs_grammar.specs.PlainPhrase.{plain_phrase};
-ghost use Rattle.template_tree.specs.Part.{IsPlace};
+ghost use Rattle.template_tree.specs.Part.{IsPhrasePlace};
 ghost use Rattle.template_tree.specs.PlainTree.{roomless_tree};
 ghost use Rattle.template_tree.specs.Stop.{IsStop, plain_stop};
 ghost use Rattle.template_tree.specs.Tree.{IsTree};
@@ -51,7 +51,7 @@ pub(crate) fn enter(
 ) -> Result<Applied, TreeFault>
     requires tree { IsTree tree.old }
     requires stop { IsStop (roomless_tree tree.old).items (plain_stop at.now) }
-    requires phrase { IsPlace (Some (plain_phrase phrase)) }
+    requires phrase { IsPhrasePlace (Some (plain_phrase phrase)) }
     ensures { IsAnswer (takes_memory (PlainEdit.enter (plain_phrase phrase)) (plain_stop at.now)) (edited (roomless_tree tree.old) (plain_stop at.now) (PlainEdit.enter (plain_phrase phrase))) tree.old tree.new result }
 {
     match at.part {
@@ -69,7 +69,7 @@ fn enter_assignment(
 ) -> Result<Applied, TreeFault>
     requires tree { IsTree tree.old }
     requires stop { IsStop (roomless_tree tree.old).items (plain_stop at.now) }
-    requires phrase { IsPlace (Some (plain_phrase phrase)) }
+    requires phrase { IsPhrasePlace (Some (plain_phrase phrase)) }
     requires node { at.now.part ≡ None }
     ensures { IsAnswer true (edited (roomless_tree tree.old) (plain_stop at.now) (PlainEdit.enter (plain_phrase phrase))) tree.old tree.new result }
 {
@@ -89,7 +89,7 @@ fn enter_assignment(
 fn enter_in_part(tree: &mut Tree, at: &Stop, phrase: Phrase) -> Result<Applied, TreeFault>
     requires tree { IsTree tree.old }
     requires stop { IsStop (roomless_tree tree.old).items (plain_stop at.now) }
-    requires phrase { IsPlace (Some (plain_phrase phrase)) }
+    requires phrase { IsPhrasePlace (Some (plain_phrase phrase)) }
     requires part { IsSome at.now.part }
     ensures { IsAnswer false (edited (roomless_tree tree.old) (plain_stop at.now) (PlainEdit.enter (plain_phrase phrase))) tree.old tree.new result }
 {

@@ -1,6 +1,6 @@
 //! What may be done at a stop.
 ghost use Rattle.std.specs.Prelude.{◌≡◌, is_some, option_and_then};
-ghost use Rattle.template_tree.specs.PlainPlace.{plain_place};
+ghost use Rattle.template_tree.specs.PlainPhrasePlace.{plain_phrase_place};
 ghost use Rattle.template_tree.specs.PlainTree.{roomless_tree};
 ghost use Rattle.template_tree.specs.Stop.{IsStop, plain_stop};
 ghost use Rattle.template_tree.specs.Tree.{IsTree};
@@ -69,7 +69,7 @@ fn can_take(node: &Node, part: Option<u8>) -> bool
 
 /// Whether a phrase that can be taken out stands in the part, if there is such a part.
 fn is_filled(place: Option<&PhrasePlace>) -> bool
-    ensures { result ≡ is_some (option_and_then (λ there. plain_place there.now) place.entry) }
+    ensures { result ≡ is_some (option_and_then (λ there. plain_phrase_place there.now) place.entry) }
 {
     matches!(place, Some(PhrasePlace::Filled(_)))
 }

@@ -1,7 +1,7 @@
 //! Fragments inserted at the cursor.
 ghost use Rattle.std.specs.Prelude.{Some, false};
 ghost use Rattle.plcs_grammar.specs.PlainPhrase.{plain_phrase};
-ghost use Rattle.template_tree.specs.Part.{IsPlace};
+ghost use Rattle.template_tree.specs.Part.{IsPhrasePlace};
 ghost use Rattle.template_tree.specs.PlainTree.{roomless_node, roomless_tree};
 ghost use Rattle.template_tree.specs.Program.{IsSubtree};
 ghost use Rattle.template_tree.specs.Stop.{IsStop, plain_stop};
@@ -58,7 +58,7 @@ fn insert_node(tree: &mut Tree, at: &Stop, node: Node) -> Result<Applied, TreeFa
 fn insert_phrase(tree: &mut Tree, at: &Stop, phrase: Phrase) -> Result<Applied, TreeFault>
     requires tree { IsTree tree.old }
     requires stop { IsStop (roomless_tree tree.old).items (plain_stop at.now) }
-    requires phrase { IsPlace (Some (plain_phrase phrase)) }
+    requires phrase { IsPhrasePlace (Some (plain_phrase phrase)) }
     ensures { IsAnswer false (edited (roomless_tree tree.old) (plain_stop at.now) (PlainEdit.insert (PlainFragment.phrase (plain_phrase phrase)))) tree.old tree.new result }
 {
     room_laws();

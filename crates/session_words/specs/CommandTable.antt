@@ -14,32 +14,32 @@ pub record PlainCommandRow : Type 0 where
   pub rule : PlainArgumentRule
 
 -- the row of the table of commands for a word and what its command takes
-abbrev pub row : List ℕ → PlainArgumentRule → PlainCommandRow
-row word rule = record { word = word; rule = rule }
+abbrev pub command_row : List ℕ → PlainArgumentRule → PlainCommandRow
+command_row word rule = record { word = word; rule = rule }
 
 -- the table of the commands that fill in no template
 abbrev pub other_commands : List PlainCommandRow
 other_commands =
-    row (codes "float") (argument.nothing command.float)
-    ∷ row (codes "before") (argument.nothing command.before)
-    ∷ row (codes "after") (argument.nothing command.after)
-    ∷ row (codes "del") (argument.nothing command.del)
-    ∷ row (codes "cut") (argument.name command.cut)
-    ∷ row (codes "copy") (argument.name command.copy)
-    ∷ row (codes "insert") (argument.name command.insert)
-    ∷ row (codes "elide") (argument.nothing command.elide)
-    ∷ row (codes "top") (argument.nothing command.top)
-    ∷ row (codes "bottom") (argument.nothing command.bottom)
-    ∷ row (codes "run") (argument.nothing command.run)
-    ∷ row (codes "step") (argument.number 1 MOST_STEPS 1 command.step)
-    ∷ row (codes "resume") (argument.nothing command.resume)
-    ∷ row (codes "back") (argument.number 1 MOST_STEPS_BACK 1 command.back)
-    ∷ row (codes "trace") (argument.nothing command.trace)
-    ∷ row (codes "input") (argument.text command.input)
-    ∷ row (codes "save") (argument.file command.save)
-    ∷ row (codes "load") (argument.file command.load)
-    ∷ row (codes "code") (argument.number 0 GREATEST_CODE_NUMBER 0 command.code)
-    ∷ row (codes "quit") (argument.nothing command.quit)
+    command_row (codes "float") (argument.nothing command.float)
+    ∷ command_row (codes "before") (argument.nothing command.before)
+    ∷ command_row (codes "after") (argument.nothing command.after)
+    ∷ command_row (codes "del") (argument.nothing command.del)
+    ∷ command_row (codes "cut") (argument.name command.cut)
+    ∷ command_row (codes "copy") (argument.name command.copy)
+    ∷ command_row (codes "insert") (argument.name command.insert)
+    ∷ command_row (codes "elide") (argument.nothing command.elide)
+    ∷ command_row (codes "top") (argument.nothing command.top)
+    ∷ command_row (codes "bottom") (argument.nothing command.bottom)
+    ∷ command_row (codes "run") (argument.nothing command.run)
+    ∷ command_row (codes "step") (argument.number 1 MOST_STEPS 1 command.step)
+    ∷ command_row (codes "resume") (argument.nothing command.resume)
+    ∷ command_row (codes "back") (argument.number 1 MOST_STEPS_BACK 1 command.back)
+    ∷ command_row (codes "trace") (argument.nothing command.trace)
+    ∷ command_row (codes "input") (argument.text command.input)
+    ∷ command_row (codes "save") (argument.file command.save)
+    ∷ command_row (codes "load") (argument.file command.load)
+    ∷ command_row (codes "code") (argument.number 0 GREATEST_CODE_NUMBER 0 command.code)
+    ∷ command_row (codes "quit") (argument.nothing command.quit)
     ∷ []
 
 -- what the row of the word among these of the table says that its command takes, if there is one

@@ -15,41 +15,41 @@ pub record PlainRefusalRow : Type 0 where
   pub value : Option ℕ
 
 -- a refusal's row, of which the words have no number behind them
-abbrev pub row : ℕ → List ℕ → PlainRefusalRow
-row number words = record { number = number; words = words; value = None }
+abbrev pub plain_row_of_words : ℕ → List ℕ → PlainRefusalRow
+plain_row_of_words number words = record { number = number; words = words; value = None }
 
 -- a refusal's row, of which the words have this number behind them
-abbrev pub with_number : ℕ → List ℕ → ℕ → PlainRefusalRow
-with_number number words n = record { number = number; words = words; value = Some n }
+abbrev pub numbered_row : ℕ → List ℕ → ℕ → PlainRefusalRow
+numbered_row number words n = record { number = number; words = words; value = Some n }
 
 -- the row of each refusal, with the words of its message
 abbrev pub refusal_row : RefusalMessage → PlainRefusalRow
-refusal_row refusal.UnknownCommand = row 1 (codes "UNKNOWN COMMAND")
-refusal_row refusal.NotHere = row 2 (codes "NOT HERE")
-refusal_row (refusal.SyntaxAt n) = with_number 3 (codes "SYNTAX AT") n
-refusal_row (refusal.NumberTooLargeAt n) = with_number 3 (codes "NUMBER TOO LARGE AT") n
-refusal_row (refusal.PhraseTooDeepAt n) = with_number 3 (codes "PHRASE TOO DEEP AT") n
-refusal_row refusal.NoClip = row 4 (codes "NO CLIP")
-refusal_row refusal.ClipsFull = row 4 (codes "CLIPS FULL")
-refusal_row refusal.NoFile = row 5 (codes "NO FILE")
-refusal_row refusal.FileFault = row 5 (codes "FILE FAULT")
-refusal_row (refusal.NotAListing n) = with_number 5 (codes "NOT A LISTING") n
-refusal_row refusal.FileTooDeep = row 5 (codes "FILE TOO DEEP")
-refusal_row refusal.FileTooLarge = row 5 (codes "FILE TOO LARGE")
-refusal_row refusal.FileTooLong = row 5 (codes "FILE TOO LONG")
-refusal_row refusal.NoRun = row 6 (codes "NO RUN")
-refusal_row refusal.RunEnded = row 7 (codes "RUN ENDED")
-refusal_row refusal.NoHistory = row 8 (codes "NO HISTORY")
-refusal_row (refusal.HeadingChanged n) = with_number 9 (codes "HEADING CHANGED") n
-refusal_row (refusal.DeclarationChanged n) = with_number 9 (codes "DECLARATION CHANGED") n
-refusal_row (refusal.TemplateChanged n) = with_number 9 (codes "TEMPLATE CHANGED") n
-refusal_row refusal.TreeTooDeep = row 10 (codes "TREE TOO DEEP")
-refusal_row refusal.TreeTooLarge = row 10 (codes "TREE TOO LARGE")
-refusal_row refusal.SlotsUsedUp = row 10 (codes "SLOTS USED UP")
-refusal_row refusal.WrongArgument = row 11 (codes "WRONG ARGUMENT")
-refusal_row refusal.PhraseFull = row 12 (codes "PHRASE FULL")
-refusal_row refusal.FloatNotThere = row 13 (codes "FLOAT NOT THERE")
-refusal_row refusal.AtEdge = row 14 (codes "AT EDGE")
+refusal_row refusal.UnknownCommand = plain_row_of_words 1 (codes "UNKNOWN COMMAND")
+refusal_row refusal.NotHere = plain_row_of_words 2 (codes "NOT HERE")
+refusal_row (refusal.SyntaxAt n) = numbered_row 3 (codes "SYNTAX AT") n
+refusal_row (refusal.NumberTooLargeAt n) = numbered_row 3 (codes "NUMBER TOO LARGE AT") n
+refusal_row (refusal.PhraseTooDeepAt n) = numbered_row 3 (codes "PHRASE TOO DEEP AT") n
+refusal_row refusal.NoClip = plain_row_of_words 4 (codes "NO CLIP")
+refusal_row refusal.ClipsFull = plain_row_of_words 4 (codes "CLIPS FULL")
+refusal_row refusal.NoFile = plain_row_of_words 5 (codes "NO FILE")
+refusal_row refusal.FileFault = plain_row_of_words 5 (codes "FILE FAULT")
+refusal_row (refusal.NotAListing n) = numbered_row 5 (codes "NOT A LISTING") n
+refusal_row refusal.FileTooDeep = plain_row_of_words 5 (codes "FILE TOO DEEP")
+refusal_row refusal.FileTooLarge = plain_row_of_words 5 (codes "FILE TOO LARGE")
+refusal_row refusal.FileTooLong = plain_row_of_words 5 (codes "FILE TOO LONG")
+refusal_row refusal.NoRun = plain_row_of_words 6 (codes "NO RUN")
+refusal_row refusal.RunEnded = plain_row_of_words 7 (codes "RUN ENDED")
+refusal_row refusal.NoHistory = plain_row_of_words 8 (codes "NO HISTORY")
+refusal_row (refusal.HeadingChanged n) = numbered_row 9 (codes "HEADING CHANGED") n
+refusal_row (refusal.DeclarationChanged n) = numbered_row 9 (codes "DECLARATION CHANGED") n
+refusal_row (refusal.TemplateChanged n) = numbered_row 9 (codes "TEMPLATE CHANGED") n
+refusal_row refusal.TreeTooDeep = plain_row_of_words 10 (codes "TREE TOO DEEP")
+refusal_row refusal.TreeTooLarge = plain_row_of_words 10 (codes "TREE TOO LARGE")
+refusal_row refusal.SlotsUsedUp = plain_row_of_words 10 (codes "SLOTS USED UP")
+refusal_row refusal.WrongArgument = plain_row_of_words 11 (codes "WRONG ARGUMENT")
+refusal_row refusal.PhraseFull = plain_row_of_words 12 (codes "PHRASE FULL")
+refusal_row refusal.FloatNotThere = plain_row_of_words 13 (codes "FLOAT NOT THERE")
+refusal_row refusal.AtEdge = plain_row_of_words 14 (codes "AT EDGE")
 
 -- the words of each notice, which says what came of a key that was taken
 abbrev pub notice_words : NoticeKind → List ℕ

@@ -5,12 +5,12 @@ use Rattle.synth_outside.specs.Files.{PlainFiles}
 use Rattle.key_journal.specs.ClearedJournal.{LeavesNothingOr}
 use Rattle.key_journal.specs.Crash.{LeavesOnly, LeavesOneOf}
 use Rattle.key_journal.specs.Disk.{DiskState, Newest}
-use Rattle.key_journal.specs.Journal.{PlainJournal}
-use Rattle.key_journal.specs.Recovered.{kept, recovered}
+use Rattle.key_journal.specs.Journal.{PlainJournalKeys}
+use Rattle.key_journal.specs.Recovered.{kept_keys, recovered}
 use Rattle.synth_kept.specs.Closing.{Closing, Closes}
 use Rattle.synth_kept.specs.Closing.Closing.{LeftStanding, Cleared, NotCleared}
-use Rattle.synth_kept.specs.KeptRun.{JournalRun, JournalSession, KeptTold}
-use Rattle.synth_kept.specs.Private.Agreement.{Agrees, IsToClear}
+use Rattle.synth_kept.specs.KeptWholeRun.{JournalWholeRun, JournalSession, KeptTold}
+use Rattle.synth_kept.specs.Private.Agreement.{ClosesAsDue, IsToClear}
 use Rattle.synth_kept.specs.Private.Clearing.{ClearsKeys}
 use Rattle.synth_kept.specs.declared.status.KeptStatus.{KeptStatus}
 use Rattle.synth_kept.specs.declared.status.KeptStatus.TheVariants.{Run}
@@ -45,10 +45,10 @@ all_of_one keys last none state one = record {
 -- a run that is done left all keys
 done_safe : (words : Option PlainOptions) (run : Status) (closing : Closing) (before now : KeptTold)
     (same_outside after_reads after_fault : Type 0)
-    (editing : JournalRun words run closing before now same_outside after_reads after_fault) → run ≡ Done →
-    Newest (LeavesOnly (kept before.past ++ editing.taken)) now.past
+    (editing : JournalWholeRun words run closing before now same_outside after_reads after_fault) → run ≡ Done →
+    Newest (LeavesOnly (kept_keys before.past ++ editing.taken)) now.past
 done_safe words run closing before now same_outside after_reads after_fault editing done =
-    newest_weaker _ _ now.past (all_of_one (kept before.past ++ editing.taken) editing.last none_last) editing.safe where
+    newest_weaker _ _ now.past (all_of_one (kept_keys before.past ++ editing.taken) editing.last none_last) editing.safe where
       none_last : editing.last ≡ []
       none_last = elim editing.failed as (λ _. editing.last ≡ []) [
         | inl none ↦ none
@@ -61,8 +61,8 @@ pub not_true : (test : Bool) → test ≡ false → IsTrue test → ⊥
 not_true test failed passed = cc (failed, passed)
 
 -- equal journals stand on the same source
-pub same_inner : {S D : Type 0} (one other : PlainJournal S D) → one ≡ other → one.inner ≡ other.inner
-same_inner {S} {D} one other same = ap (λ (journal : PlainJournal S D). journal.inner) same
+pub same_inner : {S D : Type 0} (one other : PlainJournalKeys S D) → one ≡ other → one.inner ≡ other.inner
+same_inner {S} {D} one other same = ap (λ (journal : PlainJournalKeys S D). journal.inner) same
 
 -- what is told of this source and these states of the disk, beside what was written, the files and the lines laid
 abbrev pub told_of : {S : Type 0} → (S → Option (List ℕ)) → Option (List ℕ) → PlainFiles → ℕ → S → List DiskState →
@@ -76,7 +76,7 @@ module _ {S : Type 0} (left : S → Option (List ℕ)) (leads_to breaks_at : S �
     (laid laid_after : ℕ) (same_outside : Type 0) where
   abbrev pub Editing : Closing → Type 0
   Editing closing =
-      JournalRun words run closing (told_of left written files laid first origin)
+      JournalWholeRun words run closing (told_of left written files laid first origin)
       (told_of left written_after files_after laid_after last behind) same_outside (leads_to first last) (breaks_at first last)
 
   abbrev pub Keeps : KeptStatus → List DiskState → Type 0
@@ -85,7 +85,7 @@ module _ {S : Type 0} (left : S → Option (List ℕ)) (leads_to breaks_at : S �
       (told_of left written_after files_after laid_after source past) same_outside (leads_to keys source) (breaks_at keys source)
 
   keeps : (closing : Closing) (editing : Editing closing) (status : KeptStatus) (past : List DiskState) →
-      Closes closing run status (kept origin ++ editing.taken) behind past → Keeps status past
+      Closes closing run status (kept_keys origin ++ editing.taken) behind past → Keeps status past
   keeps closing editing status past closed =
       subst (λ (s : S). JournalSession words status (told_of left written files laid s origin)
       (told_of left written_after files_after laid_after source past) same_outside (leads_to s source) (breaks_at s source)) same_first
@@ -98,13 +98,13 @@ module _ {S : Type 0} (left : S → Option (List ℕ)) (leads_to breaks_at : S �
   keeps_standing editing past same = keeps LeftStanding editing (Run run) past (record { answer = refl; same = same })
 
   -- a run that is done left all keys
-  safe_when_done : (closing : Closing) (editing : Editing closing) → run ≡ Done → Newest (LeavesOnly (kept origin ++ editing.taken)) behind
+  safe_when_done : (closing : Closing) (editing : Editing closing) → run ≡ Done → Newest (LeavesOnly (kept_keys origin ++ editing.taken)) behind
   safe_when_done closing editing done =
       done_safe words run closing (told_of left written files laid first origin)
       (told_of left written_after files_after laid_after last behind) same_outside (leads_to first last) (breaks_at first last) editing done
 
   -- it was cleared, or couldn't be
-  pub keeps_clearing : (given : ℕ) (ended : Bool) → ((closing : Closing) → Agrees closing run given ended → Editing closing) →
+  pub keeps_clearing : (given : ℕ) (ended : Bool) → ((closing : Closing) → ClosesAsDue closing run given ended → Editing closing) →
       IsToClear run given ended → (status : KeptStatus) (past : List DiskState) (faults faults_after : ℕ) →
       ClearsKeys status behind past faults faults_after → Keeps status past
   keeps_clearing given ended edits clear status past faults faults_after (inl all) =
@@ -113,7 +113,7 @@ module _ {S : Type 0} (left : S → Option (List ℕ)) (leads_to breaks_at : S �
       keeps Cleared editing status past (record {
         done = clear.done;
         answer = all.answer;
-        each = throughout_weaker _ _ behind past (nothing_or_keys (kept origin ++ editing.taken) behind safe) all.clears.each;
+        each = throughout_weaker _ _ behind past (nothing_or_keys (kept_keys origin ++ editing.taken) behind safe) all.clears.each;
         nothing = all.clears.cleared;
       })
   keeps_clearing given ended edits clear status past faults faults_after (inr failed) =
@@ -122,6 +122,6 @@ module _ {S : Type 0} (left : S → Option (List ℕ)) (leads_to breaks_at : S �
       keeps (NotCleared failed.fault) editing status past (record {
         done = clear.done;
         answer = failed.answer;
-        each = throughout_weaker _ _ behind past (nothing_or_keys (kept origin ++ editing.taken) behind safe) failed.clears.each;
-        either = newest_weaker _ _ past (nothing_or_keys (kept origin ++ editing.taken) behind safe) failed.clears.after;
+        each = throughout_weaker _ _ behind past (nothing_or_keys (kept_keys origin ++ editing.taken) behind safe) failed.clears.each;
+        either = newest_weaker _ _ past (nothing_or_keys (kept_keys origin ++ editing.taken) behind safe) failed.clears.after;
       })

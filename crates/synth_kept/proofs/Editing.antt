@@ -7,14 +7,14 @@ use Rattle.synth_outside.specs.Files.{PlainFiles}
 use Rattle.key_journal.specs.AfterReads.{BreaksAt, KeepsAll, KeepsAllButLast, LeadsTo}
 use Rattle.key_journal.specs.Crash.{LeavesBetween, LeavesOneOf, LeavesOnly, Throughout}
 use Rattle.key_journal.specs.Disk.{DiskState, Newest}
-use Rattle.key_journal.specs.Journal.{PlainJournal, left_of_both}
-use Rattle.key_journal.specs.Recovered.{kept, recovered}
+use Rattle.key_journal.specs.Journal.{PlainJournalKeys, left_of_both}
+use Rattle.key_journal.specs.Recovered.{kept_keys, recovered}
 use Rattle.synth_kept.specs.Closing.{Closing}
-use Rattle.synth_kept.specs.KeptRun.{AreKeys, JournalRun, KeptTold, TellsBoth, told_editor}
-use Rattle.synth_kept.specs.Private.Agreement.{Agrees}
+use Rattle.synth_kept.specs.KeptWholeRun.{AreKeys, JournalWholeRun, KeptTold, TellsBoth, told_editor}
+use Rattle.synth_kept.specs.Private.Agreement.{ClosesAsDue}
 use Rattle.synth_top.specs.declared.status.Status.{Status}
 use Rattle.synth_top.specs.declared.status.Status.TheVariants.{Done, ReadFault, WriteFault, NoMemory, BadWords, KeyLimit}
-use Rattle.synth_top.specs.Run.{Ended, LeavesSource, NoneLost, NotOpened, QuitPressed, Ran, ReadCut, Told}
+use Rattle.synth_top.specs.WholeRun.{Ended, LeavesSource, NoneLost, NotOpened, QuitPressed, Ran, ReadCut, Told}
 use Rattle.synth_top.specs.Status.{LeftAs}
 use Rattle.synth_top.specs.Loads.{first_state}
 use Rattle.synth_top.specs.Options.{PlainOptions}
@@ -28,7 +28,7 @@ use Rattle.synth_kept.proofs.Quits.{clears_at_quit, stands_undone}
 told_all : (left left_after : Option (List ℕ)) (past now : List DiskState) (given : ℕ) (taken bytes : List ℕ) →
     IsSome left → past ≢ [] → Consumes left left_after taken → KeepsAll past now given taken →
     Consumes (left_of_both left past 0) (left_of_both left_after now given) bytes →
-    AreKeys (kept past) taken [] bytes × (length bytes ≡ given)
+    AreKeys (kept_keys past) taken [] bytes × (length bytes ≡ given)
 told_all None left_after past now given taken bytes source disk took keeps read = absurd (cc (source))
 told_all (Some left) left_after [] now given taken bytes source disk took keeps read = absurd (disk refl)
 told_all (Some left) None (state ∷ past) now given taken bytes source disk took keeps read = absurd took
@@ -42,7 +42,7 @@ told_before : (left left_after : Option (List ℕ)) (past now : List DiskState) 
     (taken last bytes lost : List ℕ) → IsSome left → past ≢ [] → Consumes left left_after (taken ++ last) →
     KeepsAllButLast past now given taken last →
     Consumes (left_of_both left past 0) (left_of_both left_after now given) (bytes ++ lost) →
-    length bytes ≡ given + ends → (ends ≡ 0) ⊎ (last ≡ []) → AreKeys (kept past) taken last bytes
+    length bytes ≡ given + ends → (ends ≡ 0) ⊎ (last ≡ []) → AreKeys (kept_keys past) taken last bytes
 told_before None left_after past now given ends taken last bytes lost source disk took keeps read many none = absurd (cc (source))
 told_before (Some left) left_after [] now given ends taken last bytes lost source disk took keeps read many none = absurd (disk refl)
 told_before (Some left) None (state ∷ past) now given ends taken last bytes lost source disk took keeps read many none = absurd took
@@ -52,15 +52,15 @@ told_before (Some left) (Some left_after) (state ∷ past) (next ∷ now) given 
     given_before _ left left_after bytes lost taken last _ given ends took keeps.safe.reads keeps.within keeps.behind read many none
 
 -- a journal that was opened keeps the keys that were kept before
-pub kept_still : (origin past : List DiskState) → Throughout (LeavesOnly (kept origin)) origin past →
-    Newest (LeavesOnly (kept origin)) past → kept past ≡ kept origin
-kept_still [] past each safe = ap kept each
+pub kept_still : (origin past : List DiskState) → Throughout (LeavesOnly (kept_keys origin)) origin past →
+    Newest (LeavesOnly (kept_keys origin)) past → kept_keys past ≡ kept_keys origin
+kept_still [] past each safe = ap kept_keys each
 kept_still (state ∷ origin) [] each safe = absurd (still_told _ (state ∷ origin) [] each (λ never. cc (never)) refl)
 kept_still (state ∷ origin) (next ∷ past) each safe = safe.reads
 
 -- and the same is left to read
-left_still : (left : Option (List ℕ)) (origin past : List DiskState) → Throughout (LeavesOnly (kept origin)) origin past →
-    kept past ≡ kept origin → left_of_both left past 0 ≡ left_of_both left origin 0
+left_still : (left : Option (List ℕ)) (origin past : List DiskState) → Throughout (LeavesOnly (kept_keys origin)) origin past →
+    kept_keys past ≡ kept_keys origin → left_of_both left past 0 ≡ left_of_both left origin 0
 left_still None origin past each same = refl
 left_still (Some left) [] [] each same = refl
 left_still (Some left) [] (next ∷ past) each same = absurd (cc (each))
@@ -77,23 +77,23 @@ between_none keys more state only = record {
   front found same = ([], more, same ∙ sym (append-nil keys), ap (λ (l : List ℕ). l ++ more) (sym same))
 
 -- the moments from before a journal was opened
-from_origin : (origin past now : List DiskState) (more : List ℕ) → Throughout (LeavesOnly (kept origin)) origin past →
-    kept past ≡ kept origin → Throughout (LeavesBetween (kept past) (kept past ++ more)) past now →
-    Throughout (LeavesBetween (kept origin) (kept origin ++ more)) origin now
+from_origin : (origin past now : List DiskState) (more : List ℕ) → Throughout (LeavesOnly (kept_keys origin)) origin past →
+    kept_keys past ≡ kept_keys origin → Throughout (LeavesBetween (kept_keys past) (kept_keys past ++ more)) past now →
+    Throughout (LeavesBetween (kept_keys origin) (kept_keys origin ++ more)) origin now
 from_origin origin past now more opens same each =
     throughout_both _ origin past now
-    (throughout_weaker _ _ origin past (between_none (kept origin) more) opens)
+    (throughout_weaker _ _ origin past (between_none (kept_keys origin) more) opens)
     (subst (λ (keys : List ℕ). Throughout (LeavesBetween keys (keys ++ more)) past now) same each)
 
 -- ---- a run over a journal
 
 module _ {S D : Type 0} (left : S → Option (List ℕ)) (source_faults : S → ℕ)
     (leads_to breaks_at : S → S → Type 0) (past : D → List DiskState) (disk_faults : D → ℕ)
-    (first now : PlainJournal S D) (none_given : first.given ≡ 0) (not_ended : first.ended ≡ false)
+    (first now : PlainJournalKeys S D) (none_given : first.given ≡ 0) (not_ended : first.ended ≡ false)
     (none_read : first.reads ≡ 0)
     (origin : List DiskState)
-    (opens : Throughout (LeavesOnly (kept origin)) origin (past first.disk))
-    (is_safe : Newest (LeavesOnly (kept origin)) (past first.disk))
+    (opens : Throughout (LeavesOnly (kept_keys origin)) origin (past first.disk))
+    (is_safe : Newest (LeavesOnly (kept_keys origin)) (past first.disk))
     (written written_after : Option (List ℕ)) (files files_after : PlainFiles)
     (laid laid_after : ℕ) where
   abbrev pub before : KeptTold
@@ -126,13 +126,13 @@ module _ {S D : Type 0} (left : S → Option (List ℕ)) (source_faults : S → 
       (record { left = left_of_both (left first.inner) (past first.disk) first.given; reads = first.reads; taken = written; laid = laid })
       (told_editor after now.given now.reads) files files_after Leads Breaks
 
-  same : kept (past first.disk) ≡ kept origin
+  same : kept_keys (past first.disk) ≡ kept_keys origin
   same = kept_still origin (past first.disk) opens is_safe
 
   left_same : left_of_both (left first.inner) (past first.disk) 0 ≡ left_of_both (left first.inner) origin 0
   left_same = left_still (left first.inner) origin (past first.disk) opens same
 
-  safe : Newest (LeavesOnly (kept (past first.disk))) (past first.disk)
+  safe : Newest (LeavesOnly (kept_keys (past first.disk))) (past first.disk)
   safe = subst (λ (keys : List ℕ). Newest (LeavesOnly keys) (past first.disk)) (sym same) is_safe
 
   -- what is told before it, with this left and so many reads
@@ -167,11 +167,11 @@ module _ {S D : Type 0} (left : S → Option (List ℕ)) (source_faults : S → 
     faults = ended.faults;
   }
 
-  few_given : first.given ≤ length (kept (past first.disk))
+  few_given : first.given ≤ length (kept_keys (past first.disk))
   few_given = omega (arith, none_given)
 
   module _ (run : Status) (options : PlainOptions) (limited : IsLimited options) (closing : Closing)
-      (agrees : Agrees closing run now.given now.ended) (same_outside : Type 0)
+      (agrees : ClosesAsDue closing run now.given now.ended) (same_outside : Type 0)
       (ended : Ran run options (told_editor before 0 0) (told_editor after now.given now.reads) files files_after Leads Breaks) where
     -- the bytes that were read, from the disk that was opened
     read_first : Consumes (left_of_both (left first.inner) (past first.disk) 0) (left_of_both (left now.inner) (past now.disk) now.given) (ended.course.bytes ++ ended.course.lost)
@@ -189,16 +189,16 @@ module _ {S D : Type 0} (left : S → Option (List ℕ)) (source_faults : S → 
 
     -- all reads were Ok
     edits_all : Leads → NoneLost ended.course →
-        JournalRun (Some options) run closing before after same_outside (leads_to first.inner now.inner) (breaks_at first.inner now.inner)
+        JournalWholeRun (Some options) run closing before after same_outside (leads_to first.inner now.inner) (breaks_at first.inner now.inner)
     edits_all leads none_lost =
         let keeps = leads.keeps few_given safe in
-        let given_keys : TellsBoth before → AreKeys (kept (past first.disk)) leads.taken [] ended.course.bytes × (length ended.course.bytes ≡ now.given) =
+        let given_keys : TellsBoth before → AreKeys (kept_keys (past first.disk)) leads.taken [] ended.course.bytes × (length ended.course.bytes ≡ now.given) =
         λ told. told_all (left first.inner) (left now.inner) (past first.disk) (past now.disk) now.given leads.taken ended.course.bytes
         told.source (told_then told) leads.consumes keeps (read_ok none_lost) in
-        let are : TellsBoth before → AreKeys (kept origin) leads.taken [] ended.course.bytes =
+        let are : TellsBoth before → AreKeys (kept_keys origin) leads.taken [] ended.course.bytes =
         λ told. subst (λ (keys : List ℕ). AreKeys keys leads.taken [] ended.course.bytes) same (given_keys told).0 in
-        let safe_now : Newest (LeavesOneOf (kept origin ++ leads.taken) []) (past now.disk) =
-        newest_weaker _ _ (past now.disk) (one_of_all (kept origin ++ leads.taken))
+        let safe_now : Newest (LeavesOneOf (kept_keys origin ++ leads.taken) []) (past now.disk) =
+        newest_weaker _ _ (past now.disk) (one_of_all (kept_keys origin ++ leads.taken))
         (subst (λ (keys : List ℕ). Newest (LeavesOnly (keys ++ leads.taken)) (past now.disk)) same keeps.safe) in
         record {
           taken = leads.taken;
@@ -206,8 +206,8 @@ module _ {S D : Type 0} (left : S → Option (List ℕ)) (source_faults : S → 
           took = subst (Consumes (left first.inner) (left now.inner)) (sym (append-nil leads.taken)) leads.consumes;
           few = omega arith;
           failed = inl refl;
-          each = subst (λ (all : List ℕ). Throughout (LeavesBetween (kept origin) all) origin (past now.disk))
-              (sym (append-nil (kept origin ++ leads.taken)))
+          each = subst (λ (all : List ℕ). Throughout (LeavesBetween (kept_keys origin) all) origin (past now.disk))
+              (sym (append-nil (kept_keys origin ++ leads.taken)))
               (from_origin origin (past first.disk) (past now.disk) leads.taken opens same keeps.each);
           safe = safe_now;
           edits = record {
@@ -215,7 +215,7 @@ module _ {S D : Type 0} (left : S → Option (List ℕ)) (source_faults : S → 
             reads = now.reads;
             ended = inr (with_source run options ended (inl (leads.source, none_lost)));
             keys = are;
-            none_lost = λ told. leaves_given (kept origin) leads.taken [] ended.course.bytes (past now.disk) (are told) safe_now;
+            none_lost = λ told. leaves_given (kept_keys origin) leads.taken [] ended.course.bytes (past now.disk) (are told) safe_now;
             quit = λ told.
                 clears_at_quit options limited (first_state options files.stored ended.loads) (told_editor before 0 0) (told_editor after now.given now.reads) files.wants ended.wants ended.course refl
                 now.given leads.counts.ends now.ended (given_keys told).1
@@ -228,11 +228,11 @@ module _ {S D : Type 0} (left : S → Option (List ℕ)) (source_faults : S → 
 
     -- a read wasn't Ok
     edits_before : Breaks → ReadCut ended.course → (run ≡ ReadFault) ⊎ (run ≡ NoMemory) →
-        JournalRun (Some options) run closing before after same_outside (leads_to first.inner now.inner) (breaks_at first.inner now.inner)
+        JournalWholeRun (Some options) run closing before after same_outside (leads_to first.inner now.inner) (breaks_at first.inner now.inner)
     edits_before breaks cut why =
         let keeps = breaks.keeps few_given safe in
         let undone : run ≡ Done → ⊥ = λ done. elim why as (λ _. ⊥) [ inl fault ↦ absurd (cc (fault, done)) | inr want ↦ absurd (cc (want, done)) ] in
-        let are : TellsBoth before → AreKeys (kept origin) breaks.taken breaks.last ended.course.bytes =
+        let are : TellsBoth before → AreKeys (kept_keys origin) breaks.taken breaks.last ended.course.bytes =
         λ told. subst (λ (keys : List ℕ). AreKeys keys breaks.taken breaks.last ended.course.bytes) same
         (told_before (left first.inner) (left now.inner) (past first.disk) (past now.disk) now.given breaks.counts.ends
         breaks.taken breaks.last ended.course.bytes ended.course.lost told.source (told_then told) breaks.consumes keeps read_first
@@ -240,7 +240,7 @@ module _ {S D : Type 0} (left : S → Option (List ℕ)) (source_faults : S → 
         let counted = breaks.counts.counted (omega (arith, made, cut.below, limited)) in
         omega (arith, made, counted, none_given, none_read))
         (breaks.counts.none_behind not_ended told.source (still_told _ (past first.disk) (past now.disk) keeps.each (told_then told)))) in
-        let safe_now : Newest (LeavesOneOf (kept origin ++ breaks.taken) breaks.last) (past now.disk) =
+        let safe_now : Newest (LeavesOneOf (kept_keys origin ++ breaks.taken) breaks.last) (past now.disk) =
         subst (λ (keys : List ℕ). Newest (LeavesOneOf (keys ++ breaks.taken) breaks.last) (past now.disk)) same keeps.safe in
         record {
           taken = breaks.taken;
@@ -248,26 +248,26 @@ module _ {S D : Type 0} (left : S → Option (List ℕ)) (source_faults : S → 
           took = breaks.consumes;
           few = breaks.few;
           failed = inr why;
-          each = subst (λ (all : List ℕ). Throughout (LeavesBetween (kept origin) all) origin (past now.disk))
-              (sym (append_assoc (kept origin) breaks.taken breaks.last))
+          each = subst (λ (all : List ℕ). Throughout (LeavesBetween (kept_keys origin) all) origin (past now.disk))
+              (sym (append_assoc (kept_keys origin) breaks.taken breaks.last))
               (from_origin origin (past first.disk) (past now.disk) (breaks.taken ++ breaks.last) opens same
-              (subst (λ (all : List ℕ). Throughout (LeavesBetween (kept (past first.disk)) all) (past first.disk) (past now.disk))
-              (append_assoc (kept (past first.disk)) breaks.taken breaks.last) keeps.each));
+              (subst (λ (all : List ℕ). Throughout (LeavesBetween (kept_keys (past first.disk)) all) (past first.disk) (past now.disk))
+              (append_assoc (kept_keys (past first.disk)) breaks.taken breaks.last) keeps.each));
           safe = safe_now;
           edits = record {
             given = now.given;
             reads = now.reads;
             ended = inr (with_source run options ended (inr (breaks.source, cut)));
             keys = are;
-            none_lost = λ told. leaves_given (kept origin) breaks.taken breaks.last ended.course.bytes (past now.disk) (are told) safe_now;
+            none_lost = λ told. leaves_given (kept_keys origin) breaks.taken breaks.last ended.course.bytes (past now.disk) (are told) safe_now;
             quit = λ told. stands_undone (QuitPressed ended.course) run now.given now.ended closing undone agrees;
           };
         }
 
   -- no session was opened
-  edits_unopened : (run : Status) (options : PlainOptions) (closing : Closing) → Agrees closing run now.given now.ended → (same_outside : Type 0)
+  edits_unopened : (run : Status) (options : PlainOptions) (closing : Closing) → ClosesAsDue closing run now.given now.ended → (same_outside : Type 0)
       → NotOpened run (told_editor before 0 0) (told_editor after now.given now.reads) files files_after Leads
-      → JournalRun (Some options) run closing before after same_outside (leads_to first.inner now.inner) (breaks_at first.inner now.inner)
+      → JournalWholeRun (Some options) run closing before after same_outside (leads_to first.inner now.inner) (breaks_at first.inner now.inner)
   edits_unopened run options closing agrees same_outside unopened =
       let leads = unopened.source in
       let keeps = leads.keeps few_given safe in
@@ -276,12 +276,12 @@ module _ {S D : Type 0} (left : S → Option (List ℕ)) (source_faults : S → 
       ap (λ (told : Told). told.left) unopened.same ∙ sym left_same in
       let read_none : Consumes (left_of_both (left first.inner) (past first.disk) 0) (left_of_both (left now.inner) (past now.disk) now.given) [] =
       subst (λ (bytes : Option (List ℕ)). Consumes (left_of_both (left first.inner) (past first.disk) 0) bytes []) (sym unread) (Consumes-nil _) in
-      let are : TellsBoth before → AreKeys (kept origin) leads.taken [] [] =
+      let are : TellsBoth before → AreKeys (kept_keys origin) leads.taken [] [] =
       λ told. subst (λ (keys : List ℕ). AreKeys keys leads.taken [] []) same
       (told_all (left first.inner) (left now.inner) (past first.disk) (past now.disk) now.given leads.taken []
       told.source (still_told _ origin (past first.disk) opens told.disk) leads.consumes keeps read_none).0 in
-      let safe_now : Newest (LeavesOneOf (kept origin ++ leads.taken) []) (past now.disk) =
-      newest_weaker _ _ (past now.disk) (one_of_all (kept origin ++ leads.taken))
+      let safe_now : Newest (LeavesOneOf (kept_keys origin ++ leads.taken) []) (past now.disk) =
+      newest_weaker _ _ (past now.disk) (one_of_all (kept_keys origin ++ leads.taken))
       (subst (λ (keys : List ℕ). Newest (LeavesOnly (keys ++ leads.taken)) (past now.disk)) same keeps.safe) in
       record {
         taken = leads.taken;
@@ -289,8 +289,8 @@ module _ {S D : Type 0} (left : S → Option (List ℕ)) (source_faults : S → 
         took = subst (Consumes (left first.inner) (left now.inner)) (sym (append-nil leads.taken)) leads.consumes;
         few = omega arith;
         failed = inl refl;
-        each = subst (λ (all : List ℕ). Throughout (LeavesBetween (kept origin) all) origin (past now.disk))
-            (sym (append-nil (kept origin ++ leads.taken)))
+        each = subst (λ (all : List ℕ). Throughout (LeavesBetween (kept_keys origin) all) origin (past now.disk))
+            (sym (append-nil (kept_keys origin ++ leads.taken)))
             (from_origin origin (past first.disk) (past now.disk) leads.taken opens same keeps.each);
         safe = safe_now;
         edits = record {
@@ -305,16 +305,16 @@ module _ {S D : Type 0} (left : S → Option (List ℕ)) (source_faults : S → 
             wants = unopened.wants;
           });
           keys = are;
-          none_lost = λ told. leaves_given (kept origin) leads.taken [] [] (past now.disk) (are told) safe_now;
+          none_lost = λ told. leaves_given (kept_keys origin) leads.taken [] [] (past now.disk) (are told) safe_now;
           quit = λ told. stands_undone ⊥ run now.given now.ended closing undone agrees;
         };
       }
 
   -- by how the editor ended
-  edits_ran : (run : Status) (options : PlainOptions) → IsLimited options → (closing : Closing) → Agrees closing run now.given now.ended →
+  edits_ran : (run : Status) (options : PlainOptions) → IsLimited options → (closing : Closing) → ClosesAsDue closing run now.given now.ended →
       (same_outside : Type 0) → LeftAs run Leads Breaks →
       Ran run options (told_editor before 0 0) (told_editor after now.given now.reads) files files_after Leads Breaks →
-      JournalRun (Some options) run closing before after same_outside (leads_to first.inner now.inner) (breaks_at first.inner now.inner)
+      JournalWholeRun (Some options) run closing before after same_outside (leads_to first.inner now.inner) (breaks_at first.inner now.inner)
   edits_ran Done options limited closing agrees same_outside left_as e =
       edits_all Done options limited closing agrees same_outside e left_as e.stopped.1
   edits_ran KeyLimit options limited closing agrees same_outside left_as e =
@@ -324,48 +324,48 @@ module _ {S D : Type 0} (left : S → Option (List ℕ)) (source_faults : S → 
   edits_ran ReadFault options limited closing agrees same_outside left_as e =
       edits_before ReadFault options limited closing agrees same_outside e left_as e.stopped.1 (inl refl)
   edits_ran NoMemory options limited closing agrees same_outside left_as e =
-      elim e.source as (λ _. JournalRun (Some options) NoMemory closing before after same_outside (leads_to first.inner now.inner) (breaks_at first.inner now.inner)) [
+      elim e.source as (λ _. JournalWholeRun (Some options) NoMemory closing before after same_outside (leads_to first.inner now.inner) (breaks_at first.inner now.inner)) [
         | inl all ↦ edits_all NoMemory options limited closing agrees same_outside e all.0 all.1
         | inr cut ↦ edits_before NoMemory options limited closing agrees same_outside e cut.0 cut.1 (inr refl)
       ]
   edits_ran BadWords options limited closing agrees same_outside left_as e = absurd e.stopped
 
-  edits_by : (run : Status) (options : PlainOptions) → IsLimited options → (closing : Closing) → Agrees closing run now.given now.ended →
+  edits_by : (run : Status) (options : PlainOptions) → IsLimited options → (closing : Closing) → ClosesAsDue closing run now.given now.ended →
       (same_outside : Type 0) → LeftAs run Leads Breaks → SynthEnded run options →
-      JournalRun (Some options) run closing before after same_outside (leads_to first.inner now.inner) (breaks_at first.inner now.inner)
+      JournalWholeRun (Some options) run closing before after same_outside (leads_to first.inner now.inner) (breaks_at first.inner now.inner)
   edits_by run options limited closing agrees same_outside left_as ended =
       elim (from_first run options ended)
-      as (λ _. JournalRun (Some options) run closing before after same_outside (leads_to first.inner now.inner) (breaks_at first.inner now.inner)) [
+      as (λ _. JournalWholeRun (Some options) run closing before after same_outside (leads_to first.inner now.inner) (breaks_at first.inner now.inner)) [
         | inl unopened ↦ edits_unopened run options closing agrees same_outside unopened
         | inr e ↦ edits_ran run options limited closing agrees same_outside left_as e
       ]
 
   -- words that aren't of the command
   edits_none : (run : Status) (closing : Closing) (same_outside : Type 0) → (run ≡ BadWords) ⊎ (run ≡ NoMemory) → now ≡ first → same_outside →
-      JournalRun None run closing before after same_outside (leads_to first.inner now.inner) (breaks_at first.inner now.inner)
+      JournalWholeRun None run closing before after same_outside (leads_to first.inner now.inner) (breaks_at first.inner now.inner)
   edits_none run closing same_outside refused unread outside = record {
     taken = [];
     last = [];
-    took = subst (λ (journal : PlainJournal S D). Consumes (left first.inner) (left journal.inner) []) (sym unread) (Consumes-nil (left first.inner));
+    took = subst (λ (journal : PlainJournalKeys S D). Consumes (left first.inner) (left journal.inner) []) (sym unread) (Consumes-nil (left first.inner));
     few = omega arith;
     failed = inl refl;
-    each = subst (λ (all : List ℕ). Throughout (LeavesBetween (kept origin) all) origin (past now.disk))
-        (sym (append-nil (kept origin ++ [])))
+    each = subst (λ (all : List ℕ). Throughout (LeavesBetween (kept_keys origin) all) origin (past now.disk))
+        (sym (append-nil (kept_keys origin ++ [])))
         (from_origin origin (past first.disk) (past now.disk) [] opens same
-        (subst (λ (journal : PlainJournal S D). Throughout (LeavesBetween (kept (past first.disk)) (kept (past first.disk) ++ [])) (past first.disk) (past journal.disk))
+        (subst (λ (journal : PlainJournalKeys S D). Throughout (LeavesBetween (kept_keys (past first.disk)) (kept_keys (past first.disk) ++ [])) (past first.disk) (past journal.disk))
         (sym unread) (throughout_same _ (past first.disk))));
-    safe = subst (λ (journal : PlainJournal S D). Newest (LeavesOneOf (kept origin ++ []) []) (past journal.disk)) (sym unread)
-        (newest_weaker _ _ (past first.disk) (one_of_all (kept origin ++ []))
-        (subst (λ (keys : List ℕ). Newest (LeavesOnly keys) (past first.disk)) (sym (append-nil (kept origin))) is_safe));
+    safe = subst (λ (journal : PlainJournalKeys S D). Newest (LeavesOneOf (kept_keys origin ++ []) []) (past journal.disk)) (sym unread)
+        (newest_weaker _ _ (past first.disk) (one_of_all (kept_keys origin ++ []))
+        (subst (λ (keys : List ℕ). Newest (LeavesOnly keys) (past first.disk)) (sym (append-nil (kept_keys origin))) is_safe));
     edits = record { refused = refused; none = refl; outside = outside };
   }
 
   -- by the words
   pub edits_with : (words : Option PlainOptions) → IfSome words IsLimited → (run : Status) (closing : Closing) →
-      Agrees closing run now.given now.ended → (same_outside : Type 0) →
+      ClosesAsDue closing run now.given now.ended → (same_outside : Type 0) →
       (words ≡ None → ((run ≡ BadWords) ⊎ (run ≡ NoMemory)) × (now ≡ first) × same_outside) → LeftAs run Leads Breaks →
       IfSome words (λ options. SynthEnded run options) →
-      JournalRun words run closing before after same_outside (leads_to first.inner now.inner) (breaks_at first.inner now.inner)
+      JournalWholeRun words run closing before after same_outside (leads_to first.inner now.inner) (breaks_at first.inner now.inner)
   edits_with None limited run closing agrees same_outside bad left_as ended =
       edits_none run closing same_outside (bad refl).0 (bad refl).1 (bad refl).2
   edits_with (Some options) limited run closing agrees same_outside bad left_as ended =

@@ -3,7 +3,7 @@ use Rattle.std.proofs.Common.{◌≡◌, ℕ, ◌⊎◌, inl, inr, refl, List, [
 use Rattle.key_journal.specs.Crash.{LeavesAllOf, LeavesOneOf}
 use Rattle.key_journal.specs.Disk.{DiskState, Newest}
 use Rattle.key_journal.specs.Recovered.{recovered}
-use Rattle.synth_kept.specs.KeptRun.{AreKeys}
+use Rattle.synth_kept.specs.KeptWholeRun.{AreKeys}
 use Rattle.synth_kept.proofs.Moments.{newest_weaker}
 
 -- of two lists that are empty together each is

@@ -3,12 +3,12 @@ use Rattle.std.proofs.Common.{◌≡◌, ℕ, ◌+◌, ◌-◌, ◌^◌, ◌<◌
 use Rattle.std.specs.Prelude.{◌≢◌}
 use Rattle.synth_kept.specs.Closing.{Closing, ClearsWhere}
 use Rattle.synth_kept.specs.Closing.Closing.{LeftStanding, Cleared, NotCleared}
-use Rattle.synth_kept.specs.Private.Agreement.{IsToClear, Agrees}
+use Rattle.synth_kept.specs.Private.Agreement.{IsToClear, ClosesAsDue}
 use Rattle.synth_top.specs.declared.status.Status.{Status}
 use Rattle.synth_top.specs.declared.status.Status.TheVariants.{Done}
 use Rattle.synth_top.specs.Keys.{IsFront, keys}
-use Rattle.synth_top.specs.Run.{Told, Course, QuitPressed, SourceEnded, Stopped}
-use Rattle.synth_top.specs.Turn.{PressedKey, State, keys_pressed}
+use Rattle.synth_top.specs.WholeRun.{Told, Course, QuitPressed, SourceEnded, Stopped}
+use Rattle.synth_top.specs.Turn.{PressedKey, EditorState, keys_pressed}
 use Rattle.synth_top.specs.Options.{PlainOptions}
 use Rattle.synth_kept.proofs.Limits.{IsLimited}
 
@@ -28,7 +28,7 @@ some_byte [] pressed earlier last is front none =
       nothing [] front = absurd (cc (front.1))
       nothing (first ∷ earlier) front = absurd (cc (front.1))
 
-module _ (options : PlainOptions) (limited : IsLimited options) (first : State) (before now : Told) (wants_before wants_now : ℕ)
+module _ (options : PlainOptions) (limited : IsLimited options) (first : EditorState) (before now : Told) (wants_before wants_now : ℕ)
     (course : Course options first before now) (unread : before.reads ≡ 0) (given ends : ℕ) (ended : Bool)
     (many : length course.bytes ≡ given)
     (counted : now.reads < 2 ^ 64 - 1 → now.reads ≡ given + ends)
@@ -64,7 +64,7 @@ module _ (options : PlainOptions) (limited : IsLimited options) (first : State) 
         [ inl source ↦ absurd (end_stands run source clear) | inr quit ↦ quit ]
 
   -- the journal is cleared exactly where a key ended the session
-  pub clears_at_quit : (run : Status) (closing : Closing) → Stopped course wants_before wants_now run → Agrees closing run given ended →
+  pub clears_at_quit : (run : Status) (closing : Closing) → Stopped course wants_before wants_now run → ClosesAsDue closing run given ended →
       ClearsWhere ((run ≡ Done) × QuitPressed course) closing
   clears_at_quit run LeftStanding stopped agrees = λ quit. agrees (quit_clears run quit.0 quit.1)
   clears_at_quit run Cleared stopped agrees = (agrees.done, clear_quits run stopped agrees)
@@ -72,7 +72,7 @@ module _ (options : PlainOptions) (limited : IsLimited options) (first : State) 
 
 -- a run that isn't done isn't cleared behind
 pub stands_undone : (quit : Type 0) (run : Status) (given : ℕ) (ended : Bool) (closing : Closing) →
-    (run ≡ Done → ⊥) → Agrees closing run given ended → ClearsWhere ((run ≡ Done) × quit) closing
+    (run ≡ Done → ⊥) → ClosesAsDue closing run given ended → ClearsWhere ((run ≡ Done) × quit) closing
 stands_undone quit run given ended LeftStanding undone agrees = λ both. undone both.0
 stands_undone quit run given ended Cleared undone agrees = absurd (undone agrees.done)
 stands_undone quit run given ended (NotCleared fault) undone agrees = absurd (undone agrees.done)

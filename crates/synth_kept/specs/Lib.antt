@@ -2,6 +2,6 @@
 pub mod KeptStatus
 -- ---- what became of its keys and of its disk
 pub mod Closing
-pub mod KeptRun
+pub mod KeptWholeRun
 -- ---- what private contracts alone cite
 pub mod Private

@@ -3,7 +3,7 @@
 ghost use Rattle.std.specs.Prelude.{◌≡◌, ◌⊎◌, ◌↔◌, ◌<◌, ◌≤◌, IsTrue, None, map, string_bytes};
 ghost use Rattle.key_journal.specs.Journal.{both_counts};
 ghost use Rattle.plcs_base.specs.Count.{Rose};
-ghost use Rattle.synth_kept.specs.KeptRun.{KeptEnded};
+ghost use Rattle.synth_kept.specs.KeptWholeRun.{KeptEnded};
 ghost use Rattle.synth_kept.specs.Private.Agreement.{IsToClear};
 ghost use Rattle.synth_kept.specs.Private.Clearing.{ClearsKeys};
 ghost use Rattle.synth_top.specs.Status.{CausedBy};

@@ -91,7 +91,7 @@ fn a_session_goes_on_where_it_was_not_quit(rt: HostRuntime) -> Result<(), Fail> 
 }
 
 #[test]
-fn a_session_begins_anew_behind_a_quit(rt: HostRuntime) -> Result<(), Fail> {
+fn a_session_begins_anew_after_a_quit(rt: HostRuntime) -> Result<(), Fail> {
     let first = play(rt.alloc(), b".quit\r", failing_disk(rt.alloc(), NEVER)?)?;
     assert!(rt;
         first.is(

@@ -52,7 +52,7 @@ impl Entries {
         ensures err { OnErr result (self.new ≡ self.old) }
         ensures back { IfErr result (λ refused. refused ≡ entry) }
     {
-        match place_of(self.list.as_slice(), &entry.name) {
+        match index_of(self.list.as_slice(), &entry.name) {
             Some(place) => {
                 self.list[place] = entry;
                 Ok(())
@@ -124,7 +124,7 @@ fn content_of<'a>(entries: &'a [Entry], name: &[u8]) -> Option<&'a [u8]>
 }
 
 // Where the first one of these entries stands that has the name, if there is one.
-fn place_of(entries: &[Entry], name: &[u8]) -> Option<usize>
+fn index_of(entries: &[Entry], name: &[u8]) -> Option<usize>
     ensures { result ≡ position (is_named name.now) entries.now }
 {
     entries.iter().position(|entry| entry.is_named(name))

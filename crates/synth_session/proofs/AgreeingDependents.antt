@@ -7,13 +7,13 @@ use Rattle.template_tree.specs.CheckLaws.{CheckAlike, ChecksIgnoreRoom}
 use Rattle.template_tree.specs.Environment.{Signature}
 use Rattle.template_tree.specs.PlainTree.{Forest, PlainTree, roomless, roomless_tree}
 use Rattle.decl_table.specs.Agreement.{IsDeclsOf}
-use Rattle.decl_table.specs.PlainDecls.{PlainDecls, places_of}
+use Rattle.decl_table.specs.PlainDecls.{PlainDecls, mentions_of}
 use Rattle.unparse_layout.specs.Agreement.{IsLayoutOf, LayoutsIgnoreRoom}
-use Rattle.unparse_layout.specs.Bones.{Bones}
+use Rattle.unparse_layout.specs.Bones.{PlainLayout}
 use Rattle.synth_session.specs.declared.program.Dependents.{Dependents}
 use Rattle.synth_session.specs.SessionView.{DependOn}
 
-pub layout_stays : LayoutsIgnoreRoom → (layout : Bones) (before now : PlainTree) → IsLayoutOf layout before
+pub layout_stays : LayoutsIgnoreRoom → (layout : PlainLayout) (before now : PlainTree) → IsLayoutOf layout before
     → roomless_tree now ≡ roomless_tree before → IsLayoutOf layout now
 layout_stays laws layout before now is same =
     (laws layout now).1 (subst (λ t. IsLayoutOf layout t) (sym same) ((laws layout before).0 is))
@@ -28,7 +28,7 @@ decls_stay decls before now is alike =
           record {
             increasing = (is.uses_are name).increasing;
             each = λ at.
-                subst (λ (m : List PhraseAt). Contains (places_of name decls.uses) at ↔ Contains m at) (sym (alike.mentions name))
+                subst (λ (m : List PhraseAt). Contains (mentions_of name decls.uses) at ↔ Contains m at) (sym (alike.mentions name))
                 ((is.uses_are name).each at);
           };
     }

@@ -11,7 +11,7 @@ use Rattle.session_words.specs.CommandLine.{begins_with_point, command_of}
 use Rattle.session_words.specs.PlainCommand.{PlainCommand, PlainReading}
 use Rattle.session_words.specs.declared.command.CommandFault.TheVariants as line
 use Rattle.template_tree.specs.declared.side.Side.{Side}
-use Rattle.template_tree.specs.Elision.{with_turn_at}
+use Rattle.template_tree.specs.Elision.{with_toggled_at}
 use Rattle.template_tree.specs.Limit.{longest_phrase}
 use Rattle.template_tree.specs.PlainTree.{Forest}
 use Rattle.template_tree.specs.Stop.{PlainStop}
@@ -38,7 +38,7 @@ use Rattle.synth_session.specs.FileCommands.{load_outcome, save_outcome}
 use Rattle.synth_session.specs.FileReply.{Reply}
 use Rattle.synth_session.specs.ClipCommands.{copy_outcome, cut_outcome, fragment_inserted, fragment_there, slots_there}
 use Rattle.synth_session.specs.EditCommands.{edit_outcome, edit_refusal, edited_by}
-use Rattle.synth_session.specs.ElideCommand.{comment_turned, is_at_comment}
+use Rattle.synth_session.specs.ElideCommand.{comment_toggled, is_at_comment}
 use Rattle.synth_session.specs.EnteredLine.{command_line_outcome, command_outcome, is_unbuilt, line_entered, reading_outcome, standing_entered, text_entered}
 use Rattle.synth_session.specs.TextStanding.{standing_of}
 use Rattle.synth_session.specs.Press.{RefusedKeysChangeTheMessage, press}
@@ -121,9 +121,9 @@ inserted_alone s None = refused_alone s (why.Clip ClipRefusal.NoClip)
 inserted_alone s (Some fragment) = edited_alone s (PlainEdit.insert (whole_fragment fragment))
 
 -- a comment turned
-turned_alone : (s : PlainSession) → Alone s (comment_turned s)
+turned_alone : (s : PlainSession) → Alone s (comment_toggled s)
 turned_alone s =
-    either_alone s (is_at_comment s.tree s.stop) (line_acceptance_outcome (record s { tree = with_turn_at s.stop.path s.tree })) (refusal_outcome s why.NotHere)
+    either_alone s (is_at_comment s.tree s.stop) (line_acceptance_outcome (record s { tree = with_toggled_at s.stop.path s.tree })) (refusal_outcome s why.NotHere)
     (taken_alone s _ refl) (refused_alone s why.NotHere)
 
 -- a program saved, or refused

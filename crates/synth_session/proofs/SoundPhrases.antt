@@ -8,7 +8,7 @@ use Rattle.plcs_grammar.specs.Template.{row_of}
 use Rattle.template_tree.specs.Part.{part_at}
 use Rattle.template_tree.specs.Path.{below, node_at}
 use Rattle.template_tree.specs.PlainTree.{Forest, PlainNode, PlainTree, nodes}
-use Rattle.template_tree.specs.Program.{AreNodes, AreParts, IsPhrase, IsSubtree, parts_of}
+use Rattle.template_tree.specs.Program.{AreNodes, AreParts, IsPartPhrase, IsSubtree, parts_of}
 use Rattle.template_tree.specs.Stop.{PlainStop}
 use Rattle.template_tree.specs.Tree.{IsTree}
 use Rattle.screen_window.specs.LowerRows.{cursor_part}
@@ -16,12 +16,12 @@ use Rattle.phrase_parser.proofs.Readings.Standings.{reading_category}
 use Rattle.synth_session.specs.TypedLine.{cursor_phrase}
 
 -- a phrase of a category is one of its own
-own_phrase : (c : Category) (p : PlainPhrase) → IsPhrase c p → IsPhrase (category_of p) p
-own_phrase c p is = subst (λ (d : Category). IsPhrase d p) (sym (reading_category c (Canon p) p is.well_formed.0)) is
+own_phrase : (c : Category) (p : PlainPhrase) → IsPartPhrase c p → IsPartPhrase (category_of p) p
+own_phrase c p is = subst (λ (d : Category). IsPartPhrase d p) (sym (reading_category c (Canon p) p is.well_formed.0)) is
 
 -- a phrase among parts is one
 part_sound : (categories : List Category) (parts : List (Option PlainPhrase)) (k : ℕ) → AreParts categories parts
-    → IfSome (part_at parts k) (λ p. IsPhrase (category_of p) p)
+    → IfSome (part_at parts k) (λ p. IsPartPhrase (category_of p) p)
 part_sound [] [] k are = tt
 part_sound [] (part ∷ parts) k are = absurd are
 part_sound (c ∷ cs) [] k are = absurd are
@@ -53,25 +53,25 @@ subtree_at items (k ∷ path) sound = subtree_in path (subtree_below path) (slic
 
 -- the phrase in a part of a node
 phrase_of_node : (node : PlainNode) (part : Option ℕ) → IsSubtree node
-    → IfSome (option_and_then (λ part. part_at node.label.parts part) part) (λ p. IsPhrase (category_of p) p)
+    → IfSome (option_and_then (λ part. part_at node.label.parts part) part) (λ p. IsPartPhrase (category_of p) p)
 phrase_of_node node None is = tt
 phrase_of_node node (Some part) is = part_sound (parts_of (row_of node.label.kind).line) node.label.parts part is.0.parts
 
 phrase_of_found : (found : Option PlainNode) (part : Option ℕ) → IfSome found IsSubtree
     → IfSome (option_and_then (λ node. option_and_then (λ part. part_at node.label.parts part) (cursor_part node.label.kind part)) found)
-    (λ p. IsPhrase (category_of p) p)
+    (λ p. IsPartPhrase (category_of p) p)
 phrase_of_found None part is = tt
 phrase_of_found (Some node) part is = phrase_of_node node (cursor_part node.label.kind part) is
 
 -- the phrase at the cursor
 pub cursor_phrase_sound : (tree : PlainTree) (stop : PlainStop) → IsTree tree
-    → IfSome (cursor_phrase tree stop) (λ p. IsPhrase (category_of p) p)
+    → IfSome (cursor_phrase tree stop) (λ p. IsPartPhrase (category_of p) p)
 unfolding cursor_phrase
 cursor_phrase_sound tree stop is = phrase_of_found (node_at tree.items stop.path) stop.part (subtree_at tree.items stop.path is.program.sound)
 
 -- so may a phrase equal to it
 pub copied_sound : (tree : PlainTree) (stop : PlainStop) → IsTree tree → (p q : PlainPhrase) → Some p ≡ cursor_phrase tree stop → q ≡ p
-    → IsPhrase (category_of q) q
+    → IsPartPhrase (category_of q) q
 copied_sound tree stop is p q there same =
-    subst (λ (r : PlainPhrase). IsPhrase (category_of r) r) (sym same)
-    (subst (λ (found : Option PlainPhrase). IfSome found (λ p. IsPhrase (category_of p) p)) (sym there) (cursor_phrase_sound tree stop is))
+    subst (λ (r : PlainPhrase). IsPartPhrase (category_of r) r) (sym same)
+    (subst (λ (found : Option PlainPhrase). IfSome found (λ p. IsPartPhrase (category_of p) p)) (sym there) (cursor_phrase_sound tree stop is))

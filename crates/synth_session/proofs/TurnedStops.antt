@@ -2,7 +2,7 @@
 use Rattle.std.proofs.Common.{◌≡◌, ℕ, zero, suc, Bool, true, false, not, if◌then◌else◌, List, [], ◌∷◌, Option, Some, None, option_map, option_and_then, refl, sym, ap, subst, ◌∙◌}
 use Rattle.std.specs.Prelude.{IsSomeAnd, slice_get}
 use Rattle.template_tree.specs.Edit.{edit_at, edit_below, give_way}
-use Rattle.template_tree.specs.Elision.{is_comment, turn}
+use Rattle.template_tree.specs.Elision.{is_comment, toggled}
 use Rattle.template_tree.specs.PlainTree.{Forest, PlainNode, nodes}
 use Rattle.template_tree.specs.Stop.{IsStop, MayStand, PlainStop, visible_at, visible_below}
 
@@ -13,10 +13,10 @@ turned_node node = if is_comment node.label.kind then record node { label = reco
 -- a node with the one at the path below it turned
 abbrev turned_below : List ℕ → PlainNode → PlainNode
 turned_below [] node = turned_node node
-turned_below (k ∷ path) node = record node { inner = give_way (edit_below turn path) k node.inner }
+turned_below (k ∷ path) node = record node { inner = give_way (edit_below toggled path) k node.inner }
 
 -- the turn below a node gives that one node
-turns_one : (path : List ℕ) (node : PlainNode) → edit_below turn path node ≡ turned_below path node ∷ []
+turns_one : (path : List ℕ) (node : PlainNode) → edit_below toggled path node ≡ turned_below path node ∷ []
 turns_one [] node = refl
 turns_one (k ∷ path) node = refl
 
@@ -47,16 +47,16 @@ seen_below : (path : List ℕ) (node : PlainNode) → visible_below (turned_belo
 seen_below [] node = refl
 seen_below (k ∷ path) node =
     unless_elided node.label.elided
-    (option_and_then (λ item. visible_below item path) (slice_get (nodes (give_way (edit_below turn path) k node.inner)) k))
+    (option_and_then (λ item. visible_below item path) (slice_get (nodes (give_way (edit_below toggled path) k node.inner)) k))
     (option_and_then (λ item. visible_below item path) (slice_get (nodes node.inner) k))
-    (ap (option_and_then (λ item. visible_below item path)) (gives_one (edit_below turn path) (turned_below path) (turns_one path) k node.inner)
+    (ap (option_and_then (λ item. visible_below item path)) (gives_one (edit_below toggled path) (turned_below path) (turns_one path) k node.inner)
     ∙ seen_among path (seen_below path) (slice_get (nodes node.inner) k))
 
 -- the visible node at a path, after the turn there
-seen_at : (items : Forest) (path : List ℕ) → visible_at (edit_at turn path items) path ≡ option_map turned_node (visible_at items path)
+seen_at : (items : Forest) (path : List ℕ) → visible_at (edit_at toggled path items) path ≡ option_map turned_node (visible_at items path)
 seen_at items [] = refl
 seen_at items (k ∷ path) =
-    ap (option_and_then (λ item. visible_below item path)) (gives_one (edit_below turn path) (turned_below path) (turns_one path) k items)
+    ap (option_and_then (λ item. visible_below item path)) (gives_one (edit_below toggled path) (turned_below path) (turns_one path) k items)
     ∙ seen_among path (seen_below path) (slice_get (nodes items) k)
 
 -- a turned node is of its kind
@@ -72,7 +72,7 @@ stands_on part None stands = stands
 stands_on part (Some node) stands = kind_kept part node (is_comment node.label.kind) stands
 
 -- a stop at a comment stays one after the turn
-pub turned_stop : (items : Forest) (stop : PlainStop) → IsStop items stop → IsStop (edit_at turn stop.path items) stop
+pub turned_stop : (items : Forest) (stop : PlainStop) → IsStop items stop → IsStop (edit_at toggled stop.path items) stop
 turned_stop items stop stands =
     subst (λ found. IsSomeAnd found (λ node. MayStand stop.part node.label.kind)) (sym (seen_at items stop.path))
     (stands_on stop.part (visible_at items stop.path) stands)

@@ -1,7 +1,7 @@
 -- The command that hides the refinement of a comment, or shows it again.
 use Rattle.std.specs.Prelude.{Bool, false, if◌then◌else◌}
 use Rattle.std.specs.Option.{option_map_or}
-use Rattle.template_tree.specs.Elision.{is_comment, with_turn_at}
+use Rattle.template_tree.specs.Elision.{is_comment, with_toggled_at}
 use Rattle.template_tree.specs.Path.{node_at}
 use Rattle.template_tree.specs.PlainTree.{PlainTree}
 use Rattle.template_tree.specs.Stop.{PlainStop}
@@ -14,6 +14,6 @@ unfoldable pub is_at_comment : PlainTree → PlainStop → Bool
 is_at_comment tree stop = option_map_or (λ node. is_comment node.label.kind) (node_at tree.items stop.path) false
 
 -- what `.elide` does: the refinement of the comment at the cursor is hidden, or shown again
-abbrev pub comment_turned : PlainSession → KeyOutcome
-comment_turned s =
-    if is_at_comment s.tree s.stop then line_acceptance_outcome (record s { tree = with_turn_at s.stop.path s.tree }) else refusal_outcome s why.NotHere
+abbrev pub comment_toggled : PlainSession → KeyOutcome
+comment_toggled s =
+    if is_at_comment s.tree s.stop then line_acceptance_outcome (record s { tree = with_toggled_at s.stop.path s.tree }) else refusal_outcome s why.NotHere

@@ -21,7 +21,7 @@ use Rattle.synth_session.specs.declared.answer.Refusal.TheVariants as why
 use Rattle.synth_session.specs.CursorKeys.{cursor_moved}
 use Rattle.synth_session.specs.ClipCommands.{clip_inserted, copied_to_clip, cut_to_clip}
 use Rattle.synth_session.specs.EditCommands.{edited_by}
-use Rattle.synth_session.specs.ElideCommand.{comment_turned}
+use Rattle.synth_session.specs.ElideCommand.{comment_toggled}
 use Rattle.synth_session.specs.FileCommands.{load_outcome, save_outcome}
 use Rattle.synth_session.specs.FileReply.{Reply}
 use Rattle.synth_session.specs.KeyOutcome.{KeyOutcome, line_acceptance_outcome, refusal_outcome}
@@ -57,7 +57,7 @@ command_outcome s PlainCommand.del reply = edited_by s PlainEdit.delete
 command_outcome s (PlainCommand.cut name) reply = cut_to_clip s name
 command_outcome s (PlainCommand.copy name) reply = copied_to_clip s name
 command_outcome s (PlainCommand.insert name) reply = clip_inserted s name
-command_outcome s PlainCommand.elide reply = comment_turned s
+command_outcome s PlainCommand.elide reply = comment_toggled s
 command_outcome s PlainCommand.top reply = line_acceptance_outcome (record s { stop = first_stop s.tree.items })
 command_outcome s PlainCommand.bottom reply = line_acceptance_outcome (record s { stop = last_stop s.tree.items })
 command_outcome s PlainCommand.run reply = refusal_outcome s why.NotBuilt

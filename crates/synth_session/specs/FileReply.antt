@@ -50,9 +50,9 @@ CanReply stored (Request.Load name) reply = IsLoadReply stored name reply
 
 -- what a reply makes of the map that the files tell: where bytes were saved it has them under their name, and else it is
 -- as before
-abbrev pub IsMapBehind : Request → Reply → Option FileMap → Option FileMap → Type 0
-IsMapBehind (Request.Save name bytes) Reply.Saved before now = IsSaved before now name bytes
-IsMapBehind request reply before now = now ≡ before
+abbrev pub IsMapAfter : Request → Reply → Option FileMap → Option FileMap → Type 0
+IsMapAfter (Request.Save name bytes) Reply.Saved before now = IsSaved before now name bytes
+IsMapAfter request reply before now = now ≡ before
 
 -- what a reply makes of the files' count of faults: it rose where a call failed, and else it is as before
 abbrev pub CountsFault : Reply → ℕ → ℕ → Type 0
@@ -62,7 +62,7 @@ CountsFault reply before now = now ≡ before
 -- the files replied so to what was asked: they can, and their map and their counts are as behind this reply
 pub record HaveReplied (request : Request) (reply : Reply) (before now : PlainFiles) : Type 0 where
   pub can : CanReply before.stored request reply
-  pub stored : IsMapBehind request reply before.stored now.stored
+  pub stored : IsMapAfter request reply before.stored now.stored
   pub faults : CountsFault reply before.faults now.faults
   pub wants : now.wants ≡ before.wants
 

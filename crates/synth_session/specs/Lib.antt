@@ -1,5 +1,5 @@
 -- ---- sizes of screens
-pub mod Extent
+pub mod PlainScreenSize
 pub mod PlainScreens
 -- ---- the session as plain data
 pub mod PlainSession

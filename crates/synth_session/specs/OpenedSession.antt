@@ -4,7 +4,7 @@ use Rattle.template_tree.specs.NewTree.{new_tree}
 use Rattle.template_tree.specs.PlainTree.{PlainTree}
 use Rattle.template_tree.specs.Stop.{PlainStop, node_stop}
 use Rattle.cursor_moves.specs.Move.{first_stop}
-use Rattle.synth_session.specs.Extent.{Extent}
+use Rattle.synth_session.specs.PlainScreenSize.{PlainScreenSize}
 use Rattle.synth_session.specs.PlainSession.{PlainSession}
 use Rattle.synth_session.specs.Window.{with_cursor_seen}
 
@@ -20,10 +20,10 @@ stop_at_first (Some tree) = first_stop tree.items
 
 -- a session over a tree with the cursor at a stop, on a screen of this size, with this input: nothing is typed, clipped or
 -- told, and the window begins at the first line from which the cursor is seen
-abbrev pub session_over : Extent → PlainTree → PlainStop → List ℕ → PlainSession
+abbrev pub session_over : PlainScreenSize → PlainTree → PlainStop → List ℕ → PlainSession
 session_over size tree stop input =
     with_cursor_seen record { size = size; tree = tree; stop = stop; top = 0; typed = []; clips = []; input = input; message = [] }
 
 -- the session with which an editor is opened, over the program that is given or a new one, with this input of the program
-unfoldable pub opened_session : Extent → Option PlainTree → List ℕ → PlainSession
+unfoldable pub opened_session : PlainScreenSize → Option PlainTree → List ℕ → PlainSession
 opened_session size tree input = session_over size (tree_at_first tree) (stop_at_first tree) input

@@ -1,7 +1,7 @@
 //! The command that hides the refinement of a comment, or shows it again.
 ghost use Rattle.std.specs.Prelude.{◌≡◌};
 ghost use Rattle.template_tree.specs.Elision.{is_comment};
-ghost use Rattle.synth_session.specs.ElideCommand.{comment_turned, is_at_comment};
+ghost use Rattle.synth_session.specs.ElideCommand.{comment_toggled, is_at_comment};
 ghost use Rattle.synth_session.specs.Private.MemorylessKey.{HasOutcome};
 ghost use Rattle.synth_session.specs.SessionView.{IsSession, plain_session};
 
@@ -13,14 +13,14 @@ use template_tree::room_is_not_shown;
 
 impl<W: Work> Session<W> {
     /// Does what `.elide` asks for: hides the refinement of the comment at the cursor, or shows it again.
-    pub(crate) fn turn_comment(&mut self) -> Answer
+    pub(crate) fn toggle_comment(&mut self) -> Answer
         requires { IsSession self.old }
-        ensures { HasOutcome (comment_turned (plain_session self.old)) self.old self.new result }
+        ensures { HasOutcome (comment_toggled (plain_session self.old)) self.old self.new result }
     {
         if !self.is_at_comment() {
             return self.refuse(Refusal::NotHere);
         }
-        self.program.turn(&self.stop.path);
+        self.program.toggle_elision(&self.stop.path);
         self.accept_line()
     }
 

@@ -115,7 +115,7 @@ impl<W: Work> Session<W> {
             Command::Cut(name) => self.cut(alloc, name, work),
             Command::Copy(name) => self.copy(alloc, name),
             Command::Insert(name) => self.insert(alloc, &name, work),
-            Command::Elide => Ok(self.turn_comment()),
+            Command::Elide => Ok(self.toggle_comment()),
             Command::Top => Ok(self.go_to_top()),
             Command::Bottom => Ok(self.go_to_bottom()),
             Command::Quit => Ok(Answer::Quit),

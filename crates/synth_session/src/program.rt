@@ -1,6 +1,6 @@
 //! The program with all that depends on it, and the four steps of its edits.
 ghost use Rattle.std.specs.Prelude.{◌≡◌, ◌≤◌, true, IfErr, IfOk, IfSome, IsSome, None, option_map};
-ghost use Rattle.template_tree.specs.Elision.{with_turn_at};
+ghost use Rattle.template_tree.specs.Elision.{with_toggled_at};
 ghost use Rattle.template_tree.specs.PlainTree.{roomless_node, roomless_tree};
 ghost use Rattle.template_tree.specs.Program.{IsSubtree};
 ghost use Rattle.template_tree.specs.Stop.{IsStop, plain_stop};
@@ -10,7 +10,7 @@ ghost use Rattle.session_edit.specs.Here.{takes_at};
 ghost use Rattle.session_edit.specs.PlainEdit.{BringsWhatMayStand, plain_edit};
 ghost use Rattle.synth_session.specs.SessionView.{Agrees, DependOn};
 ghost use Rattle.synth_session.specs.Private.EditFault.{IsEditFault};
-ghost use Rattle.synth_session.specs.Private.TakenFragment.{TakesOut};
+ghost use Rattle.synth_session.specs.Private.TakenFragment.{TakesOutFragment};
 
 use crate::clip_commands::copy_phrase_at;
 use clip_store::Fragment;
@@ -144,7 +144,7 @@ impl<W: Work> Program<W> {
         requires agrees { Agrees self.old }
         requires stop { IsStop (roomless_tree self.old.tree).items (plain_stop at.now) }
         requires taken { takes_at (roomless_tree self.old.tree) (plain_stop at.now) ≡ true }
-        ensures taken { TakesOut self.old self.new at.now result }
+        ensures taken { TakesOutFragment self.old self.new at.now result }
         ensures checks { W.checked work.old ≤ W.checked work.new }
         ensures emitted { W.emitted work.new ≡ W.emitted work.old }
         ensures fetched { W.fetched work.new ≡ W.fetched work.old }
@@ -162,7 +162,7 @@ impl<W: Work> Program<W> {
         requires stop { IsStop (roomless_tree self.old.tree).items (plain_stop at.now) }
         requires node { at.now.part ≡ None }
         requires taken { takes_at (roomless_tree self.old.tree) (plain_stop at.now) ≡ true }
-        ensures taken { TakesOut self.old self.new at.now result }
+        ensures taken { TakesOutFragment self.old self.new at.now result }
         ensures checks { W.checked work.old ≤ W.checked work.new }
         ensures emitted { W.emitted work.new ≡ W.emitted work.old }
         ensures fetched { W.fetched work.new ≡ W.fetched work.old }
@@ -184,7 +184,7 @@ impl<W: Work> Program<W> {
         requires stop { IsStop (roomless_tree self.old.tree).items (plain_stop at.now) }
         requires part { IsSome at.now.part }
         requires taken { takes_at (roomless_tree self.old.tree) (plain_stop at.now) ≡ true }
-        ensures taken { TakesOut self.old self.new at.now result }
+        ensures taken { TakesOutFragment self.old self.new at.now result }
         ensures checks { W.checked work.old ≤ W.checked work.new }
         ensures emitted { W.emitted work.new ≡ W.emitted work.old }
         ensures fetched { W.fetched work.new ≡ W.fetched work.old }
@@ -202,10 +202,10 @@ impl<W: Work> Program<W> {
 
     /// Hides the refinement of the comment at the path, or shows it again, in the tree and in what depends on
     /// it. It takes no memory.
-    pub(crate) fn turn(&mut self, path: &Path)
+    pub(crate) fn toggle_elision(&mut self, path: &Path)
         requires agrees { Agrees self.old }
         ensures agrees { Agrees self.new }
-        ensures turned { roomless_tree self.new.tree ≡ with_turn_at path.now.items (roomless_tree self.old.tree) }
+        ensures turned { roomless_tree self.new.tree ≡ with_toggled_at path.now.items (roomless_tree self.old.tree) }
     {
         room_is_not_shown();
         checks_ignore_room_and_elision();

@@ -2,7 +2,7 @@
 
 ghost use Rattle.std.specs.Prelude.{◌≡◌, ◌≤◌};
 ghost use Rattle.screen_window.specs.declared.limit.TheConstants.{FEWEST_COLS, FEWEST_ROWS, MOST_COLS, MOST_ROWS};
-ghost use Rattle.synth_session.specs.Extent.{IsScreenSize};
+ghost use Rattle.synth_session.specs.PlainScreenSize.{IsScreenSize};
 
 use std::marker::Model;
 
@@ -14,9 +14,9 @@ pub struct ScreenSize {
 }
 
 impl Model for ScreenSize {
-    ghost use Rattle.synth_session.specs.Extent.{Extent, IsScreenSize};
+    ghost use Rattle.synth_session.specs.PlainScreenSize.{PlainScreenSize, IsScreenSize};
 
-    ghost Value = { Extent };
+    ghost Value = { PlainScreenSize };
 
     ghost view = { λ size. record { rows = size.rows; cols = size.cols } };
 

@@ -2,8 +2,8 @@
 //! allocation refused in turn.
 ghost use Rattle.std.specs.Prelude.{◌≡◌, IfOk, IfSome, Some};
 ghost use Rattle.plcs_grammar.specs.PlainPhrase.{plain_phrase};
-ghost use Rattle.template_tree.specs.Part.{IsPlace};
-ghost use Rattle.template_tree.specs.PlainPlace.{plain_place};
+ghost use Rattle.template_tree.specs.Part.{IsPhrasePlace};
+ghost use Rattle.template_tree.specs.PlainPhrasePlace.{plain_phrase_place};
 ghost use Rattle.template_tree.specs.Tree.{IsTree};
 
 use arrayvec::ArrayVec;
@@ -207,7 +207,7 @@ fn fault_alone(refused: Option<(TreeFault, Phrase)>) -> Option<TreeFault> {
 
 /// The phrase of the category that the text reads as, unless memory is wanting.
 fn phrase(alloc: Global, category: Category, text: &[u8]) -> Option<Phrase>
-    ensures { IfSome result (λ phrase. IsPlace (Some (plain_phrase phrase))) }
+    ensures { IfSome result (λ phrase. IsPhrasePlace (Some (plain_phrase phrase))) }
 {
     if text.len() > 400 {
         return None;
@@ -222,7 +222,7 @@ fn phrase(alloc: Global, category: Category, text: &[u8]) -> Option<Phrase>
 /// Sets a part of the node at the path, and says why that is refused, if it is.
 fn set(tree: &mut Tree, at: &Path, part: u8, place: PhrasePlace) -> Option<TreeFault>
     requires tree { IsTree tree.old }
-    requires place { IsPlace (plain_place place) }
+    requires place { IsPhrasePlace (plain_phrase_place place) }
     ensures { IsTree tree.new }
 {
     let stop = Stop {
@@ -286,7 +286,7 @@ fn is_assigned_at_last(alloc: Global, tree: &mut Tree, text: &[u8], at: &Path) -
 
 /// The assignment of the text, at the second try where memory is wanting at the first.
 fn assignment_at_last(alloc: Global, text: &[u8]) -> Option<Phrase>
-    ensures { IfSome result (λ phrase. IsPlace (Some (plain_phrase phrase))) }
+    ensures { IfSome result (λ phrase. IsPhrasePlace (Some (plain_phrase phrase))) }
 {
     if let Some(first) = phrase(alloc, Category::Assignment, text) {
         return Some(first);
@@ -297,7 +297,7 @@ fn assignment_at_last(alloc: Global, text: &[u8]) -> Option<Phrase>
 /// Puts the assignment at the path. Where that is refused, says why, and gives back what came back.
 fn assign(alloc: Global, tree: &mut Tree, at: &Path, phrase: Phrase) -> Option<(TreeFault, Phrase)>
     requires tree { IsTree tree.old }
-    requires phrase { IsPlace (Some (plain_phrase phrase)) }
+    requires phrase { IsPhrasePlace (Some (plain_phrase phrase)) }
     ensures tree { IsTree tree.new }
     ensures back { IfSome result (λ refused. refused.1 ≡ phrase) }
 {

@@ -5,11 +5,11 @@ use Rattle.synth_outside.specs.Files.{FileMap}
 use Rattle.screen_window.specs.PlainGrid.{PlainGrid}
 use Rattle.file_store.specs.declared.refusal.FileRefusal.{FileRefusal}
 use Rattle.file_store.specs.FileReading.{IsLoadRefused}
-use Rattle.synth_session.specs.FileReply.{CanReply, CountsFault, IsMapBehind, Reply, Request}
+use Rattle.synth_session.specs.FileReply.{CanReply, CountsFault, IsMapAfter, Reply, Request}
 use Rattle.synth_session.specs.PlainSession.{PlainSession}
 use Rattle.synth_session.specs.KeyRequest.{request}
 use Rattle.synth_session.specs.Press.{press}
-use Rattle.synth_top.specs.Turn.{HasReply, HaveReplies, IsToldAs, PressedKey, State, after, asked, ends, failure, files_behind, grids, turn}
+use Rattle.synth_top.specs.Turn.{HasReply, HaveReplies, IsToldAs, PressedKey, EditorState, state_after_keys, asked, ends, failure, files_after, grids, turn}
 
 -- ---- maps
 
@@ -28,8 +28,8 @@ told_through None b c first second = tt
 told_through (Some map) b c first second = subst (λ files. IsToldAs files c) first second
 
 -- the map that files have behind a reply may be claimed
-pub told_behind : (request : Request) (reply : Reply) (before now : Option FileMap) → IsMapBehind request reply before now
-    → IsToldAs (files_behind request reply before) now
+pub told_behind : (request : Request) (reply : Reply) (before now : Option FileMap) → IsMapAfter request reply before now
+    → IsToldAs (files_after request reply before) now
 told_behind Request.Nothing reply before now is = told_same before now is
 told_behind (Request.Load name) reply before now is = told_same before now is
 told_behind (Request.Save name bytes) Reply.NotAsked before now is = told_same before now is
@@ -39,7 +39,7 @@ told_behind (Request.Save name bytes) Reply.Saved None now is = tt
 told_behind (Request.Save name bytes) Reply.Saved (Some map) now is = is
 
 -- nothing is claimed behind a reply where nothing was
-untold_behind : (request : Request) (reply : Reply) → files_behind request reply None ≡ None
+untold_behind : (request : Request) (reply : Reply) → files_after request reply None ≡ None
 untold_behind Request.Nothing reply = refl
 untold_behind (Request.Load name) reply = refl
 untold_behind (Request.Save name bytes) Reply.NotAsked = refl
@@ -49,11 +49,11 @@ untold_behind (Request.Save name bytes) Reply.Saved = refl
 
 -- no more is claimed behind a reply where no more was
 less_behind : (request : Request) (reply : Reply) (a b : Option FileMap) → IsToldAs a b
-    → IsToldAs (files_behind request reply a) (files_behind request reply b)
-less_behind request reply None b told = subst (λ files. IsToldAs files (files_behind request reply b)) (sym (untold_behind request reply)) tt
+    → IsToldAs (files_after request reply a) (files_after request reply b)
+less_behind request reply None b told = subst (λ files. IsToldAs files (files_after request reply b)) (sym (untold_behind request reply)) tt
 less_behind request reply (Some map) b told =
-    subst (λ files. IsToldAs (files_behind request reply (Some map)) (files_behind request reply files)) (sym told)
-    (told_itself (files_behind request reply (Some map)))
+    subst (λ files. IsToldAs (files_after request reply (Some map)) (files_after request reply files)) (sym told)
+    (told_itself (files_after request reply (Some map)))
 
 -- ---- replies
 
@@ -93,11 +93,11 @@ fault_counted (Reply.Refused FileRefusal.OutOfMemory) before now counts = omega 
 -- ---- turns
 
 -- the session is the same, and no more is claimed of the files
-pub record ClaimsNoMore (s t : State) : Type 0 where
+pub record ClaimsNoMore (s t : EditorState) : Type 0 where
   pub session : s.session ≡ t.session
   pub files : IsToldAs s.files t.files
 
-module _ (s t : State) (pressed : PressedKey) (less : ClaimsNoMore s t) where
+module _ (s t : EditorState) (pressed : PressedKey) (less : ClaimsNoMore s t) where
   -- the key asks the same
   same_request : asked s pressed ≡ asked t pressed
   same_request = ap (λ (z : PlainSession). request z pressed.key) less.session
@@ -106,7 +106,7 @@ module _ (s t : State) (pressed : PressedKey) (less : ClaimsNoMore s t) where
   unfolding turn
   turn_less = record {
     session = ap (λ (z : PlainSession). (press z pressed.key pressed.reply).after) less.session;
-    files = subst (λ asks. IsToldAs (files_behind (asked s pressed) pressed.reply s.files) (files_behind asks pressed.reply t.files)) same_request
+    files = subst (λ asks. IsToldAs (files_after (asked s pressed) pressed.reply s.files) (files_after asks pressed.reply t.files)) same_request
         (less_behind (asked s pressed) pressed.reply s.files t.files less.files);
   }
 
@@ -125,23 +125,23 @@ module _ (s t : State) (pressed : PressedKey) (less : ClaimsNoMore s t) where
 
 -- ---- one turn after the other
 
-pub after_less : (s t : State) (ps : List PressedKey) → ClaimsNoMore s t → ClaimsNoMore (after s ps) (after t ps)
+pub after_less : (s t : EditorState) (ps : List PressedKey) → ClaimsNoMore s t → ClaimsNoMore (state_after_keys s ps) (state_after_keys t ps)
 after_less s t [] less = less
 after_less s t (p ∷ ps) less = after_less (turn s p).after (turn t p).after ps (turn_less s t p less)
 
-pub same_grids : (s t : State) (ps : List PressedKey) → ClaimsNoMore s t → grids s ps ≡ grids t ps
+pub same_grids : (s t : EditorState) (ps : List PressedKey) → ClaimsNoMore s t → grids s ps ≡ grids t ps
 same_grids s t [] less = refl
 same_grids s t (p ∷ ps) less =
     ap (λ (gs : List PlainGrid). gs ++ grids (turn s p).after ps) (turn_grids_same s t p less)
     ∙ ap (λ (gs : List PlainGrid). (turn t p).grids ++ gs) (same_grids (turn s p).after (turn t p).after ps (turn_less s t p less))
 
-pub same_ends : (s t : State) (ps : List PressedKey) → ClaimsNoMore s t → ends s ps ≡ ends t ps
+pub same_ends : (s t : EditorState) (ps : List PressedKey) → ClaimsNoMore s t → ends s ps ≡ ends t ps
 same_ends s t [] less = refl
 same_ends s t (p ∷ ps) less =
     ap (λ (b : Bool). b || ends (turn s p).after ps) (turn_ends_same s t p less)
     ∙ ap (λ (b : Bool). (turn t p).ends || b) (same_ends (turn s p).after (turn t p).after ps (turn_less s t p less))
 
-pub replies_less : (s t : State) (ps : List PressedKey) → ClaimsNoMore s t → HaveReplies t ps → HaveReplies s ps
+pub replies_less : (s t : EditorState) (ps : List PressedKey) → ClaimsNoMore s t → HaveReplies t ps → HaveReplies s ps
 replies_less s t [] less can = tt
 replies_less s t (p ∷ ps) less can =
     (turn_reply_less s t p less can.0, replies_less (turn s p).after (turn t p).after ps (turn_less s t p less) can.1)

@@ -19,9 +19,9 @@ use Rattle.synth_top.specs.Keys.{IsFront, completed, keys}
 use Rattle.synth_top.specs.Laid.{LaysFor}
 use Rattle.synth_top.specs.Options.{PlainOptions}
 use Rattle.synth_top.specs.Private.Pressing.{AllShown, Moment, UpToLast, state_at}
-use Rattle.synth_top.specs.Private.Running.{Runs}
-use Rattle.synth_top.specs.Run.{AtLastKey, Course, IsOver, LeavesSource, OpeningCut, ReadsInTurn, Stopped, Told, opening, painted_over, written}
-use Rattle.synth_top.specs.Turn.{HaveReplies, IsToldAs, PressedKey, State, after, ends, failures, grids, keys_pressed}
+use Rattle.synth_top.specs.Private.EditorRuns.{EditorRuns}
+use Rattle.synth_top.specs.WholeRun.{AtLastKey, Course, NoKeyComes, LeavesSource, OpeningCut, ReadsInTurn, Stopped, Told, opening, painted_over, written}
+use Rattle.synth_top.specs.Turn.{HaveReplies, IsToldAs, PressedKey, EditorState, state_after_keys, ends, failures, grids, keys_pressed}
 use Rattle.synth_top.proofs.LaidInTurn.{lays_then}
 
 -- what is told at a moment
@@ -29,7 +29,7 @@ abbrev pub told_at : Option (List ℕ) → ℕ → Moment → Told
 told_at left reads m = record { left = left; reads = reads; taken = m.taken; laid = m.laid }
 
 -- the opening screen of a state was written, and the files are as before
-pub record Opened (first : State) (before : Told) (files : PlainFiles) (m : Moment) : Type 0 where
+pub record Opened (first : EditorState) (before : Told) (files : PlainFiles) (m : Moment) : Type 0 where
   pub wrote : Appends before.taken m.taken (opening first.session)
   pub state : state_at m ≡ first
   pub shown : m.shown ≡ grid first.session
@@ -48,7 +48,7 @@ pub one_byte : (seen : List ℕ) (newest : ℕ) → [] ≡ seen ++ newest ∷ []
 one_byte [] newest e = absurd (cc)
 one_byte (first ∷ rest) newest e = absurd (cc)
 
-module _ (options : PlainOptions) (first : State) (before now : Told) (files : PlainFiles) (session : PlainSession)
+module _ (options : PlainOptions) (first : EditorState) (before now : Told) (files : PlainFiles) (session : PlainSession)
     (read : now.left ≡ before.left) (unread : now.reads ≡ before.reads) (front : AppendsFront before.taken now.taken (opening first.session))
     (same : session ≡ first.session) (told : IsToldAs first.files files.stored) (laid : LaysFor (grid first.session ∷ []) before.laid now.laid) where
   opening_wrote : Appends before.taken now.taken (take front.0 (written first []))
@@ -77,7 +77,7 @@ module _ (options : PlainOptions) (first : State) (before now : Told) (files : P
   opening_cut = record { no_read = refl; no_byte = refl; no_key = refl }
 
   opening_runs : (status : Status) → Stopped opening_course files.wants files.wants status → {after_reads after_fault : Type 0} → after_reads
-      → Runs status options first before now files files after_reads after_fault session
+      → EditorRuns status options first before now files files after_reads after_fault session
   opening_runs status stopped led = record {
     course = opening_course;
     stopped = stopped;
@@ -88,13 +88,13 @@ module _ (options : PlainOptions) (first : State) (before now : Told) (files : P
     wants = omega arith;
   }
 
-  pub opening_failed : {after_reads after_fault : Type 0} → after_reads → Runs WriteFault options first before now files files after_reads after_fault session
+  pub opening_failed : {after_reads after_fault : Type 0} → after_reads → EditorRuns WriteFault options first before now files files after_reads after_fault session
   opening_failed led = opening_runs WriteFault (refl, inl opening_cut) led
 
-  pub opening_wanted : {after_reads after_fault : Type 0} → after_reads → Runs NoMemory options first before now files files after_reads after_fault session
+  pub opening_wanted : {after_reads after_fault : Type 0} → after_reads → EditorRuns NoMemory options first before now files files after_reads after_fault session
   opening_wanted led = opening_runs NoMemory (inr (inl (refl, inl opening_cut))) led
 
-module _ (options : PlainOptions) (first : State) (before : Told) (files : PlainFiles) (opened m : Moment) (left : Option (List ℕ)) (now_reads : ℕ)
+module _ (options : PlainOptions) (first : EditorState) (before : Told) (files : PlainFiles) (opened m : Moment) (left : Option (List ℕ)) (now_reads : ℕ)
     (is_opened : Opened first before files opened) where
   -- all that is written, from the opening screen on
   written_is : (ps : List PressedKey) → written first ps ≡ opening first.session ++ painted_over opened.shown (grids (state_at opened) ps)
@@ -115,11 +115,11 @@ module _ (options : PlainOptions) (first : State) (before : Told) (files : Plain
       (subst (λ s. LaysFor (grids s ps) opened.laid now) is_opened.state laid)
 
   -- what is seen behind some keys: the session, the map that is claimed, and the faults of the files
-  behind_session : (ps : List PressedKey) → m.session ≡ (after (state_at opened) ps).session → m.session ≡ (after first ps).session
-  behind_session ps is = is ∙ ap (λ s. (after s ps).session) is_opened.state
+  behind_session : (ps : List PressedKey) → m.session ≡ (state_after_keys (state_at opened) ps).session → m.session ≡ (state_after_keys first ps).session
+  behind_session ps is = is ∙ ap (λ s. (state_after_keys s ps).session) is_opened.state
 
-  behind_files : (ps : List PressedKey) → IsToldAs (after (state_at opened) ps).files m.files.stored → IsToldAs (after first ps).files m.files.stored
-  behind_files ps told = subst (λ s. IsToldAs (after s ps).files m.files.stored) is_opened.state told
+  behind_files : (ps : List PressedKey) → IsToldAs (state_after_keys (state_at opened) ps).files m.files.stored → IsToldAs (state_after_keys first ps).files m.files.stored
+  behind_files ps told = subst (λ s. IsToldAs (state_after_keys s ps).files m.files.stored) is_opened.state told
 
   behind_faults : (ps : List PressedKey) → RoseBy (failures ps) opened.files.faults m.files.faults → RoseBy (failures ps) files.faults m.files.faults
   behind_faults ps faults = omega (arith, is_opened.faults, faults)
@@ -127,7 +127,7 @@ module _ (options : PlainOptions) (first : State) (before : Told) (files : Plain
   -- ---- all keys were shown
   module _ (bytes lost : List ℕ) (read : Consumes before.left left (bytes ++ lost)) (one : length lost ≤ 1) (within : length bytes ≤ options.key_limit)
       (reads : ℕ) (made : now_reads ≡ raised_by reads before.reads) (ps : List PressedKey) (all : AllShown opened m ps) (order : IsFront (keys_pressed ps) (keys bytes))
-      (complete : IsFront (keys_pressed ps) (completed bytes) ⊎ IsOver options (told_at left now_reads m) bytes reads) where
+      (complete : IsFront (keys_pressed ps) (completed bytes) ⊎ NoKeyComes options (told_at left now_reads m) bytes reads) where
     pub all_wrote : Appends before.taken m.taken (take (length (written first ps)) (written first ps))
     all_wrote =
         subst (Appends before.taken m.taken)
@@ -157,19 +157,19 @@ module _ (options : PlainOptions) (first : State) (before : Told) (files : Plain
     all_going = subst (λ s. ends s ps ≡ false) is_opened.state all.going
 
     -- what a key takes behind them, and how it counts wants
-    pub all_takes : (key : Key) → IsTrue (key_takes_memory (after (state_at opened) ps).session key) → IsTrue (key_takes_memory (after first ps).session key)
-    all_takes key takes = subst (λ (s : State). IsTrue (key_takes_memory (after s ps).session key)) is_opened.state takes
+    pub all_takes : (key : Key) → IsTrue (key_takes_memory (state_after_keys (state_at opened) ps).session key) → IsTrue (key_takes_memory (state_after_keys first ps).session key)
+    all_takes key takes = subst (λ (s : EditorState). IsTrue (key_takes_memory (state_after_keys s ps).session key)) is_opened.state takes
 
-    pub all_counts : (key : Key) (now : ℕ) → CountsWant (request (after (state_at opened) ps).session key) opened.files.wants now
-        → CountsWant (request (after first ps).session key) files.wants now
+    pub all_counts : (key : Key) (now : ℕ) → CountsWant (request (state_after_keys (state_at opened) ps).session key) opened.files.wants now
+        → CountsWant (request (state_after_keys first ps).session key) files.wants now
     all_counts key now counts =
-        subst (λ (s : State). CountsWant (request (after s ps).session key) files.wants now) is_opened.state
-        (subst (λ wants. CountsWant (request (after (state_at opened) ps).session key) wants now) is_opened.wants counts)
+        subst (λ (s : EditorState). CountsWant (request (state_after_keys s ps).session key) files.wants now) is_opened.state
+        (subst (λ wants. CountsWant (request (state_after_keys (state_at opened) ps).session key) wants now) is_opened.wants counts)
 
     -- the run that stopped so behind them
     pub all_runs : (status : Status) → files.wants ≤ m.files.wants → Stopped all_course files.wants m.files.wants status → {after_reads after_fault : Type 0}
         → LeavesSource all_course after_reads after_fault
-        → Runs status options first before (told_at left now_reads m) files m.files after_reads after_fault m.session
+        → EditorRuns status options first before (told_at left now_reads m) files m.files after_reads after_fault m.session
     all_runs status wants stopped source = record {
       course = all_course;
       stopped = stopped;
@@ -184,7 +184,7 @@ module _ (options : PlainOptions) (first : State) (before : Told) (files : Plain
   module _ (bytes : List ℕ) (read : Consumes before.left left (bytes ++ [])) (within : length bytes ≤ options.key_limit)
       (reads : ℕ) (made : now_reads ≡ raised_by reads before.reads) (earlier : List PressedKey) (last : PressedKey) (count : ℕ) (up_to : UpToLast opened m earlier last count)
       (order : IsFront (keys_pressed (earlier ++ last ∷ [])) (keys bytes))
-      (complete : IsFront (keys_pressed (earlier ++ last ∷ [])) (completed bytes) ⊎ IsOver options (told_at left now_reads m) bytes reads) where
+      (complete : IsFront (keys_pressed (earlier ++ last ∷ [])) (completed bytes) ⊎ NoKeyComes options (told_at left now_reads m) bytes reads) where
     pub last_wrote : Appends before.taken m.taken (take (length (opening first.session) + count) (written first (earlier ++ last ∷ [])))
     last_wrote =
         let screens = painted_over opened.shown (grids (state_at opened) (earlier ++ last ∷ [])) in
@@ -231,7 +231,7 @@ module _ (options : PlainOptions) (first : State) (before : Told) (files : Plain
 
     -- the run that stopped so at the last one
     pub last_runs : (status : Status) → Stopped last_course files.wants m.files.wants status → {after_reads after_fault : Type 0} → after_reads
-        → Runs status options first before (told_at left now_reads m) files m.files after_reads after_fault m.session
+        → EditorRuns status options first before (told_at left now_reads m) files m.files after_reads after_fault m.session
     last_runs status stopped led = record {
       course = last_course;
       stopped = stopped;

@@ -11,14 +11,14 @@ use Rattle.synth_session.specs.FileReply.{CountsWant}
 use Rattle.synth_session.specs.KeyRequest.{request}
 use Rattle.synth_session.specs.MemoryTaken.{key_takes_memory}
 use Rattle.synth_session.specs.PlainSession.{PlainSession}
-use Rattle.synth_top.specs.declared.run.Going.{Going}
-use Rattle.synth_top.specs.declared.run.Going.TheVariants.{On, Over}
+use Rattle.synth_top.specs.declared.editor.Going.{Going}
+use Rattle.synth_top.specs.declared.editor.Going.TheVariants.{On, Over}
 use Rattle.synth_top.specs.declared.status.Status.{Status}
 use Rattle.synth_top.specs.declared.status.Status.TheVariants.{Done, ReadFault, WriteFault, NoMemory, BadWords, KeyLimit}
 use Rattle.synth_top.specs.Private.Pressing.{Moment, AllShown, UpToLast, KeysShown, KeysQuit, KeysCut, KeysWanted, Pressed, last_shown, state_at}
 use Rattle.synth_top.specs.Laid.{LaysFor}
-use Rattle.synth_top.specs.Run.{painted_over}
-use Rattle.synth_top.specs.Turn.{HaveReplies, IsToldAs, PressedKey, after, ends, failures, grids, keys_pressed}
+use Rattle.synth_top.specs.WholeRun.{painted_over}
+use Rattle.synth_top.specs.Turn.{HaveReplies, IsToldAs, PressedKey, state_after_keys, ends, failures, grids, keys_pressed}
 use Rattle.synth_top.proofs.ClaimedFiles.{ClaimsNoMore, after_less, replies_less, same_ends, same_grids, told_through}
 use Rattle.synth_top.proofs.LaidInTurn.{lays_both}
 use Rattle.synth_top.proofs.TurnsInOrder.{after-append, ends-going, grids-append, HaveReplies-append, failures-append, painted_over-append, last_shown-append}
@@ -30,14 +30,14 @@ keys_pressed-append ps qs = map-append (λ (p : PressedKey). p.key) ps qs
 
 module _ (a b : Moment) (ps : List PressedKey) (shown : AllShown a b ps) where
   -- the state behind claims no more than the next moment tells
-  behind_less : ClaimsNoMore (after (state_at a) ps) (state_at b)
+  behind_less : ClaimsNoMore (state_after_keys (state_at a) ps) (state_at b)
   behind_less = record { session = sym shown.session; files = shown.files }
 
   -- the screens of others
   grids_more : (qs : List PressedKey) → grids (state_at a) (ps ++ qs) ≡ grids (state_at a) ps ++ grids (state_at b) qs
   grids_more qs =
       grids-append (state_at a) ps qs
-      ∙ ap (λ (gs : List PlainGrid). grids (state_at a) ps ++ gs) (same_grids (after (state_at a) ps) (state_at b) qs behind_less)
+      ∙ ap (λ (gs : List PlainGrid). grids (state_at a) ps ++ gs) (same_grids (state_after_keys (state_at a) ps) (state_at b) qs behind_less)
 
   -- the bytes of all screens
   pub painted_more : (qs : List PressedKey)
@@ -49,13 +49,13 @@ module _ (a b : Moment) (ps : List PressedKey) (shown : AllShown a b ps) where
 
   -- whether the others end the session
   pub ends_more : (qs : List PressedKey) → ends (state_at a) (ps ++ qs) ≡ ends (state_at b) qs
-  ends_more qs = ends-going (state_at a) ps qs shown.going ∙ same_ends (after (state_at a) ps) (state_at b) qs behind_less
+  ends_more qs = ends-going (state_at a) ps qs shown.going ∙ same_ends (state_after_keys (state_at a) ps) (state_at b) qs behind_less
 
   -- the state behind claims no more than that behind the others alone
-  pub after_more : (qs : List PressedKey) → ClaimsNoMore (after (state_at a) (ps ++ qs)) (after (state_at b) qs)
+  pub after_more : (qs : List PressedKey) → ClaimsNoMore (state_after_keys (state_at a) (ps ++ qs)) (state_after_keys (state_at b) qs)
   after_more qs =
-      subst (λ s. ClaimsNoMore s (after (state_at b) qs)) (sym (after-append (state_at a) ps qs))
-      (after_less (after (state_at a) ps) (state_at b) qs behind_less)
+      subst (λ s. ClaimsNoMore s (state_after_keys (state_at b) qs)) (sym (after-append (state_at a) ps qs))
+      (after_less (state_after_keys (state_at a) ps) (state_at b) qs behind_less)
 
   -- the last screen
   last_more : (qs : List PressedKey) → last_shown a.shown (grids (state_at a) (ps ++ qs)) ≡ last_shown b.shown (grids (state_at b) qs)
@@ -73,11 +73,11 @@ module _ (a b : Moment) (ps : List PressedKey) (shown : AllShown a b ps) where
   -- what the files replied
   replies_more : (qs : List PressedKey) → HaveReplies (state_at b) qs → HaveReplies (state_at a) (ps ++ qs)
   replies_more qs can =
-      HaveReplies-append (state_at a) ps qs shown.can_reply (replies_less (after (state_at a) ps) (state_at b) qs behind_less can)
+      HaveReplies-append (state_at a) ps qs shown.can_reply (replies_less (state_after_keys (state_at a) ps) (state_at b) qs behind_less can)
 
   -- the map that is claimed
-  files_more : (qs : List PressedKey) (files : Option FileMap) → IsToldAs (after (state_at b) qs).files files → IsToldAs (after (state_at a) (ps ++ qs)).files files
-  files_more qs files told = told_through (after (state_at a) (ps ++ qs)).files (after (state_at b) qs).files files (after_more qs).files told
+  files_more : (qs : List PressedKey) (files : Option FileMap) → IsToldAs (state_after_keys (state_at b) qs).files files → IsToldAs (state_after_keys (state_at a) (ps ++ qs)).files files
+  files_more qs files told = told_through (state_after_keys (state_at a) (ps ++ qs)).files (state_after_keys (state_at b) qs).files files (after_more qs).files told
 
   -- all of some keys and all of others
   pub both_shown : (c : Moment) (qs : List PressedKey) → AllShown b c qs → AllShown a c (ps ++ qs)
@@ -108,8 +108,8 @@ module _ (a b : Moment) (ps : List PressedKey) (shown : AllShown a b ps) where
       record {
         can_reply = subst (HaveReplies (state_at a)) joined (replies_more all next.can_reply);
         going = ends_more earlier ∙ next.going;
-        session = next.session ∙ sym (after_more all).session ∙ ap (λ l. (after (state_at a) l).session) joined;
-        files = subst (λ l. IsToldAs (after (state_at a) l).files c.files.stored) joined (files_more all c.files.stored next.files);
+        session = next.session ∙ sym (after_more all).session ∙ ap (λ l. (state_after_keys (state_at a) l).session) joined;
+        files = subst (λ l. IsToldAs (state_after_keys (state_at a) l).files c.files.stored) joined (files_more all c.files.stored next.files);
         wrote = subst (Appends a.taken c.taken)
             (sym (take-append-add front (painted_over b.shown (grids (state_at b) all)) count) ∙ ap (take (length front + count)) bytes)
             (Appends-trans a.taken b.taken c.taken front (take count (painted_over b.shown (grids (state_at b) all))) shown.wrote next.wrote);
@@ -121,14 +121,14 @@ module _ (a b : Moment) (ps : List PressedKey) (shown : AllShown a b ps) where
 
   -- a key that wanted memory behind all of them
   module _ (qs : List PressedKey) (wanted : Key) where
-    pub takes_more : IsTrue (key_takes_memory (after (state_at b) qs).session wanted) → IsTrue (key_takes_memory (after (state_at a) (ps ++ qs)).session wanted)
+    pub takes_more : IsTrue (key_takes_memory (state_after_keys (state_at b) qs).session wanted) → IsTrue (key_takes_memory (state_after_keys (state_at a) (ps ++ qs)).session wanted)
     takes_more takes = subst (λ (s : PlainSession). IsTrue (key_takes_memory s wanted)) (sym (after_more qs).session) takes
 
-    pub counts_more : (now : ℕ) → b.files.wants ≡ a.files.wants → CountsWant (request (after (state_at b) qs).session wanted) b.files.wants now
-        → CountsWant (request (after (state_at a) (ps ++ qs)).session wanted) a.files.wants now
+    pub counts_more : (now : ℕ) → b.files.wants ≡ a.files.wants → CountsWant (request (state_after_keys (state_at b) qs).session wanted) b.files.wants now
+        → CountsWant (request (state_after_keys (state_at a) (ps ++ qs)).session wanted) a.files.wants now
     counts_more now same counts =
         subst (λ (s : PlainSession). CountsWant (request s wanted) a.files.wants now) (sym (after_more qs).session)
-        (subst (λ before. CountsWant (request (after (state_at b) qs).session wanted) before now) same counts)
+        (subst (λ before. CountsWant (request (state_after_keys (state_at b) qs).session wanted) before now) same counts)
 
 -- keys in front of others
 pub front_behind : (ps : List PressedKey) (keys more : List Key) (qs : List PressedKey) → keys_pressed ps ≡ keys → IsFront (keys_pressed qs) more

@@ -22,7 +22,7 @@ pub mod OneKey
 pub mod KeysInOrder
 -- `runs` of Editor::run: what a run has done, and the run byte by byte
 pub mod Courses
-pub mod Runs
+pub mod EditorRuns
 -- `loads` of load_program: a program that was loaded, without its room
 pub mod FirstLoads
 -- `wanted` of load_first and `ended` of edit: the loads, the run and what is saved behind it

@@ -18,8 +18,8 @@ use Rattle.synth_session.specs.Press.{press}
 use Rattle.synth_session.specs.SessionScreen.{grid}
 use Rattle.synth_top.specs.Laid.{LaysFor}
 use Rattle.synth_top.specs.Private.Pressing.{AllShown, IsPressed, KeysCut, KeysQuit, KeysShown, KeysWanted, Moment, last_shown, state_at}
-use Rattle.synth_top.specs.Run.{painted_over}
-use Rattle.synth_top.specs.Turn.{IsToldAs, PressedKey, Turn, after, ends, failures, files_behind, grids, is_quit, turn, turn_with}
+use Rattle.synth_top.specs.WholeRun.{painted_over}
+use Rattle.synth_top.specs.Turn.{IsToldAs, PressedKey, Turn, state_after_keys, ends, failures, files_after, grids, is_quit, turn, turn_with}
 use Rattle.synth_top.proofs.ClaimedFiles.{fault_counted, told_behind, told_same}
 use Rattle.synth_top.proofs.LaidInTurn.{lays_nothing}
 
@@ -41,7 +41,7 @@ module _ (key : Key) (answer : Answer) (a b : Moment) (s : PlainSession) (presse
 
   -- the map that is claimed behind it
   abbrev files_claimed : Option FileMap
-  files_claimed = files_behind (request a.session key) pressed.reply a.files.stored
+  files_claimed = files_after (request a.session key) pressed.reply a.files.stored
 
   -- its turn, by its answer
   turn_is : turn (state_at a) one ≡ turn_with (record { after = s; answer = answer }) files_claimed
@@ -54,10 +54,10 @@ module _ (key : Key) (answer : Answer) (a b : Moment) (s : PlainSession) (presse
   ends_is = ap (λ (t : Turn). t.ends || false) turn_is ∙ or_nothing (is_quit answer)
 
   -- the session and the map behind it
-  session_is : b.session ≡ (after (state_at a) (one ∷ [])).session
+  session_is : b.session ≡ (state_after_keys (state_at a) (one ∷ [])).session
   session_is = same ∙ sym (ap (λ (t : Turn). t.after.session) turn_is)
 
-  files_told : IsToldAs (after (state_at a) (one ∷ [])).files b.files.stored
+  files_told : IsToldAs (state_after_keys (state_at a) (one ∷ [])).files b.files.stored
   files_told =
       subst (λ (t : Turn). IsToldAs t.after.files b.files.stored) (sym turn_is)
       (told_behind (request a.session key) pressed.reply a.files.stored b.files.stored pressed.files.stored)

@@ -3,8 +3,8 @@ use Rattle.std.proofs.Common.{◌≡◌, ◌+◌, Bool, true, false, ◌||◌, L
 use Rattle.screen_window.specs.Paint.{Paint}
 use Rattle.screen_window.specs.PlainGrid.{PlainGrid}
 use Rattle.synth_top.specs.Private.Pressing.{last_shown}
-use Rattle.synth_top.specs.Run.{painted_over}
-use Rattle.synth_top.specs.Turn.{HaveReplies, PressedKey, State, after, ends, failures, grids, turn}
+use Rattle.synth_top.specs.WholeRun.{painted_over}
+use Rattle.synth_top.specs.Turn.{HaveReplies, PressedKey, EditorState, state_after_keys, ends, failures, grids, turn}
 
 -- a test that fails, and then another
 or_false : (a b : Bool) → a ≡ false → (a || b) ≡ b
@@ -15,26 +15,26 @@ or_parts true b e = absurd (cc)
 or_parts false b e = (refl, e)
 
 -- the state behind
-pub after-append : (s : State) (ps qs : List PressedKey) → after s (ps ++ qs) ≡ after (after s ps) qs
+pub after-append : (s : EditorState) (ps qs : List PressedKey) → state_after_keys s (ps ++ qs) ≡ state_after_keys (state_after_keys s ps) qs
 after-append s [] qs = refl
 after-append s (p ∷ ps) qs = after-append (turn s p).after ps qs
 
 -- where the first don't end the session, the others may
-pub ends-going : (s : State) (ps qs : List PressedKey) → ends s ps ≡ false → ends s (ps ++ qs) ≡ ends (after s ps) qs
+pub ends-going : (s : EditorState) (ps qs : List PressedKey) → ends s ps ≡ false → ends s (ps ++ qs) ≡ ends (state_after_keys s ps) qs
 ends-going s [] qs going = refl
 ends-going s (p ∷ ps) qs going =
     let parts = or_parts (turn s p).ends (ends (turn s p).after ps) going in
     or_false (turn s p).ends (ends (turn s p).after (ps ++ qs)) parts.0 ∙ ends-going (turn s p).after ps qs parts.1
 
 -- all screens
-pub grids-append : (s : State) (ps qs : List PressedKey) → grids s (ps ++ qs) ≡ grids s ps ++ grids (after s ps) qs
+pub grids-append : (s : EditorState) (ps qs : List PressedKey) → grids s (ps ++ qs) ≡ grids s ps ++ grids (state_after_keys s ps) qs
 grids-append s [] qs = refl
 grids-append s (p ∷ ps) qs =
     ap (λ l. (turn s p).grids ++ l) (grids-append (turn s p).after ps qs)
-    ∙ sym (append_assoc (turn s p).grids (grids (turn s p).after ps) (grids (after s (p ∷ ps)) qs))
+    ∙ sym (append_assoc (turn s p).grids (grids (turn s p).after ps) (grids (state_after_keys s (p ∷ ps)) qs))
 
 -- what the files replied
-pub HaveReplies-append : (s : State) (ps qs : List PressedKey) → HaveReplies s ps → HaveReplies (after s ps) qs → HaveReplies s (ps ++ qs)
+pub HaveReplies-append : (s : EditorState) (ps qs : List PressedKey) → HaveReplies s ps → HaveReplies (state_after_keys s ps) qs → HaveReplies s (ps ++ qs)
 HaveReplies-append s [] qs first second = second
 HaveReplies-append s (p ∷ ps) qs first second = (first.0, HaveReplies-append (turn s p).after ps qs first.1 second)
 

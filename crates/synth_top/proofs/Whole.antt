@@ -7,13 +7,13 @@ use Rattle.template_tree.specs.Listing.{Listing}
 use Rattle.synth_session.specs.PlainSession.{PlainSession}
 use Rattle.synth_top.specs.declared.status.Status.{Status}
 use Rattle.synth_top.specs.declared.status.Status.TheVariants.{NoMemory}
-use Rattle.synth_top.specs.Loads.{Loads, first_session, first_state}
+use Rattle.synth_top.specs.Loads.{PlainFirstLoads, first_session, first_state}
 use Rattle.synth_top.specs.Options.{PlainOptions}
 use Rattle.synth_top.specs.Private.Loading.{BothLoad, LoadsNothing, OnlyRead}
-use Rattle.synth_top.specs.Private.Running.{Rescues, Runs}
+use Rattle.synth_top.specs.Private.EditorRuns.{Rescues, EditorRuns}
 use Rattle.synth_top.specs.Rescue.{NoRescue, Rescue, RescueFailed, RescueWanted, Rescued, files_with}
-use Rattle.synth_top.specs.Run.{Ended, Ran, Stopped, Told, state_behind}
-use Rattle.synth_top.specs.Turn.{IsToldAs, State}
+use Rattle.synth_top.specs.WholeRun.{Ended, Ran, Stopped, Told, state_after}
+use Rattle.synth_top.specs.Turn.{IsToldAs, EditorState}
 use Rattle.synth_top.proofs.ClaimedFiles.{told_through}
 
 -- ---- the loads
@@ -37,7 +37,7 @@ rescue_less (Some map) g now x y same told saved =
     (subst (λ files. IsToldAs (option_map (λ (map : FileMap). insert map (codes "RESCUE") x) files) now) told saved)
 
 -- so is what was saved of the state that the keys make, where files tell more
-files_with_less : (rescue : Rescue) (s t : State) (now : Option FileMap) → t.session ≡ s.session → IsToldAs s.files t.files
+files_with_less : (rescue : Rescue) (s t : EditorState) (now : Option FileMap) → t.session ≡ s.session → IsToldAs s.files t.files
     → IsToldAs (files_with rescue t) now → IsToldAs (files_with rescue s) now
 files_with_less NoRescue s t now same told saved = told_through s.files t.files now told saved
 files_with_less RescueFailed s t now same told saved = told_through s.files t.files now told saved
@@ -48,24 +48,24 @@ files_with_less Rescued s t now same told saved =
 -- ---- all of it
 
 -- a state of a session and a map
-abbrev state_with : PlainSession → Option FileMap → State
+abbrev state_with : PlainSession → Option FileMap → EditorState
 state_with s stored = record { session = s; files = stored }
 
 -- the state of an editor that was opened over the loads, before its first screen
-pub opened_first : (options : PlainOptions) (loads : Loads) (stored loaded : Option FileMap) (s : PlainSession) → s ≡ first_session options loads
+pub opened_first : (options : PlainOptions) (loads : PlainFirstLoads) (stored loaded : Option FileMap) (s : PlainSession) → s ≡ first_session options loads
     → loaded ≡ stored → state_with s loaded ≡ first_state options stored loads
 opened_first options loads stored loaded s opened same =
     ap (λ (z : PlainSession). state_with z loaded) opened ∙ ap (λ (f : Option FileMap). state_with (first_session options loads) f) same
 
 -- the loads, the run from the session that they make, and the rescue behind it
-pub ran : (status : Status) (options : PlainOptions) (loads : Loads) (before now : Told) (files loaded behind files_now : PlainFiles)
-    (first : State) (after_reads after_fault : Type 0) (session : PlainSession) → BothLoad options loads files loaded
+pub ran : (status : Status) (options : PlainOptions) (loads : PlainFirstLoads) (before now : Told) (files loaded behind files_now : PlainFiles)
+    (first : EditorState) (after_reads after_fault : Type 0) (session : PlainSession) → BothLoad options loads files loaded
     → first ≡ first_state options files.stored loads
-    → Runs status options first before now loaded behind after_reads after_fault session → Rescues status session behind files_now
+    → EditorRuns status options first before now loaded behind after_reads after_fault session → Rescues status session behind files_now
     → Ran status options before now files files_now after_reads after_fault
 ran status options loads before now files loaded behind files_now first after_reads after_fault session load is runs_first rescue =
-    let runs : Runs status options (first_state options files.stored loads) before now loaded behind after_reads after_fault session =
-    subst (λ (s : State). Runs status options s before now loaded behind after_reads after_fault session) is runs_first in
+    let runs : EditorRuns status options (first_state options files.stored loads) before now loaded behind after_reads after_fault session =
+    subst (λ (s : EditorState). EditorRuns status options s before now loaded behind after_reads after_fault session) is runs_first in
     record {
       loads = loads;
       can_load = load.can;
@@ -77,7 +77,7 @@ ran status options loads before now files loaded behind files_now first after_re
       rescue = rescue.rescue;
       rescued = rescue.rescued;
       wants_now = rescue.wants;
-      files = files_with_less rescue.rescue (state_behind runs.course) (record { session = session; files = behind.stored }) files_now.stored
+      files = files_with_less rescue.rescue (state_after runs.course) (record { session = session; files = behind.stored }) files_now.stored
           runs.session_is runs.files rescue.files;
       faults = omega (arith, load.read.faults, runs.faults, rescue.faults);
     }
@@ -89,7 +89,7 @@ unloaded options told files files_now after_reads after_fault nothing led =
     inl (record { wanted = refl; same = refl; source = led; stored = nothing.stored; faults = nothing.faults; wants = nothing.wants })
 
 -- no session was opened, since memory ran out behind the loads
-pub unopened : (options : PlainOptions) (loads : Loads) (before now : Told) (files files_now : PlainFiles) (after_reads after_fault : Type 0)
+pub unopened : (options : PlainOptions) (loads : PlainFirstLoads) (before now : Told) (files files_now : PlainFiles) (after_reads after_fault : Type 0)
     → BothLoad options loads files files_now → now ≡ before → after_reads → Ended NoMemory options before now files files_now after_reads after_fault
 unopened options loads before now files files_now after_reads after_fault load same led =
     inl (record {

@@ -62,15 +62,15 @@ held_bytes Escape = 27 ∷ []
 held_bytes Bracket = 27 ∷ 91 ∷ []
 
 -- the keys that one byte completes, in the order in which they are pressed
-abbrev pub listed : Keys → List Key
-listed keys = option_to_list keys.first ++ option_to_list keys.second
+abbrev pub listed_keys : Keys → List Key
+listed_keys keys = option_to_list keys.first ++ option_to_list keys.second
 
 -- a byte behind those held back gives these keys, and leaves those bytes held back: whatever comes
 -- behind, the keys of all are these and then the others'
 pub record Feeds (held : List ℕ) (byte : ℕ) (given : Keys) (now : List ℕ) : Type 0 where
-  pub all : (rest : List ℕ) → keys (held ++ byte ∷ rest) ≡ listed given ++ keys (now ++ rest)
+  pub all : (rest : List ℕ) → keys (held ++ byte ∷ rest) ≡ listed_keys given ++ keys (now ++ rest)
   pub complete : (rest : List ℕ) →
-      completed (held ++ byte ∷ rest) ≡ listed given ++ completed (now ++ rest)
+      completed (held ++ byte ∷ rest) ≡ listed_keys given ++ completed (now ++ rest)
 
 -- bytes that a reader may hold back: none, ESC, or ESC and [
 abbrev pub IsHeld : List ℕ → Type 0

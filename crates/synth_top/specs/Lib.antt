@@ -11,6 +11,6 @@ pub mod Rescue
 -- ---- whole runs
 pub mod Status
 pub mod Laid
-pub mod Run
+pub mod WholeRun
 -- ---- what private contracts alone cite
 pub mod Private

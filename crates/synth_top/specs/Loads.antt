@@ -12,7 +12,7 @@ use Rattle.synth_session.specs.OpenedSession.{opened_session}
 use Rattle.synth_session.specs.PlainSession.{PlainSession}
 use Rattle.synth_session.specs.RefusalText.{refusal_text}
 use Rattle.synth_top.specs.Options.{PlainOptions}
-use Rattle.synth_top.specs.Turn.{State, failure}
+use Rattle.synth_top.specs.Turn.{EditorState, failure}
 
 -- ---- what the files did
 
@@ -23,7 +23,7 @@ pub data InputReply : Type 0 where
   Refused : FileRefusal → InputReply
 
 -- what the files did in both loads
-pub record Loads : Type 0 where
+pub record PlainFirstLoads : Type 0 where
   pub program : Reply
   pub input : InputReply
 
@@ -42,7 +42,7 @@ IsInputReply stored (Some name) (InputReply.Refused refusal) =
     (refusal ≢ FileRefusal.OutOfMemory) × IsFileRefused longest_input stored name refusal
 
 -- files with this map can do so in the loads that the options ask for
-pub record CanLoad (options : PlainOptions) (stored : Option FileMap) (loads : Loads) : Type 0 where
+pub record CanLoad (options : PlainOptions) (stored : Option FileMap) (loads : PlainFirstLoads) : Type 0 where
   pub program : CanReply stored (program_request options.program) loads.program
   pub input : IsInputReply stored options.input loads.input
 
@@ -52,7 +52,7 @@ input_failure (InputReply.Refused FileRefusal.FileFault) = 1
 input_failure reply = 0
 
 -- in how many of the loads a call on the files failed
-abbrev pub load_failures : Loads → ℕ
+abbrev pub load_failures : PlainFirstLoads → ℕ
 load_failures loads = failure loads.program + input_failure loads.input
 
 -- ---- the first session
@@ -78,7 +78,7 @@ input_refusal (InputReply.Refused refusal) = Some refusal
 input_refusal reply = None
 
 -- the first refusal of the two: the program's comes before the input's
-abbrev pub first_refusal : Loads → Option FileRefusal
+abbrev pub first_refusal : PlainFirstLoads → Option FileRefusal
 first_refusal loads = option_or (program_refusal loads.program) (input_refusal loads.input)
 
 -- the first session with the message of the refusal of a load, if there was one
@@ -88,10 +88,10 @@ refusal_told (Some refusal) s = record s { message = refusal_text (Refusal.File 
 
 -- the session of the opening screen: over the program that was loaded or a new one, with the input that was loaded, and with
 -- the message of the first refusal
-abbrev pub first_session : PlainOptions → Loads → PlainSession
+abbrev pub first_session : PlainOptions → PlainFirstLoads → PlainSession
 first_session options loads =
     refusal_told (first_refusal loads) (opened_session options.size (loaded_program loads.program) (loaded_input loads.input))
 
 -- the state of the opening screen; the loads leave the map as it is
-abbrev pub first_state : PlainOptions → Option FileMap → Loads → State
+abbrev pub first_state : PlainOptions → Option FileMap → PlainFirstLoads → EditorState
 first_state options stored loads = record { session = first_session options loads; files = stored }

@@ -3,7 +3,7 @@ use Rattle.std.specs.Prelude.{ℕ, Bool, true, ◌&&◌, nat_le, List, Option, N
 use Rattle.std.specs.Option.{option_map_or}
 use Rattle.screen_window.specs.declared.limit.TheConstants.{FEWEST_ROWS, MOST_ROWS, FEWEST_COLS, MOST_COLS}
 use Rattle.session_words.specs.Argument.{is_file_name}
-use Rattle.synth_session.specs.Extent.{Extent}
+use Rattle.synth_session.specs.PlainScreenSize.{PlainScreenSize}
 use Rattle.synth_top.specs.declared.options.TheConstants.{FEWEST_KEYS, MOST_KEYS, USUAL_ROWS, USUAL_COLS}
 use Rattle.synth_top.specs.Given.{PlainGiven, given_in}
 use Rattle.synth_top.specs.Number.{number_in_digits}
@@ -11,7 +11,7 @@ use Rattle.synth_top.specs.Number.{number_in_digits}
 -- the options, which are what the words ask for: the size of the screen, how many bytes of keys are taken at most, and
 -- the names of the files with the program and with its input, if there are any
 pub record PlainOptions : Type 0 where
-  pub size : Extent
+  pub size : PlainScreenSize
   pub key_limit : ℕ
   pub program : Option (List ℕ)
   pub input : Option (List ℕ)

@@ -3,4 +3,4 @@ pub mod ClapCommand
 pub mod Loading
 pub mod PlainForms
 pub mod Pressing
-pub mod Running
+pub mod EditorRuns

@@ -6,7 +6,7 @@ use Rattle.synth_outside.specs.Files.{FileMap}
 use Rattle.template_tree.specs.Listing.{Listing}
 use Rattle.synth_top.specs.declared.status.Status.{Status}
 use Rattle.synth_top.specs.declared.status.Status.TheVariants.{NoMemory}
-use Rattle.synth_top.specs.Turn.{State}
+use Rattle.synth_top.specs.Turn.{EditorState}
 
 -- what was saved at the end of a run: nothing was to be saved; the program was; or it wasn't, since a call on the files failed,
 -- or since they wanted memory
@@ -22,7 +22,7 @@ IsRescue NoMemory rescue = rescue ≢ NoRescue
 IsRescue status rescue = rescue ≡ NoRescue
 
 -- the map of the files behind a rescue: where the program was saved, it has its listing under the name `RESCUE`
-abbrev pub files_with : Rescue → State → Option FileMap
+abbrev pub files_with : Rescue → EditorState → Option FileMap
 files_with Rescued state = option_map (λ map. insert map (codes "RESCUE") (Listing state.session.tree.items)) state.files
 files_with other state = state.files
 

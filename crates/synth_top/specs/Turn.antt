@@ -15,7 +15,7 @@ use Rattle.synth_session.specs.Press.{press}
 use Rattle.synth_session.specs.SessionScreen.{grid}
 
 -- what a key's turn begins with: the session, and the map of the files; where there is none, nothing is claimed of the files
-pub record State : Type 0 where
+pub record EditorState : Type 0 where
   pub session : PlainSession
   pub files : Option FileMap
 
@@ -37,18 +37,18 @@ failure reply = 0
 -- ---- one turn
 
 -- what a pressed key asks of the files in its turn
-abbrev pub asked : State → PressedKey → Request
+abbrev pub asked : EditorState → PressedKey → Request
 asked state pressed = request state.session pressed.key
 
 -- in the turn of a pressed key the files can reply so
-abbrev pub HasReply : State → PressedKey → Type 0
+abbrev pub HasReply : EditorState → PressedKey → Type 0
 HasReply state pressed = CanReply state.files (asked state pressed) pressed.reply
 
 -- the map that is claimed of the files behind a key's turn: where they reply that bytes were saved it has them under
 -- their name, and else it is as before
-abbrev pub files_behind : Request → Reply → Option FileMap → Option FileMap
-files_behind (Request.Save name bytes) Reply.Saved files = option_map (λ map. insert map name bytes) files
-files_behind request reply files = files
+abbrev pub files_after : Request → Reply → Option FileMap → Option FileMap
+files_after (Request.Save name bytes) Reply.Saved files = option_map (λ map. insert map name bytes) files
+files_after request reply files = files
 
 -- whether a key's answer ends the session, so that its turn shows no screen
 abbrev pub is_quit : Answer → Bool
@@ -60,7 +60,7 @@ is_quit (Refused why) = false
 -- the session ends
 pub record Turn : Type 0 where
   pub grids : List PlainGrid
-  pub after : State
+  pub after : EditorState
   pub ends : Bool
 
 -- the turn of a key with this outcome, behind which the files have this map: one screen, but none where the session ends
@@ -72,29 +72,29 @@ turn_with outcome files = record {
 }
 
 -- the turn of a key, by what the files reply in it
-unfoldable pub turn : State → PressedKey → Turn
+unfoldable pub turn : EditorState → PressedKey → Turn
 turn state pressed =
-    turn_with (press state.session pressed.key pressed.reply) (files_behind (asked state pressed) pressed.reply state.files)
+    turn_with (press state.session pressed.key pressed.reply) (files_after (asked state pressed) pressed.reply state.files)
 
 -- ---- one turn after the other
 
 -- the state behind the turns of some keys
-abbrev pub after : State → List PressedKey → State
-after state [] = state
-after state (first ∷ rest) = after (turn state first).after rest
+abbrev pub state_after_keys : EditorState → List PressedKey → EditorState
+state_after_keys state [] = state
+state_after_keys state (first ∷ rest) = state_after_keys (turn state first).after rest
 
 -- the screens that the turns of some keys show, in their order
-abbrev pub grids : State → List PressedKey → List PlainGrid
+abbrev pub grids : EditorState → List PressedKey → List PlainGrid
 grids state [] = []
 grids state (first ∷ rest) = (turn state first).grids ++ grids (turn state first).after rest
 
 -- whether one of the turns of some keys ends the session
-abbrev pub ends : State → List PressedKey → Bool
+abbrev pub ends : EditorState → List PressedKey → Bool
 ends state [] = false
 ends state (first ∷ rest) = (turn state first).ends || ends (turn state first).after rest
 
 -- in the turn of each of some keys the files can reply so
-abbrev pub HaveReplies : State → List PressedKey → Type 0
+abbrev pub HaveReplies : EditorState → List PressedKey → Type 0
 HaveReplies state [] = Unit {0}
 HaveReplies state (first ∷ rest) = HasReply state first × HaveReplies (turn state first).after rest
 

@@ -122,7 +122,7 @@ impl Fed {
     }
 
     /// What a byte gives behind an ESC that is a key of its own.
-    fn behind_escape(self) -> Self
+    fn after_escape(self) -> Self
         ensures { result ≡ record {
           keys = record { first = Some Other; second = self.keys.first };
           held = self.held;
@@ -146,7 +146,7 @@ fn next_byte(held: Held, byte: u8) -> Fed
 {
     match held {
         Held::Nothing => first_byte(byte),
-        Held::Escape => byte_behind_escape(byte),
+        Held::Escape => byte_after_escape(byte),
         Held::Bracket => Fed::complete(move_of(byte)),
     }
 }
@@ -165,14 +165,14 @@ fn first_byte(byte: u8) -> Fed
 
 /// Takes a byte behind ESC: a bracket is held back too, and before any other byte the ESC is a key
 /// of its own.
-fn byte_behind_escape(byte: u8) -> Fed
+fn byte_after_escape(byte: u8) -> Fed
     ensures keys { Feeds (27 ∷ []) byte result.keys (held_bytes result.held) }
     ensures order { result.keys.first ≡ None → result.keys.second ≡ None }
 {
     if byte == b'[' {
         return Fed::held(Held::Bracket);
     }
-    first_byte(byte).behind_escape()
+    first_byte(byte).after_escape()
 }
 
 /// The key of a byte by itself.

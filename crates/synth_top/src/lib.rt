@@ -3,7 +3,7 @@
 
 ghost use Rattle.std.specs.Prelude.{◌≡◌, ◌⊎◌, ◌≤◌, None, map, IfSome, string_bytes};
 ghost use Rattle.synth_top.specs.Private.PlainForms.{plain_options};
-ghost use Rattle.synth_top.specs.Run.{Ended};
+ghost use Rattle.synth_top.specs.WholeRun.{Ended};
 ghost use Rattle.synth_top.specs.Status.{CausedBy, LeftAs};
 ghost use Rattle.synth_top.specs.Options.{options_of};
 
@@ -12,7 +12,7 @@ mod key;
 mod loading;
 mod number;
 mod options;
-mod run;
+mod editor;
 mod status;
 mod words;
 
@@ -20,7 +20,7 @@ pub use key::{KeyReader, Keys};
 use loading::load_first;
 use options::Options;
 use plcs_base::{OutOfMemory, Work};
-use run::Editor;
+use editor::Editor;
 pub use status::Status;
 use std::alloc::Global;
 use synth_outside::{Files, Sink, Source};

@@ -3,7 +3,7 @@
 ghost use Rattle.std.specs.Prelude.{◌≡◌, IfErr, IfOk, option_map};
 ghost use Rattle.synth_top.specs.Loads.{first_refusal};
 ghost use Rattle.synth_top.specs.Private.Loading.{BothLoad, InputLoads, IsInputIfLoaded, IsTreeIfLoaded, LoadsNothing, ProgramLoads, load_content, load_refusal};
-ghost use Rattle.synth_top.specs.Private.PlainForms.{input_reply, plain_loads, plain_options, program_reply};
+ghost use Rattle.synth_top.specs.Private.PlainForms.{input_reply, plain_first_loads, plain_options, program_reply};
 
 use crate::options::Options;
 use file_store::{FileRefusal, load, load_input};
@@ -57,7 +57,7 @@ pub struct FirstLoads {
 impl FirstLoads {
     /// The first refusal of the two, that of the program before that of its input.
     pub fn first_refusal(&self) -> Option<FileRefusal>
-        ensures { result ≡ first_refusal (plain_loads self.now) }
+        ensures { result ≡ first_refusal (plain_first_loads self.now) }
     {
         match self.program.refusal() {
             Some(refusal) => Some(refusal),
@@ -73,7 +73,7 @@ pub fn load_first<F: Files>(
     options: &Options<'_>,
     files: &mut F,
 ) -> Result<FirstLoads, OutOfMemory>
-    ensures loads { IfOk result (λ loads. BothLoad (plain_options options.now) (plain_loads loads)
+    ensures loads { IfOk result (λ loads. BothLoad (plain_options options.now) (plain_first_loads loads)
         (record { stored = F.stored files.old; faults = F.faults files.old; wants = F.wants files.old })
         (record { stored = F.stored files.new; faults = F.faults files.new; wants = F.wants files.new })) }
     ensures tree { IfOk result (λ loads. IsTreeIfLoaded loads.program) }

@@ -7,7 +7,7 @@ use Rattle.plcs_base.specs.declared.declared.Declared.{Declared}
 use Rattle.plcs_base.specs.declared.declared.ItemType.{ItemType}
 use Rattle.template_tree.specs.CheckLaws.{CheckAlike, ChecksIgnoreElision, ChecksIgnoreRoom}
 use Rattle.template_tree.specs.Edit.{edit_at, edit_below, give_way}
-use Rattle.template_tree.specs.Elision.{is_comment, turn}
+use Rattle.template_tree.specs.Elision.{is_comment, toggled}
 use Rattle.template_tree.specs.Environment.{Heading, Items, Sig, Signature, all_declared, declares, effective, heading_of, items_inside, may_be_called, parameter_kinds, procedure_at, signature_of, type_given}
 use Rattle.template_tree.specs.Marks.{VerdictList, VerdictMap, Verdicts, declared_before, node_verdicts, part_verdicts, procedure_verdicts, procedures_before, surroundings, type_in}
 use Rattle.template_tree.specs.Mention.{mentions, part_mentions}
@@ -63,7 +63,7 @@ turned_same : (b : Bool) (node : PlainNode) → node_content (turned_or_not b no
 turned_same true node = refl
 turned_same false node = refl
 
-turn_keeps : Keeps turn
+turn_keeps : Keeps toggled
 turn_keeps =
     record {
       new = λ node. turned_or_not (is_comment node.label.kind) node;
@@ -71,9 +71,9 @@ turn_keeps =
       same = λ node. turned_same (is_comment node.label.kind) node;
     }
 
-content_turned : (path : List ℕ) (items : Forest) → content (edit_at turn path items) ≡ content items
+content_turned : (path : List ℕ) (items : Forest) → content (edit_at toggled path items) ≡ content items
 content_turned [] items = refl
-content_turned (k ∷ path) items = gives_way (edit_below turn path) (keeps_below turn turn_keeps path) k items
+content_turned (k ∷ path) items = gives_way (edit_below toggled path) (keeps_below toggled turn_keeps path) k items
 
 -- ---- declarations
 
@@ -211,4 +211,4 @@ pub checks_ignore_room : ChecksIgnoreRoom
 checks_ignore_room items = alike (roomless items) items (content_roomless items)
 
 pub checks_ignore_elision : ChecksIgnoreElision
-checks_ignore_elision items path = alike (edit_at turn path items) items (content_turned path items)
+checks_ignore_elision items path = alike (edit_at toggled path items) items (content_turned path items)

@@ -4,7 +4,7 @@ use Rattle.plcs_grammar.specs.declared.node_kind.NodeKind.{NodeKind}
 use Rattle.plcs_grammar.specs.declared.template.Template.{Template}
 use Rattle.template_tree.specs.PlainTree.{Forest}
 use Rattle.template_tree.specs.NewTree.{bare_label}
-use Rattle.template_tree.specs.Place.{at, Start, After}
+use Rattle.template_tree.specs.Place.{place_at, Start, After}
 
 -- main with a while over a group of two holes, then a choice between two holes, then a hole
 abbrev sample : Forest
@@ -23,24 +23,24 @@ sample =
     (Forest.cons (bare_label 3 NodeKind.ProcedureHole) Forest.nil Forest.nil)
 
 -- a group begins with its first item
-group_begins_inside : Start sample 5 ≡ Some (at 6 0)
+group_begins_inside : Start sample 5 ≡ Some (place_at 6 0)
 group_begins_inside = refl
 
 -- its items are done in turn
-items_in_turn : After sample 6 ≡ Some (at 7 0)
+items_in_turn : After sample 6 ≡ Some (place_at 7 0)
 items_in_turn = refl
 
 -- a while tests again
-while_tests_again : After sample 7 ≡ Some (at 4 0)
+while_tests_again : After sample 7 ≡ Some (place_at 4 0)
 while_tests_again = refl
 
 -- one body of a choice is done
-first_body : After sample 9 ≡ Some (at 11 0)
+first_body : After sample 9 ≡ Some (place_at 11 0)
 first_body = refl
 
-second_body : After sample 10 ≡ Some (at 11 0)
+second_body : After sample 10 ≡ Some (place_at 11 0)
 second_body = refl
 
 -- main is left
-main_is_left : After sample 11 ≡ Some (at 0 1)
+main_is_left : After sample 11 ≡ Some (place_at 0 1)
 main_is_left = refl

@@ -2,7 +2,7 @@
 use Rattle.std.specs.Prelude.{ℕ, ◌<◌, ◌≤◌, false, List, Option}
 use Rattle.plcs_grammar.specs.declared.node_kind.NodeKind.{NodeKind}
 use Rattle.plcs_grammar.specs.PlainPhrase.{PlainPhrase}
-use Rattle.template_tree.specs.declared.build.OverLimit.{OverLimit}
+use Rattle.template_tree.specs.declared.build.BuildLimit.{BuildLimit}
 use Rattle.template_tree.specs.Limit.{deepest_path, most_slots}
 use Rattle.template_tree.specs.PlainTree.{Label, Forest, PlainNodes, PlainTree, forest}
 use Rattle.template_tree.specs.Slots.{count, depth, with_slots_from}
@@ -22,6 +22,6 @@ built_tree list =
     }
 
 -- the items of which a tree is to be built are over the limit; the depth comes first
-abbrev pub Over : Forest → OverLimit → Type 0
-Over items OverLimit.TooDeep = deepest_path < depth items
-Over items OverLimit.TooLarge = (depth items ≤ deepest_path) × (most_slots < count items)
+abbrev pub IsOverBuildLimit : Forest → BuildLimit → Type 0
+IsOverBuildLimit items BuildLimit.TooDeep = deepest_path < depth items
+IsOverBuildLimit items BuildLimit.TooLarge = (depth items ≤ deepest_path) × (most_slots < count items)

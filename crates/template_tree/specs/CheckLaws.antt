@@ -2,7 +2,7 @@
 -- lists, nor on which comments are elided.
 use Rattle.std.specs.Prelude.{◌≡◌, ℕ, List}
 use Rattle.template_tree.specs.Edit.{edit_at}
-use Rattle.template_tree.specs.Elision.{turn}
+use Rattle.template_tree.specs.Elision.{toggled}
 use Rattle.template_tree.specs.Environment.{Items, Sig}
 use Rattle.template_tree.specs.Marks.{Verdicts, procedure_verdicts}
 use Rattle.template_tree.specs.Mention.{mentions}
@@ -23,4 +23,4 @@ ChecksIgnoreRoom = (items : Forest) → CheckAlike (roomless items) items
 
 -- a program and it with the comment at a path turned check alike
 abbrev pub ChecksIgnoreElision : Type 0
-ChecksIgnoreElision = (items : Forest) (path : List ℕ) → CheckAlike (edit_at turn path items) items
+ChecksIgnoreElision = (items : Forest) (path : List ℕ) → CheckAlike (edit_at toggled path items) items

@@ -46,19 +46,19 @@ pub record IsWithin (tree : PlainTree) : Type 0 where
 
 -- the tree that an edit would make is over a limit, and over none that is asked for before it; where memory is wanting,
 -- it is over none
-abbrev pub IsOver : TreeFault → PlainTree → Type 0
-IsOver TreeFault.NotHere tree = ⊥
-IsOver TreeFault.TooDeep tree = deepest_path < depth tree.items
-IsOver TreeFault.TooLarge tree = (depth tree.items ≤ deepest_path) × (most_slots < tree.live)
-IsOver TreeFault.SlotsUsedUp tree = (depth tree.items ≤ deepest_path) × (tree.live ≤ most_slots) × (most_drawn_slots < tree.drawn)
-IsOver TreeFault.OutOfMemory tree = IsWithin tree
+abbrev pub IsOverTreeLimit : TreeFault → PlainTree → Type 0
+IsOverTreeLimit TreeFault.NotHere tree = ⊥
+IsOverTreeLimit TreeFault.TooDeep tree = deepest_path < depth tree.items
+IsOverTreeLimit TreeFault.TooLarge tree = (depth tree.items ≤ deepest_path) × (most_slots < tree.live)
+IsOverTreeLimit TreeFault.SlotsUsedUp tree = (depth tree.items ≤ deepest_path) × (tree.live ≤ most_slots) × (most_drawn_slots < tree.drawn)
+IsOverTreeLimit TreeFault.OutOfMemory tree = IsWithin tree
 
 -- an edit is refused at a node, if there is one, of which this has to hold: it doesn't, or the tree after the edit would be
 -- over a limit
 abbrev pub Refuses : TreeEdit → Option PlainNode → (PlainNode → Type 0) → PlainTree → TreeFault → Type 0
 Refuses edit there Here before TreeFault.NotHere = IsSomeAnd there Here → ⊥
 Refuses edit there Here before fault =
-    IsSomeAnd there (λ node. Here node × IsOver fault (tree_after edit before node.label.slot))
+    IsSomeAnd there (λ node. Here node × IsOverTreeLimit fault (tree_after edit before node.label.slot))
 
 -- a node of the kind may be filled in or inserted at this node: it is a hole where nodes of the kind stand
 abbrev pub IsHoleFor : NodeKind → PlainNode → Type 0

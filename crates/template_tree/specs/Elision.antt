@@ -17,14 +17,14 @@ is_comment (NodeKind.Filled template) = is_comment_template template
 is_comment other = false
 
 -- whether a comment is hidden once it is turned; nothing else can be turned
-abbrev pub hidden_after_turn : PlainNode → Option Bool
-hidden_after_turn node = if is_comment node.label.kind then Some (not node.label.elided) else None
+abbrev pub hidden_after_toggle : PlainNode → Option Bool
+hidden_after_toggle node = if is_comment node.label.kind then Some (not node.label.elided) else None
 
 -- a comment turned, from shown to hidden or back, or another node as it is
-abbrev pub turn : PlainNode → List PlainNode
-turn node =
+abbrev pub toggled : PlainNode → List PlainNode
+toggled node =
     (if is_comment node.label.kind then record node { label = record node.label { elided = not node.label.elided } } else node) ∷ []
 
 -- the tree with the comment at the path turned
-abbrev pub with_turn_at : List ℕ → PlainTree → PlainTree
-with_turn_at path tree = record tree { items = edit_at turn path tree.items }
+abbrev pub with_toggled_at : List ℕ → PlainTree → PlainTree
+with_toggled_at path tree = record tree { items = edit_at toggled path tree.items }

@@ -90,13 +90,13 @@ item_offence before item =
     else (if nat_lt most_cells (cells before + cells_of item) then Some MarkKind.TooManyCells else None))
 
 -- the effective items once one more is declared behind them
-abbrev pub with_item : (before : List Declared) → Declared → List Declared
-with_item before item = if is_some (item_offence before item) then before else before ++ (item ∷ [])
+abbrev pub with_declared : (before : List Declared) → Declared → List Declared
+with_declared before item = if is_some (item_offence before item) then before else before ++ (item ∷ [])
 
 -- the effective items once some more are declared behind them, one after the other
 abbrev pub effective : (before : List Declared) → List Declared → List Declared
 effective before [] = before
-effective before (item ∷ rest) = effective (with_item before item) rest
+effective before (item ∷ rest) = effective (with_declared before item) rest
 
 -- the effective items of a procedure in which these nodes stand, in listing order
 abbrev pub items_inside : Forest → List Declared

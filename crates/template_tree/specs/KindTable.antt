@@ -52,13 +52,13 @@ infix_gives InfixOp.Divide = Kind.Fixed
 
 -- a row of the table of built-in functions: the kinds of the arguments that one takes, the kind of one more that it
 -- perhaps takes, and the kind that it gives
-pub record BuiltinRow : Type 0 where
+pub record PlainBuiltinRow : Type 0 where
   pub takes : List Kind
   pub perhaps : Option Kind
   pub gives : Kind
 
 -- the table of the kinds that built-in functions take and give
-abbrev pub builtin_row : Builtin → BuiltinRow
+abbrev pub builtin_row : Builtin → PlainBuiltinRow
 builtin_row Builtin.Abs = record { takes = Kind.Fixed ∷ []; perhaps = None; gives = Kind.Fixed }
 builtin_row Builtin.Mod = record { takes = Kind.Fixed ∷ (Kind.Fixed ∷ []); perhaps = None; gives = Kind.Fixed }
 builtin_row Builtin.Min = record { takes = Kind.Fixed ∷ (Kind.Fixed ∷ []); perhaps = None; gives = Kind.Fixed }

@@ -1,6 +1,6 @@
 -- ---- nodes and trees as plain data
 pub mod PlainTree
-pub mod PlainPlace
+pub mod PlainPhrasePlace
 -- ---- programs and trees
 pub mod Limit
 pub mod Program
@@ -37,7 +37,7 @@ pub mod RoomLaws
 pub mod CheckLaws
 -- ---- the listing, and what the cursor may stand on
 pub mod Section
-pub mod PlainLeft
+pub mod PlainSectionsLeft
 pub mod Line
 pub mod Listing
 pub mod Bare

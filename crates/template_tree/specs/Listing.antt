@@ -5,13 +5,13 @@ use Rattle.template_tree.specs.PlainTree.{Forest}
 use Rattle.template_tree.specs.Program.{IsProgram}
 
 -- the bytes of lines as a listing has them, each with its line end behind it
-abbrev pub bytes_of : List Line → List ℕ
-bytes_of [] = []
-bytes_of (line ∷ lines) = line_bytes line ++ (10 ∷ bytes_of lines)
+abbrev pub bytes_of_lines : List Line → List ℕ
+bytes_of_lines [] = []
+bytes_of_lines (line ∷ lines) = line_bytes line ++ (10 ∷ bytes_of_lines lines)
 
 -- the listing of a program; slots and elision play no part
 abbrev pub Listing : Forest → List ℕ
-Listing items = bytes_of (listing_lines items)
+Listing items = bytes_of_lines (listing_lines items)
 
 -- the nodes are a program, and the text is its listing
 pub record Spells (items : Forest) (x : List ℕ) : Type 0 where

@@ -10,7 +10,7 @@ use Rattle.plcs_base.specs.declared.mark.MarkKind.{MarkKind}
 use Rattle.plcs_base.specs.declared.place.PhraseAt.{PhraseAt}
 use Rattle.plcs_grammar.specs.PlainPhrase.{PlainPhrase}
 use Rattle.template_tree.specs.Environment.{Sig, declares, effective, items_inside, type_given}
-use Rattle.template_tree.specs.Mention.{phrase_place}
+use Rattle.template_tree.specs.Mention.{phrase_at}
 use Rattle.template_tree.specs.PlainTree.{Forest, PlainNode}
 use Rattle.template_tree.specs.Verdict.{Surroundings, verdict}
 
@@ -56,7 +56,7 @@ abbrev pub part_verdicts : Surroundings → (slot part : ℕ) → List (Option P
 part_verdicts s slot part [] = []
 part_verdicts s slot part (None ∷ parts) = part_verdicts s slot (part + 1) parts
 part_verdicts s slot part (Some phrase ∷ parts) =
-    (phrase_place slot part, verdict s phrase) ∷ part_verdicts s slot (part + 1) parts
+    (phrase_at slot part, verdict s phrase) ∷ part_verdicts s slot (part + 1) parts
 
 -- the verdicts of the phrases of nodes that stand in main or a procedure, or are it
 abbrev pub node_verdicts : (program : Forest) (procedure : PlainNode) → Forest → VerdictList

@@ -46,8 +46,8 @@ mentioned (PlainPhrase.greatest_length n) = []
 mentioned (PlainPhrase.comment bytes) = []
 
 -- the place at which a phrase is that mentions names: this part of the node in the slot
-abbrev pub phrase_place : (slot part : ℕ) → PhraseAt
-phrase_place slot part = record { slot = record { 0 = slot }; part = part }
+abbrev pub phrase_at : (slot part : ℕ) → PhraseAt
+phrase_at slot part = record { slot = record { 0 = slot }; part = part }
 
 -- the place, if what stands there is a phrase that mentions the name
 abbrev pub mention : List ℕ → PhraseAt → Option PlainPhrase → List PhraseAt
@@ -58,7 +58,7 @@ mention name at (Some phrase) = if list_any (bytes_eq name) (mentioned phrase) t
 abbrev pub part_mentions : List ℕ → (slot part : ℕ) → List (Option PlainPhrase) → List PhraseAt
 part_mentions name slot part [] = []
 part_mentions name slot part (place ∷ parts) =
-    mention name (phrase_place slot part) place ++ part_mentions name slot (part + 1) parts
+    mention name (phrase_at slot part) place ++ part_mentions name slot (part + 1) parts
 
 -- the places of the phrases that mention the name, in listing order; elision plays no part
 abbrev pub mentions : List ℕ → Forest → List PhraseAt

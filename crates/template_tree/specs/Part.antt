@@ -6,7 +6,7 @@ use Rattle.plcs_grammar.specs.declared.node_kind.NodeKind.{NodeKind}
 use Rattle.plcs_grammar.specs.PlainPhrase.{PlainPhrase, category_of}
 use Rattle.plcs_grammar.specs.Template.{row_of}
 use Rattle.template_tree.specs.PlainTree.{PlainNode}
-use Rattle.template_tree.specs.Program.{parts_of, may_be_empty, IsPhrase}
+use Rattle.template_tree.specs.Program.{parts_of, may_be_empty, IsPartPhrase}
 
 -- the phrase that stands in the part of this number among the parts of a node, if one does
 abbrev pub part_at : List (Option PlainPhrase) → ℕ → Option PlainPhrase
@@ -23,9 +23,9 @@ Takes (Some category) None = IsTrue (may_be_empty category)
 Takes (Some category) (Some phrase) = category_of phrase ≡ category
 
 -- what is to be put into a part, if it is a phrase, may stand in some part
-abbrev pub IsPlace : Option PlainPhrase → Type 0
-IsPlace None = Unit {0}
-IsPlace (Some phrase) = IsPhrase (category_of phrase) phrase
+abbrev pub IsPhrasePlace : Option PlainPhrase → Type 0
+IsPhrasePlace None = Unit {0}
+IsPhrasePlace (Some phrase) = IsPartPhrase (category_of phrase) phrase
 
 -- a node with this, a phrase or nothing, in its part of this number
 abbrev pub with_part : ℕ → Option PlainPhrase → PlainNode → PlainNode

@@ -18,10 +18,10 @@ abbrev pub slot_at : Forest → List ℕ → Option ℕ
 slot_at items path = option_map (λ node. node.label.slot) (node_at items path)
 
 -- the last number of a path, which the node there has in its list
-abbrev pub last_of : List ℕ → ℕ
-last_of [] = 0
-last_of (k ∷ []) = k
-last_of (k ∷ (j ∷ path)) = last_of (j ∷ path)
+abbrev pub last_child_number : List ℕ → ℕ
+last_child_number [] = 0
+last_child_number (k ∷ []) = k
+last_child_number (k ∷ (j ∷ path)) = last_child_number (j ∷ path)
 
 -- a path with another last number, which leads to another item of the same list
 abbrev pub with_last : (ℕ → ℕ) → List ℕ → List ℕ

@@ -13,13 +13,13 @@ use Rattle.template_tree.specs.PlainTree.{Label, Forest}
 use Rattle.template_tree.specs.Program.{sort_of}
 
 -- a place of a run: a slot, and a point in it
-pub record PlainAt : Type 0 where
+pub record PlainPlace : Type 0 where
   pub slot : ℕ
   pub point : ℕ
 
 -- the place of a run at this point of a slot
-abbrev pub at : ℕ → ℕ → PlainAt
-at slot point = record { slot = slot; point = point }
+abbrev pub place_at : ℕ → ℕ → PlainPlace
+place_at slot point = record { slot = slot; point = point }
 
 -- where a run goes on once what stands inside a template is done, if not where it goes on behind the template itself:
 -- a While tests again, a For takes its next turn, and a procedure is left
@@ -37,9 +37,9 @@ inner_end (NodeKind.Filled template) = template_end template
 inner_end other = None
 
 -- the place where a run goes on once what stands inside the node in a slot is done: this point of it, or else behind it
-abbrev pub end_at : ℕ → Option ℕ → PlainAt → PlainAt
+abbrev pub end_at : ℕ → Option ℕ → PlainPlace → PlainPlace
 end_at slot None behind = behind
-end_at slot (Some point) behind = at slot point
+end_at slot (Some point) behind = place_at slot point
 
 -- whether a run that comes to the template goes to its first item at once: a group, or a comment
 abbrev pub passes_in_template : Template → Bool
@@ -63,24 +63,24 @@ in_turn [] = true
 in_turn (section ∷ sections) = is_list section.amount && in_turn sections
 
 -- where a run begins among nodes in order: at the first statement, or inside it; behind them where there is none
-abbrev pub begin : Forest → PlainAt → PlainAt
+abbrev pub begin : Forest → PlainPlace → PlainPlace
 begin Forest.nil behind = behind
 begin (Forest.cons label inner rest) behind =
     if is_statement (sort_of label.kind)
-    then (if passes_in label.kind then begin inner behind else at label.slot 0)
+    then (if passes_in label.kind then begin inner behind else place_at label.slot 0)
     else begin rest behind
 
 -- the site of a slot in a run: the node there, and where the run goes on once that is done
 pub record Site : Type 0 where
   pub label : Label
   pub inner : Forest
-  pub after : PlainAt
+  pub after : PlainPlace
 
 -- the site of a slot among nodes, done in turn or one of them alone, behind which a run goes on at a place
-abbrev pub site_among : ℕ → Bool → Forest → PlainAt → Option Site
+abbrev pub site_among : ℕ → Bool → Forest → PlainPlace → Option Site
 site_among slot turn Forest.nil behind = None
 site_among slot turn (Forest.cons label inner rest) behind =
-    let after : PlainAt = if turn then begin rest behind else behind in
+    let after : PlainPlace = if turn then begin rest behind else behind in
     if label.slot == slot
     then Some record { label = label; inner = inner; after = after }
     else
@@ -89,18 +89,18 @@ site_among slot turn (Forest.cons label inner rest) behind =
 
 -- the site of a slot in a program; procedures are not done in turn, and nothing is done behind main
 abbrev pub site : Forest → ℕ → Option Site
-site items slot = site_among slot false items (at 0 1)
+site items slot = site_among slot false items (place_at 0 1)
 
 -- where a run begins that comes to the node at a site
-abbrev pub site_start : Site → PlainAt
-site_start site = if passes_in site.label.kind then begin site.inner site.after else at site.label.slot 0
+abbrev pub site_start : Site → PlainPlace
+site_start site = if passes_in site.label.kind then begin site.inner site.after else place_at site.label.slot 0
 
 -- where a run begins that comes to the slot
-abbrev pub Start : Forest → ℕ → Option PlainAt
+abbrev pub Start : Forest → ℕ → Option PlainPlace
 Start items slot = option_map site_start (site items slot)
 
 -- where a run goes on once the statement in the slot is done
-abbrev pub After : Forest → ℕ → Option PlainAt
+abbrev pub After : Forest → ℕ → Option PlainPlace
 After items slot = option_map (λ site. site.after) (site items slot)
 
 -- how many items the variable list in a GET has: each is a point of it
@@ -126,11 +126,11 @@ has_point marked label (NodeKind.Filled template) point = has_template_point mar
 has_point marked label other point = false
 
 -- whether the place exists at the site of its slot, if the slot is live
-abbrev pub exists_at : Bool → Option Site → ℕ → Bool
-exists_at marked None point = false
-exists_at marked (Some site) point =
+abbrev pub place_exists_at : Bool → Option Site → ℕ → Bool
+place_exists_at marked None point = false
+place_exists_at marked (Some site) point =
     (is_statement (sort_of site.label.kind) && (point == 0)) || has_point marked site.label site.label.kind point
 
 -- the place of a run exists, where it is told of each slot whether the first phrase there is marked
-abbrev pub Exists : (ℕ → Bool) → Forest → PlainAt → Type 0
-Exists marked items place = IsTrue (exists_at (marked place.slot) (site items place.slot) place.point)
+abbrev pub Exists : (ℕ → Bool) → Forest → PlainPlace → Type 0
+Exists marked items place = IsTrue (place_exists_at (marked place.slot) (site items place.slot) place.point)

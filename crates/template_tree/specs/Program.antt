@@ -30,7 +30,7 @@ sorts (Forest.cons label inner rest) = sort_of label.kind ∷ sorts rest
 
 -- a phrase of the category that may stand in a part of a program: it is well formed, and its canonical text not too
 -- long
-pub record IsPhrase (category : Category) (phrase : PlainPhrase) : Type 0 where
+pub record IsPartPhrase (category : Category) (phrase : PlainPhrase) : Type 0 where
   pub well_formed : IsWellFormed category phrase
   pub short : length (Canon phrase) ≤ longest_phrase
 
@@ -52,7 +52,7 @@ may_be_empty CommentText = true
 -- what a part of the category may hold in a program: a phrase, or nothing where it may be empty
 abbrev pub IsPart : Category → Option PlainPhrase → Type 0
 IsPart category None = IsTrue (may_be_empty category)
-IsPart category (Some phrase) = IsPhrase category phrase
+IsPart category (Some phrase) = IsPartPhrase category phrase
 
 -- the parts of a node hold what their row asks for: a phrase of each of the categories, one by one, or nothing
 abbrev pub AreParts : List Category → List (Option PlainPhrase) → Type 0

@@ -3,7 +3,7 @@
 use Rattle.std.specs.Prelude.{◌≡◌, ◌↔◌, ℕ, List, option_and_then, option_map}
 use Rattle.template_tree.specs.declared.change.Change.{Change}
 use Rattle.template_tree.specs.Edit.{Differs}
-use Rattle.template_tree.specs.Elision.{hidden_after_turn, with_turn_at}
+use Rattle.template_tree.specs.Elision.{hidden_after_toggle, with_toggled_at}
 use Rattle.template_tree.specs.Line.{Lines}
 use Rattle.template_tree.specs.Listing.{Listing}
 use Rattle.template_tree.specs.Path.{node_at, slot_at}
@@ -55,14 +55,14 @@ abbrev pub ListingIgnoresRoom : Type 0
 ListingIgnoresRoom = (items : Forest) → Listing (roomless items) ≡ Listing items
 
 -- the roomless tree with the comment at a path turned is the turned tree without room
-abbrev pub TurnsIgnoreRoom : Type 0
-TurnsIgnoreRoom = (tree : PlainTree) (path : List ℕ) → with_turn_at path (roomless_tree tree) ≡ roomless_tree (with_turn_at path tree)
+abbrev pub TogglesIgnoreRoom : Type 0
+TogglesIgnoreRoom = (tree : PlainTree) (path : List ℕ) → with_toggled_at path (roomless_tree tree) ≡ roomless_tree (with_toggled_at path tree)
 
 -- whether a comment stands at a path, and is hidden once it is turned, is told as with room
 abbrev pub HidingIgnoresRoom : Type 0
 HidingIgnoresRoom =
     (items : Forest) (path : List ℕ)
-    → option_and_then hidden_after_turn (node_at (roomless items) path) ≡ option_and_then hidden_after_turn (node_at items path)
+    → option_and_then hidden_after_toggle (node_at (roomless items) path) ≡ option_and_then hidden_after_toggle (node_at items path)
 
 -- nodes are as deep without room
 abbrev pub DepthsIgnoreRoom : Type 0

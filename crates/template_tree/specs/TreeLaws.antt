@@ -6,7 +6,7 @@ use Rattle.template_tree.specs.EditAnswer.{IsListItem, IsSpareHole}
 use Rattle.template_tree.specs.Limit.{deepest_path, most_slots, most_drawn_slots}
 use Rattle.template_tree.specs.Program.{IsSubtree, sort_of}
 use Rattle.template_tree.specs.PlainTree.{Forest, PlainNode, PlainTree, roomless_tree}
-use Rattle.template_tree.specs.Part.{IsPlace, Takes, part_category, with_part}
+use Rattle.template_tree.specs.Part.{IsPhrasePlace, Takes, part_category, with_part}
 use Rattle.template_tree.specs.Slots.{count, depth, times}
 use Rattle.template_tree.specs.Tree.{IsTree}
 use Rattle.template_tree.specs.TreeLend.{with_node}
@@ -26,7 +26,7 @@ abbrev pub SetPartKeepsTree : Type 0
 SetPartKeepsTree =
     (tree : PlainTree) (path : List ℕ) (node : PlainNode) (part : ℕ) (place : Option PlainPhrase)
     → IsTree tree → node_at tree.items path ≡ Some node
-    → Takes (part_category node.label.kind part) place → IsPlace place
+    → Takes (part_category node.label.kind part) place → IsPhrasePlace place
     → IsTree (with_node tree path (with_part part place node))
 
 -- a tree is one with as many live slots where a part of the node in a slot is set to what it takes
@@ -34,7 +34,7 @@ abbrev pub PartKeepsTree : Type 0
 PartKeepsTree =
     (tree : PlainTree) (path : List ℕ) (node : PlainNode) (part : ℕ) (place : Option PlainPhrase)
     → IsTree tree → node_at tree.items path ≡ Some node
-    → Takes (part_category node.label.kind part) place → IsPlace place
+    → Takes (part_category node.label.kind part) place → IsPhrasePlace place
     → IsTree (Part tree node.label.slot part place) × ((Part tree node.label.slot part place).live ≡ tree.live)
 
 -- a tree is one where a node of the same sort comes into a slot, as far as the limits allow it; the inner nodes that come

@@ -9,7 +9,7 @@ use Rattle.plcs_grammar.specs.declared.builtin.Builtin.{Builtin}
 use Rattle.plcs_grammar.specs.declared.operator.InfixOp.{InfixOp}
 use Rattle.plcs_grammar.specs.Builtin.{is_builtin_name}
 use Rattle.plcs_grammar.specs.PlainPhrase.{PlainExpr, PlainExprs, PlainVarRef, PlainPhrase}
-use Rattle.template_tree.specs.Environment.{Signature, item_named, item_offence, kind_of_type, scalar_kind, with_item, with_type}
+use Rattle.template_tree.specs.Environment.{Signature, item_named, item_offence, kind_of_type, scalar_kind, with_declared, with_type}
 use Rattle.template_tree.specs.KindTable.{builtin_row, infix_gives, infix_takes, prefix_kind, same_kind}
 
 -- ---- what is found in turn
@@ -167,7 +167,7 @@ procedure_offence earlier name =
 -- the first offence of what is declared behind effective items: what isn't effective is an offence
 abbrev pub declared_offence : (before : List Declared) → List Declared → Option MarkKind
 declared_offence before [] = None
-declared_offence before (item ∷ rest) = option_or (item_offence before item) (declared_offence (with_item before item) rest)
+declared_offence before (item ∷ rest) = option_or (item_offence before item) (declared_offence (with_declared before item) rest)
 
 -- ---- each phrase
 

@@ -1,6 +1,6 @@
 //! Paths to the items beside an item of a list, and on which side of them it stood.
 ghost use Rattle.std.specs.Prelude.{◌≡◌, ◌<◌, pred, suc};
-ghost use Rattle.template_tree.specs.Path.{added_path, last_of, with_last};
+ghost use Rattle.template_tree.specs.Path.{added_path, last_child_number, with_last};
 ghost use Rattle.template_tree.specs.Private.Beside.{side_of};
 
 use crate::path::{Path, copy_path};
@@ -8,7 +8,7 @@ use crate::side::Side;
 
 /// The path beside a path: where a node stands that came on this side of the item there.
 pub fn added_path(side: Side, path: &Path) -> Path
-    requires small { last_of path.now.items < 4294967295 }
+    requires small { last_child_number path.now.items < 4294967295 }
     ensures { result.items ≡ added_path side path.now.items }
 {
     match side {
@@ -19,7 +19,7 @@ pub fn added_path(side: Side, path: &Path) -> Path
 
 /// The path to the item behind the one at the path, in the same list.
 fn next_path(path: &Path) -> Path
-    requires small { last_of path.now.items < 4294967295 }
+    requires small { last_child_number path.now.items < 4294967295 }
     ensures { result.items ≡ with_last suc path.now.items }
 {
     let mut next = copy_path(path);
@@ -43,7 +43,7 @@ pub fn path_before(path: &Path) -> Path
 
 /// On which side of the item at `path_before` the item at the path stood, before it left its list.
 pub(crate) fn side_left(path: &Path) -> Side
-    ensures { result ≡ side_of (last_of path.now.items) }
+    ensures { result ≡ side_of (last_child_number path.now.items) }
 {
     let mut front = copy_path(path);
     let Some(last) = front.pop() else {

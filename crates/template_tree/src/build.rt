@@ -1,8 +1,8 @@
 //! Nodes and trees built from their leaves, and the slots that are drawn for nodes.
 ghost use Rattle.std.specs.Prelude.{◌≡◌, ◌+◌, ◌≤◌, IfErr, IfOk, map};
-ghost use Rattle.template_tree.specs.Build.{Over, built_label, built_tree};
+ghost use Rattle.template_tree.specs.Build.{IsOverBuildLimit, built_label, built_tree};
 ghost use Rattle.template_tree.specs.Limit.{deepest_path, most_slots};
-ghost use Rattle.template_tree.specs.PlainPlace.{plain_place};
+ghost use Rattle.template_tree.specs.PlainPhrasePlace.{plain_phrase_place};
 ghost use Rattle.template_tree.specs.PlainTree.{nodes, forest};
 ghost use Rattle.template_tree.specs.Program.{AreNodes, IsNode, IsProgram, IsSubtree, sorts};
 ghost use Rattle.template_tree.specs.Slots.{count, depth, with_slots_from};
@@ -18,7 +18,7 @@ use plcs_grammar::NodeKind;
 
 /// The limit that the items are over of which a tree was to be built.
 #[derive(Clone, Copy, Debug, PartialEq, Eq)]
-pub enum OverLimit {
+pub enum BuildLimit {
     /// A path to one of the items, or to a node inside, would have more than 64 numbers.
     TooDeep,
     /// The items, with the nodes inside, are more than 20,000.
@@ -29,8 +29,8 @@ impl Node {
     /// A node of the kind with these parts and with these nodes inside. Nothing is elided, and its slot
     /// is 0 until a tree is built with it. It takes no memory.
     pub fn built(kind: NodeKind, parts: Vec<PhrasePlace>, inner: Nodes) -> Node
-        ensures built { result ≡ record { label = built_label kind (map plain_place parts.items) inner.spare; inner = forest inner.items } }
-        ensures subtree { IsNode (built_label kind (map plain_place parts.items) inner.spare) (sorts (forest inner.items)) → AreNodes (forest inner.items) → IsSubtree result }
+        ensures built { result ≡ record { label = built_label kind (map plain_phrase_place parts.items) inner.spare; inner = forest inner.items } }
+        ensures subtree { IsNode (built_label kind (map plain_phrase_place parts.items) inner.spare) (sorts (forest inner.items)) → AreNodes (forest inner.items) → IsSubtree result }
     {
         Node {
             slot: Slot(0),
@@ -45,18 +45,18 @@ impl Node {
 impl Tree {
     /// The tree with these items, main and the procedures, whose slots are drawn from 0 in listing
     /// order. Where they are over both limits, it is the depth that is told. It takes no memory.
-    pub fn built(items: Nodes) -> Result<Tree, OverLimit>
+    pub fn built(items: Nodes) -> Result<Tree, BuildLimit>
         requires program { IsProgram (forest items.items) }
         ensures built { IfOk result (λ tree. tree ≡ built_tree items) }
         ensures within { IfOk result (λ _. (depth (forest items.items) ≤ deepest_path) × (count (forest items.items) ≤ most_slots)) }
-        ensures over { IfErr result (Over (forest items.items)) }
+        ensures over { IfErr result (IsOverBuildLimit (forest items.items)) }
         ensures tree { IfOk result IsTree }
     {
         if !is_within_depth(items.as_slice(), DEEPEST_PATH as u32) {
-            return Err(OverLimit::TooDeep);
+            return Err(BuildLimit::TooDeep);
         }
         let Some(left) = slots_left(items.as_slice(), MOST_SLOTS) else {
-            return Err(OverLimit::TooLarge);
+            return Err(BuildLimit::TooLarge);
         };
         let mut items = items;
         draw_slots(&mut items, 0);

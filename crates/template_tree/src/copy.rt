@@ -3,7 +3,7 @@ ghost use Rattle.std.specs.Prelude.{◌≡◌, IfErr, IfOk, IsSomeAnd, map};
 ghost use Rattle.template_tree.specs.Copy.{CopyRefused, IsCopy};
 ghost use Rattle.template_tree.specs.EditAnswer.{MayTake};
 ghost use Rattle.template_tree.specs.Path.{node_at};
-ghost use Rattle.template_tree.specs.PlainPlace.{plain_place};
+ghost use Rattle.template_tree.specs.PlainPhrasePlace.{plain_phrase_place};
 ghost use Rattle.template_tree.specs.Program.{IsSubtree};
 ghost use Rattle.template_tree.specs.Slots.{count, depth};
 ghost use Rattle.template_tree.specs.Tree.{IsTree};
@@ -48,7 +48,7 @@ impl Node {
         ensures slots { IfOk result (λ copy. count copy.inner ≡ count self.now.inner) }
         ensures depth { IfOk result (λ copy. depth copy.inner ≡ depth self.now.inner) }
     {
-        let parts = copy_places(alloc, self.parts.as_slice())?;
+        let parts = copy_phrase_places(alloc, self.parts.as_slice())?;
         let mut inner = Nodes::new(alloc);
         for node in self.inner.as_slice() {
             let copy = node.copy(alloc)?;
@@ -67,19 +67,19 @@ impl Node {
 }
 
 /// Copies of what stands in the parts of a node.
-fn copy_places(alloc: Global, places: &[PhrasePlace]) -> Result<Vec<PhrasePlace>, OutOfMemory>
-    ensures { IfOk result (λ copies. map plain_place copies.items ≡ map plain_place places.now) }
+fn copy_phrase_places(alloc: Global, places: &[PhrasePlace]) -> Result<Vec<PhrasePlace>, OutOfMemory>
+    ensures { IfOk result (λ copies. map plain_phrase_place copies.items ≡ map plain_phrase_place places.now) }
 {
     let mut copies = Vec::new(alloc);
     for place in places {
-        copies.push(copy_place(alloc, place)?)?;
+        copies.push(copy_phrase_place(alloc, place)?)?;
     }
     Ok(copies)
 }
 
 /// A copy of what stands in a part of a node.
-fn copy_place(alloc: Global, place: &PhrasePlace) -> Result<PhrasePlace, OutOfMemory>
-    ensures { IfOk result (λ copy. plain_place copy ≡ plain_place place.now) }
+fn copy_phrase_place(alloc: Global, place: &PhrasePlace) -> Result<PhrasePlace, OutOfMemory>
+    ensures { IfOk result (λ copy. plain_phrase_place copy ≡ plain_phrase_place place.now) }
 {
     match place {
         PhrasePlace::Empty => Ok(PhrasePlace::Empty),

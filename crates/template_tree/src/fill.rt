@@ -6,7 +6,7 @@ ghost use Rattle.template_tree.specs.Edit.{hole_list, hole_of};
 ghost use Rattle.template_tree.specs.EditAnswer.{Edits, IsHoleFor, Refuses};
 ghost use Rattle.template_tree.specs.FreshNode.{fresh_node, section_holes};
 ghost use Rattle.template_tree.specs.Path.{node_at};
-ghost use Rattle.template_tree.specs.PlainPlace.{plain_place};
+ghost use Rattle.template_tree.specs.PlainPhrasePlace.{plain_phrase_place};
 ghost use Rattle.template_tree.specs.PlainTree.{forest, join, roomless, roomless_node};
 ghost use Rattle.template_tree.specs.Program.{parts_of};
 ghost use Rattle.template_tree.specs.Slots.{count};
@@ -79,7 +79,7 @@ impl Node {
 
 /// The parts of a fresh node: nothing in each part of its line.
 fn empty_parts(alloc: Global, line: &[Segment]) -> Result<Vec<PhrasePlace>, OutOfMemory>
-    ensures { IfOk result (λ parts. map plain_place parts.items ≡ map (λ _. None) (parts_of (map plain_segment line.now))) }
+    ensures { IfOk result (λ parts. map plain_phrase_place parts.items ≡ map (λ _. None) (parts_of (map plain_segment line.now))) }
 {
     let mut parts = Vec::new(alloc);
     for segment in line {

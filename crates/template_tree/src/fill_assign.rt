@@ -6,7 +6,7 @@ ghost use Rattle.plcs_grammar.specs.PlainPhrase.{category_of};
 ghost use Rattle.plcs_grammar.specs.PlainPhrase.{plain_phrase};
 ghost use Rattle.template_tree.specs.EditAnswer.{Edits, Refuses, TakesAssignment};
 ghost use Rattle.template_tree.specs.FreshNode.{assignment_node};
-ghost use Rattle.template_tree.specs.Part.{IsPlace};
+ghost use Rattle.template_tree.specs.Part.{IsPhrasePlace};
 ghost use Rattle.template_tree.specs.Path.{node_at};
 ghost use Rattle.template_tree.specs.PlainTree.{roomless_node};
 ghost use Rattle.template_tree.specs.Receipt.{NeedsNoRoom};
@@ -33,7 +33,7 @@ impl Tree {
         phrase: Phrase,
     ) -> Result<Receipt, (TreeFault, Phrase)>
         requires tree { IsTree self.old }
-        requires phrase { IsPlace (Some (plain_phrase phrase)) }
+        requires phrase { IsPhrasePlace (Some (plain_phrase phrase)) }
         ensures edited { IfOk result (Edits (TreeEdit.put (assignment_node (plain_phrase phrase))) (node_at self.old.items path.now.items) (TakesAssignment (plain_phrase phrase)) self.old self.new) }
         ensures no_room { IfOk result NeedsNoRoom }
         ensures refused { IfErr result (λ back. Refuses (TreeEdit.put (assignment_node (plain_phrase phrase))) (node_at self.old.items path.now.items) (TakesAssignment (plain_phrase phrase)) self.old back.0) }

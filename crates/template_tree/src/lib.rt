@@ -43,7 +43,7 @@ mod undo_node;
 mod undo_part;
 
 pub use beside::{added_path, path_before};
-pub use build::OverLimit;
+pub use build::BuildLimit;
 pub use change::{Change, What};
 pub use check_laws::checks_ignore_room_and_elision;
 pub use hole::hole_left;

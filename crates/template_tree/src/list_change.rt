@@ -1,7 +1,7 @@
 //! Lists changed by an item, at the end of a path through the nodes.
 ghost use Rattle.std.specs.Prelude.{◌≡◌, ◌<◌, ◌∷◌, [], IfErr, IfNone, IfOk, IfSome, slice_get};
 ghost use Rattle.template_tree.specs.Edit.{edit_at};
-ghost use Rattle.template_tree.specs.Lend.{without_item};
+ghost use Rattle.template_tree.specs.Lend.{with_node_removed};
 ghost use Rattle.template_tree.specs.Path.{node_at};
 ghost use Rattle.template_tree.specs.PlainTree.{forest, roomless, roomless_node};
 ghost use Rattle.template_tree.specs.Receipt.{list_room, with_beside};
@@ -71,7 +71,7 @@ impl Nodes {
     /// At the end of a path: takes the node of this number out of its list, if there is one.
     fn take_out(&mut self, k: usize) -> Option<Node>
         ensures taken { result ≡ slice_get self.old.items k }
-        ensures others { IfSome result (λ _. self.new ≡ without_item self.old k) }
+        ensures others { IfSome result (λ _. self.new ≡ with_node_removed self.old k) }
         ensures none { IfNone result (self.new ≡ self.old) }
     {
         if k < self.len() {

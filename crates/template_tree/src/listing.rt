@@ -4,11 +4,11 @@ ghost use Rattle.plcs_base.specs.Put.{PutsAll};
 ghost use Rattle.plcs_grammar.specs.Template.{plain_segment};
 ghost use Rattle.template_tree.specs.Limit.{deepest_path};
 ghost use Rattle.template_tree.specs.Line.{fixed_line, lines, part_text, parts_after, segment_text, segments_text};
-ghost use Rattle.template_tree.specs.Listing.{Listing, ListingSplitsInLines, bytes_of};
-ghost use Rattle.template_tree.specs.PlainPlace.{plain_place};
+ghost use Rattle.template_tree.specs.Listing.{Listing, ListingSplitsInLines, bytes_of_lines};
+ghost use Rattle.template_tree.specs.PlainPhrasePlace.{plain_phrase_place};
 ghost use Rattle.template_tree.specs.PlainTree.{forest};
 ghost use Rattle.template_tree.specs.Private.NodeLines.{node_lines};
-ghost use Rattle.template_tree.specs.PlainLeft.{plain_left};
+ghost use Rattle.template_tree.specs.PlainSectionsLeft.{plain_sections_left};
 ghost use Rattle.template_tree.specs.Slots.{depth};
 ghost use Rattle.template_tree.specs.Tree.{IsTree};
 
@@ -37,7 +37,7 @@ impl Tree {
 #[cycle(lines)]
 fn put_nodes<O: ByteOut>(nodes: &[Node], level: u32, sections: SectionsLeft, out: &mut O)
     requires shallow { level + depth (forest nodes.now) ≤ deepest_path }
-    ensures { PutsAll O.puts out.old (bytes_of (lines false level (plain_left sections) (forest nodes.now))) out.new }
+    ensures { PutsAll O.puts out.old (bytes_of_lines (lines false level (plain_sections_left sections) (forest nodes.now))) out.new }
 {
     let mut left = sections;
     for node in nodes {
@@ -52,7 +52,7 @@ fn put_nodes<O: ByteOut>(nodes: &[Node], level: u32, sections: SectionsLeft, out
 #[cycle(lines)]
 fn put_node<O: ByteOut>(node: &Node, level: u32, out: &mut O)
     requires shallow { level + depth node.now.inner < deepest_path }
-    ensures { PutsAll O.puts out.old (bytes_of (node_lines level node.now)) out.new }
+    ensures { PutsAll O.puts out.old (bytes_of_lines (node_lines level node.now)) out.new }
 {
     let row = node.kind().row();
     put_blanks(level, out);
@@ -65,7 +65,7 @@ fn put_node<O: ByteOut>(node: &Node, level: u32, out: &mut O)
 
 /// Puts the fixed line of the listing that the table of templates has as it stands, if there is one.
 fn put_fixed_line<O: ByteOut>(text: Option<&[u8]>, level: u32, out: &mut O)
-    ensures { PutsAll O.puts out.old (bytes_of (fixed_line level (option_map (λ bytes. bytes.now) text.entry))) out.new }
+    ensures { PutsAll O.puts out.old (bytes_of_lines (fixed_line level (option_map (λ bytes. bytes.now) text.entry))) out.new }
 {
     if let Some(text) = text {
         put_blanks(level, out);
@@ -85,7 +85,7 @@ fn put_blanks<O: ByteOut>(level: u32, out: &mut O)
 
 /// Puts the segments of a line of the listing, with these parts in them.
 fn put_segments<O: ByteOut>(segments: &[Segment], parts: &[PhrasePlace], out: &mut O)
-    ensures { PutsAll O.puts out.old (segments_text (map plain_segment segments.now) (map plain_place parts.now)) out.new }
+    ensures { PutsAll O.puts out.old (segments_text (map plain_segment segments.now) (map plain_phrase_place parts.now)) out.new }
 {
     let mut left = parts;
     for segment in segments {
@@ -99,8 +99,8 @@ fn put_segment<'a, O: ByteOut>(
     parts: &'a [PhrasePlace],
     out: &mut O,
 ) -> &'a [PhrasePlace]
-    ensures text { PutsAll O.puts out.old (segment_text (plain_segment segment) (map plain_place parts.now)) out.new }
-    ensures left { map plain_place result.now ≡ parts_after (plain_segment segment) (map plain_place parts.now) }
+    ensures text { PutsAll O.puts out.old (segment_text (plain_segment segment) (map plain_phrase_place parts.now)) out.new }
+    ensures left { map plain_phrase_place result.now ≡ parts_after (plain_segment segment) (map plain_phrase_place parts.now) }
 {
     let category = match segment {
         Segment::Words(bytes) => {
@@ -120,7 +120,7 @@ fn put_segment<'a, O: ByteOut>(
 /// Puts what the listing has for a part: its phrase, or the placeholder of its category where it is
 /// empty.
 fn put_part<O: ByteOut>(category: Category, part: &PhrasePlace, out: &mut O)
-    ensures { PutsAll O.puts out.old (part_text category (plain_place part.now)) out.new }
+    ensures { PutsAll O.puts out.old (part_text category (plain_phrase_place part.now)) out.new }
 {
     match part {
         PhrasePlace::Empty => put_bytes(category.placeholder(), out),

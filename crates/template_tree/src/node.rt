@@ -3,10 +3,10 @@ ghost use Rattle.std.specs.Prelude.{◌≡◌, ℕ, ◌+◌, ◌-◌, ◌^◌, �
 ghost use Rattle.std.specs.Borrow.{LendsIf, sem};
 ghost use Rattle.template_tree.specs.contracts.node.Node as node_row;
 ghost use Rattle.template_tree.specs.contracts.node.Nodes as list_row;
-ghost use Rattle.template_tree.specs.Lend.{with_item, with_more, without_item};
+ghost use Rattle.template_tree.specs.Lend.{with_node_set, with_node_inserted, with_node_removed};
 ghost use Rattle.template_tree.specs.NewTree.{bare_label};
 ghost use Rattle.template_tree.specs.PlainTree.{nodes, forest, with_spare};
-ghost use Rattle.template_tree.specs.PlainPlace.{plain_place};
+ghost use Rattle.template_tree.specs.PlainPhrasePlace.{plain_phrase_place};
 
 use crate::phrase_place::PhrasePlace;
 use plcs_base::{OutOfMemory, Slot};
@@ -103,7 +103,7 @@ impl Node {
 impl Node {
     /// What stands in the part of the node, or `None` where it has no such part.
     pub fn part(&self, part: u8) -> Option<&PhrasePlace>
-        ensures { option_map (λ place. plain_place place.now) result ≡ slice_get self.now.label.parts part }
+        ensures { option_map (λ place. plain_phrase_place place.now) result ≡ slice_get self.now.label.parts part }
     {
         self.parts.get(part as usize)
     }
@@ -169,7 +169,7 @@ impl Nodes {
 impl Nodes {
     /// Lends the node of this number in the list for writing, or `None` where there is none.
     pub(crate) fn get_mut(&mut self, k: usize) -> Option<&mut Node>
-        ensures* writes_back { sem 𝓛 (LendsIf list_row.the_row node_row.the_row self.entry result (with_item self.old k) self.old) }
+        ensures* writes_back { sem 𝓛 (LendsIf list_row.the_row node_row.the_row self.entry result (with_node_set self.old k) self.old) }
         ensures found { option_map (λ node. node.now) result ≡ slice_get self.old.items k }
     {
         self.list.get_mut(k)
@@ -179,7 +179,7 @@ impl Nodes {
     pub(crate) fn remove(&mut self, k: usize) -> Node
         requires there { k < length self.old.items }
         ensures taken { Some result ≡ slice_get self.old.items k }
-        ensures others { self.new ≡ without_item self.old k }
+        ensures others { self.new ≡ with_node_removed self.old k }
     {
         self.list.remove(k)
     }
@@ -188,7 +188,7 @@ impl Nodes {
     pub(crate) fn insert_within(&mut self, k: usize, node: Node)
         requires there { k ≤ length self.old.items }
         requires room { 0 < self.old.spare }
-        ensures { self.new ≡ with_more self.old k node }
+        ensures { self.new ≡ with_node_inserted self.old k node }
     {
         if let Err(_) = self.list.insert(k, node) {}
     }

@@ -1,8 +1,8 @@
 //! Parts of nodes, read and set.
 ghost use Rattle.std.specs.Prelude.{◌≡◌, ◌↔◌, IsOk, IfOk, IfErr, IsTrue, Some, map, slice_get};
 ghost use Rattle.plcs_grammar.specs.Template.{plain_segment};
-ghost use Rattle.template_tree.specs.Part.{IsPlace, Takes, part_category, with_part};
-ghost use Rattle.template_tree.specs.PlainPlace.{plain_place};
+ghost use Rattle.template_tree.specs.Part.{IsPhrasePlace, Takes, part_category, with_part};
+ghost use Rattle.template_tree.specs.PlainPhrasePlace.{plain_phrase_place};
 ghost use Rattle.template_tree.specs.Program.{IsSubtree, may_be_empty, parts_of};
 
 use crate::node::Node;
@@ -16,9 +16,9 @@ impl Node {
     /// would be empty. It takes no memory.
     pub fn put_part(&mut self, part: u8, place: PhrasePlace) -> Result<PhrasePlace, PhrasePlace>
         requires node { IsSubtree self.old }
-        requires phrase { IsPlace (plain_place place) }
-        ensures fits { IsOk result ↔ (Takes (part_category self.old.label.kind part) (plain_place place)) }
-        ensures set { IfOk result (λ old. (slice_get self.old.label.parts part ≡ Some (plain_place old)) × (self.new ≡ with_part part (plain_place place) self.old)) }
+        requires phrase { IsPhrasePlace (plain_phrase_place place) }
+        ensures fits { IsOk result ↔ (Takes (part_category self.old.label.kind part) (plain_phrase_place place)) }
+        ensures set { IfOk result (λ old. (slice_get self.old.label.parts part ≡ Some (plain_phrase_place old)) × (self.new ≡ with_part part (plain_phrase_place place) self.old)) }
         ensures refused { IfErr result (λ back. (back ≡ place) × (self.new ≡ self.old)) }
     {
         if !takes(self.kind, part, &place) {
@@ -33,7 +33,7 @@ impl Node {
 
 /// Whether the part of a node of the kind takes this, a phrase or nothing.
 fn takes(kind: NodeKind, part: u8, place: &PhrasePlace) -> bool
-    ensures { IsTrue result ↔ (Takes (part_category kind part) (plain_place place.now)) }
+    ensures { IsTrue result ↔ (Takes (part_category kind part) (plain_phrase_place place.now)) }
 {
     let Some(category) = part_category(kind, part) else {
         return false;

@@ -1,7 +1,7 @@
 //! Which section of a node's row the next item stands in.
 ghost use Rattle.std.specs.Prelude.{◌≡◌, map, option_map};
 ghost use Rattle.plcs_grammar.specs.Template.{plain_section};
-ghost use Rattle.template_tree.specs.PlainLeft.{plain_left};
+ghost use Rattle.template_tree.specs.PlainSectionsLeft.{plain_sections_left};
 ghost use Rattle.template_tree.specs.Section.{left_after, left_for, next_lead};
 
 use plcs_grammar::{Amount, Section, Sort};
@@ -17,7 +17,7 @@ pub struct SectionsLeft {
 impl SectionsLeft {
     /// All the sections of a row, as they are left for its first item.
     pub fn of(sections: &'static [Section]) -> SectionsLeft
-        ensures { plain_left result ≡ map plain_section sections.now }
+        ensures { plain_sections_left result ≡ map plain_section sections.now }
     {
         SectionsLeft {
             sections,
@@ -27,7 +27,7 @@ impl SectionsLeft {
 
     /// The sections that are left for an item of the sort and the items after it.
     pub fn at(self, sort: Sort) -> SectionsLeft
-        ensures { plain_left result ≡ left_for sort (plain_left self) }
+        ensures { plain_sections_left result ≡ left_for sort (plain_sections_left self) }
     {
         let Some((section, others)) = self.sections.split_first() else {
             return self;
@@ -40,7 +40,7 @@ impl SectionsLeft {
 
     /// The line that the section of the next item has before it, if it has one that isn't written yet.
     pub fn lead(self) -> Option<&'static [u8]>
-        ensures { option_map (λ bytes. bytes.now) result ≡ next_lead (plain_left self) }
+        ensures { option_map (λ bytes. bytes.now) result ≡ next_lead (plain_sections_left self) }
     {
         if self.begun {
             return None;
@@ -53,7 +53,7 @@ impl SectionsLeft {
 
     /// The sections that are left after an item of the first one among them.
     pub fn after(self) -> SectionsLeft
-        ensures { plain_left result ≡ left_after (plain_left self) }
+        ensures { plain_sections_left result ≡ left_after (plain_sections_left self) }
     {
         let Some((section, others)) = self.sections.split_first() else {
             return self;

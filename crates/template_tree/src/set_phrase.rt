@@ -1,9 +1,9 @@
 //! Phrases set at stops.
 ghost use Rattle.std.specs.Prelude.{◌≡◌, IfErr, IfOk, IsSomeAnd};
 ghost use Rattle.template_tree.specs.EditAnswer.{Edits, TakesAtStop};
-ghost use Rattle.template_tree.specs.Part.{IsPlace};
+ghost use Rattle.template_tree.specs.Part.{IsPhrasePlace};
 ghost use Rattle.template_tree.specs.Path.{node_at};
-ghost use Rattle.template_tree.specs.PlainPlace.{plain_place};
+ghost use Rattle.template_tree.specs.PlainPhrasePlace.{plain_phrase_place};
 ghost use Rattle.template_tree.specs.Receipt.{NeedsNoRoom};
 ghost use Rattle.template_tree.specs.Tree.{IsTree};
 ghost use Rattle.template_tree.specs.TreeEdit.{TreeEdit};
@@ -28,10 +28,10 @@ impl Tree {
         place: PhrasePlace,
     ) -> Result<Receipt, (TreeFault, PhrasePlace)>
         requires tree { IsTree self.old }
-        requires phrase { IsPlace (plain_place place) }
-        ensures edited { IfOk result (λ receipt. IsSomeAnd stop.now.part (λ part. Edits (TreeEdit.set_part part (plain_place place)) (node_at self.old.items stop.now.path.items) (TakesAtStop part (plain_place place)) self.old self.new receipt)) }
+        requires phrase { IsPhrasePlace (plain_phrase_place place) }
+        ensures edited { IfOk result (λ receipt. IsSomeAnd stop.now.part (λ part. Edits (TreeEdit.set_part part (plain_phrase_place place)) (node_at self.old.items stop.now.path.items) (TakesAtStop part (plain_phrase_place place)) self.old self.new receipt)) }
         ensures no_room { IfOk result NeedsNoRoom }
-        ensures refused { IfErr result (λ back. (back.0 ≡ TreeFault.NotHere) × (IsSomeAnd stop.now.part (λ part. IsSomeAnd (node_at self.old.items stop.now.path.items) (TakesAtStop part (plain_place place))) → ⊥)) }
+        ensures refused { IfErr result (λ back. (back.0 ≡ TreeFault.NotHere) × (IsSomeAnd stop.now.part (λ part. IsSomeAnd (node_at self.old.items stop.now.path.items) (TakesAtStop part (plain_phrase_place place))) → ⊥)) }
         ensures tree { IsTree self.new }
         ensures unchanged { IfErr result (λ back. (back.1 ≡ place) × (self.new ≡ self.old)) }
     {

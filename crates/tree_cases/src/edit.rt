@@ -1,7 +1,7 @@
 //! Edits of trees, as cases and walks make them.
 ghost use Rattle.std.specs.Prelude.{◌≡◌, IfErr, IfOk, None};
-ghost use Rattle.template_tree.specs.Part.{IsPlace};
-ghost use Rattle.template_tree.specs.PlainPlace.{plain_place};
+ghost use Rattle.template_tree.specs.Part.{IsPhrasePlace};
+ghost use Rattle.template_tree.specs.PlainPhrasePlace.{plain_phrase_place};
 ghost use Rattle.template_tree.specs.PlainTree.{roomless_tree};
 ghost use Rattle.template_tree.specs.Receipt.{CanUndo, NeedsNoRoom, undone};
 ghost use Rattle.template_tree.specs.Tree.{IsTree};
@@ -200,7 +200,7 @@ fn set(
     back: &mut Told,
 ) -> Result<Receipt, TreeFault>
     requires tree { IsTree tree.old }
-    requires place { IsPlace (plain_place place) }
+    requires place { IsPhrasePlace (plain_phrase_place place) }
     ensures tree { IsTree tree.new }
     ensures can_undo { IfOk result (λ receipt. CanUndo receipt None tree.new) }
     ensures undone { IfOk result (λ receipt. undone receipt None (roomless_tree tree.new) ≡ roomless_tree tree.old) }

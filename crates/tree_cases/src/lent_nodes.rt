@@ -1,6 +1,6 @@
 //! Cases of nodes that are lent for writing.
-ghost use Rattle.template_tree.specs.Part.{IsPlace};
-ghost use Rattle.template_tree.specs.PlainPlace.{plain_place};
+ghost use Rattle.template_tree.specs.Part.{IsPhrasePlace};
+ghost use Rattle.template_tree.specs.PlainPhrasePlace.{plain_phrase_place};
 ghost use Rattle.template_tree.specs.Tree.{IsTree};
 
 use crate::edit::tell_node;
@@ -42,7 +42,7 @@ pub(crate) fn play(alloc: Global, tree: &Tree, words: &[Vec<u8>], told: &mut Tol
 /// Puts this into a part of the node at the path of a tree with the same listing, and tells what comes of it.
 fn put_part(alloc: Global, tree: &Tree, at: &Path, part: u8, place: PhrasePlace, told: &mut Told)
     requires tree { IsTree tree.now }
-    requires place { IsPlace (plain_place place) }
+    requires place { IsPhrasePlace (plain_phrase_place place) }
 {
     let mut listing = Told::new(alloc);
     tree.put_listing(&mut listing);

@@ -1,7 +1,7 @@
 //! Words of cases, and what they stand for.
 ghost use Rattle.std.specs.Prelude.{IfSome, Some};
 ghost use Rattle.plcs_grammar.specs.PlainPhrase.{plain_phrase};
-ghost use Rattle.template_tree.specs.Part.{IsPlace};
+ghost use Rattle.template_tree.specs.Part.{IsPhrasePlace};
 ghost use Rattle.template_tree.specs.Tree.{IsTree};
 
 use case_script::number_of;
@@ -62,7 +62,7 @@ pub(crate) static SIDES: [(&[u8], Side); 2] = [(b"before", Side::Before), (b"aft
 
 /// The phrase of the category that the text reads as, if it may stand in a part.
 pub(crate) fn phrase(alloc: Global, category: Category, text: &[u8]) -> Option<Phrase>
-    ensures { IfSome result (λ phrase. IsPlace (Some (plain_phrase phrase))) }
+    ensures { IfSome result (λ phrase. IsPhrasePlace (Some (plain_phrase phrase))) }
 {
     if text.len() > 1000 {
         return None;

@@ -13,8 +13,8 @@ use Rattle.template_tree.specs.Slots.{AllBelow}
 use Rattle.template_tree.specs.Tree.{IsTree}
 use Rattle.template_tree.specs.TreeEdit.{TreeEdit, tree_after}
 use Rattle.tree_steps.specs.SlotAgreement.{AgreesWith}
-use Rattle.tree_steps.specs.AgreementLaws.{AgreementKeepsProcedures, EditsAgree, GoingBackAgrees, GoingBackPastAgrees, StepsKeepAgreement}
-use Rattle.tree_steps.specs.EditStep.{BringsSort, CameIn, IsStep}
+use Rattle.tree_steps.specs.AgreementLaws.{AgreementKeepsProcedures, EditsAgree, GoingBackAgrees, GoingBackPastAgrees, EditStepsKeepAgreement}
+use Rattle.tree_steps.specs.EditStep.{BringsSort, CameIn, IsEditStep}
 use Rattle.tree_steps.specs.StandingSlot.{Around, StandsBelow, StandsInside, outermost_slot}
 use Rattle.tree_steps.proofs.EditedSlots.{HasSort, Stood, add_new, drop_new, part_new, put_new, standing_below, stood}
 use Rattle.tree_steps.proofs.StandingSlots.{counted_stands, procedures_stand_outermost, stands_once}
@@ -90,13 +90,13 @@ drawn_more (TreeEdit.add side) tree slot = omega arith
 drawn_more TreeEdit.drop tree slot = omega arith
 drawn_more (TreeEdit.set_part part place) tree slot = omega arith
 
-step_drawn : (before after : PlainTree) → IsStep before after → before.drawn ≤ after.drawn
+step_drawn : (before after : PlainTree) → IsEditStep before after → before.drawn ≤ after.drawn
 step_drawn before after step =
     let more : before.drawn ≤ (tree_after step.edit before step.node.label.slot).drawn = drawn_more step.edit before step.node.label.slot in
     let same : after.drawn ≡ (tree_after step.edit before step.node.label.slot).drawn = step.became.drawn in
     omega (arith, more, same)
 
-step_stood : (before after : PlainTree) → IsStep before after → (slot : ℕ) (kind : NodeKind) (around : Around) → slot < before.drawn
+step_stood : (before after : PlainTree) → IsEditStep before after → (slot : ℕ) (kind : NodeKind) (around : Around) → slot < before.drawn
     → StandsInside after.items slot kind around → Stood [] before.items slot kind around
 step_stood before after step slot kind around less h =
     edit_stood step.edit before step.node step.sort (sort_there before step.path step.node step.tree_before step.there) slot kind around less
@@ -105,7 +105,7 @@ step_stood before after step slot kind around less h =
 
 -- ---- agreement
 
-pub steps_keep_agreement : StepsKeepAgreement
+pub steps_keep_agreement : EditStepsKeepAgreement
 steps_keep_agreement earlier before after agrees step =
     record {
       drawn = below_more before.drawn after.drawn earlier.items (step_drawn before after step) agrees.drawn;

@@ -15,13 +15,13 @@ use Rattle.template_tree.specs.Program.{sort_of}
 use Rattle.template_tree.specs.Receipt.{PlainReceipt}
 use Rattle.template_tree.specs.Tree.{IsTree}
 use Rattle.template_tree.specs.TreeEdit.{TreeEdit, tree_after}
-use Rattle.tree_steps.specs.EditStep.{BringsSort, CameByEdits, CameIn, IsSameTree, IsStep}
-use Rattle.tree_steps.specs.StepLaws.{AddHoleIsStep, DropHoleIsStep, EditsFollow, FillAssignIsStep, FillIsStep, InsertIsStep, RoomIsNoEdit, SetPhraseIsStep, StepsAreWays, TakeIsStep, TurnsAreNoEdits}
+use Rattle.tree_steps.specs.EditStep.{BringsSort, CameByEdits, CameIn, IsSameTree, IsEditStep}
+use Rattle.tree_steps.specs.EditStepLaws.{AddHoleIsEditStep, DropHoleIsEditStep, EditsFollow, FillAssignIsEditStep, FillIsEditStep, InsertIsEditStep, RoomIsNoEdit, SetPhraseIsEditStep, EditStepsAreWays, TakeIsEditStep, TogglesAreNoEdits}
 use Rattle.tree_steps.proofs.Substances.{roomless_same, substance_turned}
 
 -- ---- the same tree
 
-pub turns_are_no_edits : TurnsAreNoEdits
+pub turns_are_no_edits : TogglesAreNoEdits
 turns_are_no_edits tree path = record { items = sym (substance_turned path tree.items); drawn = refl }
 
 pub room_is_no_edit : RoomIsNoEdit
@@ -36,7 +36,7 @@ room_is_no_edit one other same =
 -- the edit at the node that is there, whose sort its condition gives
 edit_is_step : (edit : TreeEdit) (Here : PlainNode → Type 0) → ((node : PlainNode) → Here node → BringsSort edit node)
     → (there : Option PlainNode) (path : List ℕ) (before after : PlainTree) (receipt : PlainReceipt) → IsTree before
-    → node_at before.items path ≡ there → Edits edit there Here before after receipt → IsStep before after
+    → node_at before.items path ≡ there → Edits edit there Here before after receipt → IsEditStep before after
 edit_is_step edit Here sorts None path before after receipt is e edits = absurd edits.here
 edit_is_step edit Here sorts (Some node) path before after receipt is e edits =
     record {
@@ -66,7 +66,7 @@ hole_sort Sort.Statement kind e = ap sort_of (sym (ap (kind_there kind) e))
 for_kind : (kind : NodeKind) (node : PlainNode) → IsHoleFor kind node → sort_of kind ≡ sort_of node.label.kind
 for_kind kind node e = sym (hole_sort (sort_of kind) node.label.kind e)
 
-pub fill_is_step : FillIsStep
+pub fill_is_step : FillIsEditStep
 fill_is_step before after receipt path template is edits =
     edit_is_step (TreeEdit.put (fresh_node (NodeKind.Filled template))) (IsHoleFor (NodeKind.Filled template)) (for_kind (NodeKind.Filled template)) (node_at before.items path) path before after
     receipt is refl edits
@@ -76,23 +76,23 @@ for_assignment : (phrase : PlainPhrase) (node : PlainNode) → TakesAssignment p
 for_assignment phrase node (inl hole, category) = ap sort_of (sym hole)
 for_assignment phrase node (inr assignment, category) = ap sort_of (sym assignment)
 
-pub fill_assign_is_step : FillAssignIsStep
+pub fill_assign_is_step : FillAssignIsEditStep
 fill_assign_is_step before after receipt path phrase is edits =
     edit_is_step (TreeEdit.put (assignment_node phrase)) (TakesAssignment phrase) (for_assignment phrase) (node_at before.items path) path before after receipt is refl edits
 
-pub insert_is_step : InsertIsStep
+pub insert_is_step : InsertIsEditStep
 insert_is_step before after receipt path node is edits =
     edit_is_step (TreeEdit.put node) (IsHoleFor node.label.kind) (for_kind node.label.kind) (node_at before.items path) path before after receipt is refl edits
 
-pub set_phrase_is_step : SetPhraseIsStep
+pub set_phrase_is_step : SetPhraseIsEditStep
 set_phrase_is_step before after receipt path part place is edits =
     edit_is_step (TreeEdit.set_part part place) (TakesAtStop part place) (λ node here. tt) (node_at before.items path) path before after receipt is refl edits
 
-pub add_hole_is_step : AddHoleIsStep
+pub add_hole_is_step : AddHoleIsEditStep
 add_hole_is_step before after receipt path side is edits =
     edit_is_step (TreeEdit.add side) (IsListItem before.items path) (λ node here. tt) (node_at before.items path) path before after receipt is refl edits
 
-pub drop_hole_is_step : DropHoleIsStep
+pub drop_hole_is_step : DropHoleIsEditStep
 drop_hole_is_step before after receipt path is edits =
     edit_is_step TreeEdit.drop (IsSpareHole before.items path) (λ node here. tt) (node_at before.items path) path before after receipt is refl edits
 
@@ -107,7 +107,7 @@ in_place : (b : Bool) (kind left : NodeKind) → (if b then None else hole_of (s
 in_place true kind left e = absurd (none-some left e)
 in_place false kind left e = hole_sort (sort_of kind) left e
 
-pub take_is_step : TakeIsStep
+pub take_is_step : TakeIsEditStep
 take_is_step before after receipt path node is there takes =
     record {
       edit = TreeEdit.put (hole_in_place node.label.kind);
@@ -156,5 +156,5 @@ follow (suc n) first second third is came (between, more, step) =
 pub edits_follow : EditsFollow
 edits_follow first second third is one two = follow two.0 first second third is one two.1
 
-pub steps_are_ways : StepsAreWays
+pub steps_are_ways : EditStepsAreWays
 steps_are_ways before after step = (1, (before, record { items = refl; drawn = refl }, step))

@@ -8,7 +8,7 @@ use Rattle.plcs_grammar.specs.declared.template.Template.{Template}
 use Rattle.plcs_grammar.specs.Builtin.{is_builtin_name}
 use Rattle.plcs_grammar.specs.PlainPhrase.{PlainExprs, PlainPhrase, PlainVarRef}
 use Rattle.template_tree.specs.NewTree.{bare_label}
-use Rattle.template_tree.specs.Place.{Exists, PlainAt, Site, Start, at, exists_at, site}
+use Rattle.template_tree.specs.Place.{Exists, PlainPlace, Site, Start, place_at, place_exists_at, site}
 use Rattle.template_tree.specs.PlainTree.{Forest, Label}
 use Rattle.tree_steps.specs.RunPlace.{HasPlace, is_first_marked}
 use Rattle.tree_steps.specs.StandingSlot.{StandsInside, loops_around, outermost_slot}
@@ -64,70 +64,70 @@ sample_marks slot = slot == 6
 -- ---- places
 
 -- a GET has a point for each of its variables
-get_first : Exists sample_marks sample (at 4 0)
+get_first : Exists sample_marks sample (place_at 4 0)
 get_first = refl
 
-get_second : Exists sample_marks sample (at 4 1)
+get_second : Exists sample_marks sample (place_at 4 1)
 get_second = refl
 
-get_no_third : Exists sample_marks sample (at 4 2) → ⊥
+get_no_third : Exists sample_marks sample (place_at 4 2) → ⊥
 get_no_third h = false≢true h
 
 -- an empty GET, and one that is marked, have their start alone
-empty_get : Exists sample_marks sample (at 5 0)
+empty_get : Exists sample_marks sample (place_at 5 0)
 empty_get = refl
 
-empty_get_no_second : Exists sample_marks sample (at 5 1) → ⊥
+empty_get_no_second : Exists sample_marks sample (place_at 5 1) → ⊥
 empty_get_no_second h = false≢true h
 
-marked_get : Exists sample_marks sample (at 6 0)
+marked_get : Exists sample_marks sample (place_at 6 0)
 marked_get = refl
 
-marked_get_no_second : Exists sample_marks sample (at 6 1) → ⊥
+marked_get_no_second : Exists sample_marks sample (place_at 6 1) → ⊥
 marked_get_no_second h = false≢true h
 
 -- a CALL from which a procedure was entered
-call_within : Exists sample_marks sample (at 7 1)
+call_within : Exists sample_marks sample (place_at 7 1)
 call_within = refl
 
-call_no_third : Exists sample_marks sample (at 7 2) → ⊥
+call_no_third : Exists sample_marks sample (place_at 7 2) → ⊥
 call_no_third h = false≢true h
 
 -- a For that takes its next turn
-for_turn : Exists sample_marks sample (at 2 1)
+for_turn : Exists sample_marks sample (place_at 2 1)
 for_turn = refl
 
 -- the end of main, and of a procedure, neither of which is a place to start at
-main_end : Exists sample_marks sample (at 0 1)
+main_end : Exists sample_marks sample (place_at 0 1)
 main_end = refl
 
-main_no_start : Exists sample_marks sample (at 0 0) → ⊥
+main_no_start : Exists sample_marks sample (place_at 0 0) → ⊥
 main_no_start h = false≢true h
 
-procedure_end : Exists sample_marks sample (at 9 1)
+procedure_end : Exists sample_marks sample (place_at 9 1)
 procedure_end = refl
 
-procedure_no_start : Exists sample_marks sample (at 9 0) → ⊥
+procedure_no_start : Exists sample_marks sample (place_at 9 0) → ⊥
 procedure_no_start h = false≢true h
 
 -- a statement hole, at which a run stops, and nothing beside
-hole_start : Exists sample_marks sample (at 8 0)
+hole_start : Exists sample_marks sample (place_at 8 0)
 hole_start = refl
 
-hole_no_second : Exists sample_marks sample (at 8 1) → ⊥
+hole_no_second : Exists sample_marks sample (place_at 8 1) → ⊥
 hole_no_second h = false≢true h
 
-declaration_no_place : Exists sample_marks sample (at 1 0) → ⊥
+declaration_no_place : Exists sample_marks sample (place_at 1 0) → ⊥
 declaration_no_place h = false≢true h
 
 -- a slot that isn't live
-no_slot : Exists sample_marks sample (at 12 0) → ⊥
+no_slot : Exists sample_marks sample (place_at 12 0) → ⊥
 no_slot h = false≢true h
 
 -- ---- places by the program's own marks
 
 -- the site of a GET with nothing inside
-abbrev get_site : ℕ → List ℕ → PlainAt → Site
+abbrev get_site : ℕ → List ℕ → PlainPlace → Site
 get_site slot name after =
     record { label = filled slot Template.Get (Some (PlainPhrase.variable_list (twice name)) ∷ []); inner = Forest.nil; after = after }
 
@@ -135,19 +135,19 @@ get_site slot name after =
 declared_unmarked : is_first_marked sample 4 ≡ false
 unfolding is_builtin_name
 declared_unmarked =
-    list_marks_follow_items sample 4 0 (get_site 4 (codes "x") (at 5 0)) (twice (codes "x")) [] (omega arith) (omega arith) refl refl refl
+    list_marks_follow_items sample 4 0 (get_site 4 (codes "x") (place_at 5 0)) (twice (codes "x")) [] (omega arith) (omega arith) refl refl refl
 
-own_second : HasPlace sample (at 4 1)
-own_second = ap (λ (marked : Bool). exists_at marked (site sample 4) 1) declared_unmarked
+own_second : HasPlace sample (place_at 4 1)
+own_second = ap (λ (marked : Bool). place_exists_at marked (site sample 4) 1) declared_unmarked
 
 -- what isn't declared is
 undeclared_marked : is_first_marked sample 6 ≡ true
 unfolding is_builtin_name
 undeclared_marked =
-    list_marks_follow_items sample 6 0 (get_site 6 (codes "y") (at 2 1)) (twice (codes "y")) [] (omega arith) (omega arith) refl refl refl
+    list_marks_follow_items sample 6 0 (get_site 6 (codes "y") (place_at 2 1)) (twice (codes "y")) [] (omega arith) (omega arith) refl refl refl
 
-own_no_second : HasPlace sample (at 6 1) → ⊥
-own_no_second h = false≢true (sym (ap (λ (marked : Bool). exists_at marked (site sample 6) 1) undeclared_marked) ∙ h)
+own_no_second : HasPlace sample (place_at 6 1) → ⊥
+own_no_second h = false≢true (sym (ap (λ (marked : Bool). place_exists_at marked (site sample 6) 1) undeclared_marked) ∙ h)
 
 -- ---- where slots stand
 
@@ -165,5 +165,5 @@ get_procedure : outermost_slot 4 ((3, NodeKind.Filled Template.Group) ∷ ((2, N
 get_procedure = refl
 
 -- a run that comes to the group begins with the GET in it
-group_begins : Start sample 3 ≡ Some (at 4 0)
+group_begins : Start sample 3 ≡ Some (place_at 4 0)
 group_begins = refl

@@ -5,7 +5,7 @@ use Rattle.std.proofs.Common.{ap, sym, ◌∙◌, subst, inl, inr}
 use Rattle.plcs_grammar.specs.declared.node_kind.NodeKind.{NodeKind}
 use Rattle.plcs_grammar.specs.declared.template.Template.{Template}
 use Rattle.plcs_grammar.specs.PlainPhrase.{PlainPhrase}
-use Rattle.template_tree.specs.Place.{Site, at, exists_at, has_point, is_statement}
+use Rattle.template_tree.specs.Place.{Site, place_at, place_exists_at, has_point, is_statement}
 use Rattle.template_tree.specs.PlainTree.{Label}
 use Rattle.template_tree.specs.Program.{sort_of}
 use Rattle.tree_steps.specs.PlaceLaws.{AgreementKeepsLoops, AgreementKeepsPlaces, AgreementKeepsStarts}
@@ -65,12 +65,12 @@ kind_marks was_marked is_marked label other point marked = refl
 
 place_kept : (was_marked is_marked : Bool) (point : ℕ) (one other : Site) → sort_of one.label.kind ≡ sort_of other.label.kind
     → KeepsPoint one.label other.label was_marked is_marked point
-    → IsTrue (exists_at was_marked (Some one) point) → IsTrue (exists_at is_marked (Some other) point)
+    → IsTrue (place_exists_at was_marked (Some one) point) → IsTrue (place_exists_at is_marked (Some other) point)
 place_kept was_marked is_marked point one other sort (inl start) h =
-    subst (λ (p : ℕ). IsTrue (exists_at is_marked (Some other) p)) (sym start)
+    subst (λ (p : ℕ). IsTrue (place_exists_at is_marked (Some other) p)) (sym start)
     (statement_starts (sort_of other.label.kind) (has_point is_marked other.label other.label.kind 0)
     (sym (ap is_statement sort)
-    ∙ kind_start was_marked one.label one.label.kind (subst (λ (p : ℕ). IsTrue (exists_at was_marked (Some one) p)) start h)))
+    ∙ kind_start was_marked one.label one.label.kind (subst (λ (p : ℕ). IsTrue (place_exists_at was_marked (Some one) p)) start h)))
 place_kept was_marked is_marked point one other sort (inr (kind, parts, marked)) h =
     subst IsTrue
     (ap (λ (more : Bool). (is_statement (sort_of other.label.kind) && (point == 0)) || more)
@@ -79,9 +79,9 @@ place_kept was_marked is_marked point one other sort (inr (kind, parts, marked))
 
 pub agreement_keeps_places : AgreementKeepsPlaces
 agreement_keeps_places earlier later was_marked is_marked slot point one other agrees e_one e_other keeps exists =
-    let there = found_among [] slot false earlier.items (at 0 1) one e_one in
-    let later_there = found_among [] slot false later.items (at 0 1) other e_other in
+    let there = found_among [] slot false earlier.items (place_at 0 1) one e_one in
+    let later_there = found_among [] slot false later.items (place_at 0 1) other e_other in
     let same = agrees.alike slot one.label.kind other.label.kind there.around later_there.around there.stands later_there.stands in
-    subst (λ found. IsTrue (exists_at (is_marked slot) found point)) (sym e_other)
+    subst (λ found. IsTrue (place_exists_at (is_marked slot) found point)) (sym e_other)
     (place_kept (was_marked slot) (is_marked slot) point one other same.0 keeps
-    (subst (λ found. IsTrue (exists_at (was_marked slot) found point)) e_one exists))
+    (subst (λ found. IsTrue (place_exists_at (was_marked slot) found point)) e_one exists))

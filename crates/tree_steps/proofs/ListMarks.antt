@@ -14,8 +14,8 @@ use Rattle.plcs_grammar.specs.Template.{row_of}
 use Rattle.template_tree.specs.Edit.{procedure_of}
 use Rattle.template_tree.specs.Environment.{items_inside, procedure_at}
 use Rattle.template_tree.specs.Marks.{VerdictList, Verdicts, node_verdicts, part_verdicts, procedure_verdicts, surroundings}
-use Rattle.template_tree.specs.Mention.{phrase_place}
-use Rattle.template_tree.specs.Place.{PlainAt, Site, at, begin, end_at, in_turn, inner_end, site, site_among}
+use Rattle.template_tree.specs.Mention.{phrase_at}
+use Rattle.template_tree.specs.Place.{PlainPlace, Site, place_at, begin, end_at, in_turn, inner_end, site, site_among}
 use Rattle.template_tree.specs.PlainTree.{Forest, Label, PlainNode, forest, nodes}
 use Rattle.template_tree.specs.Slots.{times}
 use Rattle.template_tree.specs.Verdict.{Surroundings, references_offence, verdict}
@@ -29,7 +29,7 @@ use Rattle.tree_steps.proofs.StandingSlots.{counted, found_first, found_later, h
 
 -- the verdict that is found at the first part of a slot
 abbrev found_in : ℕ → VerdictList → Option (Option MarkKind)
-found_in slot list = find phrase_cmp (phrase_place slot 0) list
+found_in slot list = find phrase_cmp (phrase_at slot 0) list
 
 none_level : (same : Bool) (own : Option MarkKind) (one joined behind : Option (Option MarkKind)) → cond same (Some own) one ≡ None
     → (one ≡ None → joined ≡ behind) → cond same (Some own) joined ≡ behind
@@ -39,7 +39,7 @@ none_level false own one joined behind e later = later e
 front_none : (slot : ℕ) (one other : VerdictList) → found_in slot one ≡ None → found_in slot (one ++ other) ≡ found_in slot other
 front_none slot [] other e = refl
 front_none slot (entry ∷ one) other e =
-    none_level (eq_by_cmp phrase_cmp (phrase_place slot 0) entry.0) entry.1 (found_in slot one) (found_in slot (one ++ other)) (found_in slot other) e
+    none_level (eq_by_cmp phrase_cmp (phrase_at slot 0) entry.0) entry.1 (found_in slot one) (found_in slot (one ++ other)) (found_in slot other) e
     (front_none slot one other)
 
 some_level : (same : Bool) (own there : Option MarkKind) (one joined : Option (Option MarkKind)) → cond same (Some own) one ≡ Some there
@@ -51,18 +51,18 @@ front_some : (slot : ℕ) (one other : VerdictList) (there : Option MarkKind) �
     → found_in slot (one ++ other) ≡ Some there
 front_some slot [] other there e = absurd (none-some there e)
 front_some slot (entry ∷ one) other there e =
-    some_level (eq_by_cmp phrase_cmp (phrase_place slot 0) entry.0) entry.1 there (found_in slot one) (found_in slot (one ++ other)) e
+    some_level (eq_by_cmp phrase_cmp (phrase_at slot 0) entry.0) entry.1 there (found_in slot one) (found_in slot (one ++ other)) e
     (front_some slot one other there)
 
 -- ---- what is found among the parts of a node
 
-other_place : (slot other part : ℕ) → (slot ≡ other → ⊥) → eq_by_cmp phrase_cmp (phrase_place slot 0) (phrase_place other part) ≡ false
+other_place : (slot other part : ℕ) → (slot ≡ other → ⊥) → eq_by_cmp phrase_cmp (phrase_at slot 0) (phrase_at other part) ≡ false
 other_place slot other part apart =
-    sym (place_ties (phrase_place slot 0) (phrase_place other part)) ∙ ap (λ (b : Bool). b && nat_eq 0 part) (ne_eqb slot other apart)
+    sym (place_ties (phrase_at slot 0) (phrase_at other part)) ∙ ap (λ (b : Bool). b && nat_eq 0 part) (ne_eqb slot other apart)
 
-own_place : (slot : ℕ) → eq_by_cmp phrase_cmp (phrase_place slot 0) (phrase_place slot 0) ≡ true
+own_place : (slot : ℕ) → eq_by_cmp phrase_cmp (phrase_at slot 0) (phrase_at slot 0) ≡ true
 own_place slot =
-    sym (place_ties (phrase_place slot 0) (phrase_place slot 0)) ∙ ap (λ (b : Bool). b && true) (eq-eqb slot slot refl)
+    sym (place_ties (phrase_at slot 0) (phrase_at slot 0)) ∙ ap (λ (b : Bool). b && true) (eq-eqb slot slot refl)
 
 other_parts : (s : Surroundings) (slot other part : ℕ) (parts : List (Option PlainPhrase)) → (slot ≡ other → ⊥)
     → found_in slot (part_verdicts s other part parts) ≡ None
@@ -97,7 +97,7 @@ absent_nodes program procedure (Forest.cons label inner rest) slot none =
     ∙ absent_nodes program procedure rest slot (omega (arith, none)))
 
 -- the node itself, or what stands inside it or behind it
-nodes_level : (same : Bool) (program : Forest) (procedure : PlainNode) (label : Label) (inner rest : Forest) (slot : ℕ) (after : PlainAt)
+nodes_level : (same : Bool) (program : Forest) (procedure : PlainNode) (label : Label) (inner rest : Forest) (slot : ℕ) (after : PlainPlace)
     (within behind : Option Site) (found : Site) (phrase : PlainPhrase) (others : List (Option PlainPhrase))
     → times slot (Forest.cons label inner rest) ≤ 1 → (label.slot == slot) ≡ same → found.label.parts ≡ Some phrase ∷ others
     → (within ≡ Some found → found_in slot (node_verdicts program procedure inner) ≡ Some (verdict (surroundings program procedure slot) phrase))
@@ -126,15 +126,15 @@ nodes_level false program procedure label inner rest slot after within behind fo
           ∙ (later b).1)
     ]
 
-found_nodes : (program : Forest) (procedure : PlainNode) (items : Forest) (slot : ℕ) (turn : Bool) (place : PlainAt) (found : Site)
+found_nodes : (program : Forest) (procedure : PlainNode) (items : Forest) (slot : ℕ) (turn : Bool) (place : PlainPlace) (found : Site)
     (phrase : PlainPhrase) (others : List (Option PlainPhrase))
     → times slot items ≤ 1 → site_among slot turn items place ≡ Some found → found.label.parts ≡ Some phrase ∷ others
     → found_in slot (node_verdicts program procedure items) ≡ Some (verdict (surroundings program procedure slot) phrase)
 found_nodes program procedure Forest.nil slot turn place found phrase others once e parts = absurd (none-some found e)
 found_nodes program procedure (Forest.cons label inner rest) slot turn place found phrase others once e parts =
-    let after : PlainAt = if turn then begin rest place else place in
+    let after : PlainPlace = if turn then begin rest place else place in
     let inner_turn : Bool = in_turn (row_of label.kind).sections in
-    let inner_end_at : PlainAt = end_at label.slot (inner_end label.kind) after in
+    let inner_end_at : PlainPlace = end_at label.slot (inner_end label.kind) after in
     nodes_level (label.slot == slot) program procedure label inner rest slot after
     (site_among slot inner_turn inner inner_end_at) (site_among slot turn rest place) found phrase others once refl parts
     (λ a. found_nodes program procedure inner slot inner_turn inner_end_at found phrase others (omega (arith, once)) a parts)
@@ -177,10 +177,10 @@ found_procedures program (Forest.cons label inner rest) zero procedure slot foun
     front_some slot (node_verdicts program node (forest (node ∷ []))) (procedure_verdicts program rest)
     (verdict (surroundings program procedure slot) phrase)
     (ap (λ (p : PlainNode). found_in slot (node_verdicts program p (forest (p ∷ [])))) same
-    ∙ found_nodes program procedure (forest (procedure ∷ [])) slot false (at 0 1) found phrase others (omega (arith, few, once)) here parts)
+    ∙ found_nodes program procedure (forest (procedure ∷ [])) slot false (place_at 0 1) found phrase others (omega (arith, few, once)) here parts)
 found_procedures program (Forest.cons label inner rest) (suc number) procedure slot found phrase others once e here parts =
     let node : PlainNode = record { label = label; inner = inner } in
-    let there = found_among [] slot false (forest (procedure ∷ [])) (at 0 1) found here in
+    let there = found_among [] slot false (forest (procedure ∷ [])) (place_at 0 1) found here in
     let some : 1 ≤ times slot (forest (procedure ∷ [])) =
     stands_counted [] (forest (procedure ∷ [])) slot found.label.kind there.around there.stands in
     let few : times slot (forest (procedure ∷ [])) ≤ times slot rest = counted_in rest number procedure slot e in
@@ -201,7 +201,7 @@ record InProcedure (items : Forest) (slot procedure : ℕ) (found : Site) : Type
 absent_level : (items : Forest) (slot : ℕ) (found : Option Site) → site items slot ≡ found → times slot items ≡ 0 → found ≡ None
 absent_level items slot None e none = refl
 absent_level items slot (Some found) e none =
-    let there = found_among [] slot false items (at 0 1) found e in
+    let there = found_among [] slot false items (place_at 0 1) found e in
     let some : 1 ≤ times slot items = stands_counted [] items slot found.label.kind there.around there.stands in
     absurd (omega (arith, none, some))
 
@@ -259,8 +259,8 @@ procedure_level zero label inner rest slot procedure found is once own e here la
     let behind : procedure_of rest slot ≡ Some procedure =
     sym (found_later (has slot) item (nodes rest) (le-ltb 0 (times slot (forest (item ∷ []))) none)) ∙ e in
     let past : site (Forest.cons label inner rest) slot ≡ site rest slot =
-    past_level (label.slot == slot) (record { label = label; inner = inner; after = at 0 1 })
-    (site_among slot (in_turn (row_of label.kind).sections) inner (end_at label.slot (inner_end label.kind) (at 0 1))) (site rest slot)
+    past_level (label.slot == slot) (record { label = label; inner = inner; after = place_at 0 1 })
+    (site_among slot (in_turn (row_of label.kind).sections) inner (end_at label.slot (inner_end label.kind) (place_at 0 1))) (site rest slot)
     (absent_site (forest (item ∷ [])) slot (omega (arith, is))) in
     let there : InProcedure rest slot procedure found = later behind (sym past ∙ here) in
     let some : 1 ≤ times procedure rest = named_counted rest procedure there.node there.named in
@@ -286,8 +286,8 @@ procedure_level (suc n) label inner rest slot procedure found is once own e here
       held =
           sym (ap (λ (o : Option Site).
           if label.slot == slot
-          then Some (let own : Site = record { label = label; inner = inner; after = at 0 1 } in own)
-          else option_or (site_among slot (in_turn (row_of label.kind).sections) inner (end_at label.slot (inner_end label.kind) (at 0 1))) o)
+          then Some (let own : Site = record { label = label; inner = inner; after = place_at 0 1 } in own)
+          else option_or (site_among slot (in_turn (row_of label.kind).sections) inner (end_at label.slot (inner_end label.kind) (place_at 0 1))) o)
           behind)
           ∙ here;
       named = named_first label inner rest procedure (ap (number_there label.slot) first);
@@ -308,9 +308,9 @@ marks_by_number : (items : Forest) (number : ℕ) (procedure : PlainNode) (slot 
     → is_first_marked items slot ≡ is_some (references_offence (items_inside procedure.inner) targets)
 marks_by_number items number procedure slot found targets others once e here parts =
     ap is_some
-    (mark_at (Verdicts items) (phrase_place slot 0)
+    (mark_at (Verdicts items) (phrase_at slot 0)
     ∙ ap option_flatten
-    (get-from_entries places_total (procedure_verdicts items items) (phrase_place slot 0)
+    (get-from_entries places_total (procedure_verdicts items items) (phrase_at slot 0)
     ∙ found_procedures items items number procedure slot found (PlainPhrase.variable_list targets) others once e here parts))
 
 pub list_marks_follow_items : ListMarksFollowItems

@@ -6,8 +6,8 @@ use Rattle.std.specs.Option.{option_or}
 use Rattle.std.proofs.Common.{ap, sym, ◌∙◌, subst}
 use Rattle.plcs_grammar.specs.Template.{row_of}
 use Rattle.template_tree.specs.Marks.{VerdictMap, Verdicts, offences}
-use Rattle.template_tree.specs.Mention.{phrase_place}
-use Rattle.template_tree.specs.Place.{Exists, PlainAt, Site, at, begin, end_at, exists_at, in_turn, inner_end, is_statement, passes_in, site, site_among, site_start}
+use Rattle.template_tree.specs.Mention.{phrase_at}
+use Rattle.template_tree.specs.Place.{Exists, PlainPlace, Site, place_at, begin, end_at, place_exists_at, in_turn, inner_end, is_statement, passes_in, site, site_among, site_start}
 use Rattle.template_tree.specs.PlainTree.{Forest, Label}
 use Rattle.template_tree.specs.Program.{sort_of}
 use Rattle.tree_steps.specs.EditStep.{substance}
@@ -15,11 +15,11 @@ use Rattle.tree_steps.specs.RunPlace.{HasPlace, PlacesAlike, SitesAlike, is_firs
 
 -- ---- where a run begins
 
-pub begin_same : (items : Forest) (behind : PlainAt) → begin (substance items) behind ≡ begin items behind
+pub begin_same : (items : Forest) (behind : PlainPlace) → begin (substance items) behind ≡ begin items behind
 begin_same Forest.nil behind = refl
 begin_same (Forest.cons label inner rest) behind =
     λ i. if is_statement (sort_of label.kind)
-    then (if passes_in label.kind then begin_same inner behind i else at label.slot 0)
+    then (if passes_in label.kind then begin_same inner behind i else place_at label.slot 0)
     else begin_same rest behind i
 
 -- ---- sites
@@ -39,21 +39,21 @@ found_same true own within within' behind behind' a b = refl
 found_same false own within within' behind behind' a b = (λ i. option_or (a i) (b i)) ∙ either_same within behind
 
 -- where a run goes on behind a node
-after_same : (turn : Bool) (rest : Forest) (behind : PlainAt)
+after_same : (turn : Bool) (rest : Forest) (behind : PlainPlace)
     → (if turn then begin (substance rest) behind else behind) ≡ (if turn then begin rest behind else behind)
-after_same turn rest behind = ap (λ (place : PlainAt). if turn then place else behind) (begin_same rest behind)
+after_same turn rest behind = ap (λ (place : PlainPlace). if turn then place else behind) (begin_same rest behind)
 
 -- the site with this place behind it
-abbrev own_site : Label → Forest → PlainAt → Site
+abbrev own_site : Label → Forest → PlainPlace → Site
 own_site label inner after = record { label = label; inner = inner; after = after }
 
-among_same : (slot : ℕ) (turn : Bool) (items : Forest) (behind : PlainAt)
+among_same : (slot : ℕ) (turn : Bool) (items : Forest) (behind : PlainPlace)
     → site_among slot turn (substance items) behind ≡ option_map site_substance (site_among slot turn items behind)
 among_same slot turn Forest.nil behind = refl
 among_same slot turn (Forest.cons label inner rest) behind =
-    let after : PlainAt = if turn then begin rest behind else behind in
+    let after : PlainPlace = if turn then begin rest behind else behind in
     let inner_turn : Bool = in_turn (row_of label.kind).sections in
-    ap (λ (place : PlainAt).
+    ap (λ (place : PlainPlace).
     if label.slot == slot
     then Some (own_site (record label { elided = false; spare = 0 }) (substance inner) place)
     else option_or (site_among slot inner_turn (substance inner) (end_at label.slot (inner_end label.kind) place))
@@ -66,7 +66,7 @@ among_same slot turn (Forest.cons label inner rest) behind =
     (among_same slot inner_turn inner (end_at label.slot (inner_end label.kind) after)) (among_same slot turn rest behind)
 
 site_same : (items : Forest) (slot : ℕ) → site (substance items) slot ≡ option_map site_substance (site items slot)
-site_same items slot = among_same slot false items (at 0 1)
+site_same items slot = among_same slot false items (place_at 0 1)
 
 -- ---- what is seen of a site
 
@@ -82,7 +82,7 @@ found_once (Some found) = λ i. Some (own_site (record found.label { elided = fa
 start_same : (found : Option Site) → option_map site_start (option_map site_substance found) ≡ option_map site_start found
 start_same None = refl
 start_same (Some found) =
-    λ i. Some (if passes_in found.label.kind then begin_same found.inner found.after i else at found.label.slot 0)
+    λ i. Some (if passes_in found.label.kind then begin_same found.inner found.after i else place_at found.label.slot 0)
 
 behind_same : (found : Option Site)
     → option_map (λ (s : Site). s.after) (option_map site_substance found) ≡ option_map (λ (s : Site). s.after) found
@@ -90,7 +90,7 @@ behind_same None = refl
 behind_same (Some found) = refl
 
 exists_same : (marked : Bool) (found : Option Site) (point : ℕ)
-    → exists_at marked (option_map site_substance found) point ≡ exists_at marked found point
+    → place_exists_at marked (option_map site_substance found) point ≡ place_exists_at marked found point
 exists_same marked None point = refl
 exists_same marked (Some found) point = refl
 
@@ -109,20 +109,20 @@ both_ways same = (subst (λ (T : Type 0). T) same, subst (λ (T : Type 0). T) (s
 
 first_marked_same : (one other : Forest) → Verdicts one ≡ Verdicts other → (slot : ℕ) → is_first_marked one slot ≡ is_first_marked other slot
 first_marked_same one other same slot =
-    ap (λ (verdicts : VerdictMap). is_some (get (offences verdicts) (phrase_place slot 0))) same
+    ap (λ (verdicts : VerdictMap). is_some (get (offences verdicts) (phrase_at slot 0))) same
 
-exist_same : (one other : Forest) → substance one ≡ substance other → (marked : ℕ → Bool) (place : PlainAt)
+exist_same : (one other : Forest) → substance one ≡ substance other → (marked : ℕ → Bool) (place : PlainPlace)
     → Exists marked one place ≡ Exists marked other place
 exist_same one other e marked place =
     ap IsTrue
-    (seen_same (λ (found : Option Site). exists_at (marked place.slot) found place.point) (λ found. exists_same (marked place.slot) found place.point)
+    (seen_same (λ (found : Option Site). place_exists_at (marked place.slot) found place.point) (λ found. exists_same (marked place.slot) found place.point)
     one other e place.slot)
 
-own_same : (one other : Forest) → substance one ≡ substance other → Verdicts one ≡ Verdicts other → (place : PlainAt)
+own_same : (one other : Forest) → substance one ≡ substance other → Verdicts one ≡ Verdicts other → (place : PlainPlace)
     → HasPlace one place ≡ HasPlace other place
 own_same one other e same place =
     exist_same one other e (is_first_marked one) place
-    ∙ ap (λ (marked : Bool). IsTrue (exists_at marked (site other place.slot) place.point)) (first_marked_same one other same place.slot)
+    ∙ ap (λ (marked : Bool). IsTrue (place_exists_at marked (site other place.slot) place.point)) (first_marked_same one other same place.slot)
 
 pub sites_alike : (one other : Forest) → substance one ≡ substance other → SitesAlike one other
 sites_alike one other e =

@@ -1,7 +1,7 @@
 -- The places of a run ignore room and elision.
 use Rattle.template_tree.specs.CheckLaws.{ChecksIgnoreElision, ChecksIgnoreRoom}
 use Rattle.template_tree.specs.Edit.{edit_at}
-use Rattle.template_tree.specs.Elision.{turn}
+use Rattle.template_tree.specs.Elision.{toggled}
 use Rattle.template_tree.specs.PlainTree.{roomless}
 use Rattle.tree_steps.specs.PlaceLaws.{PlacesIgnoreElision, PlacesIgnoreRoom}
 use Rattle.tree_steps.proofs.PlaceSubstances.{places_alike}
@@ -12,4 +12,4 @@ places_ignore_room checks items = places_alike (roomless items) items (substance
 
 pub places_ignore_elision : ChecksIgnoreElision → PlacesIgnoreElision
 places_ignore_elision checks items path =
-    places_alike (edit_at turn path items) items (substance_turned path items) (checks items path).verdicts
+    places_alike (edit_at toggled path items) items (substance_turned path items) (checks items path).verdicts

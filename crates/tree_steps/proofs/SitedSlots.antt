@@ -10,7 +10,7 @@ use Rattle.plcs_grammar.specs.declared.node_kind.NodeKind.{NodeKind}
 use Rattle.plcs_grammar.specs.declared.node_kind.Sort.{Sort}
 use Rattle.plcs_grammar.specs.declared.template.Template.{Template}
 use Rattle.plcs_grammar.specs.Template.{list_of, row_of}
-use Rattle.template_tree.specs.Place.{Exists, PlainAt, Site, at, begin, end_at, exists_at, has_point, in_turn, inner_end, is_statement, passes_in, site_among, site_start}
+use Rattle.template_tree.specs.Place.{Exists, PlainPlace, Site, place_at, begin, end_at, place_exists_at, has_point, in_turn, inner_end, is_statement, passes_in, site_among, site_start}
 use Rattle.template_tree.specs.PlainTree.{Forest, Label}
 use Rattle.template_tree.specs.Slots.{times}
 use Rattle.template_tree.specs.Program.{AreNodes, Fill, IsNode, sort_of, sorts}
@@ -55,10 +55,10 @@ found_behind above label inner rest slot found there =
     }
 
 -- the site with this place behind it
-abbrev own_site : Label → Forest → PlainAt → Site
+abbrev own_site : Label → Forest → PlainPlace → Site
 own_site label inner after = record { label = label; inner = inner; after = after }
 
-found_here : (above : Around) (label : Label) (inner rest : Forest) (slot : ℕ) (after : PlainAt) → label.slot ≡ slot
+found_here : (above : Around) (label : Label) (inner rest : Forest) (slot : ℕ) (after : PlainPlace) → label.slot ≡ slot
     → FoundAt above (Forest.cons label inner rest) slot (own_site label inner after)
 found_here above label inner rest slot after same =
     record {
@@ -80,7 +80,7 @@ pub either_found : (within behind : Option Site) (found : Site) → option_or wi
 either_found None behind found e = inr e
 either_found (Some one) behind found e = inl e
 
-found_level : (same : Bool) (above : Around) (label : Label) (inner rest : Forest) (slot : ℕ) (after : PlainAt) (within behind : Option Site) (found : Site)
+found_level : (same : Bool) (above : Around) (label : Label) (inner rest : Forest) (slot : ℕ) (after : PlainPlace) (within behind : Option Site) (found : Site)
     → (label.slot == slot) ≡ same
     → (within ≡ Some found → FoundAt ((label.slot, label.kind) ∷ above) inner slot found)
     → (behind ≡ Some found → FoundAt above rest slot found)
@@ -95,11 +95,11 @@ found_level false above label inner rest slot after within behind found same ins
       | inr b ↦ found_behind above label inner rest slot found (later b)
     ]
 
-pub found_among : (above : Around) (slot : ℕ) (turn : Bool) (items : Forest) (place : PlainAt) (found : Site)
+pub found_among : (above : Around) (slot : ℕ) (turn : Bool) (items : Forest) (place : PlainPlace) (found : Site)
     → site_among slot turn items place ≡ Some found → FoundAt above items slot found
 found_among above slot turn Forest.nil place found e = absurd (none-some found e)
 found_among above slot turn (Forest.cons label inner rest) place found e =
-    let after : PlainAt = if turn then begin rest place else place in
+    let after : PlainPlace = if turn then begin rest place else place in
     let inner_turn : Bool = in_turn (row_of label.kind).sections in
     found_level (label.slot == slot) above label inner rest slot after
     (site_among slot inner_turn inner (end_at label.slot (inner_end label.kind) after)) (site_among slot turn rest place) found refl
@@ -109,7 +109,7 @@ found_among above slot turn (Forest.cons label inner rest) place found e =
 
 pub sites_stand : SitesStand
 sites_stand items slot found e =
-    let there = found_among [] slot false items (at 0 1) found e in
+    let there = found_among [] slot false items (place_at 0 1) found e in
     (there.slot_is, there.around, there.stands)
 
 -- ---- a slot that stands has a site
@@ -128,30 +128,30 @@ level_has true own within behind h = (own, refl)
 level_has false own within behind (inl e) = absurd (false≢true e)
 level_has false own within behind (inr h) = either_has within behind h
 
-among_has : (above : Around) (slot : ℕ) (turn : Bool) (items : Forest) (place : PlainAt) (kind : NodeKind) (around : Around)
+among_has : (above : Around) (slot : ℕ) (turn : Bool) (items : Forest) (place : PlainPlace) (kind : NodeKind) (around : Around)
     → StandsBelow above items slot kind around → HasSite (site_among slot turn items place)
 among_has above slot turn Forest.nil place kind around h = absurd h
 among_has above slot turn (Forest.cons label inner rest) place kind around (inl h) =
-    let after : PlainAt = if turn then begin rest place else place in
+    let after : PlainPlace = if turn then begin rest place else place in
     let inner_turn : Bool = in_turn (row_of label.kind).sections in
     level_has (label.slot == slot) (own_site label inner after)
     (site_among slot inner_turn inner (end_at label.slot (inner_end label.kind) after)) (site_among slot turn rest place)
     (inl (eq-eqb label.slot slot h.0))
 among_has above slot turn (Forest.cons label inner rest) place kind around (inr (inl h)) =
-    let after : PlainAt = if turn then begin rest place else place in
+    let after : PlainPlace = if turn then begin rest place else place in
     let inner_turn : Bool = in_turn (row_of label.kind).sections in
     level_has (label.slot == slot) (own_site label inner after)
     (site_among slot inner_turn inner (end_at label.slot (inner_end label.kind) after)) (site_among slot turn rest place)
     (inr (inl (among_has ((label.slot, label.kind) ∷ above) slot inner_turn inner (end_at label.slot (inner_end label.kind) after) kind around h)))
 among_has above slot turn (Forest.cons label inner rest) place kind around (inr (inr h)) =
-    let after : PlainAt = if turn then begin rest place else place in
+    let after : PlainPlace = if turn then begin rest place else place in
     let inner_turn : Bool = in_turn (row_of label.kind).sections in
     level_has (label.slot == slot) (own_site label inner after)
     (site_among slot inner_turn inner (end_at label.slot (inner_end label.kind) after)) (site_among slot turn rest place)
     (inr (inr (among_has above slot turn rest place kind around h)))
 
 pub standing_slots_have_sites : StandingSlotsHaveSites
-standing_slots_have_sites items slot kind around h = among_has [] slot false items (at 0 1) kind around h
+standing_slots_have_sites items slot kind around h = among_has [] slot false items (place_at 0 1) kind around h
 
 -- ---- where a run begins
 
@@ -195,7 +195,7 @@ same_loops : (kind : NodeKind) (slot : ℕ) (around : Around) → passes_in kind
 same_loops kind slot around e = ap (λ (loop : List ℕ). loops_around around ++ loop) (no_loop kind slot e) ∙ append-nil (loops_around around)
 
 -- a place is the start of a statement among these nodes, or inside one of them, in the same loops
-record BeginsBelow (above : Around) (items : Forest) (place : PlainAt) : Type 0 where
+record BeginsBelow (above : Around) (items : Forest) (place : PlainPlace) : Type 0 where
   start : place.point ≡ 0
   kind : NodeKind
   within : Around
@@ -205,10 +205,10 @@ record BeginsBelow (above : Around) (items : Forest) (place : PlainAt) : Type 0 
   loops : loops_around within ≡ loops_around above
 
 -- the first node is where a run begins, or passes it on
-begin_level : (statement passes : Bool) (above : Around) (label : Label) (inner rest : Forest) (one other : PlainAt)
+begin_level : (statement passes : Bool) (above : Around) (label : Label) (inner rest : Forest) (one other : PlainPlace)
     → statement ≡ true → passes_in label.kind ≡ passes → sort_of label.kind ≡ Sort.Statement
     → (passes ≡ true → BeginsBelow ((label.slot, label.kind) ∷ above) inner one)
-    → BeginsBelow above (Forest.cons label inner rest) (if statement then (if passes then one else at label.slot 0) else other)
+    → BeginsBelow above (Forest.cons label inner rest) (if statement then (if passes then one else place_at label.slot 0) else other)
 begin_level false passes above label inner rest one other is pass sort inside = absurd (false≢true is)
 begin_level true true above label inner rest one other is pass sort inside =
     let there = inside refl in
@@ -224,7 +224,7 @@ begin_level true true above label inner rest one other is pass sort inside =
 begin_level true false above label inner rest one other is pass sort inside =
     record { start = refl; kind = label.kind; within = above; stands = inl (refl, refl, refl); statement = sort; stays = pass; loops = refl }
 
-begin_below : (above : Around) (items : Forest) (behind : PlainAt) → AreNodes items → StartsWithStatement (sorts items)
+begin_below : (above : Around) (items : Forest) (behind : PlainPlace) → AreNodes items → StartsWithStatement (sorts items)
     → BeginsBelow above items (begin items behind)
 begin_below above Forest.nil behind are starts = absurd starts
 begin_below above (Forest.cons label inner rest) behind are starts =
@@ -238,26 +238,26 @@ statement_starts Sort.Statement others e = refl
 statement_starts other others e = absurd (false≢true e)
 
 -- the start of a statement that stands but once is a place, whatever is marked
-starts_exist : (marked : ℕ → Bool) (items : Forest) (place : PlainAt) (kind : NodeKind) (around : Around) → times place.slot items ≤ 1
+starts_exist : (marked : ℕ → Bool) (items : Forest) (place : PlainPlace) (kind : NodeKind) (around : Around) → times place.slot items ≤ 1
     → place.point ≡ 0 → StandsInside items place.slot kind around → sort_of kind ≡ Sort.Statement → Exists marked items place
 starts_exist marked items place kind around once start stands sort =
     let has = standing_slots_have_sites items place.slot kind around stands in
     let found : Site = has.0 in
-    let there : FoundAt [] items place.slot found = found_among [] place.slot false items (at 0 1) found has.1 in
+    let there : FoundAt [] items place.slot found = found_among [] place.slot false items (place_at 0 1) found has.1 in
     let same = stands_once [] items place.slot found.label.kind kind there.around around once there.stands stands in
-    subst (λ (site : Option Site). IsTrue (exists_at (marked place.slot) site place.point)) (sym has.1)
-    (subst (λ (point : ℕ). IsTrue (exists_at (marked place.slot) (Some found) point)) (sym start)
+    subst (λ (site : Option Site). IsTrue (place_exists_at (marked place.slot) site place.point)) (sym has.1)
+    (subst (λ (point : ℕ). IsTrue (place_exists_at (marked place.slot) (Some found) point)) (sym start)
     (statement_starts (sort_of found.label.kind) (has_point (marked place.slot) found.label found.label.kind 0)
     (ap is_statement (ap sort_of same.0 ∙ sort))))
 
 -- a run that comes to the node at a site begins there, or is passed on
 site_begins : (passes : Bool) (items : Forest) (slot : ℕ) (found : Site) (there : FoundAt [] items slot found) → AreNodes items
     → ((other : ℕ) → times other items ≤ 1) → passes_in found.label.kind ≡ passes → sort_of found.label.kind ≡ Sort.Statement
-    → BeginsAt items slot there.around (if passes then begin found.inner found.after else at found.label.slot 0)
+    → BeginsAt items slot there.around (if passes then begin found.inner found.after else place_at found.label.slot 0)
 site_begins true items slot found there are once pass sort =
     let node = there.node are in
     let above : Around = (found.label.slot, found.label.kind) ∷ there.around in
-    let place : PlainAt = begin found.inner found.after in
+    let place : PlainPlace = begin found.inner found.after in
     let begins : BeginsBelow above found.inner place =
     begin_below above found.inner found.after node.1 (kind_starts found.label.kind (sorts found.inner) pass node.0.inner) in
     let stands : StandsInside items place.slot begins.kind begins.within =
@@ -287,7 +287,7 @@ site_begins false items slot found there are once pass sort =
       statement = sort;
       stays = pass;
       exists =
-          starts_exist (is_first_marked items) items (at found.label.slot 0) found.label.kind there.around (once found.label.slot) refl stands
+          starts_exist (is_first_marked items) items (place_at found.label.slot 0) found.label.kind there.around (once found.label.slot) refl stands
           sort;
       loops = refl;
       procedure = ap (λ (own : ℕ). outermost_slot own there.around) there.slot_is;
@@ -297,7 +297,7 @@ pub statements_begin : StatementsBegin
 statements_begin tree slot kind around is stands sort =
     let has = standing_slots_have_sites tree.items slot kind around stands in
     let found : Site = has.0 in
-    let there : FoundAt [] tree.items slot found = found_among [] slot false tree.items (at 0 1) found has.1 in
+    let there : FoundAt [] tree.items slot found = found_among [] slot false tree.items (place_at 0 1) found has.1 in
     let same = stands_once [] tree.items slot found.label.kind kind there.around around (is.once slot) there.stands stands in (
       site_start found,
       ap (option_map site_start) has.1,
@@ -305,14 +305,14 @@ statements_begin tree slot kind around is stands sort =
           (site_begins (passes_in found.label.kind) tree.items slot found there is.program.sound is.once refl (ap sort_of same.0 ∙ sort)),
     )
 
-plain_start : (found : Site) → passes_in found.label.kind ≡ false → site_start found ≡ at found.label.slot 0
+plain_start : (found : Site) → passes_in found.label.kind ≡ false → site_start found ≡ place_at found.label.slot 0
 plain_start found e = rw e refl
 
 pub others_begin_themselves : OthersBeginThemselves
 others_begin_themselves items slot kind around once stands pass =
     let has = standing_slots_have_sites items slot kind around stands in
     let found : Site = has.0 in
-    let there : FoundAt [] items slot found = found_among [] slot false items (at 0 1) found has.1 in
+    let there : FoundAt [] items slot found = found_among [] slot false items (place_at 0 1) found has.1 in
     let same = stands_once [] items slot found.label.kind kind there.around around once there.stands stands in
     ap (option_map site_start) has.1
-    ∙ ap Some (plain_start found (ap passes_in same.0 ∙ pass) ∙ ap (λ (own : ℕ). at own 0) there.slot_is)
+    ∙ ap Some (plain_start found (ap passes_in same.0 ∙ pass) ∙ ap (λ (own : ℕ). place_at own 0) there.slot_is)

@@ -6,7 +6,7 @@ use Rattle.std.proofs.Math.Bool.{false≢true}
 use Rattle.std.proofs.lemmas.Bool.{ne_eqb}
 use Rattle.plcs_grammar.specs.declared.node_kind.NodeKind.{NodeKind}
 use Rattle.plcs_grammar.specs.declared.node_kind.Sort.{Sort}
-use Rattle.plcs_grammar.specs.Template.{block, program_sections}
+use Rattle.plcs_grammar.specs.Template.{procedure_sections, program_sections}
 use Rattle.template_tree.specs.declared.side.Side.{Side}
 use Rattle.template_tree.specs.NewTree.{bare_label, new_tree}
 use Rattle.template_tree.specs.Place.{is_statement}
@@ -15,7 +15,7 @@ use Rattle.template_tree.specs.Program.{Fill, IsNode}
 use Rattle.template_tree.specs.Slots.{times}
 use Rattle.template_tree.specs.Tree.{IsTree}
 use Rattle.template_tree.specs.TreeEdit.{TreeEdit, tree_after}
-use Rattle.tree_steps.specs.EditStep.{IsStep}
+use Rattle.tree_steps.specs.EditStep.{IsEditStep}
 use Rattle.tree_steps.specs.SlotAgreement.{AgreesWith}
 use Rattle.tree_steps.specs.StandingSlot.{Around, StandsInside}
 use Rattle.tree_steps.proofs.AgreeingTrees.{edits_agree, going_back_past_agrees}
@@ -102,11 +102,11 @@ two_of (suc (suc k)) d h = absurd (omega arith)
 program_filled : Fill program_sections (Sort.Main ∷ (Sort.Procedure ∷ []))
 program_filled = (Sort.Main ∷ [], Sort.Procedure ∷ [], refl, refl, (Sort.Procedure ∷ [], [], refl, (omega arith, one_of), refl))
 
-new_filled : Fill block (Sort.Declaration ∷ (Sort.Statement ∷ []))
+new_filled : Fill procedure_sections (Sort.Declaration ∷ (Sort.Statement ∷ []))
 new_filled =
     (Sort.Declaration ∷ [], Sort.Statement ∷ [], refl, (omega arith, one_of), (Sort.Statement ∷ [], [], refl, (omega arith, one_of), refl))
 
-added_filled : Fill block (Sort.Declaration ∷ (Sort.Statement ∷ (Sort.Statement ∷ [])))
+added_filled : Fill procedure_sections (Sort.Declaration ∷ (Sort.Statement ∷ (Sort.Statement ∷ [])))
 added_filled = (
   Sort.Declaration ∷ [],
   Sort.Statement ∷ (Sort.Statement ∷ []),
@@ -115,7 +115,7 @@ added_filled = (
   (Sort.Statement ∷ (Sort.Statement ∷ []), [], refl, (omega arith, two_of), refl),
 )
 
-declared_filled : Fill block (Sort.Declaration ∷ (Sort.Declaration ∷ (Sort.Statement ∷ [])))
+declared_filled : Fill procedure_sections (Sort.Declaration ∷ (Sort.Declaration ∷ (Sort.Statement ∷ [])))
 declared_filled = (
   Sort.Declaration ∷ (Sort.Declaration ∷ []),
   Sort.Statement ∷ [],
@@ -187,7 +187,7 @@ declared_is =
 -- ---- a step, and what agrees by it
 
 -- the hole that was added is a step
-add_steps : IsStep new_tree statement_added
+add_steps : IsEditStep new_tree statement_added
 add_steps =
     record {
       edit = TreeEdit.add Side.After;
@@ -205,7 +205,7 @@ add_agrees : AgreesWith new_tree statement_added
 add_agrees = edits_agree new_tree statement_added new_is (steps_are_ways new_tree statement_added add_steps)
 
 -- the same with the other hole
-declare_steps : IsStep new_tree declaration_added
+declare_steps : IsEditStep new_tree declaration_added
 declare_steps =
     record {
       edit = TreeEdit.add Side.After;

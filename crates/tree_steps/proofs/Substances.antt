@@ -4,7 +4,7 @@ use Rattle.std.specs.Prelude.{◌≡◌, refl, ℕ, zero, suc, Bool, true, false
 use Rattle.std.proofs.Common.{ap, sym, ◌∙◌}
 use Rattle.plcs_grammar.specs.declared.node_kind.NodeKind.{NodeKind}
 use Rattle.template_tree.specs.Edit.{edit_at, edit_below, give_way}
-use Rattle.template_tree.specs.Elision.{is_comment, turn}
+use Rattle.template_tree.specs.Elision.{is_comment, toggled}
 use Rattle.template_tree.specs.PlainTree.{Forest, PlainNode, forest, join, roomless}
 use Rattle.tree_steps.specs.EditStep.{substance}
 use Rattle.tree_steps.specs.StandingSlot.{Around, StandsBelow}
@@ -73,7 +73,7 @@ turned_same : (b : Bool) (node : PlainNode) → node_substance (turned_or_not b 
 turned_same true node = refl
 turned_same false node = refl
 
-turn_keeps : Keeps turn
+turn_keeps : Keeps toggled
 turn_keeps =
     record {
       new = λ node. turned_or_not (is_comment node.label.kind) node;
@@ -81,6 +81,6 @@ turn_keeps =
       same = λ node. turned_same (is_comment node.label.kind) node;
     }
 
-pub substance_turned : (path : List ℕ) (items : Forest) → substance (edit_at turn path items) ≡ substance items
+pub substance_turned : (path : List ℕ) (items : Forest) → substance (edit_at toggled path items) ≡ substance items
 substance_turned [] items = refl
-substance_turned (k ∷ path) items = gives_way (edit_below turn path) (keeps_below turn turn_keeps path) k items
+substance_turned (k ∷ path) items = gives_way (edit_below toggled path) (keeps_below toggled turn_keeps path) k items

@@ -7,7 +7,7 @@ use Rattle.template_tree.specs.Slots.{AllBelow, times}
 use Rattle.template_tree.specs.Tree.{IsTree}
 use Rattle.tree_steps.specs.SlotAgreement.{AgreesWith}
 use Rattle.tree_steps.specs.StandingSlot.{Around, StandsInside, outermost_slot}
-use Rattle.tree_steps.specs.EditStep.{CameByEdits, IsStep, substance}
+use Rattle.tree_steps.specs.EditStep.{CameByEdits, IsEditStep, substance}
 
 -- ---- where slots stand
 
@@ -41,9 +41,9 @@ abbrev pub EditsAgree : Type 0
 EditsAgree = (before after : PlainTree) → IsTree before → CameByEdits before after → AgreesWith before after
 
 -- a step keeps the agreement with each earlier tree
-abbrev pub StepsKeepAgreement : Type 0
-StepsKeepAgreement =
-    (earlier before after : PlainTree) → AgreesWith earlier before → IsStep before after → AgreesWith earlier after
+abbrev pub EditStepsKeepAgreement : Type 0
+EditStepsKeepAgreement =
+    (earlier before after : PlainTree) → AgreesWith earlier before → IsEditStep before after → AgreesWith earlier after
 
 -- so does going back to a kept tree that agreed, also where more slots are drawn by now
 abbrev pub GoingBackAgrees : Type 0

@@ -6,7 +6,7 @@ pub mod SlotAgreement
 -- ---- places of a run
 pub mod RunPlace
 -- ---- the laws
-pub mod StepLaws
+pub mod EditStepLaws
 pub mod AgreementLaws
 pub mod PlaceLaws
 pub mod ListVerdict

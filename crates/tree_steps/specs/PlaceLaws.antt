@@ -3,8 +3,8 @@ use Rattle.std.specs.Prelude.{◌≡◌, ℕ, ◌≤◌, Bool, false, List, Some
 use Rattle.plcs_grammar.specs.declared.node_kind.NodeKind.{NodeKind}
 use Rattle.plcs_grammar.specs.declared.node_kind.Sort.{Sort}
 use Rattle.template_tree.specs.Edit.{edit_at}
-use Rattle.template_tree.specs.Elision.{turn}
-use Rattle.template_tree.specs.Place.{Exists, PlainAt, Site, Start, at, passes_in, site}
+use Rattle.template_tree.specs.Elision.{toggled}
+use Rattle.template_tree.specs.Place.{Exists, PlainPlace, Site, Start, place_at, passes_in, site}
 use Rattle.template_tree.specs.PlainTree.{Forest, PlainTree, roomless}
 use Rattle.template_tree.specs.Program.{sort_of}
 use Rattle.template_tree.specs.Slots.{times}
@@ -22,7 +22,7 @@ PlacesIgnoreRoom = (items : Forest) → PlacesAlike (roomless items) items
 
 -- the places of a program are those with the comment at a path turned
 abbrev pub PlacesIgnoreElision : Type 0
-PlacesIgnoreElision = (items : Forest) (path : List ℕ) → PlacesAlike (edit_at turn path items) items
+PlacesIgnoreElision = (items : Forest) (path : List ℕ) → PlacesAlike (edit_at toggled path items) items
 
 -- programs of the same substance have the same sites
 abbrev pub SitesAreOfSubstance : Type 0
@@ -47,14 +47,14 @@ abbrev pub StatementsBegin : Type 0
 StatementsBegin =
     (tree : PlainTree) (slot : ℕ) (kind : NodeKind) (around : Around) → IsTree tree → StandsInside tree.items slot kind around
     → sort_of kind ≡ Sort.Statement
-    → (place : PlainAt) × (Start tree.items slot ≡ Some place) × BeginsAt tree.items slot around place
+    → (place : PlainPlace) × (Start tree.items slot ≡ Some place) × BeginsAt tree.items slot around place
 
 -- a run that comes to a node other than a group and a comment, which alone pass it on to what stands inside them, begins at
 -- that node itself
 abbrev pub OthersBeginThemselves : Type 0
 OthersBeginThemselves =
     (items : Forest) (slot : ℕ) (kind : NodeKind) (around : Around) → times slot items ≤ 1 → StandsInside items slot kind around
-    → passes_in kind ≡ false → Start items slot ≡ Some (at slot 0)
+    → passes_in kind ≡ false → Start items slot ≡ Some (place_at slot 0)
 
 -- ---- trees that agree
 
@@ -70,7 +70,7 @@ abbrev pub AgreementKeepsStarts : Type 0
 AgreementKeepsStarts =
     (earlier later : PlainTree) (slot : ℕ) (was now : NodeKind) (one other : Around) → IsTree later → AgreesWith earlier later
     → StandsInside earlier.items slot was one → StandsInside later.items slot now other → sort_of was ≡ Sort.Statement
-    → (place : PlainAt) × (Start later.items slot ≡ Some place) × BeginsAt later.items slot one place
+    → (place : PlainPlace) × (Start later.items slot ≡ Some place) × BeginsAt later.items slot one place
 
 -- a place of trees that agree goes on to exist, where its point is kept and its slot is live
 abbrev pub AgreementKeepsPlaces : Type 0
@@ -78,4 +78,4 @@ AgreementKeepsPlaces =
     (earlier later : PlainTree) (was_marked is_marked : ℕ → Bool) (slot point : ℕ) (one other : Site) → AgreesWith earlier later
     → site earlier.items slot ≡ Some one → site later.items slot ≡ Some other
     → KeepsPoint one.label other.label (was_marked slot) (is_marked slot) point
-    → Exists was_marked earlier.items (at slot point) → Exists is_marked later.items (at slot point)
+    → Exists was_marked earlier.items (place_at slot point) → Exists is_marked later.items (place_at slot point)

@@ -5,8 +5,8 @@ use Rattle.plcs_grammar.specs.declared.node_kind.NodeKind.{NodeKind}
 use Rattle.plcs_grammar.specs.declared.node_kind.Sort.{Sort}
 use Rattle.plcs_grammar.specs.declared.template.Template.{Template}
 use Rattle.template_tree.specs.Marks.{Marks}
-use Rattle.template_tree.specs.Mention.{phrase_place}
-use Rattle.template_tree.specs.Place.{After, Exists, PlainAt, Site, Start, passes_in, site}
+use Rattle.template_tree.specs.Mention.{phrase_at}
+use Rattle.template_tree.specs.Place.{After, Exists, PlainPlace, Site, Start, passes_in, site}
 use Rattle.template_tree.specs.PlainTree.{Forest, Label}
 use Rattle.template_tree.specs.Program.{sort_of}
 use Rattle.tree_steps.specs.EditStep.{substance}
@@ -16,10 +16,10 @@ use Rattle.tree_steps.specs.StandingSlot.{Around, StandsInside, loops_around, ou
 
 -- whether the first phrase in the slot is marked in the program
 abbrev pub is_first_marked : Forest → (slot : ℕ) → Bool
-is_first_marked program slot = is_some (get (Marks program) (phrase_place slot 0))
+is_first_marked program slot = is_some (get (Marks program) (phrase_at slot 0))
 
 -- a run of the program has this place
-abbrev pub HasPlace : Forest → PlainAt → Type 0
+abbrev pub HasPlace : Forest → PlainPlace → Type 0
 HasPlace program place = Exists (is_first_marked program) program place
 
 -- a point of a node stays one where another label stands in its slot: it is the start, or the kind and the parts are the same,
@@ -33,7 +33,7 @@ KeepsPoint one other was_marked is_marked point =
 
 -- the place is one of the program: the start of a statement that doesn't pass a run on to what stands inside it, with the
 -- loops among these nodes around it, in the procedure of the slot that these are around
-pub record BeginsAt (items : Forest) (slot : ℕ) (around : Around) (place : PlainAt) : Type 0 where
+pub record BeginsAt (items : Forest) (slot : ℕ) (around : Around) (place : PlainPlace) : Type 0 where
   pub start : place.point ≡ 0
   pub kind : NodeKind
   pub within : Around
@@ -57,10 +57,10 @@ pub record SitesAlike (one other : Forest) : Type 0 where
   pub sites : (slot : ℕ) → option_map site_substance (site one slot) ≡ option_map site_substance (site other slot)
   pub starts : (slot : ℕ) → Start one slot ≡ Start other slot
   pub afters : (slot : ℕ) → After one slot ≡ After other slot
-  pub exist : (marked : ℕ → Bool) (place : PlainAt) → Exists marked one place ↔ Exists marked other place
+  pub exist : (marked : ℕ → Bool) (place : PlainPlace) → Exists marked one place ↔ Exists marked other place
 
 -- two programs have the same sites, and the same places, each by its own marks
 pub record PlacesAlike (one other : Forest) : Type 0 where
   pub sites : SitesAlike one other
   pub marked : (slot : ℕ) → is_first_marked one slot ≡ is_first_marked other slot
-  pub places : (place : PlainAt) → HasPlace one place ↔ HasPlace other place
+  pub places : (place : PlainPlace) → HasPlace one place ↔ HasPlace other place

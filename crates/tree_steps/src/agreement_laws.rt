@@ -1,5 +1,5 @@
 //! The laws of trees that agree by their slots, each a function that does nothing and whose contract states it.
-ghost use Rattle.tree_steps.specs.AgreementLaws.{AgreementKeepsProcedures, EditsAgree, GoingBackAgrees, GoingBackPastAgrees, LiveSlotsStand, ProceduresStandOutermost, SlotsStandOnce, StandingSlotsLive, StepsKeepAgreement};
+ghost use Rattle.tree_steps.specs.AgreementLaws.{AgreementKeepsProcedures, EditsAgree, GoingBackAgrees, GoingBackPastAgrees, LiveSlotsStand, ProceduresStandOutermost, SlotsStandOnce, StandingSlotsLive, EditStepsKeepAgreement};
 
 /// Each live slot stands at one place, in the procedure that encloses it outermost.
 pub fn slots_stand()
@@ -13,7 +13,7 @@ pub fn slots_stand()
 /// a tree that agreed, whether it is earlier or later than the one agreed with.
 pub fn agreement_lasts()
     ensures edits { EditsAgree }
-    ensures steps { StepsKeepAgreement }
+    ensures steps { EditStepsKeepAgreement }
     ensures back { GoingBackAgrees }
     ensures past { GoingBackPastAgrees }
     ensures procedures { AgreementKeepsProcedures }

@@ -16,7 +16,7 @@ use Rattle.template_tree.specs.Limit.{most_slots}
 use Rattle.template_tree.specs.Program.{IsSubtree}
 use Rattle.type_marks.specs.Agreement.{Stands}
 use Rattle.type_marks.specs.Private.DeclaredItems.{IsListIn}
-use Rattle.type_marks.specs.Private.MarksView.{IsIn, IsItem, item_on}
+use Rattle.type_marks.specs.Private.MarksView.{IsIn, IsProcedureItem, procedure_item_on}
 use Rattle.type_marks.proofs.PlacedVerdicts.{no_verdict, verdict_at}
 use Rattle.type_marks.proofs.Programs.{is_item, listed_in}
 
@@ -26,7 +26,7 @@ pub record Leads (program : Forest) (path : List ℕ) (node : PlainNode) : Type 
   pub others : List ℕ
   pub procedure : PlainNode
   pub item_is : slice_get (nodes program) first ≡ Some procedure
-  pub on_is : item_on program path ≡ Some procedure
+  pub on_is : procedure_item_on program path ≡ Some procedure
   pub node_is : below procedure others ≡ Some node
 
 pub leads : (program : Forest) (path : List ℕ) (node : PlainNode) → node_at program path ≡ Some node → Leads program path node
@@ -56,7 +56,7 @@ module _ (tree : PlainTree) (at : PhraseAt) (is : IsTree tree) (filled : is_some
 
   -- the part is filled, and its verdict is kept
   module _ (path : List ℕ) (node procedure : PlainNode) (there : node_at tree.items path ≡ Some node) (slot : node.label.slot ≡ at.slot.0)
-      (on : item_on tree.items path ≡ Some procedure) where
+      (on : procedure_item_on tree.items path ≡ Some procedure) where
     kept_at : (l : Leads tree.items path node) → l.procedure ≡ procedure
         → get (Verdicts tree.items) at ≡ option_map (verdict (surroundings tree.items procedure at.slot.0)) (part_at node.label.parts at.part)
     kept_at l same =
@@ -100,10 +100,10 @@ module _ (tree : PlainTree) (at : PhraseAt) (is : IsTree tree) (filled : is_some
             }
 
     -- and its procedure is an item of the program
-    pub item_of : IsSubtree procedure → count procedure.inner + 1 ≤ most_slots → IsItem tree.items procedure
+    pub item_of : IsSubtree procedure → count procedure.inner + 1 ≤ most_slots → IsProcedureItem tree.items procedure
     item_of subtree few = item_by (leads tree.items path node there) (one_item (leads tree.items path node there))
       where
-        item_by : (l : Leads tree.items path node) → l.procedure ≡ procedure → IsItem tree.items procedure
+        item_by : (l : Leads tree.items path node) → l.procedure ≡ procedure → IsProcedureItem tree.items procedure
         item_by l same = is_item tree l.first procedure is (l.item_is ∙ ap (λ p. Some p) same) subtree few
 
     -- in which the node stands
@@ -124,7 +124,7 @@ pub record IsKept (tree : PlainTree) (at : PhraseAt) (procedure : PlainNode) (ph
 
 pub is_kept : (tree : PlainTree) (at : PhraseAt) (path : List ℕ) (node procedure : PlainNode) (phrase : PlainPhrase) → IsTree tree
     → is_some (get (Verdicts tree.items) at) ≡ true → slot_at tree.items path ≡ Some at.slot.0 → Some node ≡ node_at tree.items path
-    → IsSubtree node → Some procedure ≡ item_on tree.items path → IsSubtree procedure → count procedure.inner + 1 ≤ most_slots
+    → IsSubtree node → Some procedure ≡ procedure_item_on tree.items path → IsSubtree procedure → count procedure.inner + 1 ≤ most_slots
     → Some phrase ≡ part_at node.label.parts at.part → IsKept tree at procedure phrase
 is_kept tree at path node procedure phrase is filled slot found subtree on procedure_subtree few there =
     let own = slot_of_node tree.items path node at.slot.0 (sym found) slot in

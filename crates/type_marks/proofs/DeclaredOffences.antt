@@ -11,7 +11,7 @@ use Rattle.plcs_base.specs.declared.mark.MarkKind.{MarkKind}
 use Rattle.plcs_grammar.specs.declared.item.Item.{Item}
 use Rattle.decl_table.specs.PlainDecls.{PlainDecls, items_in}
 use Rattle.decl_table.proofs.ItemLists.{effective_append}
-use Rattle.template_tree.specs.Environment.{all_declared, declared_as, effective, item_named, item_offence, with_item, with_type}
+use Rattle.template_tree.specs.Environment.{all_declared, declared_as, effective, item_named, item_offence, with_declared, with_type}
 use Rattle.template_tree.specs.Marks.{declared_before, type_in}
 use Rattle.template_tree.specs.PlainTree.{PlainNode}
 use Rattle.template_tree.specs.Verdict.{declared_offence}
@@ -95,7 +95,7 @@ module _ (decls : PlainDecls) (procedure : PlainNode) (slot : ℕ) (items : List
       → Some offence ≡ item_offence (effective [] (earlier i)) (declared_as ty item)
       → Some offence ≡ declared_offence (effective [] (earlier i)) (map (declared_as ty) (drop i items))
   offence_here i item offence is found =
-      ap (λ o. option_or o (declared_offence (with_item (effective [] (earlier i)) (declared_as ty item)) (map (declared_as ty) (drop (i + 1) items)))) found
+      ap (λ o. option_or o (declared_offence (with_declared (effective [] (earlier i)) (declared_as ty item)) (map (declared_as ty) (drop (i + 1) items)))) found
       ∙ ap (λ ds. declared_offence (effective [] (earlier i)) (map (declared_as ty) ds)) (sym is)
 
   -- it has none
@@ -105,10 +105,10 @@ module _ (decls : PlainDecls) (procedure : PlainNode) (slot : ℕ) (items : List
       ≡ declared_offence (effective [] (earlier i)) (map (declared_as ty) (drop i items))
   offence_behind i item is none =
       ap (λ (before : List Declared). declared_offence before (map (declared_as ty) (drop (i + 1) items))) more
-      ∙ ap (λ o. option_or o (declared_offence (with_item (effective [] (earlier i)) (declared_as ty item)) (map (declared_as ty) (drop (i + 1) items)))) none
+      ∙ ap (λ o. option_or o (declared_offence (with_declared (effective [] (earlier i)) (declared_as ty item)) (map (declared_as ty) (drop (i + 1) items)))) none
       ∙ ap (λ ds. declared_offence (effective [] (earlier i)) (map (declared_as ty) ds)) (sym is)
     where
-      more : effective [] (earlier (i + 1)) ≡ with_item (effective [] (earlier i)) (declared_as ty item)
+      more : effective [] (earlier (i + 1)) ≡ with_declared (effective [] (earlier i)) (declared_as ty item)
       more =
           ap (λ n. effective [] (earlier n)) (add-one i)
           ∙ ap (λ ds. effective [] (declared_before procedure.inner slot ++ ds)) (taken_next (declared_as ty) items i item (drop (i + 1) items) is)

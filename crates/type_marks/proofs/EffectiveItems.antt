@@ -10,7 +10,7 @@ use Rattle.plcs_base.specs.declared.declared.Declared.{Declared}
 use Rattle.plcs_base.specs.declared.mark.MarkKind.{MarkKind}
 use Rattle.plcs_grammar.specs.declared.builtin.Builtin.{Builtin}
 use Rattle.plcs_grammar.specs.Builtin.{builtin_of, is_builtin_name}
-use Rattle.template_tree.specs.Environment.{cells, cells_of, effective, item_named, item_offence, with_item}
+use Rattle.template_tree.specs.Environment.{cells, cells_of, effective, item_named, item_offence, with_declared}
 use Rattle.template_tree.specs.Limit.{most_cells}
 use Rattle.decl_table.proofs.ItemLists.{effective_append}
 use Rattle.type_marks.specs.Private.DeclaredItems.{has_such, is_such, judged_as, judged_item}
@@ -68,7 +68,7 @@ cells_more before item =
 
 -- an item that is named stays
 stays_one : (name : List ℕ) (before : List Declared) (item known : Declared) → item_named name before ≡ Some known
-    → item_named name (with_item before item) ≡ Some known
+    → item_named name (with_declared before item) ≡ Some known
 stays_one name before item known is = by (is_some (item_offence before item))
   where
     by : (offence : Bool) → item_named name (cond offence before (before ++ (item ∷ []))) ≡ Some known
@@ -78,10 +78,10 @@ stays_one name before item known is = by (is_some (item_offence before item))
 stays : (name : List ℕ) (before rest : List Declared) (known : Declared) → item_named name before ≡ Some known
     → item_named name (effective before rest) ≡ Some known
 stays name before [] known is = is
-stays name before (item ∷ rest) known is = stays name (with_item before item) rest known (stays_one name before item known is)
+stays name before (item ∷ rest) known is = stays name (with_declared before item) rest known (stays_one name before item known is)
 
 -- cells are never given back
-grow_one : (before : List Declared) (item : Declared) → cells before ≤ cells (with_item before item)
+grow_one : (before : List Declared) (item : Declared) → cells before ≤ cells (with_declared before item)
 grow_one before item = by (is_some (item_offence before item))
   where
     by : (offence : Bool) → cells before ≤ cells (cond offence before (before ++ (item ∷ [])))
@@ -90,7 +90,7 @@ grow_one before item = by (is_some (item_offence before item))
 
 grow : (before rest : List Declared) → cells before ≤ cells (effective before rest)
 grow before [] = omega arith
-grow before (item ∷ rest) = omega (arith, grow_one before item, grow (with_item before item) rest)
+grow before (item ∷ rest) = omega (arith, grow_one before item, grow (with_declared before item) rest)
 
 -- an item without an offence takes no more cells than there are
 fits : (before : List Declared) (item : Declared) → is_some (item_offence before item) ≡ false → too_many before (cells_of item) ≡ false
@@ -123,7 +123,7 @@ module _ (name : List ℕ) (before : List Declared) (item : Declared) (none : it
 
 -- what is effective behind an item with an offence, and behind one without
 module _ (name : List ℕ) (before rest : List Declared) (item : Declared) (o : Option Declared)
-    (is : item_named name (effective (with_item before item) rest) ≡ o) where
+    (is : item_named name (effective (with_declared before item) rest) ≡ o) where
   passed : is_some (item_offence before item) ≡ true → item_named name (effective before rest) ≡ o
   passed offence = subst (λ b. item_named name (effective (cond b before (before ++ (item ∷ []))) rest) ≡ o) offence is
 
@@ -184,9 +184,9 @@ is_among name before (item ∷ rest) known none is =
 -- an item of the name that takes so many cells has an offence where none of the name is effective behind it, and that
 -- is its cells
 module _ (name : List ℕ) (before rest : List Declared) (item : Declared) (free : is_builtin_name name ≡ false)
-    (none : item_named name (effective (with_item before item) rest) ≡ None) (here : bytes_eq name item.name ≡ true) where
-  not_there : (known : Declared) → item_named name (with_item before item) ≡ Some known → ⊥
-  not_there known is = let there = stays name (with_item before item) rest known is in absurd (cc)
+    (none : item_named name (effective (with_declared before item) rest) ≡ None) (here : bytes_eq name item.name ≡ true) where
+  not_there : (known : Declared) → item_named name (with_declared before item) ≡ Some known → ⊥
+  not_there known is = let there = stays name (with_declared before item) rest known is in absurd (cc)
 
   own : name ≡ item.name
   own = (bytes_eq-Decides name item.name).0 here
@@ -199,13 +199,13 @@ module _ (name : List ℕ) (before rest : List Declared) (item : Declared) (free
   not_fine : (o : Option Declared) → item_named name before ≡ o → item_offence before item ≡ None → ⊥
   not_fine o is fine = which o there
     where
-      there : item_named name (with_item before item) ≡ option_or o (Some item)
+      there : item_named name (with_declared before item) ≡ option_or o (Some item)
       there =
           ap (λ x. item_named name (cond (is_some x) before (before ++ (item ∷ [])))) fine ∙ named_more name before item
           ∙ ap (λ x. option_or x (cond (bytes_eq name item.name) (Some item) None)) is
           ∙ ap (λ b. option_or o (cond b (Some item) None)) here
 
-      which : (o : Option Declared) → item_named name (with_item before item) ≡ option_or o (Some item) → ⊥
+      which : (o : Option Declared) → item_named name (with_declared before item) ≡ option_or o (Some item) → ⊥
       which None is = not_there item is
       which (Some known) is = not_there known is
 
@@ -228,11 +228,11 @@ were_many : (name : List ℕ) (count : ℕ) (before rest : List Declared) → is
     → item_named name (effective before rest) ≡ None → has_such name count rest ≡ true → too_many (effective before rest) count ≡ true
 were_many name count before [] free none has = absurd (cc)
 were_many name count before (item ∷ rest) free none has =
-    by (is_such name count item) refl (λ h. were_many name count (with_item before item) rest free none h)
+    by (is_such name count item) refl (λ h. were_many name count (with_declared before item) rest free none h)
   where
     by : (such : Bool) → is_such name count item ≡ such
-        → (has_such name count rest ≡ true → too_many (effective (with_item before item) rest) count ≡ true)
-        → too_many (effective (with_item before item) rest) count ≡ true
+        → (has_such name count rest ≡ true → too_many (effective (with_declared before item) rest) count ≡ true)
+        → too_many (effective (with_declared before item) rest) count ≡ true
     by true s again =
         let here = and_first (bytes_eq name item.name) (nat_eq (cells_of item) count) s in
         let counted = same (cells_of item) count (and_second (bytes_eq name item.name) (nat_eq (cells_of item) count) s) in
@@ -240,9 +240,9 @@ were_many name count before (item ∷ rest) free none has =
         less most_cells (cells before + cells_of item)
         (was_many name before rest item free none here (is_builtin_name item.name) (named_in item.name before) (too_many before (cells_of item)) refl refl refl) in
         let one = grow_one before item in
-        let all = grow (with_item before item) rest in
-        let now : most_cells < cells (effective (with_item before item) rest) + count = omega (arith, was, one, all, counted) in
-        is_less most_cells (cells (effective (with_item before item) rest) + count) now
+        let all = grow (with_declared before item) rest in
+        let now : most_cells < cells (effective (with_declared before item) rest) + count = omega (arith, was, one, all, counted) in
+        is_less most_cells (cells (effective (with_declared before item) rest) + count) now
     by false s again = again (sym (ap (λ b. b || has_such name count rest) s) ∙ has)
 
 -- ---- an item is judged by the effective one of its name
@@ -272,9 +272,9 @@ module _ (before later : List Declared) (item known : Declared) (free : is_built
 module _ (earlier : List Declared) (item : Declared) (rest : List Declared) (free : is_builtin_name item.name ≡ false) where
   -- where one of the name is effective already
   judged_named : (first : Declared) → item_named item.name (effective [] earlier) ≡ Some first
-      → judged_as earlier item (item_named item.name (effective (with_item (effective [] earlier) item) rest)) ≡ Some MarkKind.Duplicate
+      → judged_as earlier item (item_named item.name (effective (with_declared (effective [] earlier) item) rest)) ≡ Some MarkKind.Duplicate
   judged_named first is =
-      ap (judged_as earlier item) (stays item.name (with_item (effective [] earlier) item) rest first (stays_one item.name (effective [] earlier) item first is))
+      ap (judged_as earlier item) (stays item.name (with_declared (effective [] earlier) item) rest first (stays_one item.name (effective [] earlier) item first is))
       ∙ ap (λ b. cond b (Some MarkKind.Duplicate) (cond (nat_eq (cells_of item) (cells_of first)) None (Some MarkKind.TooManyCells)))
       (is_among item.name [] earlier first refl is)
 
@@ -301,8 +301,8 @@ module _ (earlier : List Declared) (item : Declared) (rest : List Declared) (fre
 
   -- where it is effective
   judged_fine : item_named item.name (effective [] earlier) ≡ None → too_many (effective [] earlier) (cells_of item) ≡ false
-      → item_named item.name (effective (with_item (effective [] earlier) item) rest) ≡ Some item
-      → judged_as earlier item (item_named item.name (effective (with_item (effective [] earlier) item) rest)) ≡ None
+      → item_named item.name (effective (with_declared (effective [] earlier) item) rest) ≡ Some item
+      → judged_as earlier item (item_named item.name (effective (with_declared (effective [] earlier) item) rest)) ≡ None
   judged_fine none few is =
       ap (judged_as earlier item) is
       ∙ ap (λ b. cond b (Some MarkKind.Duplicate) (cond (nat_eq (cells_of item) (cells_of item)) None (Some MarkKind.TooManyCells)))
@@ -314,14 +314,14 @@ module _ (earlier : List Declared) (item : Declared) (rest : List Declared) (fre
       no_such true has = let many = were_many item.name (cells_of item) [] earlier free none has in absurd (cc)
 
   judged_free : (o : Option Declared) (many : Bool) → item_named item.name (effective [] earlier) ≡ o → too_many (effective [] earlier) (cells_of item) ≡ many
-      → judged_as earlier item (item_named item.name (effective (with_item (effective [] earlier) item) rest)) ≡ offence_by false (is_some o) many
+      → judged_as earlier item (item_named item.name (effective (with_declared (effective [] earlier) item) rest)) ≡ offence_by false (is_some o) many
   judged_free (Some first) many is m = judged_named first is
   judged_free None true is m =
       let offence : item_offence (effective [] earlier) item ≡ Some MarkKind.TooManyCells =
       ap (λ b. offence_by b (named_in item.name (effective [] earlier)) (too_many (effective [] earlier) (cells_of item))) free
       ∙ ap (λ (o : Option Declared). offence_by false (is_some o) (too_many (effective [] earlier) (cells_of item))) is
       ∙ ap (λ b. offence_by false false b) m in
-      judged_many (item_named item.name (effective (with_item (effective [] earlier) item) rest)) is m
+      judged_many (item_named item.name (effective (with_declared (effective [] earlier) item) rest)) is m
       (sym (ap (λ x. item_named item.name (effective (cond (is_some x) (effective [] earlier) (effective [] earlier ++ (item ∷ []))) rest)) offence))
   judged_free None false is m =
       let offence : item_offence (effective [] earlier) item ≡ None =
@@ -339,12 +339,12 @@ judged earlier item rest =
     ∙ by (is_builtin_name item.name) refl
   where
     by : (reserved : Bool) → is_builtin_name item.name ≡ reserved
-        → cond (is_builtin_name item.name) (Some MarkKind.Reserved) (judged_as earlier item (item_named item.name (effective (with_item (effective [] earlier) item) rest)))
+        → cond (is_builtin_name item.name) (Some MarkKind.Reserved) (judged_as earlier item (item_named item.name (effective (with_declared (effective [] earlier) item) rest)))
         ≡ offence_by (is_builtin_name item.name) (named_in item.name (effective [] earlier)) (too_many (effective [] earlier) (cells_of item))
     by true r =
-        ap (λ b. cond b (Some MarkKind.Reserved) (judged_as earlier item (item_named item.name (effective (with_item (effective [] earlier) item) rest)))) r
+        ap (λ b. cond b (Some MarkKind.Reserved) (judged_as earlier item (item_named item.name (effective (with_declared (effective [] earlier) item) rest)))) r
         ∙ sym (ap (λ b. offence_by b (named_in item.name (effective [] earlier)) (too_many (effective [] earlier) (cells_of item))) r)
     by false r =
-        ap (λ b. cond b (Some MarkKind.Reserved) (judged_as earlier item (item_named item.name (effective (with_item (effective [] earlier) item) rest)))) r
+        ap (λ b. cond b (Some MarkKind.Reserved) (judged_as earlier item (item_named item.name (effective (with_declared (effective [] earlier) item) rest)))) r
         ∙ judged_free earlier item rest r (item_named item.name (effective [] earlier)) (too_many (effective [] earlier) (cells_of item)) refl refl
         ∙ sym (ap (λ b. offence_by b (named_in item.name (effective [] earlier)) (too_many (effective [] earlier) (cells_of item))) r)

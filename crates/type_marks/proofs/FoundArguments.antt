@@ -7,11 +7,11 @@ use Rattle.plcs_base.specs.declared.value.Kind.{Kind}
 use Rattle.plcs_grammar.specs.declared.builtin.Builtin.{Builtin}
 use Rattle.plcs_grammar.specs.declared.expr.Expr.{Expr}
 use Rattle.plcs_grammar.specs.PlainPhrase.{plain_expr, plain_exprs}
-use Rattle.template_tree.specs.KindTable.{BuiltinRow, builtin_row}
+use Rattle.template_tree.specs.KindTable.{PlainBuiltinRow, builtin_row}
 use Rattle.template_tree.specs.Verdict.{both_found, builtin_found, fit, is_count, kind_of, kinds_of, offence_in, then_found}
 use Rattle.type_marks.specs.declared.kind_table.BuiltinRow.{BuiltinRow as Row}
 use Rattle.type_marks.specs.Private.Arguments.{fit_found, judged, takes_kind, taken_of}
-use Rattle.type_marks.specs.Private.PlainRow.{plain_row}
+use Rattle.type_marks.specs.Private.PlainBuiltinRow.{plain_builtin_row}
 
 -- ---- whether kinds fit
 
@@ -117,12 +117,12 @@ module _ (items : List Declared) where
 
 -- ---- a built-in function
 
-pub judged_is : (row : Row) (function : Builtin) (count : ℕ) (found : Result (List Kind) MarkKind) → plain_row row ≡ builtin_row function
+pub judged_is : (row : Row) (function : Builtin) (count : ℕ) (found : Result (List Kind) MarkKind) → plain_builtin_row row ≡ builtin_row function
     → ((kinds : List Kind) → found ≡ Ok kinds → length kinds ≡ count)
     → judged row count (fit_found (taken_of row) found) ≡ then_found found (builtin_found function)
 judged_is row function count (Err offence) same counted = refl
 judged_is row function count (Ok kinds) same counted =
     ap (λ n. judged row n (fit_found (taken_of row) (Ok kinds))) (sym (counted kinds refl))
-    ∙ ap (λ (r : BuiltinRow).
+    ∙ ap (λ (r : PlainBuiltinRow).
     cond (is_count (length r.takes) r.perhaps (length kinds))
     (cond (fit (r.takes ++ option_to_list r.perhaps) kinds) (Ok r.gives) (Err MarkKind.TypeMismatch)) (Err MarkKind.WrongCount)) same

@@ -17,7 +17,7 @@ use Rattle.plcs_base.specs.declared.place.PhraseAt.{PhraseAt}
 use Rattle.decl_table.proofs.NodeLists.{left_from, none_left}
 use Rattle.decl_table.proofs.PlaceOrder.{place_test_equiv, place_ties, places_total, same_place}
 use Rattle.template_tree.specs.Marks.{VerdictList, VerdictMap, node_verdicts, offence_at, offences, part_verdicts, procedure_verdicts, surroundings}
-use Rattle.template_tree.specs.Mention.{phrase_place}
+use Rattle.template_tree.specs.Mention.{phrase_at}
 use Rattle.template_tree.specs.PlainTree.{Forest, PlainNode, forest, forest_nodes, nodes}
 use Rattle.template_tree.specs.Verdict.{Surroundings, verdict}
 use Rattle.plcs_grammar.specs.PlainPhrase.{PlainPhrase}
@@ -171,7 +171,7 @@ module _ (s : Surroundings) (slot part : ℕ) (parts : List (Option PlainPhrase)
 
   -- a filled one has that of its phrase
   pub part_filled : (phrase : PlainPhrase) → slice_get parts part ≡ Some (Some phrase)
-      → part_verdicts s slot part (drop part parts) ≡ (phrase_place slot part, verdict s phrase) ∷ part_verdicts s slot (part + 1) (drop (part + 1) parts)
+      → part_verdicts s slot part (drop part parts) ≡ (phrase_at slot part, verdict s phrase) ∷ part_verdicts s slot (part + 1) (drop (part + 1) parts)
   part_filled phrase there = ap (part_verdicts s slot part) (left_from parts part (Some phrase) there)
 
   -- behind the last part there is none
@@ -189,7 +189,7 @@ module _ (s : Surroundings) (slot part : ℕ) (parts : List (Option PlainPhrase)
 
   -- the verdict of a phrase comes before those of the parts behind it
   pub noted_part : (phrase : PlainPhrase) (before verdicts after : VerdictMap) (at : PhraseAt) (found : Option MarkKind)
-      → slice_get parts part ≡ Some (Some phrase) → at ≡ phrase_place slot part → found ≡ verdict s phrase
+      → slice_get parts part ≡ Some (Some phrase) → at ≡ phrase_at slot part → found ≡ verdict s phrase
       → verdicts ≡ with_all (part_verdicts s slot (part + 1) (drop (part + 1) parts)) before → after ≡ insert verdicts at found
       → after ≡ with_all (part_verdicts s slot part (drop part parts)) before
   noted_part phrase before verdicts after at found there at_is found_is noted is =
@@ -197,7 +197,7 @@ module _ (s : Surroundings) (slot part : ℕ) (parts : List (Option PlainPhrase)
       is
       ∙ ap (λ (m : VerdictMap). insert m at found) noted
       ∙ ap (λ (p : PhraseAt). insert behind p found) at_is
-      ∙ ap (λ (v : Option MarkKind). insert behind (phrase_place slot part) v) found_is
+      ∙ ap (λ (v : Option MarkKind). insert behind (phrase_at slot part) v) found_is
       ∙ ap (λ (vs : VerdictList). with_all vs before) (sym (part_filled phrase there))
 
 -- ---- the nodes that are left

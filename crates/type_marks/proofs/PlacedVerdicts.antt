@@ -12,7 +12,7 @@ use Rattle.plcs_grammar.specs.PlainPhrase.{PlainPhrase}
 use Rattle.decl_table.proofs.PlaceOrder.{place_ties, places_total}
 use Rattle.template_tree.specs.Part.{part_at}
 use Rattle.template_tree.specs.Marks.{VerdictList, Verdicts, node_verdicts, part_verdicts, procedure_verdicts, surroundings}
-use Rattle.template_tree.specs.Mention.{phrase_place}
+use Rattle.template_tree.specs.Mention.{phrase_at}
 use Rattle.template_tree.specs.Path.{below, node_at}
 use Rattle.template_tree.specs.PlainTree.{Forest, PlainNode, nodes}
 use Rattle.template_tree.specs.Slots.{times}
@@ -43,8 +43,8 @@ itself : (n : ℕ) → nat_eq n n ≡ true
 itself n = grind (arith, nat_tests)
 
 -- a place is found only where slot and part are its own
-ties : (at : PhraseAt) (slot part : ℕ) → eq_by_cmp phrase_cmp at (phrase_place slot part) ≡ (nat_eq at.slot.0 slot && nat_eq at.part part)
-ties at slot part = sym (place_ties at (phrase_place slot part))
+ties : (at : PhraseAt) (slot part : ℕ) → eq_by_cmp phrase_cmp at (phrase_at slot part) ≡ (nat_eq at.slot.0 slot && nat_eq at.part part)
+ties at slot part = sym (place_ties at (phrase_at slot part))
 
 -- ---- the parts of a node
 

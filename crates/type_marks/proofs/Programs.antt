@@ -13,7 +13,7 @@ use Rattle.template_tree.specs.Program.{IsSubtree}
 use Rattle.template_tree.specs.Slots.{count, times}
 use Rattle.template_tree.specs.Tree.{IsTree}
 use Rattle.type_marks.specs.Agreement.{Knows}
-use Rattle.type_marks.specs.Private.MarksView.{AreListed, IsIn, IsItem}
+use Rattle.type_marks.specs.Private.MarksView.{AreListed, IsIn, IsProcedureItem}
 use Rattle.type_marks.proofs.DeclaredLists.{are_listed}
 use Rattle.type_marks.proofs.CalledProcedures.{one_if}
 
@@ -67,7 +67,7 @@ found_item (Forest.cons label inner rest) (suc k) node there once =
         ap (λ b. cond b (Some record { label = label; inner = inner }) (procedure_at rest node.label.slot)) here ∙ behind
 
 pub is_item : (tree : PlainTree) (k : ℕ) (procedure : PlainNode) → IsTree tree → slice_get (nodes tree.items) k ≡ Some procedure
-    → IsSubtree procedure → count procedure.inner + 1 ≤ most_slots → IsItem tree.items procedure
+    → IsSubtree procedure → count procedure.inner + 1 ≤ most_slots → IsProcedureItem tree.items procedure
 is_item tree k procedure is there subtree few =
     record {
       found = found_item tree.items k procedure there (is.once procedure.label.slot);
@@ -99,7 +99,7 @@ pub child_in : (procedure node : PlainNode) (k : ℕ) (child : PlainNode) → Is
 child_in procedure node k child inside is = (inside.0 ++ (k ∷ []), below_child procedure inside.0 node k child inside.1 is)
 
 -- each declared list of a node stands where it belongs
-pub listed_in : (program : Forest) (procedure node : PlainNode) → IsItem program procedure → IsIn procedure node → IsSubtree node
+pub listed_in : (program : Forest) (procedure node : PlainNode) → IsProcedureItem program procedure → IsIn procedure node → IsSubtree node
     → AreListed procedure.inner node.label
 listed_in program procedure node item inside subtree =
     are_listed procedure inside.0 node inside.1 subtree.0.parts (item.once node.label.slot)

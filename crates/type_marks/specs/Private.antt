@@ -1,6 +1,6 @@
 -- Words that private contracts alone cite: nobody has to believe them.
 -- ---- the table of built-in functions in the code, and their arguments
-pub mod PlainRow
+pub mod PlainBuiltinRow
 pub mod Arguments
 -- ---- chains of operators
 pub mod Chain

@@ -3,7 +3,7 @@ ghost use Rattle.std.specs.Prelude.{◌≡◌, length, slice_get};
 ghost use Rattle.template_tree.specs.Verdict.{is_count};
 ghost use Rattle.type_marks.specs.Private.Arguments.{taken_of};
 ghost use Rattle.template_tree.specs.KindTable.{builtin_row, infix_gives, infix_takes, prefix_kind, same_kind};
-ghost use Rattle.type_marks.specs.Private.PlainRow.{plain_row};
+ghost use Rattle.type_marks.specs.Private.PlainBuiltinRow.{plain_builtin_row};
 
 use plcs_base::Kind;
 use plcs_grammar::{Builtin, InfixOp, PrefixOp};
@@ -102,7 +102,7 @@ pub(crate) fn infix_gives(op: InfixOp) -> Kind
 
 /// The row that a built-in function has in the table of what they take and give.
 pub(crate) fn builtin_row(function: Builtin) -> BuiltinRow
-    ensures { plain_row result ≡ builtin_row function }
+    ensures { plain_builtin_row result ≡ builtin_row function }
 {
     match function {
         Builtin::Abs => ONE_NUMBER,

@@ -8,9 +8,9 @@ ghost use Rattle.template_tree.specs.PlainTree.{forest};
 ghost use Rattle.template_tree.specs.Program.{IsSubtree};
 ghost use Rattle.template_tree.specs.Slots.{count};
 ghost use Rattle.template_tree.specs.Tree.{IsTree};
-ghost use Rattle.type_marks.specs.Private.MarksView.{AreListed, IsIn, IsItem, with_all};
+ghost use Rattle.type_marks.specs.Private.MarksView.{AreListed, IsIn, IsProcedureItem, with_all};
 
-use crate::procedures::item;
+use crate::procedures::procedure_item;
 use crate::verdict::{Verdict, checked};
 use decl_table::Decls;
 use indexmap::IndexMap;
@@ -82,7 +82,7 @@ impl<W: Work> Marks<W> {
         // From the last phrase on, as in the table of declarations.
         while k > 0 {
             k -= 1;
-            if let Some(procedure) = item(tree, k) {
+            if let Some(procedure) = procedure_item(tree, k) {
                 marks.note_node(tree, decls, procedure, procedure, work)?;
             }
         }
@@ -101,7 +101,7 @@ impl<W: Work> Marks<W> {
     ) -> Result<(), OutOfMemory>
         requires tree { IsTree tree.now }
         requires decls { IsDeclsOf decls.now tree.now.items }
-        requires item { IsItem tree.now.items procedure.now }
+        requires item { IsProcedureItem tree.now.items procedure.now }
         requires inside { IsIn procedure.now node.now }
         requires subtree { IsSubtree node.now }
         requires few { count node.now.inner < most_slots }
@@ -135,7 +135,7 @@ impl<W: Work> Marks<W> {
     ) -> Result<(), OutOfMemory>
         requires tree { IsTree tree.now }
         requires decls { IsDeclsOf decls.now tree.now.items }
-        requires item { IsItem tree.now.items procedure.now }
+        requires item { IsProcedureItem tree.now.items procedure.now }
         requires listed { AreListed procedure.now.inner node.now.label }
         requires few { length node.now.label.parts < 256 }
         ensures noted { OnOk result (self.new ≡ with_all (part_verdicts (surroundings tree.now.items procedure.now node.now.label.slot) node.now.label.slot part (drop part node.now.label.parts)) self.old) }

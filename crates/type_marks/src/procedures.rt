@@ -9,7 +9,7 @@ ghost use Rattle.template_tree.specs.Slots.{count};
 ghost use Rattle.template_tree.specs.Tree.{IsTree};
 ghost use Rattle.type_marks.specs.Agreement.{heading_parameters};
 ghost use Rattle.type_marks.specs.Private.LongHeading.{has_parameters, takes_parameters};
-ghost use Rattle.type_marks.specs.Private.MarksView.{item_on};
+ghost use Rattle.type_marks.specs.Private.MarksView.{procedure_item_on};
 
 use decl_table::{heading_name, may_be_called, parameters_given};
 use plcs_base::{Name, Slot};
@@ -22,7 +22,7 @@ pub(crate) fn procedure_in(tree: &Tree, slot: Slot) -> Option<&Node>
     ensures { option_map (λ node. node.now) result ≡ procedure_at tree.now.items slot.0 }
 {
     let mut k = 0;
-    while let Some(node) = item(tree, k) {
+    while let Some(node) = procedure_item(tree, k) {
         if stands_in(node, slot) {
             return Some(node);
         }
@@ -38,7 +38,7 @@ pub(crate) fn is_named_before(tree: &Tree, slot: Slot, name: &Name) -> bool
     ensures { result ≡ is_some (Sig (procedures_before tree.now.items slot.0) name.now) }
 {
     let mut k = 0;
-    while let Some(node) = item(tree, k) {
+    while let Some(node) = procedure_item(tree, k) {
         if stands_in(node, slot) {
             return false;
         }
@@ -105,7 +105,7 @@ pub(crate) fn stands_in(node: &Node, slot: Slot) -> bool
 }
 
 /// Main or a procedure by its number: main is 0, and then come the procedures.
-pub(crate) fn item(tree: &Tree, k: u32) -> Option<&Node>
+pub(crate) fn procedure_item(tree: &Tree, k: u32) -> Option<&Node>
     requires tree { IsTree tree.now }
     ensures item { option_map (λ node. node.now) result ≡ slice_get (nodes tree.now.items) k }
     ensures subtree { IfSome result (λ node. IsSubtree node.now) }
@@ -115,14 +115,14 @@ pub(crate) fn item(tree: &Tree, k: u32) -> Option<&Node>
 }
 
 /// Main or the procedure on the path, which leads to it or to a node in it.
-pub(crate) fn item_on<'a>(tree: &'a Tree, path: &Path) -> Option<&'a Node>
+pub(crate) fn procedure_item_on<'a>(tree: &'a Tree, path: &Path) -> Option<&'a Node>
     requires tree { IsTree tree.now }
-    ensures item { option_map (λ node. node.now) result ≡ item_on tree.now.items path.now.items }
+    ensures item { option_map (λ node. node.now) result ≡ procedure_item_on tree.now.items path.now.items }
     ensures subtree { IfSome result (λ node. IsSubtree node.now) }
     ensures few { IfSome result (λ node. count node.now.inner + 1 ≤ most_slots) }
 {
     let Some((k, _)) = path.split_first() else {
         return None;
     };
-    item(tree, *k)
+    procedure_item(tree, *k)
 }

@@ -17,7 +17,7 @@ ghost use Rattle.type_marks.specs.Private.MarksView.{known_surroundings};
 use crate::calls::{call_offence, procedure_offence};
 use crate::declared_items::declared_offence;
 use crate::kinds::exprs_offence;
-use crate::procedures::item_on;
+use crate::procedures::procedure_item_on;
 use crate::statements::{
     assignment_offence, counter_offence, expr_offence, parameters_offence, references_offence,
 };
@@ -78,7 +78,7 @@ pub fn check_phrase<W: Work>(tree: &Tree, decls: &Decls, at: PhraseAt, work: &mu
     let Some(node) = tree.node(&path) else {
         unreachable!()
     };
-    let Some(procedure) = item_on(tree, &path) else {
+    let Some(procedure) = procedure_item_on(tree, &path) else {
         unreachable!()
     };
     let Some(phrase) = phrase_in(node, at.part) else {

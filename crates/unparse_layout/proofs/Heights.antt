@@ -8,14 +8,14 @@ use Rattle.template_tree.specs.PlainTree.{Forest, PlainNode, nodes}
 use Rattle.template_tree.specs.Program.{sort_of}
 use Rattle.template_tree.specs.Section.{left_for, left_after}
 use Rattle.template_tree.specs.Slots.{count}
-use Rattle.unparse_layout.specs.Bones.{Bone, Bones, bones_of}
+use Rattle.unparse_layout.specs.Bones.{Bone, PlainLayout, bones_of}
 use Rattle.unparse_layout.specs.Private.PlainNodeLayout.{PlainNodeLayout, node_layouts, bones, node_layouts_bones}
 use Rattle.unparse_layout.specs.Private.Height.{line_count, one_if, height_around, height, heights, bone_count}
 
 -- the numbers of a list's nodes add up to the number of the list
-pub heights_sum : (items : Bones) → sum (map height (node_layouts items)) ≡ heights items
-heights_sum Bones.nil = refl
-heights_sum (Bones.cons bone inner rest) =
+pub heights_sum : (items : PlainLayout) → sum (map height (node_layouts items)) ≡ heights items
+heights_sum PlainLayout.nil = refl
+heights_sum (PlainLayout.cons bone inner rest) =
     sum_by-cons (λ n. n) (height_around bone (heights inner)) (map height (node_layouts rest))
     ∙ ap (λ n. height_around bone (heights inner) + n) (heights_sum rest)
 
@@ -47,9 +47,9 @@ around_le bone inside =
     omega (arith, one_if_le bone.led, line_count_le (row_of bone.kind).last, inside_le bone.elided inside)
 
 -- nodes have at most four lines each
-pub heights_le : (items : Bones) → heights items ≤ 4 * bone_count items
-heights_le Bones.nil = omega arith
-heights_le (Bones.cons bone inner rest) =
+pub heights_le : (items : PlainLayout) → heights items ≤ 4 * bone_count items
+heights_le PlainLayout.nil = omega arith
+heights_le (PlainLayout.cons bone inner rest) =
     omega (arith, around_le bone (heights inner), heights_le inner, heights_le rest)
 
 pub height_le : (node_layout : PlainNodeLayout) → height node_layout ≤ 4 * bone_count node_layout.inner + 4
@@ -66,9 +66,9 @@ count_bones left (Forest.cons label inner rest) =
     )
 
 -- a list has no more items than there are nodes
-pub node_layouts_few : (items : Bones) → length (node_layouts items) ≤ bone_count items
-node_layouts_few Bones.nil = omega arith
-node_layouts_few (Bones.cons bone inner rest) = omega (arith, node_layouts_few rest)
+pub node_layouts_few : (items : PlainLayout) → length (node_layouts items) ≤ bone_count items
+node_layouts_few PlainLayout.nil = omega arith
+node_layouts_few (PlainLayout.cons bone inner rest) = omega (arith, node_layouts_few rest)
 
 pub nodes_few : (items : Forest) → length (nodes items) ≤ count items
 nodes_few Forest.nil = omega arith
@@ -81,9 +81,9 @@ item_few (Forest.cons label inner rest) zero node there =
     let same : record { label = label; inner = inner } ≡ node = cc in rw (← same) (omega arith)
 item_few (Forest.cons label inner rest) (suc k) node there = omega (arith, item_few rest k node there)
 
-pub node_layout_few : (items : Bones) (k : ℕ) (node_layout : PlainNodeLayout) → slice_get (node_layouts items) k ≡ Some node_layout
+pub node_layout_few : (items : PlainLayout) (k : ℕ) (node_layout : PlainNodeLayout) → slice_get (node_layouts items) k ≡ Some node_layout
     → bone_count node_layout.inner + 1 ≤ bone_count items
-node_layout_few Bones.nil k node_layout there = absurd (cc)
-node_layout_few (Bones.cons bone inner rest) zero node_layout there =
+node_layout_few PlainLayout.nil k node_layout there = absurd (cc)
+node_layout_few (PlainLayout.cons bone inner rest) zero node_layout there =
     let same : record { bone = bone; inner = inner } ≡ node_layout = cc in rw (← same) (omega arith)
-node_layout_few (Bones.cons bone inner rest) (suc k) node_layout there = omega (arith, node_layout_few rest k node_layout there)
+node_layout_few (PlainLayout.cons bone inner rest) (suc k) node_layout there = omega (arith, node_layout_few rest k node_layout there)

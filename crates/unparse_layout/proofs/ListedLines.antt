@@ -14,7 +14,7 @@ use Rattle.template_tree.specs.Program.{sort_of}
 use Rattle.template_tree.specs.Section.{left_for, left_after, next_lead}
 use Rattle.template_tree.specs.Line.{fixed_line, lines}
 use Rattle.template_tree.specs.Stop.{IsStop, PlainStop, VisibleNode, VisibleStop, inside, line_at, listed_stop, part_stops, same_stop, stops_of, visible_nodes}
-use Rattle.unparse_layout.specs.Bones.{Bone, Bones, bones_of}
+use Rattle.unparse_layout.specs.Bones.{Bone, PlainLayout, bones_of}
 use Rattle.unparse_layout.specs.Private.PlainNodeLayout.{node_layout_of}
 use Rattle.unparse_layout.specs.Private.Height.{height, heights}
 use Rattle.unparse_layout.specs.Private.ItemLines.{lines_before}
@@ -49,7 +49,7 @@ stops_same one other e =
 -- ---- each visible node stands on the line of its path
 
 -- the path of a node begins with a number from this one on, and so many lines stand before it
-record StandsAt (k line : ℕ) (items : Bones) (node : VisibleNode) : Type 0 where
+record StandsAt (k line : ℕ) (items : PlainLayout) (node : VisibleNode) : Type 0 where
   number : ℕ
   path : List ℕ
   path_is : node.path ≡ (k + number) ∷ path
@@ -105,7 +105,7 @@ later_stands left k line label inner rest node h =
     }
 
 -- those inside a node, where they are visible
-inside_stand : (k line : ℕ) (items inner : Bones) (elided : Bool) (below : List VisibleNode) (before : ℕ)
+inside_stand : (k line : ℕ) (items inner : PlainLayout) (elided : Bool) (below : List VisibleNode) (before : ℕ)
     → ((node : VisibleNode) → StandsAt 0 before inner node → StandsAt k line items (inside k node)) → All (StandsAt 0 before inner) below
     → All (λ node. StandsAt k line items (inside k node)) (if elided then [] else below)
 inside_stand k line items inner true below before law h = All-nil _
@@ -137,7 +137,7 @@ all_stand left k line (Forest.cons label inner rest) =
 abbrev StandsThere : PlainStop → ℕ → VisibleStop → Type 0
 StandsThere stop line listed = listed.stop ≡ stop → listed.line ≡ line
 
-node_line : (items : Bones) (node : VisibleNode) (stop : PlainStop) (k : ℕ) (rest : List ℕ) → stop.path ≡ k ∷ rest → StandsAt 0 0 items node
+node_line : (items : PlainLayout) (node : VisibleNode) (stop : PlainStop) (k : ℕ) (rest : List ℕ) → stop.path ≡ k ∷ rest → StandsAt 0 0 items node
     → (part : Option ℕ) → record { path = node.path; part = part } ≡ stop → node.line ≡ lines_before items k rest
 node_line items node stop k rest way h part same =
     let path : (0 + h.number) ∷ h.path ≡ k ∷ rest = sym h.path_is ∙ ap (λ (s : PlainStop). s.path) same ∙ way in
@@ -147,7 +147,7 @@ node_line items node stop k rest way h part same =
     let line : lines_before items h.number h.path ≡ lines_before items k rest = λ i. lines_before items (number i) (behind i) in
     omega (arith, h.line_is, line)
 
-own_stops_stand : (items : Bones) (stop : PlainStop) (k : ℕ) (rest : List ℕ) → stop.path ≡ k ∷ rest → (node : VisibleNode) → StandsAt 0 0 items node
+own_stops_stand : (items : PlainLayout) (stop : PlainStop) (k : ℕ) (rest : List ℕ) → stop.path ≡ k ∷ rest → (node : VisibleNode) → StandsAt 0 0 items node
     → All (StandsThere stop (lines_before items k rest)) (stops_of node)
 own_stops_stand items stop k rest way node h =
     let There : VisibleStop → Type 0 = StandsThere stop (lines_before items k rest) in
@@ -156,7 +156,7 @@ own_stops_stand items stop k rest way node h =
     All-cons There (of_part None) (map (λ n. of_part (Some n)) numbers) (node_line items node stop k rest way h None)
     (All-map There (λ n. of_part (Some n)) numbers (λ j d below. node_line items node stop k rest way h (Some _)))
 
-stops_stand : (items : Bones) (stop : PlainStop) (k : ℕ) (rest : List ℕ) → stop.path ≡ k ∷ rest → (nodes : List VisibleNode) → All (StandsAt 0 0 items) nodes
+stops_stand : (items : PlainLayout) (stop : PlainStop) (k : ℕ) (rest : List ℕ) → stop.path ≡ k ∷ rest → (nodes : List VisibleNode) → All (StandsAt 0 0 items) nodes
     → All (StandsThere stop (lines_before items k rest)) (flat_map stops_of nodes)
 stops_stand items stop k rest way [] h = All-nil _
 stops_stand items stop k rest way (node ∷ nodes) h =

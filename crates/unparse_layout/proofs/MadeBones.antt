@@ -8,7 +8,7 @@ use Rattle.template_tree.specs.PlainTree.{Forest, PlainNode, nodes, forest, fore
 use Rattle.template_tree.specs.Program.{sort_of}
 use Rattle.template_tree.specs.Section.{left_for, left_after, next_lead}
 use Rattle.template_tree.specs.Slots.{count}
-use Rattle.unparse_layout.specs.Bones.{Bones, bones_of}
+use Rattle.unparse_layout.specs.Bones.{PlainLayout, bones_of}
 use Rattle.unparse_layout.specs.Private.PlainNodeLayout.{PlainNodeLayout, node_layouts, bones, node_layouts_bones, bones_node_layouts, node_layout_of}
 use Rattle.unparse_layout.specs.Private.Height.{height, heights, bone_count}
 use Rattle.unparse_layout.proofs.Heights.{count_bones, heights_le, height_le}
@@ -25,11 +25,11 @@ count_append [] ys = omega arith
 count_append (x ∷ xs) ys = omega (arith, count_append xs ys)
 
 -- a layout of which some items are made already, and these nodes are left
-pub record IsMade (whole : Bones) (done : Bones) (left : List PlainSection) (rest : List PlainNode) : Type 0 where
+pub record IsMade (whole : PlainLayout) (done : PlainLayout) (left : List PlainSection) (rest : List PlainNode) : Type 0 where
   pub all : node_layouts done ++ node_layouts (bones_of left (forest rest)) ≡ node_layouts whole
 
 -- one more is made
-pub made_next : (whole done : Bones) (left here later : List PlainSection) (items : List PlainNode) (k : ℕ) (node : PlainNode) (item : PlainNodeLayout) (new : Bones)
+pub made_next : (whole done : PlainLayout) (left here later : List PlainSection) (items : List PlainNode) (k : ℕ) (node : PlainNode) (item : PlainNodeLayout) (new : PlainLayout)
     → slice_get items k ≡ Some node → here ≡ left_for (sort_of node.label.kind) left → later ≡ left_after here
     → item ≡ node_layout_of (is_some (next_lead here)) node → new ≡ bones (node_layouts done ++ item ∷ [])
     → IsMade whole done left (drop k items) → IsMade whole new later (drop (k + 1) items)
@@ -51,14 +51,14 @@ made_next whole done left here later items k node item new there here_is later_i
 }
 
 -- nothing is made at the beginning
-pub made_none : (left : List PlainSection) (items : Forest) (done : Bones) (now : List PlainSection) → done ≡ Bones.nil → now ≡ left
+pub made_none : (left : List PlainSection) (items : Forest) (done : PlainLayout) (now : List PlainSection) → done ≡ PlainLayout.nil → now ≡ left
     → IsMade (bones_of left items) done now (drop 0 (nodes items))
 made_none left items done now done_is now_is = record {
   all = rw (done_is, now_is, forest_nodes items) refl;
 }
 
 -- all is made at the end
-pub made_all : (whole done : Bones) (left : List PlainSection) (items : List PlainNode) (k : ℕ) → length items ≤ k
+pub made_all : (whole done : PlainLayout) (left : List PlainSection) (items : List PlainNode) (k : ℕ) → length items ≤ k
     → IsMade whole done left (drop k items) → done ≡ whole
 made_all whole done left items k past m =
     let none : drop k items ≡ [] = drop_of_length-le items past in
@@ -67,7 +67,7 @@ made_all whole done left items k past m =
     ∙ bones_node_layouts whole
 
 -- what is made is no more than the whole
-pub made_few : (whole done : Bones) (left : List PlainSection) (rest : List PlainNode) → IsMade whole done left rest
+pub made_few : (whole done : PlainLayout) (left : List PlainSection) (rest : List PlainNode) → IsMade whole done left rest
     → bone_count done + count (forest rest) ≡ bone_count whole
 made_few whole done left rest m =
     let e : bone_count (bones (node_layouts done ++ node_layouts (bones_of left (forest rest)))) ≡ bone_count (bones (node_layouts whole)) = ap (λ xs. bone_count (bones xs)) m.all in
@@ -79,7 +79,7 @@ made_few whole done left rest m =
     omega (arith, e, f, g, h, i, j)
 
 -- there is room for the item's lines
-pub push_fits : (whole done : Bones) (left : List PlainSection) (items : List PlainNode) (k : ℕ) (node : PlainNode) (item : PlainNodeLayout) (led : Bool)
+pub push_fits : (whole done : PlainLayout) (left : List PlainSection) (items : List PlainNode) (k : ℕ) (node : PlainNode) (item : PlainNodeLayout) (led : Bool)
     → slice_get items k ≡ Some node → item ≡ node_layout_of led node → IsMade whole done left (drop k items)
     → heights done + height item ≤ 4 * bone_count whole
 push_fits whole done left items k node item led there item_is m =

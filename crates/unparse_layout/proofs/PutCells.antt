@@ -13,7 +13,7 @@ use Rattle.plcs_grammar.specs.PlainPhrase.{PlainPhrase}
 use Rattle.plcs_grammar.specs.Template.{PlainSegment, plain_segment, row_of}
 use Rattle.unparse_layout.specs.declared.lay.CellsOut.{CellsOut}
 use Rattle.unparse_layout.specs.declared.line.LineKind.{LineKind}
-use Rattle.unparse_layout.specs.LaidLine.{LaidLine, cell, laid_line, longest_line, stretch_cells}
+use Rattle.unparse_layout.specs.LaidLine.{PlainLine, screen_cell, laid_line, longest_line, stretch_cells}
 use Rattle.unparse_layout.specs.OwnedLine.{next_after, partless_line, stretch_of, stretches_of}
 use Rattle.unparse_layout.specs.Private.Cells.{HasMore, PutsAside, PutsCell}
 
@@ -52,7 +52,7 @@ more_none a = record { cells = ap (take longest_line) (sym (append-nil a)) }
 
 -- bytes that are put one after the other
 pub record ArePut (before : CellsOut) (bytes : List ℕ) (after : CellsOut) : Type 0 where
-  pub put : HasMore before.cells.items after.cells.items (map (cell before.negative) bytes)
+  pub put : HasMore before.cells.items after.cells.items (map (screen_cell before.negative) bytes)
   pub image : after.negative ≡ before.negative
   pub short : length before.cells.items ≤ longest_line → length after.cells.items ≤ longest_line
 
@@ -62,14 +62,14 @@ all_put {before} {after} (puts_next {between = between} {byte = byte} {bytes = b
     let more = all_put rest in
     record {
       put =
-          more_joined before.cells.items between.cells.items after.cells.items (cell before.negative byte ∷ []) (map (cell before.negative) bytes) one.put
-          (subst (λ b. HasMore between.cells.items after.cells.items (map (cell b) bytes)) one.image more.put);
+          more_joined before.cells.items between.cells.items after.cells.items (screen_cell before.negative byte ∷ []) (map (screen_cell before.negative) bytes) one.put
+          (subst (λ b. HasMore between.cells.items after.cells.items (map (screen_cell b) bytes)) one.image more.put);
       image = more.image ∙ one.image;
       short = λ h. more.short one.short;
     }
 
 -- in default image the cells are the bytes
-pub plain_cells : (bytes : List ℕ) → map (cell false) bytes ≡ bytes
+pub plain_cells : (bytes : List ℕ) → map (screen_cell false) bytes ≡ bytes
 plain_cells [] = refl
 plain_cells (byte ∷ bytes) = ap (λ xs. byte ∷ xs) (plain_cells bytes)
 
@@ -173,7 +173,7 @@ pub plain_put : (before after : CellsOut) (bytes : List ℕ) → before.negative
 plain_put before after bytes plain short puts =
     let p = all_put puts in
     record {
-      put = subst (λ xs. HasMore before.cells.items after.cells.items xs) (ap (λ b. map (cell b) bytes) plain ∙ plain_cells bytes) p.put;
+      put = subst (λ xs. HasMore before.cells.items after.cells.items xs) (ap (λ b. map (screen_cell b) bytes) plain ∙ plain_cells bytes) p.put;
       plain = p.image ∙ plain;
       short = p.short short;
     }
@@ -181,7 +181,7 @@ plain_put before after bytes plain short puts =
 -- a part that is put, after which default image comes again
 pub part_put : (before : CellsOut) (negative : Bool) (bytes : List ℕ) (after : CellsOut) → length before.cells.items ≤ longest_line
     → PutsAll PutsCell record { cells = before.cells; negative = negative } bytes after
-    → PutsAside before (map (cell negative) bytes) record { cells = after.cells; negative = false }
+    → PutsAside before (map (screen_cell negative) bytes) record { cells = after.cells; negative = false }
 part_put before negative bytes after short puts =
     let p = all_put puts in record { put = p.put; plain = refl; short = p.short short }
 
@@ -193,7 +193,7 @@ whole_line first middle last blanks text none one two =
     sym (take_whole longest_line last.cells.items two.short) ∙ all.cells ∙ ap (λ xs. take longest_line (xs ++ (blanks ++ text))) none
 
 -- a line of these fields
-abbrev pub laid_of : ℕ → LineKind → List ℕ → LaidLine
+abbrev pub laid_of : ℕ → LineKind → List ℕ → PlainLine
 laid_of slot kind cells = record { slot = slot; kind = kind; cells = cells }
 
 -- a line in which no part stands, laid under any marks
@@ -202,7 +202,7 @@ pub fixed_cells : (marks : MarkMap) (slot : ℕ) (kind : LineKind) (level : ℕ)
     ≡ laid_of slot kind (take longest_line (replicate (2 * level) 32 ++ bytes))
 fixed_cells marks slot kind level bytes =
     let e : flat_map (stretch_cells marks slot) (record { part = None; bytes = bytes } ∷ []) ≡ bytes =
-    flat_map-cons (stretch_cells marks slot) record { part = None; bytes = bytes } [] ∙ append-nil (map (cell false) bytes) ∙ plain_cells bytes in
+    flat_map-cons (stretch_cells marks slot) record { part = None; bytes = bytes } [] ∙ append-nil (map (screen_cell false) bytes) ∙ plain_cells bytes in
     λ i. laid_of slot kind (take longest_line (replicate (2 * level) 32 ++ e i))
 
 -- the line is the same where its cells are

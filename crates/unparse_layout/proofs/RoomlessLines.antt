@@ -7,7 +7,7 @@ use Rattle.template_tree.specs.Program.{sort_of}
 use Rattle.template_tree.specs.Section.{left_for, left_after, next_lead}
 use Rattle.unparse_layout.specs.declared.line.LineKind.{LineKind}
 use Rattle.unparse_layout.specs.Agreement.{LayoutsIgnoreRoom}
-use Rattle.unparse_layout.specs.Bones.{Bones, bones_of}
+use Rattle.unparse_layout.specs.Bones.{PlainLayout, bones_of}
 use Rattle.unparse_layout.specs.OwnedLine.{OwnedLines, first_line, owned_lines, partless_line, table_line}
 
 -- what a layout keeps of nodes
@@ -15,7 +15,7 @@ pub bones_roomless : (left : List PlainSection) (items : Forest) → bones_of le
 bones_roomless left Forest.nil = refl
 bones_roomless left (Forest.cons label inner rest) =
     λ i.
-    Bones.cons
+    PlainLayout.cons
     record { slot = label.slot; kind = label.kind; elided = label.elided; led = is_some (next_lead (left_for (sort_of label.kind) left)) }
     (bones_roomless (row_of label.kind).sections inner i)
     (bones_roomless (left_after (left_for (sort_of label.kind) left)) rest i)

@@ -15,7 +15,7 @@ use Rattle.template_tree.specs.Section.{left_for, left_after, next_lead}
 use Rattle.template_tree.specs.Line.{Lines, fixed_line, lines}
 use Rattle.template_tree.specs.Stop.{VisibleNode, VisibleStop, PlainStop, IsStop, MayStand, Stops, inside, part_stops, stops_of, visible_at, visible_below, visible_nodes}
 use Rattle.unparse_layout.specs.OwnedLine.{bare_line, owned_lines}
-use Rattle.unparse_layout.specs.Bones.{Bone, Bones, bones_of}
+use Rattle.unparse_layout.specs.Bones.{Bone, PlainLayout, bones_of}
 use Rattle.unparse_layout.specs.Private.PlainNodeLayout.{PlainNodeLayout, node_layouts, node_layout_of}
 use Rattle.unparse_layout.specs.Private.Height.{one_if, height_around, height, heights, bone_count}
 use Rattle.unparse_layout.specs.Private.ItemLines.{lines_before}
@@ -67,8 +67,8 @@ among_inside k all node m = record {
 }
 
 -- the lines before an item behind the first one
-pub lines_before_next : (bone : Bone) (inner rest : Bones) (j : ℕ) (path : List ℕ)
-    → lines_before (Bones.cons bone inner rest) (suc j) path ≡ height_around bone (heights inner) + lines_before rest j path
+pub lines_before_next : (bone : Bone) (inner rest : PlainLayout) (j : ℕ) (path : List ℕ)
+    → lines_before (PlainLayout.cons bone inner rest) (suc j) path ≡ height_around bone (heights inner) + lines_before rest j path
 lines_before_next bone inner rest j [] =
     omega (arith, sum_by-cons (λ n. n) (height_around bone (heights inner)) (take j (map height (node_layouts rest))))
 lines_before_next bone inner rest j (n ∷ path) =
@@ -245,35 +245,35 @@ stop_line items stop k rest way is = at_node (visible_at items (k ∷ rest)) ref
         }
 
 -- where no item is, nothing more is added
-pub lines_before_none : (items : Bones) (k : ℕ) (rest : List ℕ) → slice_get (node_layouts items) k ≡ None
+pub lines_before_none : (items : PlainLayout) (k : ℕ) (rest : List ℕ) → slice_get (node_layouts items) k ≡ None
     → sum (take k (map height (node_layouts items))) ≡ lines_before items k rest
 lines_before_none items k [] none = rw none (omega arith)
 lines_before_none items k (n ∷ rest) none = rw none (omega arith)
 
 -- the end of the path
-pub lines_before_end : (items : Bones) (k : ℕ) (rest : List ℕ) (item : PlainNodeLayout) → slice_get (node_layouts items) k ≡ Some item → length rest ≡ 0
+pub lines_before_end : (items : PlainLayout) (k : ℕ) (rest : List ℕ) (item : PlainNodeLayout) → slice_get (node_layouts items) k ≡ Some item → length rest ≡ 0
     → sum (take k (map height (node_layouts items))) + one_if item.bone.led ≡ lines_before items k rest
 lines_before_end items k [] item there end = rw there refl
 lines_before_end items k (n ∷ rest) item there end = absurd (omega (arith, end))
 
 -- a step further
-pub lines_before_step : (items : Bones) (k n : ℕ) (path rest : List ℕ) (item : PlainNodeLayout) → slice_get (node_layouts items) k ≡ Some item → path ≡ n ∷ rest
+pub lines_before_step : (items : PlainLayout) (k n : ℕ) (path rest : List ℕ) (item : PlainNodeLayout) → slice_get (node_layouts items) k ≡ Some item → path ≡ n ∷ rest
     → sum (take k (map height (node_layouts items))) + one_if item.bone.led + 1 + lines_before item.inner n rest ≡ lines_before items k path
 lines_before_step items k n path rest item there way =
     sym (ap (lines_before items k) way ∙ rw there (omega arith))
 
 -- the lines before an item, and four for each node in it
-pub before_le : (items : Bones) (k : ℕ) (item : PlainNodeLayout) → slice_get (node_layouts items) k ≡ Some item
+pub before_le : (items : PlainLayout) (k : ℕ) (item : PlainNodeLayout) → slice_get (node_layouts items) k ≡ Some item
     → sum (take k (map height (node_layouts items))) + 4 * bone_count item.inner + 4 ≤ 4 * bone_count items
-before_le Bones.nil k item there = absurd (cc)
-before_le (Bones.cons bone inner rest) zero item there =
+before_le PlainLayout.nil k item there = absurd (cc)
+before_le (PlainLayout.cons bone inner rest) zero item there =
     let same : record { bone = bone; inner = inner } ≡ item = cc in rw (← same) (omega arith)
-before_le (Bones.cons bone inner rest) (suc k) item there =
+before_le (PlainLayout.cons bone inner rest) (suc k) item there =
     let cons = sum_by-cons (λ n. n) (height_around bone (heights inner)) (take k (map height (node_layouts rest))) in
     omega (arith, cons, before_le rest k item there, around_le bone (heights inner), heights_le inner)
 
 -- no more than four lines for each node stand before one of them
-pub lines_before_le : (path : List ℕ) (items : Bones) (k : ℕ) → lines_before items k path ≤ 4 * bone_count items
+pub lines_before_le : (path : List ℕ) (items : PlainLayout) (k : ℕ) → lines_before items k path ≤ 4 * bone_count items
 lines_before_le [] items k = found (slice_get (node_layouts items) k) refl
   where
     found : (o : Option PlainNodeLayout) → slice_get (node_layouts items) k ≡ o → lines_before items k [] ≤ 4 * bone_count items
@@ -284,7 +284,7 @@ lines_before_le [] items k = found (slice_get (node_layouts items) k) refl
         omega (arith, lines_before_end items k [] item e refl, before_le items k item e, one_if_le item.bone.led)
 lines_before_le (n ∷ path) items k = found (slice_get (node_layouts items) k) refl (λ inner. lines_before_le path inner n)
   where
-    found : (o : Option PlainNodeLayout) → slice_get (node_layouts items) k ≡ o → ((inner : Bones) → lines_before inner n path ≤ 4 * bone_count inner)
+    found : (o : Option PlainNodeLayout) → slice_get (node_layouts items) k ≡ o → ((inner : PlainLayout) → lines_before inner n path ≤ 4 * bone_count inner)
         → lines_before items k (n ∷ path) ≤ 4 * bone_count items
     found None e law =
         let all = sum_by-take-le (λ n. n) (map height (node_layouts items)) k in

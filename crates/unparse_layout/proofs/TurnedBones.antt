@@ -9,14 +9,14 @@ use Rattle.template_tree.specs.Path.{below, node_at}
 use Rattle.template_tree.specs.Program.{sort_of}
 use Rattle.template_tree.specs.Section.{left_for, left_after, next_lead}
 use Rattle.template_tree.specs.Edit.{edit_at, edit_below, give_way}
-use Rattle.template_tree.specs.Elision.{is_comment, turn}
-use Rattle.unparse_layout.specs.Bones.{Bone, Bones, bones_of}
+use Rattle.template_tree.specs.Elision.{is_comment, toggled}
+use Rattle.unparse_layout.specs.Bones.{Bone, PlainLayout, bones_of}
 use Rattle.unparse_layout.specs.Private.PlainNodeLayout.{PlainNodeLayout, bones, bones_node_layouts, node_layouts}
 use Rattle.unparse_layout.specs.Private.Height.{bone_count}
 use Rattle.unparse_layout.specs.Private.NodeLayoutLend.{with_elision}
 
 -- nodes in which the one at the path is elided or not
-abbrev pub set_in : Bones → ℕ → List ℕ → Bool → Bones
+abbrev pub set_in : PlainLayout → ℕ → List ℕ → Bool → PlainLayout
 set_in items k path elided =
     unwrap_or (option_map (λ item. bones (slice_set (node_layouts items) k (with_elision path elided item))) (slice_get (node_layouts items) k)) items
 
@@ -41,13 +41,13 @@ bone_kept node_layout k path elided = found (slice_get (node_layouts node_layout
     found (Some item) = refl
 
 -- setting a node behind the first one
-pub set_next : (bone : Bone) (inner rest : Bones) (k : ℕ) (path : List ℕ) (elided : Bool)
-    → set_in (Bones.cons bone inner rest) (suc k) path elided ≡ Bones.cons bone inner (set_in rest k path elided)
+pub set_next : (bone : Bone) (inner rest : PlainLayout) (k : ℕ) (path : List ℕ) (elided : Bool)
+    → set_in (PlainLayout.cons bone inner rest) (suc k) path elided ≡ PlainLayout.cons bone inner (set_in rest k path elided)
 set_next bone inner rest k path elided = found (slice_get (node_layouts rest) k)
   where
     found : (o : Option PlainNodeLayout)
-        → unwrap_or (option_map (λ item. Bones.cons bone inner (bones (slice_set (node_layouts rest) k (with_elision path elided item)))) o) (Bones.cons bone inner rest)
-        ≡ Bones.cons bone inner (unwrap_or (option_map (λ item. bones (slice_set (node_layouts rest) k (with_elision path elided item))) o) rest)
+        → unwrap_or (option_map (λ item. PlainLayout.cons bone inner (bones (slice_set (node_layouts rest) k (with_elision path elided item)))) o) (PlainLayout.cons bone inner rest)
+        ≡ PlainLayout.cons bone inner (unwrap_or (option_map (λ item. bones (slice_set (node_layouts rest) k (with_elision path elided item))) o) rest)
     found None = refl
     found (Some item) = refl
 
@@ -64,9 +64,9 @@ turned_node label inner false node is =
 
 -- turning the comment at a path sets its elision in the layout, where it is told what it is then
 pub turned_bones : (items : Forest) (left : List PlainSection) (k : ℕ) (path : List ℕ) (elided : Bool) (node : PlainNode)
-    → option_and_then (λ item. below item path) (slice_get (nodes (give_way (edit_below turn path) k items)) k) ≡ Some node
+    → option_and_then (λ item. below item path) (slice_get (nodes (give_way (edit_below toggled path) k items)) k) ≡ Some node
     → node.label.elided ≡ elided
-    → bones_of left (give_way (edit_below turn path) k items) ≡ set_in (bones_of left items) k path elided
+    → bones_of left (give_way (edit_below toggled path) k items) ≡ set_in (bones_of left items) k path elided
 turned_bones Forest.nil left k path elided node there is = absurd (cc)
 turned_bones (Forest.cons label inner rest) left zero [] elided node there is =
     let own : PlainNode = record { label = label; inner = inner } in
@@ -77,7 +77,7 @@ turned_bones (Forest.cons label inner rest) left zero [] elided node there is =
     let whole : new ≡ record { label = record label { elided = new.label.elided }; inner = inner } = turned_node label inner (is_comment label.kind) new refl in
     let e : new.label.elided ≡ elided = ap (λ (n : PlainNode). n.label.elided) same ∙ is in
     ap (λ (n : PlainNode). bones_of left (Forest.cons n.label n.inner rest)) whole
-    ∙ (λ i. Bones.cons record { slot = label.slot; kind = label.kind; elided = e i; led = is_some (next_lead here) } (bones_of sections inner)
+    ∙ (λ i. PlainLayout.cons record { slot = label.slot; kind = label.kind; elided = e i; led = is_some (next_lead here) } (bones_of sections inner)
     (sym (bones_node_layouts (bones_of (left_after here) rest)) i))
 turned_bones (Forest.cons label inner rest) left zero (n ∷ path) elided node there is =
     let here = left_for (sort_of label.kind) left in
@@ -85,32 +85,32 @@ turned_bones (Forest.cons label inner rest) left zero (n ∷ path) elided node t
     let bone : Bone = record { slot = label.slot; kind = label.kind; elided = label.elided; led = is_some (next_lead here) } in
     let node_layout : PlainNodeLayout = record { bone = bone; inner = bones_of sections inner } in
     let below_it = turned_bones inner sections n path elided node there is in
-    λ i. Bones.cons (sym (bone_kept node_layout n path elided) i) ((below_it ∙ sym (inner_set node_layout n path elided)) i)
+    λ i. PlainLayout.cons (sym (bone_kept node_layout n path elided) i) ((below_it ∙ sym (inner_set node_layout n path elided)) i)
     (sym (bones_node_layouts (bones_of (left_after here) rest)) i)
 turned_bones (Forest.cons label inner rest) left (suc k) path elided node there is =
     let here = left_for (sort_of label.kind) left in
     let bone : Bone = record { slot = label.slot; kind = label.kind; elided = label.elided; led = is_some (next_lead here) } in
-    ap (Bones.cons bone (bones_of (row_of label.kind).sections inner)) (turned_bones rest (left_after here) k path elided node there is)
+    ap (PlainLayout.cons bone (bones_of (row_of label.kind).sections inner)) (turned_bones rest (left_after here) k path elided node there is)
     ∙ sym (set_next bone (bones_of (row_of label.kind).sections inner) (bones_of (left_after here) rest) k path elided)
 
 -- where nothing stands there, nothing is turned
 pub none_turned : (items : Forest) (left : List PlainSection) (k : ℕ) (path : List ℕ)
-    → option_and_then (λ item. below item path) (slice_get (nodes (give_way (edit_below turn path) k items)) k) ≡ None
-    → bones_of left (give_way (edit_below turn path) k items) ≡ bones_of left items
+    → option_and_then (λ item. below item path) (slice_get (nodes (give_way (edit_below toggled path) k items)) k) ≡ None
+    → bones_of left (give_way (edit_below toggled path) k items) ≡ bones_of left items
 none_turned Forest.nil left k path none = refl
 none_turned (Forest.cons label inner rest) left zero [] none = absurd (cc)
 none_turned (Forest.cons label inner rest) left zero (n ∷ path) none =
     let here = left_for (sort_of label.kind) left in
     let bone : Bone = record { slot = label.slot; kind = label.kind; elided = label.elided; led = is_some (next_lead here) } in
-    ap (λ b. Bones.cons bone b (bones_of (left_after here) rest)) (none_turned inner (row_of label.kind).sections n path none)
+    ap (λ b. PlainLayout.cons bone b (bones_of (left_after here) rest)) (none_turned inner (row_of label.kind).sections n path none)
 none_turned (Forest.cons label inner rest) left (suc k) path none =
     let here = left_for (sort_of label.kind) left in
     let bone : Bone = record { slot = label.slot; kind = label.kind; elided = label.elided; led = is_some (next_lead here) } in
-    ap (Bones.cons bone (bones_of (row_of label.kind).sections inner)) (none_turned rest (left_after here) k path none)
+    ap (PlainLayout.cons bone (bones_of (row_of label.kind).sections inner)) (none_turned rest (left_after here) k path none)
 
 -- the layout of a program after a comment was turned
 pub turned_layout : (items before : Forest) (path : List ℕ) (elided : Bool) (root : PlainNodeLayout) (node : PlainNode)
-    → root.inner ≡ bones_of program_sections before → items ≡ edit_at turn path before → node_at items path ≡ Some node
+    → root.inner ≡ bones_of program_sections before → items ≡ edit_at toggled path before → node_at items path ≡ Some node
     → node.label.elided ≡ elided → (with_elision path elided root).inner ≡ bones_of program_sections items
 turned_layout items before [] elided root node same turned there is = absurd (cc)
 turned_layout items before (k ∷ path) elided root node same turned there is =
@@ -119,7 +119,7 @@ turned_layout items before (k ∷ path) elided root node same turned there is =
     ∙ sym (turned_bones before program_sections k path elided node (sym (ap (λ f. node_at f (k ∷ path)) turned) ∙ there) is)
     ∙ ap (bones_of program_sections) (sym turned)
 
-pub layout_kept : (items before : Forest) (path : List ℕ) → items ≡ edit_at turn path before → node_at items path ≡ None
+pub layout_kept : (items before : Forest) (path : List ℕ) → items ≡ edit_at toggled path before → node_at items path ≡ None
     → bones_of program_sections before ≡ bones_of program_sections items
 layout_kept items before [] turned none = ap (bones_of program_sections) (sym turned)
 layout_kept items before (k ∷ path) turned none =
@@ -127,15 +127,15 @@ layout_kept items before (k ∷ path) turned none =
     ∙ ap (bones_of program_sections) (sym turned)
 
 -- as many nodes as before where one gives way to one as large
-pub count_set : (items : Bones) (k : ℕ) (item new : PlainNodeLayout) → slice_get (node_layouts items) k ≡ Some item
+pub count_set : (items : PlainLayout) (k : ℕ) (item new : PlainNodeLayout) → slice_get (node_layouts items) k ≡ Some item
     → bone_count new.inner ≡ bone_count item.inner → bone_count (bones (slice_set (node_layouts items) k new)) ≡ bone_count items
-count_set Bones.nil k item new there same = absurd (cc)
-count_set (Bones.cons bone inner rest) zero item new there same =
+count_set PlainLayout.nil k item new there same = absurd (cc)
+count_set (PlainLayout.cons bone inner rest) zero item new there same =
     let own : record { bone = bone; inner = inner } ≡ item = cc in
     let e : bone_count inner ≡ bone_count item.inner = ap (λ (o : PlainNodeLayout). bone_count o.inner) own in
     let f : bone_count (bones (node_layouts rest)) ≡ bone_count rest = ap bone_count (bones_node_layouts rest) in
     omega (arith, same, e, f)
-count_set (Bones.cons bone inner rest) (suc k) item new there same = omega (arith, count_set rest k item new there same)
+count_set (PlainLayout.cons bone inner rest) (suc k) item new there same = omega (arith, count_set rest k item new there same)
 
 pub count_elision : (path : List ℕ) (elided : Bool) (node_layout : PlainNodeLayout) → bone_count (with_elision path elided node_layout).inner ≡ bone_count node_layout.inner
 count_elision [] elided node_layout = refl

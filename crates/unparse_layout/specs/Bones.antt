@@ -15,12 +15,12 @@ pub record Bone : Type 0 where
   pub led : Bool
 
 -- what a layout keeps of nodes in order: each without its phrases, with what stands inside it
-pub data Bones : Type 0 where
-  nil : Bones
-  cons : (bone : Bone) (inner rest : Bones) → Bones
+pub data PlainLayout : Type 0 where
+  nil : PlainLayout
+  cons : (bone : Bone) (inner rest : PlainLayout) → PlainLayout
 
 -- what a layout keeps of the nodes of a tree, for which these sections are left
-abbrev pub bones_of : (left : List PlainSection) → Forest → Bones
+abbrev pub bones_of : (left : List PlainSection) → Forest → PlainLayout
 bones_of left Forest.nil = nil
 bones_of left (Forest.cons label inner rest) =
     let here = left_for (sort_of label.kind) left in

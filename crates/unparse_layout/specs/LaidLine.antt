@@ -12,9 +12,9 @@ abbrev pub longest_line : ℕ
 longest_line = LONGEST_LINE
 
 -- the cell of a byte in a line that is laid, in negative image or not
-abbrev pub cell : Bool → ℕ → ℕ
-cell false byte = byte
-cell true byte = byte + 256
+abbrev pub screen_cell : Bool → ℕ → ℕ
+screen_cell false byte = byte
+screen_cell true byte = byte + 256
 
 -- whether a stretch is marked, of a line that belongs to the slot: it stands in a part that has a mark
 abbrev pub is_marked : MarkMap → ℕ → Option ℕ → Bool
@@ -23,7 +23,7 @@ is_marked marks slot (Some part) = is_some (get marks record { slot = record { 0
 
 -- the cells of a stretch of a line that belongs to the slot
 abbrev pub stretch_cells : MarkMap → ℕ → Stretch → List ℕ
-stretch_cells marks slot stretch = map (cell (is_marked marks slot stretch.part)) stretch.bytes
+stretch_cells marks slot stretch = map (screen_cell (is_marked marks slot stretch.part)) stretch.bytes
 
 -- the cells of a line, as many as a line may have: two blanks for each level, and what is written
 abbrev pub line_cells : MarkMap → OwnedLine → List ℕ
@@ -31,15 +31,15 @@ line_cells marks line =
     take longest_line (replicate (2 * line.level) 32 ++ flat_map (stretch_cells marks line.slot) line.stretches)
 
 -- a line as it is laid: the slot of the node to which it belongs, which of the node's lines it is, and its cells
-pub record LaidLine : Type 0 where
+pub record PlainLine : Type 0 where
   pub slot : ℕ
   pub kind : LineKind
   pub cells : List ℕ
 
 -- a line as it is laid under these marks
-abbrev pub laid_line : MarkMap → OwnedLine → LaidLine
+abbrev pub laid_line : MarkMap → OwnedLine → PlainLine
 laid_line marks line = record { slot = line.slot; kind = line.kind; cells = line_cells marks line }
 
 -- the lines that are shown of a program, laid as cells under these marks
-abbrev pub LaidLines : MarkMap → Forest → List LaidLine
+abbrev pub LaidLines : MarkMap → Forest → List PlainLine
 LaidLines marks items = map (laid_line marks) (OwnedLines items)

@@ -2,7 +2,7 @@
 ghost use Rattle.std.specs.Prelude.{◌≡◌, ◌≤◌};
 ghost use Rattle.template_tree.specs.Limit.{most_slots};
 ghost use Rattle.template_tree.specs.Tree.{IsTree};
-ghost use Rattle.unparse_layout.specs.Agreement.{IsLayoutBeforeTurn, IsLayoutOf};
+ghost use Rattle.unparse_layout.specs.Agreement.{IsLayoutBeforeToggle, IsLayoutOf};
 ghost use Rattle.unparse_layout.specs.Private.Height.{bone_count};
 ghost use Rattle.unparse_layout.specs.Private.NodeLayoutLend.{with_elision};
 
@@ -16,7 +16,7 @@ impl<W: Work> Layout<W> {
     /// takes no memory.
     pub fn elided(&mut self, tree: &Tree, path: &Path)
         requires tree { IsTree tree.now }
-        requires before { IsLayoutBeforeTurn self.old path.now.items tree.now }
+        requires before { IsLayoutBeforeToggle self.old path.now.items tree.now }
         ensures { IsLayoutOf self.new tree.now }
     {
         let Some(node) = tree.node(path) else {

@@ -4,8 +4,8 @@ ghost use Rattle.plcs_base.specs.Put.{PutsAll};
 ghost use Rattle.plcs_grammar.specs.Template.{plain_segment, row_of};
 ghost use Rattle.template_tree.specs.Limit.{deepest_path};
 ghost use Rattle.template_tree.specs.Line.{part_text};
-ghost use Rattle.template_tree.specs.PlainPlace.{plain_place};
-ghost use Rattle.unparse_layout.specs.LaidLine.{cell, laid_line, longest_line, stretch_cells};
+ghost use Rattle.template_tree.specs.PlainPhrasePlace.{plain_phrase_place};
+ghost use Rattle.unparse_layout.specs.LaidLine.{screen_cell, laid_line, longest_line, stretch_cells};
 ghost use Rattle.template_tree.specs.Part.{part_at};
 ghost use Rattle.unparse_layout.specs.OwnedLine.{first_line, next_after, stretch_of, stretches_of};
 ghost use Rattle.unparse_layout.specs.Private.Cells.{PutsAside};
@@ -117,14 +117,14 @@ fn put_part<M: Marked>(category: Category, node: &Node, part: u8, marks: &M, out
         part,
     };
     out.negative = marks.mark(at).is_some();
-    put_place(category, node.part(part), out);
+    put_phrase_place(category, node.part(part), out);
     out.negative = false;
 }
 
 /// Puts the phrase that stands in a part of the line that is laid, or the placeholder of its category,
 /// also where the node has no such part.
-fn put_place<O: ByteOut>(category: Category, place: Option<&PhrasePlace>, out: &mut O)
-    ensures { PutsAll O.puts out.old (part_text category (option_and_then (λ phrase. phrase) (option_map (λ place. plain_place place.now) place.entry))) out.new }
+fn put_phrase_place<O: ByteOut>(category: Category, place: Option<&PhrasePlace>, out: &mut O)
+    ensures { PutsAll O.puts out.old (part_text category (option_and_then (λ phrase. phrase) (option_map (λ place. plain_phrase_place place.now) place.entry))) out.new }
 {
     match place {
         Some(place) => put_filled(category, place, out),
@@ -135,7 +135,7 @@ fn put_place<O: ByteOut>(category: Category, place: Option<&PhrasePlace>, out: &
 /// Puts the phrase that stands in this place in the line that is laid, or the placeholder of the category
 /// where the place is empty.
 fn put_filled<O: ByteOut>(category: Category, place: &PhrasePlace, out: &mut O)
-    ensures { PutsAll O.puts out.old (part_text category (plain_place place.now)) out.new }
+    ensures { PutsAll O.puts out.old (part_text category (plain_phrase_place place.now)) out.new }
 {
     match place {
         PhrasePlace::Filled(phrase) => show(phrase, out),
@@ -156,14 +156,14 @@ impl ByteOut for CellsOut {
     ghost puts = { PutsCell };
 
     fn put(&mut self, byte: u8) {
-        let cell = cell_of(self.negative, byte);
+        let cell = screen_cell(self.negative, byte);
         if let Err(_) = self.cells.try_push(cell) {}
     }
 }
 
 /// The cell of a byte in a line that is laid, in negative image or not.
-fn cell_of(negative: bool, byte: u8) -> u16
-    ensures { result ≡ cell negative byte }
+fn screen_cell(negative: bool, byte: u8) -> u16
+    ensures { result ≡ screen_cell negative byte }
 {
     if negative {
         return u16::from(byte) + NEGATIVE;

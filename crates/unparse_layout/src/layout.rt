@@ -26,10 +26,10 @@ pub struct Layout<W> {
 }
 
 impl<W> Model for Layout<W> {
-    ghost use Rattle.unparse_layout.specs.Bones.{Bones};
+    ghost use Rattle.unparse_layout.specs.Bones.{PlainLayout};
     ghost use Rattle.unparse_layout.specs.Private.BonesCode.{bones_code};
 
-    ghost Value = { Bones };
+    ghost Value = { PlainLayout };
 
     ghost coded = { bones_code };
 

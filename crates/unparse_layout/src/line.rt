@@ -34,9 +34,9 @@ pub struct Line<W> {
 }
 
 impl<W> Model for Line<W> {
-    ghost use Rattle.unparse_layout.specs.LaidLine.{LaidLine};
+    ghost use Rattle.unparse_layout.specs.LaidLine.{PlainLine};
 
-    ghost Value = { LaidLine };
+    ghost Value = { PlainLine };
 
     ghost view = { λ a. record { slot = a.slot.0; kind = a.kind; cells = a.cells.items } };
 }

@@ -3,10 +3,10 @@ ghost use Rattle.std.specs.Prelude.{◌≡◌, ◌+◌, ◌<◌, ◌^◌, ◌++�
 ghost use Rattle.std.specs.Borrow.{LendsIf, sem};
 ghost use Rattle.unparse_layout.specs.contracts.node_layout.NodeLayout as node_layout_row;
 ghost use Rattle.unparse_layout.specs.contracts.node_layout.NodeLayouts as list_row;
-ghost use Rattle.unparse_layout.specs.Bones.{Bones};
+ghost use Rattle.unparse_layout.specs.Bones.{PlainLayout};
 ghost use Rattle.unparse_layout.specs.Private.Height.{height, heights, line_count};
-ghost use Rattle.unparse_layout.specs.Private.NodeLayoutLend.{with_item};
-ghost use Rattle.unparse_layout.specs.Private.PlainNodeLayout.{node_layouts, with_last};
+ghost use Rattle.unparse_layout.specs.Private.NodeLayoutLend.{with_node_layout_set};
+ghost use Rattle.unparse_layout.specs.Private.PlainNodeLayout.{node_layouts, with_last_node_layout};
 
 use plcs_base::{OutOfMemory, Slot};
 use plcs_grammar::NodeKind;
@@ -81,7 +81,7 @@ impl NodeLayout {
         elided: bool,
         led: bool,
     ) -> NodeLayout
-        ensures { result ≡ record { bone = record { slot = slot.0; kind = kind; elided = elided; led = led }; inner = Bones.nil } }
+        ensures { result ≡ record { bone = record { slot = slot.0; kind = kind; elided = elided; led = led }; inner = PlainLayout.nil } }
     {
         NodeLayout {
             slot,
@@ -98,7 +98,7 @@ impl NodeLayout {
     pub(crate) fn push(&mut self, item: NodeLayout) -> Result<(), OutOfMemory>
         requires few { length (node_layouts self.old.inner) < 2 ^ 32 }
         requires fits { heights self.old.inner + height item < 2 ^ 32 }
-        ensures { OnOk result (self.new ≡ with_last self.old item) }
+        ensures { OnOk result (self.new ≡ with_last_node_layout self.old item) }
     {
         let height = item.height();
         self.heights.reserve(1)?;
@@ -165,7 +165,7 @@ impl NodeLayouts {
 
     /// Lends what a layout keeps of the node of this number in a list, counted from 0.
     pub(crate) fn get_mut(&mut self, k: usize) -> Option<&mut NodeLayout>
-        ensures* writes_back { sem 𝓛 (LendsIf list_row.the_row node_layout_row.the_row self.entry result (with_item self.old k) self.old) }
+        ensures* writes_back { sem 𝓛 (LendsIf list_row.the_row node_layout_row.the_row self.entry result (with_node_layout_set self.old k) self.old) }
         ensures found { option_map (λ node_layout. node_layout.now) result ≡ slice_get self.old.items k }
     {
         self.list.get_mut(k)

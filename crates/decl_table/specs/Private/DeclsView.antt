@@ -6,7 +6,7 @@ use Rattle.std.specs.Option.{option_or}
 use Rattle.plcs_base.specs.Scope.{ItemMap}
 use Rattle.template_tree.specs.Environment.{items_inside, signature_for}
 use Rattle.template_tree.specs.PlainTree.{PlainNode, forest}
-use Rattle.decl_table.specs.PlainDecls.{HeadingList, PlainDecls, UseList, slot_of}
+use Rattle.decl_table.specs.PlainDecls.{PlainHeadings, PlainDecls, PlainUses, slot_of}
 use Rattle.decl_table.specs.Private.ItemsView.{items_code}
 use Rattle.decl_table.specs.Private.UsesView.{AddsNodes, uses_code}
 
@@ -15,19 +15,19 @@ abbrev pub item_map_code : Coded ItemMap
 item_map_code = code coded_ℕ items_code
 
 -- the code of headings
-abbrev pub headings_code : Coded HeadingList
+abbrev pub headings_code : Coded PlainHeadings
 headings_code = coded_list (coded× (coded_list coded_ℕ) coded_ℕ)
 
 -- the code of a table
 abbrev pub decls_code : Coded PlainDecls
 decls_code =
-    code_by (ItemMap × (HeadingList × UseList)) (coded× item_map_code (coded× headings_code uses_code))
+    code_by (ItemMap × (PlainHeadings × PlainUses)) (coded× item_map_code (coded× headings_code uses_code))
     (λ decls. (decls.items, (decls.headings, decls.uses)))
     (λ t. record { items = t.0; headings = t.1.0; uses = t.1.1 })
     (λ _. refl)
 
 -- the heading of a procedure was taken, and comes before those of later ones
-abbrev pub TakesHeading : PlainNode → HeadingList → HeadingList → Type 0
+abbrev pub TakesHeading : PlainNode → PlainHeadings → PlainHeadings → Type 0
 TakesHeading node old new =
     (name : List ℕ) → slot_of name new ≡ option_or (option_map (λ signature. signature.slot) (signature_for name node)) (slot_of name old)
 

@@ -10,39 +10,39 @@ use Rattle.plcs_base.specs.contracts.place.PhraseAt as place_row
 use Rattle.plcs_grammar.specs.PlainPhrase.{PlainPhrase}
 use Rattle.template_tree.specs.Mention.{mention, mentions, part_mentions}
 use Rattle.template_tree.specs.PlainTree.{Forest}
-use Rattle.decl_table.specs.PlainDecls.{UseList, places_of}
+use Rattle.decl_table.specs.PlainDecls.{PlainUses, mentions_of}
 
 -- the code of places
-abbrev pub places_code : Coded (List PhraseAt)
-places_code = coded_list place_row.the_row.coded
+abbrev pub mention_list_code : Coded (List PhraseAt)
+mention_list_code = coded_list place_row.the_row.coded
 
 -- the code of uses
-abbrev pub uses_code : Coded UseList
-uses_code = coded_list (coded× (coded_list coded_ℕ) places_code)
+abbrev pub uses_code : Coded PlainUses
+uses_code = coded_list (coded× (coded_list coded_ℕ) mention_list_code)
 
 -- whether the place is among those that are noted
 abbrev pub is_among : PhraseAt → List PhraseAt → Bool
 is_among at places = list_any (eq_by_cmp phrase_cmp at) places
 
 -- under each name more places are noted: those for which the test of the name and the place holds
-abbrev pub Adds : (List ℕ → PhraseAt → Bool) → UseList → UseList → Type 0
+abbrev pub Adds : (List ℕ → PhraseAt → Bool) → PlainUses → PlainUses → Type 0
 Adds test old new =
-    (name : List ℕ) (at : PhraseAt) → is_among at (places_of name new) ≡ (is_among at (places_of name old) || test name at)
+    (name : List ℕ) (at : PhraseAt) → is_among at (mentions_of name new) ≡ (is_among at (mentions_of name old) || test name at)
 
 -- one place was noted under each of the names
-abbrev pub AddsNames : List (List ℕ) → PhraseAt → UseList → UseList → Type 0
+abbrev pub AddsNames : List (List ℕ) → PhraseAt → PlainUses → PlainUses → Type 0
 AddsNames names place = Adds (λ name at. list_any (bytes_eq name) names && eq_by_cmp phrase_cmp at place)
 
 -- what stands in one part was noted under the names that it mentions
-abbrev pub AddsPart : PhraseAt → Option PlainPhrase → UseList → UseList → Type 0
+abbrev pub AddsPart : PhraseAt → Option PlainPhrase → PlainUses → PlainUses → Type 0
 AddsPart place phrase = Adds (λ name at. is_among at (mention name place phrase))
 
 -- the phrases in parts were noted under the names that they mention
-abbrev pub AddsParts : (slot part : ℕ) → List (Option PlainPhrase) → UseList → UseList → Type 0
+abbrev pub AddsParts : (slot part : ℕ) → List (Option PlainPhrase) → PlainUses → PlainUses → Type 0
 AddsParts slot part parts = Adds (λ name at. is_among at (part_mentions name slot part parts))
 
 -- the phrases in nodes were noted under the names that they mention
-abbrev pub AddsNodes : Forest → UseList → UseList → Type 0
+abbrev pub AddsNodes : Forest → PlainUses → PlainUses → Type 0
 AddsNodes nodes = Adds (λ name at. is_among at (mentions name nodes))
 
 -- the new places are the old ones in order of slot and part, each once
@@ -51,5 +51,5 @@ pub record IsSettled (old new : List PhraseAt) : Type 0 where
   pub each : (at : PhraseAt) → Contains new at ↔ Contains old at
 
 -- the places under each name are settled
-abbrev pub AreSettled : UseList → UseList → Type 0
-AreSettled old new = (name : List ℕ) → IsSettled (places_of name old) (places_of name new)
+abbrev pub AreSettled : PlainUses → PlainUses → Type 0
+AreSettled old new = (name : List ℕ) → IsSettled (mentions_of name old) (mentions_of name new)

@@ -10,12 +10,12 @@ use Rattle.template_tree.specs.Program.{AreParts, IsPart, parts_of}
 use Rattle.file_store.specs.Private.Reader.{Said, IsSaying, text_of}
 
 -- the blanks with which the text of a line of the level begins
-abbrev pub blanks : ℕ → List ℕ
-blanks level = replicate (2 * level) 32
+abbrev pub blank_bytes : ℕ → List ℕ
+blank_bytes level = replicate (2 * level) 32
 
 -- the text of a line that says this: its blanks and what is written behind them
 abbrev pub said_bytes : Said → List ℕ
-said_bytes said = blanks said.level ++ text_of said.saying
+said_bytes said = blank_bytes said.level ++ text_of said.saying
 
 -- ---- parts
 
@@ -36,8 +36,8 @@ abbrev pub AreNoSegments : List PlainSegment → List ℕ → Type 0
 AreNoSegments segments x = (parts : List (Option PlainPhrase)) → AreParts (parts_of segments) parts → segments_text segments parts ≢ x
 
 -- the parts that the text is read as, behind these that were read before, are all
-abbrev pub AreReadBehind : List PlainSegment → List ℕ → List (Option PlainPhrase) → List (Option PlainPhrase) → Type 0
-AreReadBehind segments x parts all = (more : List (Option PlainPhrase)) × (all ≡ parts ++ more) × IsSegmentsText segments x more
+abbrev pub AreReadAfter : List PlainSegment → List ℕ → List (Option PlainPhrase) → List (Option PlainPhrase) → Type 0
+AreReadAfter segments x parts all = (more : List (Option PlainPhrase)) × (all ≡ parts ++ more) × IsSegmentsText segments x more
 
 -- each part of a line that is read ends where the words behind it begin
 abbrev pub IsCut : List PlainSegment → Type 0
@@ -50,7 +50,7 @@ IsCut (PlainSegment.part category ∷ (PlainSegment.words w ∷ (segment ∷ seg
 
 -- a part is read at the front of a text for these segments: what is left for those that are left makes the whole, and
 -- nothing else does
-pub record IsFront (category : Category) (segments : List PlainSegment) (x : List ℕ) (part : Option PlainPhrase)
+pub record IsLineFront (category : Category) (segments : List PlainSegment) (x : List ℕ) (part : Option PlainPhrase)
     (later : List PlainSegment) (rest : List ℕ) : Type 0 where
   pub whole : (parts : List (Option PlainPhrase)) → IsSegmentsText later rest parts → IsSegmentsText (PlainSegment.part category ∷ segments) x (part ∷ parts)
   pub only : AreNoSegments later rest → AreNoSegments (PlainSegment.part category ∷ segments) x

@@ -61,9 +61,9 @@ abbrev pub unfilled : List PlainSection → Filling
 unfilled sections = record { going = None; left = sections }
 
 -- how far a list has come behind an item of the section
-abbrev pub behind : Amount → Sort → List PlainSection → Filling
-behind Amount.One sort left = record { going = None; left = left }
-behind Amount.Many sort left = record { going = Some sort; left = left }
+abbrev pub filling_after : Amount → Sort → List PlainSection → Filling
+filling_after Amount.One sort left = record { going = None; left = left }
+filling_after Amount.Many sort left = record { going = Some sort; left = left }
 
 -- how an item comes into a list: the line before it, if there is one, and how far the list has come behind it
 pub record Entry : Type 0 where
@@ -75,7 +75,7 @@ abbrev pub first_entry : Sort → List PlainSection → Option Entry
 first_entry sort [] = None
 first_entry sort (section ∷ left) =
     if same_sort section.sort sort
-    then Some (record { before = section.lead; next = behind section.amount section.sort left })
+    then Some (record { before = section.lead; next = filling_after section.amount section.sort left })
     else None
 
 -- whether a list of this sort goes on
@@ -84,8 +84,8 @@ goes_on None sort = false
 goes_on (Some own) sort = same_sort own sort
 
 -- how an item of the sort comes into the list, if it may
-abbrev pub entry : Sort → Filling → Option Entry
-entry sort filling =
+abbrev pub item_entry : Sort → Filling → Option Entry
+item_entry sort filling =
     if goes_on filling.going sort then Some (record { before = None; next = filling }) else first_entry sort filling.left
 
 -- how far a list has come behind an item, if no line is wanted before that
@@ -94,7 +94,7 @@ unled item = if is_none item.before then Some item.next else None
 
 -- how far the list has come behind an item of the sort, if one may come without a line before it
 abbrev pub advanced : Sort → Filling → Option Filling
-advanced sort filling = option_and_then unled (entry sort filling)
+advanced sort filling = option_and_then unled (item_entry sort filling)
 
 -- whether the text is that line of the table, if there is one
 abbrev pub is_text : List ℕ → Option (List ℕ) → Bool
@@ -120,18 +120,18 @@ pub record OpenList : Type 0 where
   pub filling : Filling
 
 -- a node that is open, and the list in which it stands, which has come behind it already
-pub record Frame : Type 0 where
+pub record OpenNode : Type 0 where
   pub kind : NodeKind
   pub parts : List (Option PlainPhrase)
   pub around : OpenList
 
 -- the innermost open list, and the open nodes from the innermost one outward
-pub record Stack : Type 0 where
+pub record OpenNodes : Type 0 where
   pub own : OpenList
-  pub outer : List Frame
+  pub outer : List OpenNode
 
 -- the open lists where no line was read yet
-abbrev pub unread : Stack
+abbrev pub unread : OpenNodes
 unread = record { own = record { items = Forest.nil; filling = unfilled program_sections }; outer = [] }
 
 -- the kind of a node of the shape with these items: an IF with one body alone has no ELSE
@@ -140,20 +140,20 @@ kind_with (NodeKind.Filled Template.IfElse) (Forest.cons label inner Forest.nil)
 kind_with kind items = kind
 
 -- the node that an open one becomes with these items
-abbrev pub node_of : Frame → Forest → Forest
+abbrev pub node_of : OpenNode → Forest → Forest
 node_of frame items = Forest.cons (built_label (kind_with frame.kind items) frame.parts 0) items Forest.nil
 
 -- the list around an open node, once the node has ended in it
-abbrev pub closed : OpenList → Frame → OpenList
+abbrev pub closed : OpenList → OpenNode → OpenList
 closed own frame = record frame.around { items = join frame.around.items (node_of frame own.items) }
 
 -- the list around the innermost open node, once that has ended without a line of its own, if it may
-abbrev pub shut : OpenList → Frame → Option OpenList
+abbrev pub shut : OpenList → OpenNode → Option OpenList
 shut own frame =
     if is_none (row_of frame.kind).last && optional own.filling.left then Some (closed own frame) else None
 
 -- the open lists once nodes have ended until no more than so many are open, if they may
-abbrev pub lowered : ℕ → OpenList → List Frame → Option Stack
+abbrev pub lowered : ℕ → OpenList → List OpenNode → Option OpenNodes
 lowered level own [] = Some (record { own = own; outer = [] })
 lowered level own (frame ∷ outer) =
     if nat_le (suc (length outer)) level
@@ -161,38 +161,38 @@ lowered level own (frame ∷ outer) =
     else option_and_then (λ list. lowered level list outer) (shut own frame)
 
 -- the open lists, if exactly so many nodes are open
-abbrev pub at_height : ℕ → Stack → Option Stack
+abbrev pub at_height : ℕ → OpenNodes → Option OpenNodes
 at_height level stack = if length stack.outer == level then Some stack else None
 
 -- the open lists once nodes have ended until exactly so many are open, if they may
-abbrev pub lowered_to : ℕ → Stack → Option Stack
+abbrev pub lowered_to : ℕ → OpenNodes → Option OpenNodes
 lowered_to level stack = option_and_then (at_height level) (lowered level stack.own stack.outer)
 
 -- ---- what a line does
 
 -- the open lists once a node is opened in the innermost one, which has then come so far
-abbrev pub with_frame : NodeKind → List (Option PlainPhrase) → Stack → Filling → Stack
-with_frame kind parts stack filling =
+abbrev pub with_open_node : NodeKind → List (Option PlainPhrase) → OpenNodes → Filling → OpenNodes
+with_open_node kind parts stack filling =
     record {
       own = record { items = Forest.nil; filling = unfilled (row_of kind).sections };
       outer = record { kind = kind; parts = parts; around = record stack.own { filling = filling } } ∷ stack.outer;
     }
 
 -- the open lists once a node is opened in the innermost one, if it may come there
-abbrev pub begun : NodeKind → List (Option PlainPhrase) → Stack → Option Stack
-begun kind parts stack = option_map (with_frame kind parts stack) (advanced (sort_of kind) stack.own.filling)
+abbrev pub begun : NodeKind → List (Option PlainPhrase) → OpenNodes → Option OpenNodes
+begun kind parts stack = option_map (with_open_node kind parts stack) (advanced (sort_of kind) stack.own.filling)
 
 -- the open lists, of which the innermost has come so far
-abbrev pub with_filling : Stack → Filling → Stack
+abbrev pub with_filling : OpenNodes → Filling → OpenNodes
 with_filling stack filling = record stack { own = record stack.own { filling = filling } }
 
 -- the open lists behind the line before a section of the innermost node, if it is wanted
-abbrev pub led_in : List ℕ → Stack → List Frame → Option Stack
+abbrev pub led_in : List ℕ → OpenNodes → List OpenNode → Option OpenNodes
 led_in text stack [] = None
 led_in text stack (frame ∷ outer) = option_map (with_filling stack) (led_sections text stack.own.filling.left)
 
 -- the open lists behind the last line of the innermost node, if that may end
-abbrev pub ended_in : List ℕ → OpenList → List Frame → Option Stack
+abbrev pub ended_in : List ℕ → OpenList → List OpenNode → Option OpenNodes
 ended_in text own [] = None
 ended_in text own (frame ∷ outer) =
     if is_text text (row_of frame.kind).last && optional own.filling.left
@@ -200,26 +200,26 @@ ended_in text own (frame ∷ outer) =
     else None
 
 -- what a line at the level does to the open lists, if some listing may go on with it
-abbrev pub step_at : Stack → ℕ → Saying → Option Stack
-step_at stack level (head kind parts) = option_and_then (begun kind parts) (lowered_to level stack)
-step_at stack level (lead text) = option_and_then (λ s. led_in text s s.outer) (lowered_to (suc level) stack)
-step_at stack level (last text) = option_and_then (λ s. ended_in text s.own s.outer) (lowered_to (suc level) stack)
+abbrev pub line_taken_at : OpenNodes → ℕ → Saying → Option OpenNodes
+line_taken_at stack level (head kind parts) = option_and_then (begun kind parts) (lowered_to level stack)
+line_taken_at stack level (lead text) = option_and_then (λ s. led_in text s s.outer) (lowered_to (suc level) stack)
+line_taken_at stack level (last text) = option_and_then (λ s. ended_in text s.own s.outer) (lowered_to (suc level) stack)
 
 -- what a line does to the open lists, by its level and what it says
-abbrev pub step : Stack → Said → Option Stack
-step stack said = step_at stack said.level said.saying
+abbrev pub line_taken : OpenNodes → Said → Option OpenNodes
+line_taken stack said = line_taken_at stack said.level said.saying
 
 -- what lines do to the open lists, one after the other
-abbrev pub run : Stack → List Said → Option Stack
-run stack [] = Some stack
-run stack (said ∷ rest) = option_and_then (λ s. run s rest) (step stack said)
+abbrev pub lines_taken : OpenNodes → List Said → Option OpenNodes
+lines_taken stack [] = Some stack
+lines_taken stack (said ∷ rest) = option_and_then (λ s. lines_taken s rest) (line_taken stack said)
 
 -- the items of the outermost list, if it may end
 abbrev pub finished : OpenList → Option Forest
 finished own = if optional own.filling.left then Some own.items else None
 
 -- the program in the open lists, if the lines are its whole listing
-abbrev pub program_of : Stack → Option Forest
+abbrev pub program_of : OpenNodes → Option Forest
 program_of stack = option_and_then (λ s. finished s.own) (lowered 0 stack.own stack.outer)
 
 -- ---- the lines of nodes in this form

@@ -3,11 +3,11 @@ use Rattle.std.specs.Prelude.{◌≡◌, ℕ, Bool, Option, ◌+◌, ◌<◌, �
 use Rattle.template_tree.specs.Limit.{deepest_path, most_slots}
 use Rattle.file_store.specs.declared.refusal.FileRefusal.{FileRefusal}
 use Rattle.file_store.specs.Private.LineReading.{Says}
-use Rattle.file_store.specs.Private.Reader.{Said, Stack, opens, step}
+use Rattle.file_store.specs.Private.Reader.{Said, OpenNodes, opens, line_taken}
 
 -- how far the reader has come: the open lists, how many lines were read, and in how many of them a node began
 pub record Come : Type 0 where
-  pub stack : Stack
+  pub stack : OpenNodes
   pub lines : ℕ
   pub opened : ℕ
 
@@ -19,7 +19,7 @@ pub record MayOpen (said : Said) (opened : ℕ) : Type 0 where
 -- the line says something that leads the reader on from where it had come
 pub record Taken (line : List ℕ) (before now : Come) (said : Said) : Type 0 where
   pub says : Says line said
-  pub steps : step before.stack said ≡ Some now.stack
+  pub steps : line_taken before.stack said ≡ Some now.stack
   pub may_open : MayOpen said before.opened
   pub lines : now.lines ≡ before.lines + 1
   pub opened : now.opened ≡ (if opens said.saying then 1 else 0) + before.opened
@@ -30,12 +30,12 @@ IsTaken line before now = (said : Said) × Taken line before now said
 
 -- the line says something with which a listing may go on from where the reader had come, and a node begins in it
 abbrev pub GoesOn : List ℕ → Come → Said → Type 0
-GoesOn line before said = (after : Stack) × Says line said × (step before.stack said ≡ Some after) × (opens said.saying ≡ true)
+GoesOn line before said = (after : OpenNodes) × Says line said × (line_taken before.stack said ≡ Some after) × (opens said.saying ≡ true)
 
 -- why the reader refuses the line where it had come
 abbrev pub IsLineRefused : List ℕ → Come → FileRefusal → Type 0
 IsLineRefused line before (FileRefusal.NotAListing k) =
-    (k ≡ before.lines + 1) × ((said : Said) → Says line said → step before.stack said ≡ None)
+    (k ≡ before.lines + 1) × ((said : Said) → Says line said → line_taken before.stack said ≡ None)
 IsLineRefused line before FileRefusal.TooDeep = (said : Said) × GoesOn line before said × (deepest_path ≤ said.level)
 IsLineRefused line before FileRefusal.TooLarge =
     (said : Said) × GoesOn line before said × (said.level < deepest_path) × (most_slots ≤ before.opened)

@@ -1,16 +1,16 @@
 -- What the reader's values stand for.
 use Rattle.std.specs.Prelude.{Bool, true, false, List, [], ◌∷◌, map, codes, None}
 use Rattle.plcs_grammar.specs.Template.{PlainSection, plain_section}
-use Rattle.template_tree.specs.PlainPlace.{plain_place}
+use Rattle.template_tree.specs.PlainPhrasePlace.{plain_phrase_place}
 use Rattle.template_tree.specs.PlainTree.{forest, roomless}
 use Rattle.file_store.specs.Private.Reader as machine
 use Rattle.file_store.specs.declared.reader.filling.Filling.{Filling}
 use Rattle.file_store.specs.declared.reader.said.Said.{Said}
 use Rattle.file_store.specs.declared.reader.said.Saying.{Saying}
 use Rattle.file_store.specs.declared.reader.said.Saying.TheVariants as saying
-use Rattle.file_store.specs.declared.reader.open_list.Frame.{Frame}
+use Rattle.file_store.specs.declared.reader.open_list.OpenNode.{OpenNode}
 use Rattle.file_store.specs.declared.reader.open_list.OpenList.{OpenList}
-use Rattle.file_store.specs.declared.reader.open_list.Stack.{Stack}
+use Rattle.file_store.specs.declared.reader.open_list.OpenNodes.{OpenNodes}
 
 -- the sections that the reader's list has left, of which the first has the line before it already where that was read
 abbrev pub led_if : Bool → List PlainSection → List PlainSection
@@ -24,7 +24,7 @@ filling_of filling = record { going = filling.going; left = led_if filling.led (
 
 -- what the reader's value for what a line says stands for
 abbrev pub saying_of : Saying → machine.Saying
-saying_of (saying.Head kind parts) = machine.Saying.head kind (map plain_place parts.items)
+saying_of (saying.Head kind parts) = machine.Saying.head kind (map plain_phrase_place parts.items)
 saying_of saying.Lead = machine.Saying.lead (codes "ELSE")
 saying_of saying.Last = machine.Saying.last (codes "END;")
 
@@ -37,14 +37,14 @@ abbrev pub open_list_of : OpenList → machine.OpenList
 open_list_of list = record { items = roomless (forest list.items.items); filling = filling_of list.filling }
 
 -- what the reader's open node stands for
-abbrev pub frame_of : Frame → machine.Frame
-frame_of frame = record { kind = frame.kind; parts = map plain_place frame.parts.items; around = open_list_of frame.around }
+abbrev pub open_node_of : OpenNode → machine.OpenNode
+open_node_of frame = record { kind = frame.kind; parts = map plain_phrase_place frame.parts.items; around = open_list_of frame.around }
 
 -- what the reader's open nodes stand for, of which the innermost stands last
-abbrev pub frames_on : List machine.Frame → List Frame → List machine.Frame
-frames_on outer [] = outer
-frames_on outer (frame ∷ frames) = frames_on (frame_of frame ∷ outer) frames
+abbrev pub open_nodes_on : List machine.OpenNode → List OpenNode → List machine.OpenNode
+open_nodes_on outer [] = outer
+open_nodes_on outer (frame ∷ frames) = open_nodes_on (open_node_of frame ∷ outer) frames
 
 -- what the reader's open lists and nodes stand for
-abbrev pub stack_of : Stack → machine.Stack
-stack_of stack = record { own = open_list_of stack.own; outer = frames_on [] stack.frames.items }
+abbrev pub open_nodes_of : OpenNodes → machine.OpenNodes
+open_nodes_of stack = record { own = open_list_of stack.own; outer = open_nodes_on [] stack.frames.items }

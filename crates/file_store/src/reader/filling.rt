@@ -1,7 +1,7 @@
 //! How far a list has come, section by section.
 ghost use Rattle.std.specs.Prelude.{◌≡◌, ℕ, map, codes, option_map};
 ghost use Rattle.plcs_grammar.specs.Template.{plain_section};
-ghost use Rattle.file_store.specs.Private.Reader.{advanced, behind, goes_on, is_text, led_sections, optional, unfilled};
+ghost use Rattle.file_store.specs.Private.Reader.{advanced, filling_after, goes_on, is_text, led_sections, optional, unfilled};
 ghost use Rattle.file_store.specs.Private.Views.{filling_of};
 
 use plcs_grammar::{Amount, Section, Sort};
@@ -100,7 +100,7 @@ fn goes_on(going: Option<Sort>, sort: Sort) -> bool
 
 /// How far a list has come behind an item of a section.
 fn behind(amount: Amount, sort: Sort, left: &'static [Section]) -> Filling
-    ensures { filling_of result ≡ behind amount sort (map plain_section left.now) }
+    ensures { filling_of result ≡ filling_after amount sort (map plain_section left.now) }
 {
     let going = match amount {
         Amount::One => None,

@@ -2,9 +2,9 @@
 ghost use Rattle.std.specs.Prelude.{◌≡◌, ◌≢◌, ◌≤◌, IfOk, length, ◌∷◌, ◌++◌, ℕ, List, MatchOption, map};
 ghost use Rattle.std.specs.Bool.{Decides};
 ghost use Rattle.plcs_grammar.specs.Template.{row_of};
-ghost use Rattle.template_tree.specs.PlainPlace.{plain_place};
+ghost use Rattle.template_tree.specs.PlainPhrasePlace.{plain_phrase_place};
 ghost use Rattle.file_store.specs.Private.Gives.{Finds};
-ghost use Rattle.file_store.specs.Private.LineReading.{AreNoSegments, IsSegmentsText, OfEach, Says, SaysNothing, blanks};
+ghost use Rattle.file_store.specs.Private.LineReading.{AreNoSegments, IsSegmentsText, OfEach, Says, SaysNothing, blank_bytes};
 ghost use Rattle.file_store.specs.Private.Reader as machine;
 ghost use Rattle.file_store.specs.Private.Reader.{IsSaying, shape, text_of};
 ghost use Rattle.file_store.specs.Private.Views.{said_of, saying_of};
@@ -34,7 +34,7 @@ pub(crate) fn read_line(alloc: Global, line: &[u8]) -> Result<Said, ReadFault>
 /// The level that the blanks at the front of a line tell, and what stands behind them.
 #[tactic(auto, using(crate::proofs::LineTexts::next_level))]
 fn unblanked(line: &[u8]) -> (usize, &[u8])
-    ensures whole { line.now ≡ blanks result.0 ++ result.1.now }
+    ensures whole { line.now ≡ blank_bytes result.0 ++ result.1.now }
     ensures few { result.0 ≤ length line.now }
     ensures all { (rest : List ℕ) → result.1.now ≢ 32 ∷ (32 ∷ rest) }
 {
@@ -86,7 +86,7 @@ fn read_head(alloc: Global, kinds: &[NodeKind], text: &[u8]) -> Result<Saying, R
 
 /// Reads a whole line as the first one of a node of the kind, if it is such a line: its parts.
 fn read_parts(alloc: Global, kind: NodeKind, text: &[u8]) -> Result<Vec<PhrasePlace>, ReadFault>
-    ensures { Finds (λ parts. IsSegmentsText (row_of kind).line text.now (map plain_place parts.items)) (AreNoSegments (row_of kind).line text.now) result }
+    ensures { Finds (λ parts. IsSegmentsText (row_of kind).line text.now (map plain_phrase_place parts.items)) (AreNoSegments (row_of kind).line text.now) result }
 {
     read_segments(alloc, kind.row().line, text, Vec::new(alloc))
 }

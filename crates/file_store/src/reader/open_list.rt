@@ -19,7 +19,7 @@ pub(crate) struct OpenList {
 
 /// A node that is open, and the list in which it stands, which has come behind it already.
 #[derive(Drop)]
-pub(crate) struct Frame {
+pub(crate) struct OpenNode {
     pub(crate) kind: NodeKind,
     pub(crate) parts: Vec<PhrasePlace>,
     pub(crate) around: OpenList,
@@ -27,7 +27,7 @@ pub(crate) struct Frame {
 
 /// The innermost open list, and the open nodes, the innermost last.
 #[derive(Drop)]
-pub(crate) struct Stack {
+pub(crate) struct OpenNodes {
     pub(crate) own: OpenList,
-    pub(crate) frames: Vec<Frame>,
+    pub(crate) frames: Vec<OpenNode>,
 }

@@ -5,11 +5,11 @@ ghost use Rattle.plcs_grammar.specs.Canon.{Canon};
 ghost use Rattle.plcs_grammar.specs.Placeholder.{placeholder};
 ghost use Rattle.plcs_grammar.specs.PlainPhrase.{PlainPhrase, plain_phrase};
 ghost use Rattle.plcs_grammar.specs.Template.{PlainSegment, plain_segment};
-ghost use Rattle.template_tree.specs.PlainPlace.{plain_place};
+ghost use Rattle.template_tree.specs.PlainPhrasePlace.{plain_phrase_place};
 ghost use Rattle.template_tree.specs.Program.{may_be_empty};
 ghost use Rattle.file_store.specs.Private.Gives.{Finds};
 ghost use Rattle.file_store.specs.Private.NextSegment.{IsNext};
-ghost use Rattle.file_store.specs.Private.LineReading.{AreNoSegments, AreReadBehind, IsCut, IsFront, IsNoPart, IsPartText, IsSegmentsText, taken_off};
+ghost use Rattle.file_store.specs.Private.LineReading.{AreNoSegments, AreReadAfter, IsCut, IsLineFront, IsNoPart, IsPartText, IsSegmentsText, taken_off};
 
 use crate::line_laws::line_laws;
 use crate::reader::fault::ReadFault;
@@ -27,7 +27,7 @@ pub(crate) fn read_segments(
     parts: Vec<PhrasePlace>,
 ) -> Result<Vec<PhrasePlace>, ReadFault>
     requires cut { IsCut (map plain_segment segments.now) }
-    ensures { Finds (λ all. AreReadBehind (map plain_segment segments.now) text.now (map plain_place parts.items) (map plain_place all.items))
+    ensures { Finds (λ all. AreReadAfter (map plain_segment segments.now) text.now (map plain_phrase_place parts.items) (map plain_phrase_place all.items))
         (AreNoSegments (map plain_segment segments.now) text.now) result }
 {
     match next_segment(segments) {
@@ -111,7 +111,7 @@ fn read_front<'a, 'b>(
 ) -> Result<Front<'a, 'b>, ReadFault>
     requires cut { IsCut (PlainSegment.part category ∷ map plain_segment segments.now) }
     ensures { Finds
-        (λ front. IsFront category (map plain_segment segments.now) text.now (plain_place front.place)
+        (λ front. IsLineFront category (map plain_segment segments.now) text.now (plain_phrase_place front.place)
         (map plain_segment front.later.now) front.rest.now)
         (AreNoSegments (PlainSegment.part category ∷ map plain_segment segments.now) text.now) result }
 {
@@ -138,7 +138,7 @@ fn read_last(
     words: &[u8],
     text: &[u8],
 ) -> Result<PhrasePlace, ReadFault>
-    ensures { Finds (λ place. IsFront category (PlainSegment.words words.now ∷ []) text.now (plain_place place) [] [])
+    ensures { Finds (λ place. IsLineFront category (PlainSegment.words words.now ∷ []) text.now (plain_phrase_place place) [] [])
         (AreNoSegments (PlainSegment.part category ∷ (PlainSegment.words words.now ∷ [])) text.now) result }
 {
     let Some(part) = before(text, words) else {
@@ -158,7 +158,7 @@ fn read_divided<'a, 'b>(
     requires some { map plain_segment later.now ≢ [] }
     requires cut { IsCut (PlainSegment.part category ∷ (PlainSegment.words words.now ∷ map plain_segment later.now)) }
     ensures { Finds
-        (λ front. IsFront category (PlainSegment.words words.now ∷ map plain_segment later.now) text.now (plain_place front.place)
+        (λ front. IsLineFront category (PlainSegment.words words.now ∷ map plain_segment later.now) text.now (plain_phrase_place front.place)
         (map plain_segment front.later.now) front.rest.now)
         (AreNoSegments (PlainSegment.part category ∷ (PlainSegment.words words.now ∷ map plain_segment later.now)) text.now) result }
 {
@@ -174,7 +174,7 @@ fn read_divided<'a, 'b>(
 
 /// Reads a part of the category: its placeholder or a phrase, if the text is one.
 fn read_part(alloc: Global, category: Category, text: &[u8]) -> Result<PhrasePlace, ReadFault>
-    ensures { Finds (λ place. IsPartText category text.now (plain_place place)) (IsNoPart category text.now) result }
+    ensures { Finds (λ place. IsPartText category text.now (plain_phrase_place place)) (IsNoPart category text.now) result }
 {
     if is_placeholder(category, text) {
         return Ok(PhrasePlace::Empty);

@@ -4,8 +4,8 @@ use Rattle.key_journal.specs.Crash.{LeavesAtLeast}
 use Rattle.key_journal.specs.Disk.{DiskState, Newest}
 use Rattle.key_journal.specs.Recovered.{recovered}
 use Rattle.key_journal.specs.Private.Writes.{IsSynced}
-use Rattle.key_journal.specs.declared.stage.Block.{Block}
-use Rattle.key_journal.specs.declared.stage.Block.TheVariants.{Open, Shut, Cut}
+use Rattle.key_journal.specs.declared.stage.GateContent.{GateContent}
+use Rattle.key_journal.specs.declared.stage.GateContent.TheVariants.{Open, Shut, Cut}
 use Rattle.key_journal.specs.declared.stage.Stage.{Stage}
 use Rattle.key_journal.specs.declared.stage.Stage.TheVariants.{Unsynced, Replaying, Appending}
 
@@ -56,10 +56,10 @@ HoldsAt Appending given past = Newest (IsAppending given) past
 
 -- the bytes begin with this block: an open gate with its key, a gate that isn't open, or at most one
 -- byte
-abbrev pub Begins : Block → List ℕ → Type 0
-Begins (Open key) bytes = (rest : List ℕ) × (bytes ≡ 1 ∷ key ∷ rest)
-Begins Shut bytes = (gate : ℕ) × (rest : List ℕ) × (bytes ≡ gate ∷ rest) × (gate ≢ 1)
-Begins Cut bytes = length bytes ≤ 1
+abbrev pub BeginsWithGate : GateContent → List ℕ → Type 0
+BeginsWithGate (Open key) bytes = (rest : List ℕ) × (bytes ≡ 1 ∷ key ∷ rest)
+BeginsWithGate Shut bytes = (gate : ℕ) × (rest : List ℕ) × (bytes ≡ gate ∷ rest) × (gate ≢ 1)
+BeginsWithGate Cut bytes = length bytes ≤ 1
 
 -- what holds of the fields of a journal: of its disk at its stage, and of how many keys were given
 pub record Stays (stage : Stage) (given : ℕ) (past : List DiskState) : Type 0 where

@@ -1,7 +1,7 @@
 -- A write that is synced at once, over a disk that is synced.
 use Rattle.std.specs.Prelude.{◌≡◌, ℕ, List, [], length, Result, OnOk}
 use Rattle.key_journal.specs.Crash.{Throughout}
-use Rattle.key_journal.specs.Disk.{DiskState, MayLeave, Newest, Torn, bytes_of, written}
+use Rattle.key_journal.specs.Disk.{DiskState, MayLeave, Newest, Torn, disk_bytes, overwritten}
 
 -- a disk is synced with these bytes: it reads as these, and a crash leaves them
 pub record IsSyncedAs (bytes : List ℕ) (state : DiskState) : Type 0 where
@@ -22,5 +22,5 @@ pub record IsTornFrom (at count : ℕ) (bytes : List ℕ) (state : DiskState) : 
 -- torn, and the written ones once it is Ok
 pub record WritesSynced {E : Type 0} (at : ℕ) (piece : List ℕ) (before now : List DiskState)
     (result : Result Unit E) : Type 0 where
-  pub each : Throughout (IsTornFrom at (length piece) (bytes_of before)) before now
-  pub done : OnOk result (Newest (IsSyncedAs (written (bytes_of before) at piece)) now)
+  pub each : Throughout (IsTornFrom at (length piece) (disk_bytes before)) before now
+  pub done : OnOk result (Newest (IsSyncedAs (overwritten (disk_bytes before) at piece)) now)

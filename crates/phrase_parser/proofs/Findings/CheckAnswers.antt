@@ -10,15 +10,15 @@ use Rattle.phrase_parser.specs.declared.check.finding.Finding.{Finding}
 use Rattle.phrase_parser.specs.declared.check.finding.Finding.TheVariants.{Fine, SyntaxAt, Over}
 use Rattle.phrase_parser.specs.declared.fault.PhraseFault.TheVariants as fault
 use Rattle.phrase_parser.specs.declared.token.Placed.{Placed}
-use Rattle.phrase_parser.specs.Private.Kept.{kept, AreTokens}
-use Rattle.phrase_parser.specs.Private.Machine.{run, start, phrase_of_if}
+use Rattle.phrase_parser.specs.Private.PlacedToken.{placed_of, AreTokens}
+use Rattle.phrase_parser.specs.Private.Machine.{shift_all, start_state, phrase_of_if}
 use Rattle.phrase_parser.specs.Private.Recognizer.{Shape, first_shape}
 use Rattle.phrase_parser.specs.Private.Findings.{seen_of, findings}
-use Rattle.phrase_parser.specs.Private.Shapes.{seen_in, as_found, over_of, over_place}
+use Rattle.phrase_parser.specs.Private.Shapes.{seen_in, as_found, over_of, over_offset}
 use Rattle.phrase_parser.specs.Private.TokenIn.{token_in, IsPlacedIn, LiesIn}
 use Rattle.phrase_parser.specs.Answers.{FaultSays, over_fault}
 use Rattle.phrase_parser.proofs.Findings.PlacedTokens.{cut_seen, cut_lies, cut_few, cut_tokens, cut_placed}
-use Rattle.phrase_parser.proofs.Findings.FindingPlaces.{FindingWithin, places_within}
+use Rattle.phrase_parser.proofs.Findings.FindingOffsets.{FindingWithin, places_within}
 use Rattle.phrase_parser.proofs.Findings.FindingsOfText.{SaysOfText, finding_says}
 
 pub tokens_lie : (tokens : List Placed) (stop : Option ℕ) (x : List ℕ) → AreTokens tokens stop x → All (LiesIn x) tokens
@@ -30,7 +30,7 @@ tokens_few tokens stop x h = subst (λ z. length z ≤ length x) (sym h.2) (cut_
 -- tokens that are a phrase within the limits, which the text reads as
 pub record IsRead (c : Category) (x : List ℕ) (tokens : List Placed) : Type 0 where
   pub phrase : PlainPhrase
-  pub built : phrase_of_if (run (map (token_in x) tokens) (start c)) ≡ Some phrase
+  pub built : phrase_of_if (shift_all (map (token_in x) tokens) (start_state c)) ≡ Some phrase
   pub reads : Reads c x phrase
   pub placed : All (IsPlacedIn x) tokens
 
@@ -38,14 +38,14 @@ pub record IsRead (c : Category) (x : List ℕ) (tokens : List Placed) : Type 0 
 abbrev pub CheckSays : Category → List ℕ → List Placed → Finding → Type 0
 CheckSays c x tokens Fine = IsRead c x tokens
 CheckSays c x tokens (SyntaxAt place) = (place ≤ length x) × FaultSays c x (fault.Syntax place)
-CheckSays c x tokens (Over over) = (over_place (over_of over) ≤ length x) × FaultSays c x (over_fault (over_of over))
+CheckSays c x tokens (Over over) = (over_offset (over_of over) ≤ length x) × FaultSays c x (over_fault (over_of over))
 
 told_if : (c : Category) (x : List ℕ) (pieces : List Piece) (stop : Option ℕ) (found : Finding) → Cuts pieces 0 x stop
-    → SaysOfText c x pieces (as_found found) → FindingWithin (length x) (as_found found) → CheckSays c x (map kept pieces) found
+    → SaysOfText c x pieces (as_found found) → FindingWithin (length x) (as_found found) → CheckSays c x (map placed_of pieces) found
 told_if c x pieces stop Fine cut h w =
     record {
       phrase = h.0;
-      built = ap (λ z. phrase_of_if (run z (start c))) (cut_tokens x pieces stop cut h.3) ∙ h.1;
+      built = ap (λ z. phrase_of_if (shift_all z (start_state c))) (cut_tokens x pieces stop cut h.3) ∙ h.1;
       reads = h.2;
       placed = cut_placed x pieces stop cut h.3;
     }
@@ -64,14 +64,14 @@ told c x tokens stop shape found e (pieces, cut, same) f =
 
 -- the phrase that is built is what the text reads as
 pub built_reads : (c : Category) (x : List ℕ) (tokens : List Placed) (phrase : Phrase) → IsRead c x tokens
-    → phrase_of_if (run (map (token_in x) tokens) (start c)) ≡ Some (plain_phrase phrase) → Reads c x (plain_phrase phrase)
+    → phrase_of_if (shift_all (map (token_in x) tokens) (start_state c)) ≡ Some (plain_phrase phrase) → Reads c x (plain_phrase phrase)
 built_reads c x tokens phrase read built =
     let same : read.phrase ≡ plain_phrase phrase = same_Some read.phrase (plain_phrase phrase) (sym read.built ∙ built) in
     subst (Reads c x) same read.reads
 
 -- a phrase is built of tokens that are one: the builder refuses none
 pub not_refused : (c : Category) (x : List ℕ) (tokens : List Placed) → IsRead c x tokens
-    → phrase_of_if (run (map (token_in x) tokens) (start c)) ≡ None → ⊥
+    → phrase_of_if (shift_all (map (token_in x) tokens) (start_state c)) ≡ None → ⊥
 not_refused c x tokens read refused = none-some read.phrase (sym refused ∙ read.built)
 
 -- what an answer of the check says, of the tokens as they were lent to it

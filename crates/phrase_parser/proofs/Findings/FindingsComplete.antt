@@ -6,7 +6,7 @@ use Rattle.plcs_grammar.specs.declared.category.Category.{Category}
 use Rattle.plcs_grammar.specs.Cuts.{Piece, tokens_of}
 use Rattle.plcs_grammar.specs.PlainPhrase.{PlainPhrase}
 use Rattle.plcs_grammar.specs.PhraseForm.{Form}
-use Rattle.plcs_grammar.specs.SyntaxPlace.{GoesWrong}
+use Rattle.plcs_grammar.specs.SyntaxOffset.{GoesWrong}
 use Rattle.plcs_grammar.specs.Limit.{IsWithinLimits}
 use Rattle.plcs_grammar.specs.OpenedLevel.{phrase_opened_levels}
 use Rattle.plcs_grammar.specs.OverLimit.{OverLimit, first_over, over_at}

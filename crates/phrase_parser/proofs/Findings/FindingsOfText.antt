@@ -7,9 +7,9 @@ use Rattle.plcs_grammar.specs.PhraseForm.{Form}
 use Rattle.plcs_grammar.specs.OpenedLevel.{phrase_opened_levels}
 use Rattle.plcs_grammar.specs.OverLimit.{OverLimit, first_over}
 use Rattle.plcs_grammar.specs.Reads.{Outline, Reads, IsOver}
-use Rattle.plcs_grammar.specs.SyntaxPlace.{GoesWrong}
+use Rattle.plcs_grammar.specs.SyntaxOffset.{GoesWrong}
 use Rattle.phrase_parser.specs.declared.fault.PhraseFault.TheVariants.{Syntax}
-use Rattle.phrase_parser.specs.Private.Machine.{run, start, phrase_of_if}
+use Rattle.phrase_parser.specs.Private.Machine.{shift_all, start_state, phrase_of_if}
 use Rattle.phrase_parser.specs.Private.Recognizer.{Shape, first_shape}
 use Rattle.phrase_parser.specs.Private.Findings.{Finding, seen_of, findings}
 use Rattle.phrase_parser.specs.Answers.{FaultSays, over_fault}
@@ -44,7 +44,7 @@ no_outline c x pieces stop shape place e cut h (p, inr k) =
 
 -- what a finding says of the text
 abbrev pub SaysOfText : Category → List ℕ → List Piece → Finding → Type 0
-SaysOfText c x pieces Finding.fine = (p : PlainPhrase) × (phrase_of_if (run (tokens_of pieces) (start c)) ≡ Some p) × Reads c x p × AllFit pieces
+SaysOfText c x pieces Finding.fine = (p : PlainPhrase) × (phrase_of_if (shift_all (tokens_of pieces) (start_state c)) ≡ Some p) × Reads c x p × AllFit pieces
 SaysOfText c x pieces (Finding.syntax_at place) = FaultSays c x (Syntax place)
 SaysOfText c x pieces (Finding.over o) = FaultSays c x (over_fault o)
 

@@ -1,7 +1,7 @@
 -- A number as it is kept passes the tests that the number passes.
 use Rattle.std.proofs.Common.{◌≡◌, ℕ, ◌<◌, ◌≤◌, min, leb, ltb, arith}
 use Rattle.std.proofs.lemmas.Bool.Decides.{nat_tests}
-use Rattle.phrase_parser.specs.Private.Kept.{greatest_kept}
+use Rattle.phrase_parser.specs.Private.PlacedToken.{greatest_kept}
 
 -- a number as it is kept is at least a small one exactly where the number is
 pub kept_from : (n low : ℕ) → low ≤ greatest_kept → leb low (min n greatest_kept) ≡ leb low n

@@ -5,7 +5,7 @@ use Rattle.plcs_grammar.specs.declared.operator.PrefixOp.{PrefixOp}
 use Rattle.plcs_grammar.specs.declared.operator.InfixOp.{InfixOp}
 use Rattle.phrase_parser.specs.declared.check.ground.Ground.{Ground}
 use Rattle.phrase_parser.specs.declared.check.nesting.Bracket.{Bracket}
-use Rattle.phrase_parser.specs.Private.Recognizer.{Shape, inside, next_prefix, next_infix}
+use Rattle.phrase_parser.specs.Private.Recognizer.{Shape, levels_inside, next_prefix, next_infix}
 
 pub prefix_if : (g : Ground) (brackets : List Bracket) (level : ℕ) (op : Option PrefixOp)
     → next_prefix g brackets level op ≡ cond (is_some op) (Some (Shape.wanted g brackets (level + 1))) None
@@ -13,6 +13,6 @@ prefix_if g brackets level None = refl
 prefix_if g brackets level (Some op) = refl
 
 pub infix_if : (g : Ground) (brackets : List Bracket) (op : Option InfixOp)
-    → next_infix g brackets op ≡ cond (is_some op) (Some (Shape.wanted g brackets (inside g brackets))) None
+    → next_infix g brackets op ≡ cond (is_some op) (Some (Shape.wanted g brackets (levels_inside g brackets))) None
 infix_if g brackets None = refl
 infix_if g brackets (Some op) = refl

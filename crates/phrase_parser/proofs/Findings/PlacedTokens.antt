@@ -12,7 +12,7 @@ use Rattle.plcs_grammar.specs.Cuts.{Piece, Cuts, tokens_of}
 use Rattle.plcs_grammar.specs.PhraseForm.{Form}
 use Rattle.plcs_grammar.specs.Limit.{IsWithinLimits, greatest_number}
 use Rattle.plcs_grammar.specs.OpenedLevel.{phrase_opened_levels}
-use Rattle.phrase_parser.specs.Private.Kept.{kept_kind, kept, greatest_kept}
+use Rattle.phrase_parser.specs.Private.PlacedToken.{kept_kind, placed_of, greatest_kept}
 use Rattle.phrase_parser.specs.Private.Recognizer as model
 use Rattle.phrase_parser.specs.Private.Findings.{seen_of}
 use Rattle.phrase_parser.specs.Private.Shapes.{class_from, seen_in}
@@ -31,20 +31,20 @@ kind_as (Token.text value) bytes behind is = refl
 kind_as (Token.bit value) bytes behind is = refl
 kind_as (Token.sign s) bytes behind is = refl
 
-seen_as_kept : (text : List ℕ) (pieces : List Piece) → StandIn text pieces → map (seen_in text) (map kept pieces) ≡ map seen_of pieces
+seen_as_kept : (text : List ℕ) (pieces : List Piece) → StandIn text pieces → map (seen_in text) (map placed_of pieces) ≡ map seen_of pieces
 seen_as_kept text [] h = refl
 seen_as_kept text (piece ∷ pieces) h =
-    ap (λ k. record { class = k; start = piece.start } ∷ map (seen_in text) (map kept pieces))
+    ap (λ k. record { class = k; start = piece.start } ∷ map (seen_in text) (map placed_of pieces))
     (kind_as piece.token (slice_range text piece.start piece.end) (drop piece.end text) h.0)
     ∙ ap (λ z. seen_of piece ∷ z) (seen_as_kept text pieces h.1)
 
 pub cut_seen : (text : List ℕ) (pieces : List Piece) (stop : Option ℕ) → Cuts pieces 0 text stop
-    → map (seen_in text) (map kept pieces) ≡ map seen_of pieces
+    → map (seen_in text) (map placed_of pieces) ≡ map seen_of pieces
 cut_seen text pieces stop cut = seen_as_kept text pieces (cut_stands text pieces 0 text stop refl cut)
 
 -- the pieces' tokens lie in the text, and are no more than its bytes
 in_order_lie : (text : List ℕ) (pieces : List Piece) (place : ℕ) → InOrder place pieces (length text)
-    → AllByRecursion (LiesIn text) (map kept pieces) × (place + length pieces ≤ length text)
+    → AllByRecursion (LiesIn text) (map placed_of pieces) × (place + length pieces ≤ length text)
 in_order_lie text [] place h = (tt, omega (arith, h))
 in_order_lie text (piece ∷ pieces) place h =
     let r = in_order_lie text pieces piece.end h.2 in (
@@ -52,13 +52,13 @@ in_order_lie text (piece ∷ pieces) place h =
       omega (arith, h.0, h.1, r.1),
     )
 
-pub cut_lies : (text : List ℕ) (pieces : List Piece) (stop : Option ℕ) → Cuts pieces 0 text stop → All (LiesIn text) (map kept pieces)
+pub cut_lies : (text : List ℕ) (pieces : List Piece) (stop : Option ℕ) → Cuts pieces 0 text stop → All (LiesIn text) (map placed_of pieces)
 cut_lies text pieces stop cut =
-    All-from_recursion _ (map kept pieces) (in_order_lie text pieces 0 (subst (λ n. InOrder 0 pieces n) (omega arith) (cut_in_order pieces 0 text stop cut))).0
+    All-from_recursion _ (map placed_of pieces) (in_order_lie text pieces 0 (subst (λ n. InOrder 0 pieces n) (omega arith) (cut_in_order pieces 0 text stop cut))).0
 
-pub cut_few : (text : List ℕ) (pieces : List Piece) (stop : Option ℕ) → Cuts pieces 0 text stop → length (map kept pieces) ≤ length text
+pub cut_few : (text : List ℕ) (pieces : List Piece) (stop : Option ℕ) → Cuts pieces 0 text stop → length (map placed_of pieces) ≤ length text
 cut_few text pieces stop cut =
-    omega (arith, length-map pieces kept, (in_order_lie text pieces 0 (subst (λ n. InOrder 0 pieces n) (omega arith) (cut_in_order pieces 0 text stop cut))).1)
+    omega (arith, length-map pieces placed_of, (in_order_lie text pieces 0 (subst (λ n. InOrder 0 pieces n) (omega arith) (cut_in_order pieces 0 text stop cut))).1)
 
 -- a number that an expression can hold is kept as it is
 abbrev pub AllFit : List Piece → Type 0
@@ -83,19 +83,19 @@ kind_stands (Token.text value) bytes behind is f = record { value = value; whole
 kind_stands (Token.bit value) bytes behind is f = tt
 kind_stands (Token.sign s) bytes behind is f = tt
 
-tokens_as : (text : List ℕ) (pieces : List Piece) → StandIn text pieces → AllFit pieces → map (token_in text) (map kept pieces) ≡ tokens_of pieces
+tokens_as : (text : List ℕ) (pieces : List Piece) → StandIn text pieces → AllFit pieces → map (token_in text) (map placed_of pieces) ≡ tokens_of pieces
 tokens_as text [] h f = refl
 tokens_as text (piece ∷ pieces) h f =
-    ap (λ k. k ∷ map (token_in text) (map kept pieces))
+    ap (λ k. k ∷ map (token_in text) (map placed_of pieces))
     (token_as piece.token (slice_range text piece.start piece.end) (drop piece.end text) h.0 f.0)
     ∙ ap (λ z. piece.token ∷ z) (tokens_as text pieces h.1 f.1)
 
 pub cut_tokens : (text : List ℕ) (pieces : List Piece) (stop : Option ℕ) → Cuts pieces 0 text stop → AllFit pieces
-    → map (token_in text) (map kept pieces) ≡ tokens_of pieces
+    → map (token_in text) (map placed_of pieces) ≡ tokens_of pieces
 cut_tokens text pieces stop cut f = tokens_as text pieces (cut_stands text pieces 0 text stop refl cut) f
 
-placed_in : (text : List ℕ) (pieces : List Piece) → StandIn text pieces → AllByRecursion (LiesIn text) (map kept pieces) → AllFit pieces
-    → AllByRecursion (IsPlacedIn text) (map kept pieces)
+placed_in : (text : List ℕ) (pieces : List Piece) → StandIn text pieces → AllByRecursion (LiesIn text) (map placed_of pieces) → AllFit pieces
+    → AllByRecursion (IsPlacedIn text) (map placed_of pieces)
 placed_in text [] h l f = tt
 placed_in text (piece ∷ pieces) h l f = (
   record {
@@ -106,9 +106,9 @@ placed_in text (piece ∷ pieces) h l f = (
 )
 
 pub cut_placed : (text : List ℕ) (pieces : List Piece) (stop : Option ℕ) → Cuts pieces 0 text stop → AllFit pieces
-    → All (IsPlacedIn text) (map kept pieces)
+    → All (IsPlacedIn text) (map placed_of pieces)
 cut_placed text pieces stop cut f =
-    All-from_recursion _ (map kept pieces)
+    All-from_recursion _ (map placed_of pieces)
     (placed_in text pieces (cut_stands text pieces 0 text stop refl cut)
     (in_order_lie text pieces 0 (subst (λ n. InOrder 0 pieces n) (omega arith) (cut_in_order pieces 0 text stop cut))).0 f)
 

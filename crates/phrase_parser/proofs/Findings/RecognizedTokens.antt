@@ -10,8 +10,8 @@ use Rattle.plcs_grammar.specs.PhraseForm.{Form, Begins}
 use Rattle.plcs_grammar.specs.OpenedLevel.{phrase_opened_levels}
 use Rattle.plcs_grammar.specs.OverLimit.{first_over}
 use Rattle.phrase_parser.specs.Private.Machine
-use Rattle.phrase_parser.specs.Private.Machine.{Stack, Role, State, step, run, start, phrase_of_if}
-use Rattle.phrase_parser.specs.Private.Trace.{opens, opens_by_role, opens_before, opens_behind, trace, depth}
+use Rattle.phrase_parser.specs.Private.Machine.{ParseStack, Role, ParseState, shift, shift_all, start_state, phrase_of_if}
+use Rattle.phrase_parser.specs.Private.MachineLevels.{opens, opens_by_role, opens_before, opens_after, machine_levels, stack_depth}
 use Rattle.phrase_parser.specs.Private.Recognizer
 use Rattle.phrase_parser.specs.declared.check.token_class.TokenClass.{TokenClass}
 use Rattle.phrase_parser.specs.Private.Recognizer.{class_of, Shape, next, follow, first_shape, may_end, level_of, follow_levels}
@@ -33,19 +33,19 @@ pub follow_none : (classes : List TokenClass) → follow classes None ≡ None
 follow_none [] = refl
 follow_none (class ∷ classes) = follow_none classes
 
-follows_if : (s : State) (k : Token) (ks : List Token) (z : Option State) → AfterIf s k z
-    → ((r : State) → Sound r → follow (classes_of ks) (Some (state_shape r)) ≡ state_shape_if (run ks (Some r)))
-    → follow (classes_of ks) (state_shape_if z) ≡ state_shape_if (run ks z)
+follows_if : (s : ParseState) (k : Token) (ks : List Token) (z : Option ParseState) → AfterIf s k z
+    → ((r : ParseState) → Sound r → follow (classes_of ks) (Some (state_shape r)) ≡ state_shape_if (shift_all ks (Some r)))
+    → follow (classes_of ks) (state_shape_if z) ≡ state_shape_if (shift_all ks z)
 follows_if s k ks None a f = follow_none (classes_of ks) ∙ sym (ap state_shape_if (run_none ks))
 follows_if s k ks (Some r) a f = f r a.sound
 
 -- tokens do to the shape what they do to the state
-pub follows : (ks : List Token) (s : State) → Sound s → follow (classes_of ks) (Some (state_shape s)) ≡ state_shape_if (run ks (Some s))
+pub follows : (ks : List Token) (s : ParseState) → Sound s → follow (classes_of ks) (Some (state_shape s)) ≡ state_shape_if (shift_all ks (Some s))
 follows [] s h = refl
 follows (k ∷ ks) s h =
-    ap (follow (classes_of ks)) (simulates s k h) ∙ follows_if s k ks (step s k) (step_after s k h) (λ r g. follows ks r g)
+    ap (follow (classes_of ks)) (simulates s k h) ∙ follows_if s k ks (shift s k) (step_after s k h) (λ r g. follows ks r g)
 
-first_as : (c : Category) → first_shape c ≡ state_shape_if (start c)
+first_as : (c : Category) → first_shape c ≡ state_shape_if (start_state c)
 first_as Assignment = refl
 first_as Condition = refl
 first_as Expression = refl
@@ -59,14 +59,14 @@ first_as NameList = refl
 first_as Length = refl
 first_as CommentText = refl
 
-follows_first : (c : Category) (first : Option State) (ks : List Token) → IsFreshIf c first
-    → follow (classes_of ks) (state_shape_if first) ≡ state_shape_if (run ks first)
+follows_first : (c : Category) (first : Option ParseState) (ks : List Token) → IsFreshIf c first
+    → follow (classes_of ks) (state_shape_if first) ≡ state_shape_if (shift_all ks first)
 follows_first c None ks f = follow_none (classes_of ks) ∙ sym (ap state_shape_if (run_none ks))
 follows_first c (Some s) ks f = follows ks s f.sound
 
 -- tokens do to the first shape of a category what they do to its first state
-pub follows_start : (c : Category) (ks : List Token) → follow (classes_of ks) (first_shape c) ≡ state_shape_if (run ks (start c))
-follows_start c ks = ap (follow (classes_of ks)) (first_as c) ∙ follows_first c (start c) ks (start_fresh c)
+pub follows_start : (c : Category) (ks : List Token) → follow (classes_of ks) (first_shape c) ≡ state_shape_if (shift_all ks (start_state c))
+follows_start c ks = ap (follow (classes_of ks)) (first_as c) ∙ follows_first c (start_state c) ks (start_fresh c)
 
 role_sign_level : (role : Role) (sign : Sign) → Recognizer.sign_level (Shape.name_had (use_of role)) sign ≡ opens_by_role role (Token.sign sign)
 role_sign_level Role.target Sign.OpenParenthesis = refl
@@ -84,20 +84,20 @@ role_sign_level (Role.names done) sign = refl
 role_sign_level Role.variable sign = refl
 role_sign_level Role.procedure sign = refl
 
-behind_level : (s : Stack) (t : PlainExpr) (z : State) → Machine.step_open_behind s t ≡ Some z
-    → Recognizer.level_behind (last_of (depth s) t) ≡ depth s + 1
+behind_level : (s : ParseStack) (t : PlainExpr) (z : ParseState) → Machine.step_open_behind s t ≡ Some z
+    → Recognizer.level_behind (last_of (stack_depth s) t) ≡ stack_depth s + 1
 behind_level s (PlainExpr.variable (PlainVarRef.simple name)) z e = refl
 behind_level s t z e = absurd (cc)
 
-had_level : (s : Stack) (t : PlainExpr) (sign : Sign) (z : State) → step (State.had s t) (Token.sign sign) ≡ Some z
-    → Recognizer.sign_level (state_shape (State.had s t)) sign ≡ opens (State.had s t) (Token.sign sign)
+had_level : (s : ParseStack) (t : PlainExpr) (sign : Sign) (z : ParseState) → shift (ParseState.had s t) (Token.sign sign) ≡ Some z
+    → Recognizer.sign_level (state_shape (ParseState.had s t)) sign ≡ opens (ParseState.had s t) (Token.sign sign)
 had_level s t Sign.OpenParenthesis z e = behind_level s t z e
 had_level s t sign z e = refl
 
-sign_levels : (s : State) (sign : Sign) (z : State) → step s (Token.sign sign) ≡ Some z
+sign_levels : (s : ParseState) (sign : Sign) (z : ParseState) → shift s (Token.sign sign) ≡ Some z
     → Recognizer.sign_level (state_shape s) sign ≡ opens s (Token.sign sign)
-sign_levels (State.had s t) sign z e = had_level s t sign z e
-sign_levels (State.name_had role name) sign z e = role_sign_level role sign
+sign_levels (ParseState.had s t) sign z e = had_level s t sign z e
+sign_levels (ParseState.name_had role name) sign z e = role_sign_level role sign
 sign_levels s sign z e = refl
 
 -- the token is no sign
@@ -109,7 +109,7 @@ before_plain : (d : ℕ) (k : Token) → NoSign k → 0 ≡ opens_before d k
 before_plain d (Token.sign sign) h = absurd h
 before_plain d k h = refl
 
-behind_plain : (d : ℕ) (k : Token) → NoSign k → 0 ≡ opens_behind d k
+behind_plain : (d : ℕ) (k : Token) → NoSign k → 0 ≡ opens_after d k
 behind_plain d (Token.sign sign) h = absurd h
 behind_plain d k h = refl
 
@@ -122,14 +122,14 @@ role_plain (Role.names done) k h = behind_plain 0 k h
 role_plain Role.variable k h = behind_plain 0 k h
 role_plain Role.procedure k h = behind_plain 0 k h
 
-plain_opens : (s : State) (k : Token) → NoSign k → 0 ≡ opens s k
-plain_opens (State.wanted s) k h = before_plain (depth s) k h
-plain_opens (State.had s t) k h = behind_plain (depth s) k h
-plain_opens (State.name_had role name) k h = role_plain role k h
+plain_opens : (s : ParseState) (k : Token) → NoSign k → 0 ≡ opens s k
+plain_opens (ParseState.wanted s) k h = before_plain (stack_depth s) k h
+plain_opens (ParseState.had s t) k h = behind_plain (stack_depth s) k h
+plain_opens (ParseState.name_had role name) k h = role_plain role k h
 plain_opens s k h = refl
 
 -- a token that is taken opens the same level
-pub opens_as : (s : State) (k : Token) (z : State) → step s k ≡ Some z → level_of (state_shape s) (class_of k) ≡ opens s k
+pub opens_as : (s : ParseState) (k : Token) (z : ParseState) → shift s k ≡ Some z → level_of (state_shape s) (class_of k) ≡ opens s k
 opens_as s (Token.name name) z e = plain_opens s (Token.name name) tt
 opens_as s (Token.keyword word) z e = plain_opens s (Token.keyword word) tt
 opens_as s (Token.number n) z e = plain_opens s (Token.number n) tt
@@ -137,35 +137,35 @@ opens_as s (Token.text value) z e = plain_opens s (Token.text value) tt
 opens_as s (Token.bit value) z e = plain_opens s (Token.bit value) tt
 opens_as s (Token.sign sign) z e = sign_levels s sign z e
 
-levels_if : (s : State) (k : Token) (ks : List Token) (z : State) (found : Option State) → Sound s → step s k ≡ found
-    → AfterIf s k found → run ks found ≡ Some z
-    → ((r : State) → Sound r → run ks (Some r) ≡ Some z → follow_levels (classes_of ks) (Some (state_shape r)) ≡ trace ks (Some r))
-    → follow_levels (classes_of (k ∷ ks)) (Some (state_shape s)) ≡ trace (k ∷ ks) (Some s)
+levels_if : (s : ParseState) (k : Token) (ks : List Token) (z : ParseState) (found : Option ParseState) → Sound s → shift s k ≡ found
+    → AfterIf s k found → shift_all ks found ≡ Some z
+    → ((r : ParseState) → Sound r → shift_all ks (Some r) ≡ Some z → follow_levels (classes_of ks) (Some (state_shape r)) ≡ machine_levels ks (Some r))
+    → follow_levels (classes_of (k ∷ ks)) (Some (state_shape s)) ≡ machine_levels (k ∷ ks) (Some s)
 levels_if s k ks z None h e a f go = let n = run_none ks in absurd (cc)
 levels_if s k ks z (Some r) h e a f go =
     ap (λ n. n ∷ follow_levels (classes_of ks) (next (state_shape s) (class_of k))) (opens_as s k r e)
     ∙ ap (λ o. opens s k ∷ follow_levels (classes_of ks) o) (simulates s k h ∙ ap state_shape_if e)
     ∙ ap (λ l. opens s k ∷ l) (go r a.sound f)
-    ∙ sym (ap (λ o. opens s k ∷ trace ks o) e)
+    ∙ sym (ap (λ o. opens s k ∷ machine_levels ks o) e)
 
 -- tokens that are taken open the same levels
-pub follows_levels : (ks : List Token) (s z : State) → Sound s → run ks (Some s) ≡ Some z
-    → follow_levels (classes_of ks) (Some (state_shape s)) ≡ trace ks (Some s)
+pub follows_levels : (ks : List Token) (s z : ParseState) → Sound s → shift_all ks (Some s) ≡ Some z
+    → follow_levels (classes_of ks) (Some (state_shape s)) ≡ machine_levels ks (Some s)
 follows_levels [] s z h e = refl
 follows_levels (k ∷ ks) s z h e =
-    levels_if s k ks z (step s k) h refl (step_after s k h) e (λ r g f. follows_levels ks r z g f)
+    levels_if s k ks z (shift s k) h refl (step_after s k h) e (λ r g f. follows_levels ks r z g f)
 
-first_levels : (c : Category) (first : Option State) (ks : List Token) (z : State) → IsFreshIf c first → run ks first ≡ Some z
-    → follow_levels (classes_of ks) (state_shape_if first) ≡ trace ks first
+first_levels : (c : Category) (first : Option ParseState) (ks : List Token) (z : ParseState) → IsFreshIf c first → shift_all ks first ≡ Some z
+    → follow_levels (classes_of ks) (state_shape_if first) ≡ machine_levels ks first
 first_levels c None ks z f e = let n = run_none ks in absurd (cc)
 first_levels c (Some s) ks z f e = follows_levels ks s z f.sound e
 
-state_behind : (found : Option State) (shape : Shape) → state_shape_if found ≡ Some shape
-    → (s : State) × (found ≡ Some s) × (state_shape s ≡ shape)
+state_behind : (found : Option ParseState) (shape : Shape) → state_shape_if found ≡ Some shape
+    → (s : ParseState) × (found ≡ Some s) × (state_shape s ≡ shape)
 state_behind None shape e = absurd (cc)
 state_behind (Some s) shape e = (s, refl, cc)
 
-no_state : (found : Option State) → state_shape_if found ≡ None → found ≡ None
+no_state : (found : Option ParseState) → state_shape_if found ≡ None → found ≡ None
 no_state None e = refl
 no_state (Some s) e = absurd (cc)
 
@@ -177,24 +177,24 @@ no_phrase : (found : Option PlainPhrase) → is_some found ≡ false → found �
 no_phrase None e = refl
 no_phrase (Some p) e = absurd (cc)
 
-state_ended : (found : Option State) (p : PlainPhrase) → phrase_of_if found ≡ Some p → (s : State) × (found ≡ Some s)
+state_ended : (found : Option ParseState) (p : PlainPhrase) → phrase_of_if found ≡ Some p → (s : ParseState) × (found ≡ Some s)
 state_ended None p e = absurd (cc)
 state_ended (Some s) p e = (s, refl)
 
 -- tokens that are taken begin a phrase
 pub taken_begins : (c : Category) (ks : List Token) (shape : Shape) → follow (classes_of ks) (first_shape c) ≡ Some shape → Begins c ks
 taken_begins c ks shape e =
-    let r = state_behind (run ks (start c)) shape (sym (follows_start c ks) ∙ e) in
+    let r = state_behind (shift_all ks (start_state c)) shape (sym (follows_start c ks) ∙ e) in
     viable c ks r.0 r.1
 
 -- tokens that are not taken begin no phrase
 pub refused_begins : (c : Category) (ks : List Token) → follow (classes_of ks) (first_shape c) ≡ None → Begins c ks → ⊥
-refused_begins c ks e h = stopped c ks (no_state (run ks (start c)) (sym (follows_start c ks) ∙ e)) h
+refused_begins c ks e h = stopped c ks (no_state (shift_all ks (start_state c)) (sym (follows_start c ks) ∙ e)) h
 
 ended_as : (c : Category) (ks : List Token) (shape : Shape) → follow (classes_of ks) (first_shape c) ≡ Some shape
-    → may_end shape ≡ is_some (phrase_of_if (run ks (start c)))
+    → may_end shape ≡ is_some (phrase_of_if (shift_all ks (start_state c)))
 ended_as c ks shape e =
-    let r = state_behind (run ks (start c)) shape (sym (follows_start c ks) ∙ e) in
+    let r = state_behind (shift_all ks (start_state c)) shape (sym (follows_start c ks) ∙ e) in
     let h = has_read c ks r.0 r.1 in
     sym (ap may_end r.2) ∙ ends_as r.0 h.sound ∙ sym (ap (λ o. is_some (phrase_of_if o)) r.1)
 
@@ -202,23 +202,23 @@ ended_as c ks shape e =
 pub whole_form : (c : Category) (ks : List Token) (shape : Shape) → follow (classes_of ks) (first_shape c) ≡ Some shape
     → may_end shape ≡ true → (p : PlainPhrase) × Form c ks p
 whole_form c ks shape e m =
-    let r = some_phrase (phrase_of_if (run ks (start c))) (sym (ended_as c ks shape e) ∙ m) in
+    let r = some_phrase (phrase_of_if (shift_all ks (start_state c))) (sym (ended_as c ks shape e) ∙ m) in
     (r.0, sound c ks r.0 r.1)
 
 -- where tokens may not end they are no phrase
 pub part_form : (c : Category) (ks : List Token) (shape : Shape) → follow (classes_of ks) (first_shape c) ≡ Some shape
     → may_end shape ≡ false → (p : PlainPhrase) → Form c ks p → ⊥
 part_form c ks shape e m p h =
-    no_form c ks (no_phrase (phrase_of_if (run ks (start c))) (sym (ended_as c ks shape e) ∙ m)) p h
+    no_form c ks (no_phrase (phrase_of_if (shift_all ks (start_state c))) (sym (ended_as c ks shape e) ∙ m)) p h
 
 -- by the levels that they open, the first token over a limit is the phrase's
 pub levels_over : (c : Category) (pieces : List Piece) (p : PlainPhrase) → Form c (tokens_of pieces) p
     → first_over pieces (follow_levels (classes_of (tokens_of pieces)) (first_shape c)) ≡ first_over pieces (phrase_opened_levels p)
 levels_over c pieces p h =
     let ks = tokens_of pieces in
-    let r = state_ended (run ks (start c)) p (complete c ks p h) in
+    let r = state_ended (shift_all ks (start_state c)) p (complete c ks p h) in
     ap (λ o. first_over pieces (follow_levels (classes_of ks) o)) (first_as c)
-    ∙ ap (first_over pieces) (first_levels c (start c) ks r.0 (start_fresh c) r.1)
+    ∙ ap (first_over pieces) (first_levels c (start_state c) ks r.0 (start_fresh c) r.1)
     ∙ traced_over c pieces p h
 
 -- tokens that begin a phrase are taken
@@ -230,6 +230,6 @@ begins_taken c ks h = let r = alive c ks h in (state_shape r.0, follows_start c 
 pub form_taken : (c : Category) (ks : List Token) (p : PlainPhrase) → Form c ks p
     → (shape : Shape) × (follow (classes_of ks) (first_shape c) ≡ Some shape) × (may_end shape ≡ true)
 form_taken c ks p h =
-    let r = state_ended (run ks (start c)) p (complete c ks p h) in
+    let r = state_ended (shift_all ks (start_state c)) p (complete c ks p h) in
     let e : follow (classes_of ks) (first_shape c) ≡ Some (state_shape r.0) = follows_start c ks ∙ ap state_shape_if r.1 in
     (state_shape r.0, e, ended_as c ks (state_shape r.0) e ∙ ap is_some (complete c ks p h))

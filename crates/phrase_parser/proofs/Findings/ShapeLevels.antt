@@ -10,7 +10,7 @@ use Rattle.phrase_parser.specs.declared.check.ground.Ground.{Ground}
 use Rattle.phrase_parser.specs.declared.check.nesting.Bracket.{Bracket}
 use Rattle.phrase_parser.specs.declared.check.last.Last.{Last}
 use Rattle.phrase_parser.specs.declared.check.purpose.Purpose.{Purpose}
-use Rattle.phrase_parser.specs.Private.Recognizer.{Shape, inside, next_name, next_constant, next_number, next_open_behind, next_open_name, next_open, next_close_in, next_close, next_comma_in, next_comma_name, next_comma, next_equal_name, next_equal, next_prefix, next_infix, next_operator, next_sign, next}
+use Rattle.phrase_parser.specs.Private.Recognizer.{Shape, levels_inside, next_name, next_constant, next_number, next_open_after, next_open_name, next_open, next_close_in, next_close, next_comma_in, next_comma_name, next_comma, next_equal_name, next_equal, next_prefix, next_infix, next_operator, next_sign, next}
 use Rattle.phrase_parser.specs.Private.Shapes.{LastWithin, NestingWithin, Within}
 
 -- the levels of a shape that may be missing are not over a limit
@@ -63,7 +63,7 @@ bracketed_within n b g brackets level e h =
     (more, (all.0, (more, all.1)))
 
 next_open_behind_within : (n : ℕ) (last : Last) (g : Ground) (brackets : List Bracket) → LastWithin n last → NestingWithin n g brackets
-    → WithinIf (n + 1) (next_open_behind last g brackets)
+    → WithinIf (n + 1) (next_open_after last g brackets)
 next_open_behind_within n Last.Operand g brackets e h = tt
 next_open_behind_within n (Last.Named b level) g brackets e h = bracketed_within n b g brackets level e h
 
@@ -108,7 +108,7 @@ next_comma_within n (Shape.had last g brackets) h = next_comma_in_within n g bra
 next_comma_within n (Shape.name_had purpose) h = next_comma_name_within n purpose
 next_comma_within n s h = tt
 
-inside_within : (n : ℕ) (g : Ground) (brackets : List Bracket) → NestingWithin n g brackets → inside g brackets ≤ n
+inside_within : (n : ℕ) (g : Ground) (brackets : List Bracket) → NestingWithin n g brackets → levels_inside g brackets ≤ n
 inside_within n g [] h = h.0
 inside_within n g (b ∷ brackets) h = h.1.0
 

@@ -6,12 +6,12 @@ use Rattle.plcs_grammar.specs.declared.expr.VarRef.{VarRef}
 use Rattle.plcs_grammar.specs.PlainPhrase.{PlainExpr, PlainExprs, plain_expr, plain_exprs, exprs_from, plain_var_ref}
 use Rattle.phrase_parser.specs.Private.Machine as machine
 use Rattle.phrase_parser.specs.Private.Machine.{expr_push, phrase_of_stack}
-use Rattle.phrase_parser.specs.declared.builder.stack.Frame.{Frame}
-use Rattle.phrase_parser.specs.declared.builder.stack.Frame.TheVariants as frame
+use Rattle.phrase_parser.specs.declared.builder.stack.ParseFrame.{ParseFrame}
+use Rattle.phrase_parser.specs.declared.builder.stack.ParseFrame.TheVariants as frame
 use Rattle.phrase_parser.specs.Private.Views.{pushed, stack_on}
 
 -- the last frame of a list stands on top of the stack
-pub stack_on_push : (s : machine.Stack) (fs : List Frame) (f : Frame) → stack_on s (fs ++ (f ∷ [])) ≡ pushed f (stack_on s fs)
+pub stack_on_push : (s : machine.ParseStack) (fs : List ParseFrame) (f : ParseFrame) → stack_on s (fs ++ (f ∷ [])) ≡ pushed f (stack_on s fs)
 stack_on_push s [] f = refl
 stack_on_push s (g ∷ gs) f = stack_on_push (pushed g s) gs f
 
@@ -29,7 +29,7 @@ pub references_of_push : (vs : List VarRef) (v : VarRef)
 references_of_push vs v = map-append plain_var_ref vs (v ∷ [])
 
 -- no phrase ends where a frame is open
-pub ended_at_open : (f : Frame) (s : machine.Stack) (t : PlainExpr) → phrase_of_stack (pushed f s) t ≡ None
+pub ended_at_open : (f : ParseFrame) (s : machine.ParseStack) (t : PlainExpr) → phrase_of_stack (pushed f s) t ≡ None
 ended_at_open (frame.Prefix op) s t = refl
 ended_at_open (frame.Left a op) s t = refl
 ended_at_open frame.Parenthesis s t = refl

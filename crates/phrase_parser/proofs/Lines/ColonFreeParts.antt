@@ -10,7 +10,7 @@ use Rattle.plcs_grammar.specs.Token.{begins_with, EndsWord}
 use Rattle.plcs_grammar.specs.PlainPhrase.{PlainPhrase}
 use Rattle.plcs_grammar.specs.Placeholder.{placeholder}
 use Rattle.plcs_grammar.specs.Canon.{Canon, IsWellFormed}
-use Rattle.phrase_parser.specs.LineParts.{with_front, cut_at, IsPart}
+use Rattle.phrase_parser.specs.LineParts.{with_front, cut_at, IsPartOfLine}
 use Rattle.phrase_parser.proofs.Readings.CanonicalText.{cut_writable}
 use Rattle.phrase_parser.proofs.Lines.DividedTexts.{Clear, clear_solid}
 use Rattle.phrase_parser.proofs.Lines.TextFronts.{Ends, HoldsAtTokens}
@@ -45,7 +45,7 @@ phrase_colon_free c p no_comment (inl (pieces, cut), limits) y ends =
 phrase_colon_free c p no_comment (inr comment, limits) y ends = absurd (no_comment comment.category_is)
 
 -- what begins with a part is cut at a colon where what stands behind the part is
-pub colon_free : (c : Category) (x y : List ℕ) → c ≢ CommentText → IsPart c x → EndsWord y
+pub colon_free : (c : Category) (x y : List ℕ) → c ≢ CommentText → IsPartOfLine c x → EndsWord y
     → cut_at (codes ":") (x ++ y) ≡ with_front x (cut_at (codes ":") y)
 colon_free c x y no_comment (inl (p, formed, is)) ends =
     subst (λ (z : List ℕ). Clear (codes ":") z y) (sym is)

@@ -18,7 +18,7 @@ use Rattle.plcs_grammar.specs.Canon.{Canon, IsWellFormed}
 use Rattle.phrase_parser.specs.declared.front.Front.{Front}
 use Rattle.phrase_parser.specs.declared.token.TokenKind.TheVariants as kind
 use Rattle.phrase_parser.specs.Private.Front.{front_of}
-use Rattle.phrase_parser.specs.LineParts.{IsPart, BeginsWithKeyword}
+use Rattle.phrase_parser.specs.LineParts.{IsPartOfLine, BeginsWithKeyword}
 use Rattle.phrase_parser.proofs.Tokens.Words.{keyword_word}
 use Rattle.phrase_parser.proofs.Tokens.LongestFront.{name_found, keyword_found}
 use Rattle.phrase_parser.proofs.Readings.CanonicalText.{cut_writable}
@@ -90,7 +90,7 @@ placeholder_no_letter category.Length behind = refl
 placeholder_no_letter category.CommentText behind = refl
 
 -- no keyword stands where a part of a line begins that is no comment's
-pub no_keyword_begins : (c : Category) (x behind : List ℕ) → c ≢ CommentText → IsPart c x → EndsWord behind
+pub no_keyword_begins : (c : Category) (x behind : List ℕ) → c ≢ CommentText → IsPartOfLine c x → EndsWord behind
     → ¬ (BeginsWithKeyword (x ++ behind))
 no_keyword_begins c x behind no_comment (inl (p, formed, is)) ends =
     subst (λ (z : List ℕ). NoKeyword (z ++ behind)) (sym is)

@@ -3,7 +3,7 @@ use Rattle.std.proofs.Common.{◌≡◌, ℕ, List, ◌++◌, drop, ap}
 use Rattle.std.specs.Prelude.{codes}
 use Rattle.std.proofs.lemmas.List.{append_cancel_right}
 use Rattle.plcs_grammar.specs.declared.category.Category.TheVariants.{Variable, Expression, DeclaredList, ProcedureName}
-use Rattle.phrase_parser.specs.LineParts.{Divides, IsPart}
+use Rattle.phrase_parser.specs.LineParts.{Divides, IsPartOfLine}
 use Rattle.phrase_parser.proofs.Lines.LineParts.{parts_tell}
 
 -- `DO {variable} = {expression} TO {expression} BY {expression};`
@@ -11,8 +11,8 @@ loop_line : List ℕ → List ℕ → List ℕ → List ℕ → List ℕ
 loop_line variable value limit step =
     codes "DO " ++ (variable ++ (codes " = " ++ (value ++ (codes " TO " ++ (limit ++ (codes " BY " ++ (step ++ codes ";")))))))
 
-loop_lines_tell : (v a b d w e f g : List ℕ) → IsPart Variable v → IsPart Expression a → IsPart Expression b → IsPart Variable w
-    → IsPart Expression e → IsPart Expression f → loop_line v a b d ≡ loop_line w e f g → (v ≡ w) × (a ≡ e) × (b ≡ f) × (d ≡ g)
+loop_lines_tell : (v a b d w e f g : List ℕ) → IsPartOfLine Variable v → IsPartOfLine Expression a → IsPartOfLine Expression b → IsPartOfLine Variable w
+    → IsPartOfLine Expression e → IsPartOfLine Expression f → loop_line v a b d ≡ loop_line w e f g → (v ≡ w) × (a ≡ e) × (b ≡ f) × (d ≡ g)
 unfolding loop_line
 loop_lines_tell v a b d w e f g pv pa pb pw pe pf same =
     let first = parts_tell Variable (codes " = ") v _ w _ Divides.first_value pv pw (ap (drop 3) same) in
@@ -24,7 +24,7 @@ loop_lines_tell v a b d w e f g pv pa pb pw pe pf same =
 character_line : List ℕ → List ℕ → List ℕ
 character_line names size = codes "DECLARE ( " ++ (names ++ (codes " ) CHARACTER ( " ++ (size ++ codes " ) VARYING;")))
 
-character_lines_tell : (x m y n : List ℕ) → IsPart DeclaredList x → IsPart DeclaredList y → character_line x m ≡ character_line y n
+character_lines_tell : (x m y n : List ℕ) → IsPartOfLine DeclaredList x → IsPartOfLine DeclaredList y → character_line x m ≡ character_line y n
     → (x ≡ y) × (m ≡ n)
 unfolding character_line
 character_lines_tell x m y n px py same =
@@ -35,7 +35,7 @@ character_lines_tell x m y n px py same =
 heading_line : List ℕ → List ℕ → List ℕ
 heading_line name parameters = name ++ (codes ": PROCEDURE ( " ++ (parameters ++ codes " );"))
 
-heading_lines_tell : (x m y n : List ℕ) → IsPart ProcedureName x → IsPart ProcedureName y → heading_line x m ≡ heading_line y n
+heading_lines_tell : (x m y n : List ℕ) → IsPartOfLine ProcedureName x → IsPartOfLine ProcedureName y → heading_line x m ≡ heading_line y n
     → (x ≡ y) × (m ≡ n)
 unfolding heading_line
 heading_lines_tell x m y n px py same =

@@ -12,7 +12,7 @@ use Rattle.plcs_grammar.specs.Token.{Token}
 use Rattle.plcs_grammar.specs.PlainPhrase.{PlainPhrase, category_of}
 use Rattle.plcs_grammar.specs.Placeholder.{placeholder}
 use Rattle.plcs_grammar.specs.Canon.{more_joined, joined, canon_sized, canon_item, parenthesized_bytes, Canon, IsWellFormed}
-use Rattle.phrase_parser.specs.LineParts.{with_front, is_quoted_behind, cut_from, cut_at, Divides, IsPart}
+use Rattle.phrase_parser.specs.LineParts.{with_front, is_quoted_behind, cut_from, cut_at, Divides, IsPartOfLine}
 use Rattle.phrase_parser.proofs.Machine.PhraseSpelling.{spell_more, spell_listed, spell_sized, spell_item}
 use Rattle.phrase_parser.proofs.Readings.CanonicalTokens.{AllWritable, writable_split, inner_writable, small_number}
 use Rattle.phrase_parser.proofs.Readings.CanonicalText.{IsWritable, cut_writable}
@@ -148,7 +148,7 @@ phrase_cut c divider d p (inl (pieces, cut), limits) y =
 phrase_cut c divider d p (inr comment, limits) y = absurd (comment_undivided c divider d comment.category_is)
 
 -- a part of a line ends at each divider of its category
-pub part_cut : (c : Category) (divider x y : List ℕ) → Divides c divider → IsPart c x
+pub part_cut : (c : Category) (divider x y : List ℕ) → Divides c divider → IsPartOfLine c x
     → cut_at divider (x ++ (divider ++ y)) ≡ Some (x, y)
 part_cut c divider x y d (inl (p, formed, is)) =
     subst (λ (z : List ℕ). cut_at divider (z ++ (divider ++ y)) ≡ Some (z, y)) (sym is) (phrase_cut c divider d p formed y)
@@ -156,7 +156,7 @@ part_cut c divider x y d (inr is) =
     subst (λ (z : List ℕ). cut_at divider (z ++ (divider ++ y)) ≡ Some (z, y)) (sym is) (placeholder_cut c divider d y)
 
 -- what stands before a divider and behind it are told by the whole text
-pub parts_tell : (c : Category) (divider x y z w : List ℕ) → Divides c divider → IsPart c x → IsPart c z
+pub parts_tell : (c : Category) (divider x y z w : List ℕ) → Divides c divider → IsPartOfLine c x → IsPartOfLine c z
     → x ++ (divider ++ y) ≡ z ++ (divider ++ w) → (x ≡ z) × (y ≡ w)
 parts_tell c divider x y z w d a b same =
     let cut = same_Some (x, y) (z, w)

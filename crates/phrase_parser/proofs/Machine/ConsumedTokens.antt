@@ -9,7 +9,7 @@ use Rattle.plcs_grammar.specs.Token.{Token}
 use Rattle.plcs_grammar.specs.PlainPhrase.{PlainExpr, PlainExprs}
 use Rattle.plcs_grammar.specs.Builtin.{builtin_name, is_builtin_name}
 use Rattle.plcs_grammar.specs.Level.{priority, tightest, in_parentheses}
-use Rattle.phrase_parser.specs.Private.Machine.{Base, Stack, Role, State, expr_push}
+use Rattle.phrase_parser.specs.Private.Machine.{Base, ParseStack, Role, ParseState, expr_push}
 use Rattle.phrase_parser.proofs.Machine.ExprSpelling.{spell, spell_reference, spell_all, spell_behind, Fits, FitsReference, FitsAll, FitsBehind}
 use Rattle.phrase_parser.proofs.Machine.PhraseSpelling.{spell_name, spell_item, spell_call, spell_more, spell_listed, EachFits, FitsListed, FitsItem, FitsCall, AnyName}
 
@@ -127,13 +127,13 @@ flat_base (Base.variable_subscript done name) =
 flat_base (Base.call_arguments name done) = Token.name name ∷ Token.sign Sign.OpenParenthesis ∷ spell_before done
 
 -- the tokens before the operand on a stack
-abbrev pub flat_stack : Stack → List Token
-flat_stack (Stack.base b) = flat_base b
-flat_stack (Stack.prefix op s) = flat_stack s ++ (Token.sign (prefix_sign op) ∷ [])
-flat_stack (Stack.left a op s) = flat_stack s ++ (spell a ++ (Token.sign (infix_sign op) ∷ []))
-flat_stack (Stack.parenthesis s) = flat_stack s ++ (Token.sign Sign.OpenParenthesis ∷ [])
-flat_stack (Stack.subscript name s) = flat_stack s ++ (Token.name name ∷ Token.sign Sign.OpenParenthesis ∷ [])
-flat_stack (Stack.arguments function done s) =
+abbrev pub flat_stack : ParseStack → List Token
+flat_stack (ParseStack.base b) = flat_base b
+flat_stack (ParseStack.prefix op s) = flat_stack s ++ (Token.sign (prefix_sign op) ∷ [])
+flat_stack (ParseStack.left a op s) = flat_stack s ++ (spell a ++ (Token.sign (infix_sign op) ∷ []))
+flat_stack (ParseStack.parenthesis s) = flat_stack s ++ (Token.sign Sign.OpenParenthesis ∷ [])
+flat_stack (ParseStack.subscript name s) = flat_stack s ++ (Token.name name ∷ Token.sign Sign.OpenParenthesis ∷ [])
+flat_stack (ParseStack.arguments function done s) =
     flat_stack s ++ (Token.name (builtin_name function) ∷ Token.sign Sign.OpenParenthesis ∷ spell_before done)
 
 -- the tokens before a name that stands in no expression
@@ -147,29 +147,29 @@ flat_role Role.variable = []
 flat_role Role.procedure = []
 
 -- all tokens that were read in a state
-abbrev pub flat : State → List Token
-flat (State.wanted s) = flat_stack s
-flat (State.had s t) = flat_stack s ++ spell t
-flat (State.name_wanted role) = flat_role role
-flat (State.name_had role name) = flat_role role ++ (Token.name name ∷ [])
-flat (State.target_had reference) = spell_reference reference
-flat (State.variable_had done) = spell_listed spell_reference done
-flat (State.call_had name passed) = spell_call name passed
-flat (State.size_wanted done name) = spell_each spell_item done ++ (Token.name name ∷ Token.sign Sign.OpenParenthesis ∷ [])
-flat (State.size_had done name n) =
+abbrev pub flat : ParseState → List Token
+flat (ParseState.wanted s) = flat_stack s
+flat (ParseState.had s t) = flat_stack s ++ spell t
+flat (ParseState.name_wanted role) = flat_role role
+flat (ParseState.name_had role name) = flat_role role ++ (Token.name name ∷ [])
+flat (ParseState.target_had reference) = spell_reference reference
+flat (ParseState.variable_had done) = spell_listed spell_reference done
+flat (ParseState.call_had name passed) = spell_call name passed
+flat (ParseState.size_wanted done name) = spell_each spell_item done ++ (Token.name name ∷ Token.sign Sign.OpenParenthesis ∷ [])
+flat (ParseState.size_had done name n) =
     spell_each spell_item done ++ (Token.name name ∷ Token.sign Sign.OpenParenthesis ∷ Token.number n ∷ [])
-flat (State.item_had done) = spell_listed spell_item done
-flat State.length_wanted = []
-flat (State.length_had n) = Token.number n ∷ []
+flat (ParseState.item_had done) = spell_listed spell_item done
+flat ParseState.length_wanted = []
+flat (ParseState.length_had n) = Token.number n ∷ []
 
 -- the level of the operand that is wanted on the stack
-abbrev pub hole : Stack → ℕ
-hole (Stack.base b) = 1
-hole (Stack.prefix op s) = tightest
-hole (Stack.left a op s) = priority op + 1
-hole (Stack.parenthesis s) = 1
-hole (Stack.subscript name s) = 1
-hole (Stack.arguments function done s) = 1
+abbrev pub hole : ParseStack → ℕ
+hole (ParseStack.base b) = 1
+hole (ParseStack.prefix op s) = tightest
+hole (ParseStack.left a op s) = priority op + 1
+hole (ParseStack.parenthesis s) = 1
+hole (ParseStack.subscript name s) = 1
+hole (ParseStack.arguments function done s) = 1
 
 -- what was read before an expression that stands in no other keeps its levels
 abbrev pub SoundBase : Base → Type 0
@@ -182,13 +182,13 @@ SoundBase (Base.variable_subscript done name) = EachFits FitsReference done
 SoundBase (Base.call_arguments name done) = FitsBehind done
 
 -- what is open on a stack keeps its levels
-abbrev pub SoundStack : Stack → Type 0
-SoundStack (Stack.base b) = SoundBase b
-SoundStack (Stack.prefix op s) = SoundStack s
-SoundStack (Stack.left a op s) = (hole s ≤ priority op) × Fits a (priority op) × SoundStack s
-SoundStack (Stack.parenthesis s) = SoundStack s
-SoundStack (Stack.subscript name s) = IsTrue (not (is_builtin_name name)) × SoundStack s
-SoundStack (Stack.arguments function done s) = FitsBehind done × SoundStack s
+abbrev pub SoundStack : ParseStack → Type 0
+SoundStack (ParseStack.base b) = SoundBase b
+SoundStack (ParseStack.prefix op s) = SoundStack s
+SoundStack (ParseStack.left a op s) = (hole s ≤ priority op) × Fits a (priority op) × SoundStack s
+SoundStack (ParseStack.parenthesis s) = SoundStack s
+SoundStack (ParseStack.subscript name s) = IsTrue (not (is_builtin_name name)) × SoundStack s
+SoundStack (ParseStack.arguments function done s) = FitsBehind done × SoundStack s
 
 -- what stands before a name that stands in no expression keeps its levels
 abbrev pub SoundRole : Role → Type 0
@@ -201,19 +201,19 @@ SoundRole Role.variable = Unit {0}
 SoundRole Role.procedure = Unit {0}
 
 -- all that was read in a state keeps its levels
-abbrev pub Sound : State → Type 0
-Sound (State.wanted s) = SoundStack s
-Sound (State.had s t) = SoundStack s × ((level : ℕ) → Fits t level)
-Sound (State.name_wanted role) = SoundRole role
-Sound (State.name_had role name) = SoundRole role
-Sound (State.target_had reference) = FitsReference reference
-Sound (State.variable_had done) = FitsListed FitsReference done
-Sound (State.call_had name passed) = FitsAll passed
-Sound (State.size_wanted done name) = EachFits FitsItem done
-Sound (State.size_had done name n) = (1 ≤ n) × EachFits FitsItem done
-Sound (State.item_had done) = FitsListed FitsItem done
-Sound State.length_wanted = Unit {0}
-Sound (State.length_had n) = (1 ≤ n) × (n ≤ longest_text)
+abbrev pub Sound : ParseState → Type 0
+Sound (ParseState.wanted s) = SoundStack s
+Sound (ParseState.had s t) = SoundStack s × ((level : ℕ) → Fits t level)
+Sound (ParseState.name_wanted role) = SoundRole role
+Sound (ParseState.name_had role name) = SoundRole role
+Sound (ParseState.target_had reference) = FitsReference reference
+Sound (ParseState.variable_had done) = FitsListed FitsReference done
+Sound (ParseState.call_had name passed) = FitsAll passed
+Sound (ParseState.size_wanted done name) = EachFits FitsItem done
+Sound (ParseState.size_had done name n) = (1 ≤ n) × EachFits FitsItem done
+Sound (ParseState.item_had done) = FitsListed FitsItem done
+Sound ParseState.length_wanted = Unit {0}
+Sound (ParseState.length_had n) = (1 ≤ n) × (n ≤ longest_text)
 
 -- the category of the phrase that is read, by what an expression that stands in no other is for
 abbrev pub base_category : Base → Category
@@ -226,13 +226,13 @@ base_category (Base.variable_subscript done name) = VariableList
 base_category (Base.call_arguments name done) = CallRef
 
 -- the category of the phrase that is read, by the stack
-abbrev pub stack_category : Stack → Category
-stack_category (Stack.base b) = base_category b
-stack_category (Stack.prefix op s) = stack_category s
-stack_category (Stack.left a op s) = stack_category s
-stack_category (Stack.parenthesis s) = stack_category s
-stack_category (Stack.subscript name s) = stack_category s
-stack_category (Stack.arguments function done s) = stack_category s
+abbrev pub stack_category : ParseStack → Category
+stack_category (ParseStack.base b) = base_category b
+stack_category (ParseStack.prefix op s) = stack_category s
+stack_category (ParseStack.left a op s) = stack_category s
+stack_category (ParseStack.parenthesis s) = stack_category s
+stack_category (ParseStack.subscript name s) = stack_category s
+stack_category (ParseStack.arguments function done s) = stack_category s
 
 -- the category of the phrase that is read, by what a name that stands in no expression is for
 abbrev pub role_category : Role → Category
@@ -245,16 +245,16 @@ role_category Role.variable = Variable
 role_category Role.procedure = ProcedureName
 
 -- the category of the phrase that is read, by the state
-abbrev pub state_category : State → Category
-state_category (State.wanted s) = stack_category s
-state_category (State.had s t) = stack_category s
-state_category (State.name_wanted role) = role_category role
-state_category (State.name_had role name) = role_category role
-state_category (State.target_had reference) = Assignment
-state_category (State.variable_had done) = VariableList
-state_category (State.call_had name passed) = CallRef
-state_category (State.size_wanted done name) = DeclaredList
-state_category (State.size_had done name n) = DeclaredList
-state_category (State.item_had done) = DeclaredList
-state_category State.length_wanted = Length
-state_category (State.length_had n) = Length
+abbrev pub state_category : ParseState → Category
+state_category (ParseState.wanted s) = stack_category s
+state_category (ParseState.had s t) = stack_category s
+state_category (ParseState.name_wanted role) = role_category role
+state_category (ParseState.name_had role name) = role_category role
+state_category (ParseState.target_had reference) = Assignment
+state_category (ParseState.variable_had done) = VariableList
+state_category (ParseState.call_had name passed) = CallRef
+state_category (ParseState.size_wanted done name) = DeclaredList
+state_category (ParseState.size_had done name n) = DeclaredList
+state_category (ParseState.item_had done) = DeclaredList
+state_category ParseState.length_wanted = Length
+state_category (ParseState.length_had n) = Length

@@ -2,8 +2,8 @@
 use Rattle.std.proofs.Common.{◌≡◌, refl, ℕ, List, [], ◌∷◌, ◌++◌, Some, ◌∙◌, append_assoc}
 use Rattle.plcs_grammar.specs.declared.sign.Sign.{Sign}
 use Rattle.plcs_grammar.specs.Token.{Token}
-use Rattle.phrase_parser.specs.Private.Machine.{State, step}
-use Rattle.phrase_parser.specs.Private.Trace.{opens}
+use Rattle.phrase_parser.specs.Private.Machine.{ParseState, shift}
+use Rattle.phrase_parser.specs.Private.MachineLevels.{opens}
 use Rattle.phrase_parser.proofs.Machine.MachineRuns.{Goes, there, by, joins}
 use Rattle.phrase_parser.proofs.Machine.PhraseSpelling.{spell_more, spell_listed, EachFits, FitsListed}
 
@@ -20,15 +20,15 @@ module _ {X : Type 0} (g : X → List ℕ) where
 
 -- how the machine reads elements that are joined by commas: the state where one is wanted, and behind one
 pub record Listing (X : Type 0) (f : X → List Token) (g : X → List ℕ) (Fit : X → Type 0) : Type 0 where
-  pub wants : List X → State
-  pub has : List X → X → State
+  pub wants : List X → ParseState
+  pub has : List X → X → ParseState
   pub reads : (done : List X) (x : X) → Fit x → Goes (wants done) (f x) (g x) (has done x)
-  pub comma : (done : List X) (x : X) → step (has done x) (Token.sign Sign.Comma) ≡ Some (wants (done ++ (x ∷ [])))
+  pub comma : (done : List X) (x : X) → shift (has done x) (Token.sign Sign.Comma) ≡ Some (wants (done ++ (x ∷ [])))
   pub none : (done : List X) (x : X) → opens (has done x) (Token.sign Sign.Comma) ≡ 0
 
 module _ {X : Type 0} (f : X → List Token) (g : X → List ℕ) (Fit : X → Type 0) (m : Listing X f g Fit) where
   -- the tokens of a list lead behind the last of all its elements
-  pub record ReadsAll (from : State) (all : List X) (ks : List Token) (ls : List ℕ) : Type 0 where
+  pub record ReadsAll (from : ParseState) (all : List X) (ks : List Token) (ls : List ℕ) : Type 0 where
     pub front : List X
     pub last : X
     pub goes : Goes from ks ls (m.has front last)

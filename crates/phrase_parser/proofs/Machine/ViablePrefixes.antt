@@ -8,7 +8,7 @@ use Rattle.plcs_grammar.specs.Token.{Token}
 use Rattle.plcs_grammar.specs.PlainPhrase.{PlainExpr, PlainExprs, PlainVarRef, PlainPhrase, category_of}
 use Rattle.plcs_grammar.specs.Builtin.{builtin_name}
 use Rattle.plcs_grammar.specs.PhraseForm.{Form, Begins}
-use Rattle.phrase_parser.specs.Private.Machine.{Base, Stack, Role, State, expr_push, run, start, phrase_of_if}
+use Rattle.phrase_parser.specs.Private.Machine.{Base, ParseStack, Role, ParseState, expr_push, shift_all, start_state, phrase_of_if}
 use Rattle.phrase_parser.proofs.Machine.ExprSpelling.{spell, spell_reference, Fits, FitsReference}
 use Rattle.phrase_parser.proofs.Machine.PhraseSpelling.{spell_name, spell_item, spell_call, spell_listed, spell_phrase, FitsPhrase, FitsItem, AnyName, form_from}
 use Rattle.phrase_parser.proofs.Machine.Completeness.{complete, alive}
@@ -65,23 +65,23 @@ plug_base (Base.call_arguments name done) t h f =
     (sym (call_push name done t ∙ arguments_tokens [] (Token.name name) done t))
 
 -- a sound operand on a stack begins a phrase: all that is open is closed behind it
-pub plug : (s : Stack) (t : PlainExpr) → SoundStack s → Fits t (hole s) → Begins (stack_category s) (flat_stack s ++ spell t)
-plug (Stack.base b) t h f = plug_base b t h f
-plug (Stack.prefix op s) t h f =
+pub plug : (s : ParseStack) (t : PlainExpr) → SoundStack s → Fits t (hole s) → Begins (stack_category s) (flat_stack s ++ spell t)
+plug (ParseStack.base b) t h f = plug_base b t h f
+plug (ParseStack.prefix op s) t h f =
     begins_as _ _ _ (sym (append_assoc (flat_stack s) (Token.sign (prefix_sign op) ∷ []) (spell t))) (plug s (PlainExpr.unary op t) h f)
-plug (Stack.left a op s) t h f =
+plug (ParseStack.left a op s) t h f =
     begins_as _ _ _
     (ap (λ z. flat_stack s ++ z) (sym (append_assoc (spell a) (Token.sign (infix_sign op) ∷ []) (spell t)))
     ∙ sym (append_assoc (flat_stack s) (spell a ++ (Token.sign (infix_sign op) ∷ [])) (spell t)))
     (plug s (PlainExpr.binary op a t) h.2 (h.0, h.1, f))
-plug (Stack.parenthesis s) t h f =
+plug (ParseStack.parenthesis s) t h f =
     begins_front _ ((flat_stack s ++ (open_ ∷ [])) ++ spell t) (close ∷ [])
     (begins_as _ _ _ (regroup (flat_stack s) (open_ ∷ []) (spell t) (close ∷ [])) (plug s (PlainExpr.parenthesized t) h f))
-plug (Stack.subscript name s) t h f =
+plug (ParseStack.subscript name s) t h f =
     begins_front _ ((flat_stack s ++ (Token.name name ∷ open_ ∷ [])) ++ spell t) (close ∷ [])
     (begins_as _ _ _ (regroup (flat_stack s) (Token.name name ∷ open_ ∷ []) (spell t) (close ∷ []))
     (plug s (PlainExpr.variable (PlainVarRef.subscripted name t)) h.1 (h.0, f)))
-plug (Stack.arguments function done s) t h f =
+plug (ParseStack.arguments function done s) t h f =
     begins_front _ ((flat_stack s ++ (Token.name (builtin_name function) ∷ open_ ∷ spell_before done)) ++ spell t) (close ∷ [])
     (begins_as _ _ _ (arguments_tokens (flat_stack s) (Token.name (builtin_name function)) done t)
     (plug s (PlainExpr.builtin function (expr_push done t)) h.1 (all_fit done t h.0 f)))
@@ -104,44 +104,44 @@ begins_by_role (Role.names done) name h =
 begins_by_role Role.variable name h = begins_whole _ (PlainPhrase.variable_name name) (Token.name name ∷ []) refl tt refl
 begins_by_role Role.procedure name h = begins_whole _ (PlainPhrase.procedure_name name) (Token.name name ∷ []) refl tt refl
 
-begins_sized : (done : List Item) (name : List ℕ) (n : ℕ) → Sound (State.size_had done name n)
-    → Begins (state_category (State.size_had done name n)) (flat (State.size_had done name n))
+begins_sized : (done : List Item) (name : List ℕ) (n : ℕ) → Sound (ParseState.size_had done name n)
+    → Begins (state_category (ParseState.size_had done name n)) (flat (ParseState.size_had done name n))
 begins_sized done name n h =
-    begins_by _ (PlainPhrase.declared_list (done ++ (record { name = name; size = Some n } ∷ []))) (flat (State.size_had done name n)) (close ∷ [])
+    begins_by _ (PlainPhrase.declared_list (done ++ (record { name = name; size = Some n } ∷ []))) (flat (ParseState.size_had done name n)) (close ∷ [])
     refl (listed_fits FitsItem done (record { name = name; size = Some n }) h.1 h.0)
     (append_assoc (spell_each spell_item done) (Token.name name ∷ open_ ∷ Token.number n ∷ []) (close ∷ [])
     ∙ sym (listed_last spell_item done (record { name = name; size = Some n })))
 
 -- what was read in a sound state begins a phrase
-pub begins : (s : State) → Sound s → Begins (state_category s) (flat s)
-begins (State.wanted s) h = begins_front _ (flat_stack s) (spell anything) (plug s anything h tt)
-begins (State.had s t) h = plug s t h.0 (h.1 (hole s))
-begins (State.name_wanted role) h = begins_front _ (flat_role role) (Token.name [] ∷ []) (begins_by_role role [] h)
-begins (State.name_had role name) h = begins_by_role role name h
-begins (State.target_had reference) h =
+pub begins : (s : ParseState) → Sound s → Begins (state_category s) (flat s)
+begins (ParseState.wanted s) h = begins_front _ (flat_stack s) (spell anything) (plug s anything h tt)
+begins (ParseState.had s t) h = plug s t h.0 (h.1 (hole s))
+begins (ParseState.name_wanted role) h = begins_front _ (flat_role role) (Token.name [] ∷ []) (begins_by_role role [] h)
+begins (ParseState.name_had role name) h = begins_by_role role name h
+begins (ParseState.target_had reference) h =
     begins_by _ (PlainPhrase.assignment reference anything) (spell_reference reference) (equal ∷ spell anything) refl (h, tt) refl
-begins (State.variable_had done) h = begins_whole _ (PlainPhrase.variable_list done) (spell_listed spell_reference done) refl h refl
-begins (State.call_had name passed) h = begins_whole _ (PlainPhrase.call name passed) (spell_call name passed) refl (call_fits passed h) refl
-begins (State.size_wanted done name) h =
-    begins_front _ (flat (State.size_wanted done name)) (Token.number 1 ∷ [])
+begins (ParseState.variable_had done) h = begins_whole _ (PlainPhrase.variable_list done) (spell_listed spell_reference done) refl h refl
+begins (ParseState.call_had name passed) h = begins_whole _ (PlainPhrase.call name passed) (spell_call name passed) refl (call_fits passed h) refl
+begins (ParseState.size_wanted done name) h =
+    begins_front _ (flat (ParseState.size_wanted done name)) (Token.number 1 ∷ [])
     (begins_as _ _ _ (sym (append_assoc (spell_each spell_item done) (Token.name name ∷ open_ ∷ []) (Token.number 1 ∷ [])))
     (begins_sized done name 1 (le_refl _, h)))
-begins (State.size_had done name n) h = begins_sized done name n h
-begins (State.item_had done) h = begins_whole _ (PlainPhrase.declared_list done) (spell_listed spell_item done) refl h refl
-begins State.length_wanted h =
+begins (ParseState.size_had done name n) h = begins_sized done name n h
+begins (ParseState.item_had done) h = begins_whole _ (PlainPhrase.declared_list done) (spell_listed spell_item done) refl h refl
+begins ParseState.length_wanted h =
     begins_by _ (PlainPhrase.greatest_length 1) [] (Token.number 1 ∷ []) refl (le_refl _, lit≤ tt) refl
-begins (State.length_had n) h = begins_whole _ (PlainPhrase.greatest_length n) (Token.number n ∷ []) refl h refl
+begins (ParseState.length_had n) h = begins_whole _ (PlainPhrase.greatest_length n) (Token.number n ∷ []) refl h refl
 
 -- tokens that don't stop the machine begin a phrase of the category
-pub viable : (c : Category) (ks : List Token) (s : State) → run ks (start c) ≡ Some s → Begins c ks
+pub viable : (c : Category) (ks : List Token) (s : ParseState) → shift_all ks (start_state c) ≡ Some s → Begins c ks
 viable c ks s e =
     let r = has_read c ks s e in
     subst (λ d. Begins d ks) r.category (begins_as (state_category s) (flat s) ks r.tokens (begins s r.sound))
 
 -- where the machine has stopped no phrase begins
-pub stopped : (c : Category) (ks : List Token) → run ks (start c) ≡ None → Begins c ks → ⊥
+pub stopped : (c : Category) (ks : List Token) → shift_all ks (start_state c) ≡ None → Begins c ks → ⊥
 stopped c ks e h = let r = alive c ks h in let a = r.1 in absurd (cc)
 
 -- where the machine reads no phrase the tokens are no phrase
-pub no_form : (c : Category) (ks : List Token) → phrase_of_if (run ks (start c)) ≡ None → (p : PlainPhrase) → Form c ks p → ⊥
+pub no_form : (c : Category) (ks : List Token) → phrase_of_if (shift_all ks (start_state c)) ≡ None → (p : PlainPhrase) → Form c ks p → ⊥
 no_form c ks e p h = let a = complete c ks p h in absurd (cc)

@@ -9,10 +9,10 @@ use Rattle.plcs_base.specs.Byte.{is_letter, is_digit, is_name_byte, is_blank}
 use Rattle.plcs_base.specs.Name.{is_word, IsName}
 use Rattle.plcs_grammar.specs.declared.sign.Sign.{Sign}
 use Rattle.plcs_grammar.specs.Sign.{sign_bytes}
-use Rattle.plcs_grammar.specs.Token.{Token, IsToken, First, NoToken, IsNumeral, IsConstantText, begins_with, is_quote, numeral_value, quoted, bit_bytes}
+use Rattle.plcs_grammar.specs.Token.{Token, IsToken, LongestToken, NoToken, IsNumeral, IsConstantText, begins_with, is_quote, numeral_value, quoted, bit_bytes}
 use Rattle.plcs_grammar.specs.Cuts.{Piece, Cuts, blanks, unblanked, tokens_of}
 use Rattle.phrase_parser.specs.declared.front.Front.{Front}
-use Rattle.phrase_parser.specs.Private.Kept.{kept_kind}
+use Rattle.phrase_parser.specs.Private.PlacedToken.{kept_kind}
 use Rattle.phrase_parser.specs.Private.Front.{front_of}
 use Rattle.phrase_parser.proofs.Tokens.ByteRuns.{run_none}
 use Rattle.phrase_parser.proofs.Tokens.LongestFront.{EndsSign, is_second, name_found, number_found, text_found, bit_found, sign_found}
@@ -68,7 +68,7 @@ cuts_blank [] place x (Some stop) (more, none, at) =
 cuts_blank (piece ∷ pieces) place x stop (bytes, behind, first, start, end, rest) = (
   bytes,
   behind,
-  subst (λ (y : List ℕ). First y piece.token bytes behind) (sym (unblanked_more x)) first,
+  subst (λ (y : List ℕ). LongestToken y piece.token bytes behind) (sym (unblanked_more x)) first,
   omega (arith, start, blanks_more x),
   end,
   rest,
@@ -133,7 +133,7 @@ token_not_blank (Token.bit bit) bytes behind is = ap (λ (b : List ℕ). begins_
 token_not_blank (Token.sign s) bytes behind is = ap (λ (b : List ℕ). begins_with is_blank (b ++ behind)) is ∙ sign_not_blank s behind
 
 -- a text that is its longest token is cut into it alone
-pub lexed_first : (token : Token) (bytes behind : List ℕ) → First (bytes ++ behind) token bytes behind
+pub lexed_first : (token : Token) (bytes behind : List ℕ) → LongestToken (bytes ++ behind) token bytes behind
     → Lexed bytes (token ∷ []) behind
 lexed_first token bytes behind first =
     let none : blanks (bytes ++ behind) ≡ 0 = run_none is_blank (bytes ++ behind) (token_not_blank token bytes behind first.is_token) in
@@ -142,12 +142,12 @@ lexed_first token bytes behind first =
       pieces = λ place. record { token = token; start = place; end = place + length bytes } ∷ [];
       same = λ place. refl;
       cuts = λ place rest stop h.
-          (bytes, behind, subst (λ (x : List ℕ). First x token bytes behind) (sym here) first, omega (arith, none), refl, h);
+          (bytes, behind, subst (λ (x : List ℕ). LongestToken x token bytes behind) (sym here) first, omega (arith, none), refl, h);
     }
 
 -- a token is the longest where something of its length is found
 first_if_found : (token : Token) (bytes behind : List ℕ) → IsToken token bytes behind
-    → front_of (bytes ++ behind) ≡ Some (record { kind = kept_kind token; length = length bytes }) → First (bytes ++ behind) token bytes behind
+    → front_of (bytes ++ behind) ≡ Some (record { kind = kept_kind token; length = length bytes }) → LongestToken (bytes ++ behind) token bytes behind
 first_if_found token bytes behind is found =
     let front : Front = record { kind = kept_kind token; length = length bytes } in
     let told = found_tells (bytes ++ behind) front found in
@@ -160,31 +160,31 @@ first_if_found token bytes behind is found =
 
 -- a name, where no further byte of a name follows
 pub name_first : (n behind : List ℕ) → IsName n → begins_with is_name_byte behind ≡ false
-    → First (n ++ behind) (Token.name n) n behind
+    → LongestToken (n ++ behind) (Token.name n) n behind
 name_first n behind named ends =
     first_if_found (Token.name n) n behind (refl, named, not_from_false _ ends) (name_found n behind named ends)
 
 -- a number, where no further digit follows
 pub number_first : (digits behind : List ℕ) → IsNumeral digits → begins_with is_digit behind ≡ false
-    → First (digits ++ behind) (Token.number (numeral_value digits)) digits behind
+    → LongestToken (digits ++ behind) (Token.number (numeral_value digits)) digits behind
 number_first digits behind numeral ends =
     first_if_found (Token.number (numeral_value digits)) digits behind (numeral, refl) (number_found digits behind numeral ends)
 
 -- a character constant, where neither a quote nor a byte of a name follows
 pub text_first : (value behind : List ℕ) → IsConstantText value → begins_with is_quote behind ≡ false
     → begins_with is_name_byte behind ≡ false
-    → First (quoted value ++ behind) (Token.text value) (quoted value) behind
+    → LongestToken (quoted value ++ behind) (Token.text value) (quoted value) behind
 text_first value behind fits closed ends =
     first_if_found (Token.text value) (quoted value) behind (refl, fits, not_from_false _ closed) (text_found value behind fits closed ends)
 
 -- a bit constant, where no byte of a name follows
 pub bit_first : (bit : Bool) (behind : List ℕ) → begins_with is_name_byte behind ≡ false
-    → First (bit_bytes bit ++ behind) (Token.bit bit) (bit_bytes bit) behind
+    → LongestToken (bit_bytes bit ++ behind) (Token.bit bit) (bit_bytes bit) behind
 bit_first bit behind ends = first_if_found (Token.bit bit) (bit_bytes bit) behind (refl, not_from_false _ ends) (bit_found bit behind ends)
 
 -- a sign, where neither `=` nor `|` follows
 pub sign_first : (s : Sign) (behind : List ℕ) → EndsSign behind
-    → First (sign_bytes s ++ behind) (Token.sign s) (sign_bytes s) behind
+    → LongestToken (sign_bytes s ++ behind) (Token.sign s) (sign_bytes s) behind
 sign_first s behind ends = first_if_found (Token.sign s) (sign_bytes s) behind refl (sign_found s behind ends)
 
 -- the bytes that could make a token in front of them longer, or another one

@@ -11,10 +11,10 @@ use Rattle.plcs_grammar.specs.Limit.{IsWithinLimits}
 use Rattle.plcs_grammar.specs.OpenedLevel.{phrase_opened_levels}
 use Rattle.plcs_grammar.specs.OverLimit.{OverLimit, first_over}
 use Rattle.plcs_grammar.specs.Reads.{IsCutAs, HasReading, Outline, Reads, IsOver}
-use Rattle.plcs_grammar.specs.SyntaxPlace.{GoesWrong, SyntaxAt}
+use Rattle.plcs_grammar.specs.SyntaxOffset.{GoesWrong, SyntaxAt}
 use Rattle.phrase_parser.specs.declared.fault.PhraseFault.{PhraseFault}
 use Rattle.phrase_parser.specs.declared.fault.PhraseFault.TheVariants.{Syntax, NumberTooLarge, TooDeep, OutOfMemory}
-use Rattle.phrase_parser.specs.Private.Machine.{run, start, phrase_of_if}
+use Rattle.phrase_parser.specs.Private.Machine.{shift_all, start_state, phrase_of_if}
 use Rattle.phrase_parser.specs.Private.Recognizer.{Shape, first_shape}
 use Rattle.phrase_parser.specs.Private.Findings.{Finding, seen_of, findings}
 use Rattle.phrase_parser.specs.Answers.{Answers, Only, OnlyFault, over_fault}
@@ -27,7 +27,7 @@ use Rattle.phrase_parser.proofs.Findings.FindingsComplete.{finds_wrong}
 -- no tokens are the phrase of a comment, or begin one
 pub comment_no_form : (c : Category) (ks : List Token) (p : PlainPhrase) → c ≡ CommentText → Form c ks p → ⊥
 comment_no_form c ks p e h =
-    let a = ap (λ z. phrase_of_if (run ks (start z))) (sym e) ∙ complete c ks p h in
+    let a = ap (λ z. phrase_of_if (shift_all ks (start_state z))) (sym e) ∙ complete c ks p h in
     let b = run_none ks in
     absurd (cc)
 

@@ -3,7 +3,7 @@ use Rattle.std.proofs.Common.{◌≡◌, inl, inr, refl, ℕ, zero, suc, ◌+◌
 use Rattle.std.proofs.lemmas.Bool.{cases_lt}
 use Rattle.plcs_grammar.specs.Cuts.{Piece, Cuts, blanks}
 use Rattle.phrase_parser.specs.declared.token.Placed.{Placed}
-use Rattle.phrase_parser.specs.Private.Kept.{AreTokens}
+use Rattle.phrase_parser.specs.Private.PlacedToken.{AreTokens}
 use Rattle.phrase_parser.specs.Private.Front.{front_of, placed_at}
 use Rattle.phrase_parser.proofs.Tokens.CutSoFar.{CutSoFar, nothing_cut, start_within, token_within, one_more_cut, all_cut, cut_stops}
 

@@ -3,12 +3,12 @@ use Rattle.std.proofs.Common.{◌≡◌, ℕ, ◌+◌, ◌<◌, ◌≤◌, List,
 use Rattle.std.proofs.lemmas.List.{drop_at, drop-drop, length-append, length-drop, append_assoc, map_push, drop_all, append-nil}
 use Rattle.std.proofs.lemmas.List.Sums.{prefix_len-le-length}
 use Rattle.std.proofs.lemmas.Option.{same_Some, none-some}
-use Rattle.plcs_grammar.specs.Token.{Token, First, NoToken}
+use Rattle.plcs_grammar.specs.Token.{Token, LongestToken, NoToken}
 use Rattle.plcs_base.specs.Byte.{is_blank}
 use Rattle.plcs_grammar.specs.Cuts.{Piece, Cuts, blanks, unblanked}
 use Rattle.phrase_parser.specs.declared.front.Front.{Front}
 use Rattle.phrase_parser.specs.declared.token.Placed.{Placed}
-use Rattle.phrase_parser.specs.Private.Kept.{kept, kept_kind, AreTokens}
+use Rattle.phrase_parser.specs.Private.PlacedToken.{placed_of, kept_kind, AreTokens}
 use Rattle.phrase_parser.specs.Private.Front.{front_of, placed_at}
 use Rattle.phrase_parser.proofs.Tokens.FrontTokens.{found_tells}
 use Rattle.phrase_parser.proofs.Tokens.OneCut.{found_first, none_found, token_not_empty}
@@ -20,7 +20,7 @@ pub record CutSoFar (x : List ℕ) (placed : List Placed) (start : ℕ) : Type 0
   pub place : ℕ
   pub within : place ≤ length x
   pub at_start : start ≡ place + blanks (drop place x)
-  pub same : placed ≡ map kept pieces
+  pub same : placed ≡ map placed_of pieces
   pub goes_on : (rest : List Piece) (stop : Option ℕ) → Cuts rest place (drop place x) stop → Cuts (pieces ++ rest) 0 x stop
 
 -- at first nothing is cut
@@ -69,7 +69,7 @@ token_within x start token within h =
 same_placed : (token : Token) (front : Front) (start end : ℕ) (placed : Placed) → kept_kind token ≡ front.kind
     → end ≡ start + front.length
     → record { kind = front.kind; start = start; end = start + front.length } ≡ placed
-    → placed ≡ kept (record { token = token; start = start; end = end })
+    → placed ≡ placed_of (record { token = token; start = start; end = end })
 same_placed token front start end placed kind_is end_is same =
     sym same ∙ ap (λ (n : ℕ). record { kind = front.kind; start = start; end = n }) (sym end_is)
     ∙ ap (λ (k : _). record { kind = k; start = start; end = end }) (sym kind_is)
@@ -86,8 +86,8 @@ one_more_cut x placed start token next so_far h after =
     let piece : Piece = record { token = told.token; start = start; end = token.end } in
     let here : unblanked (drop so_far.place x) ≡ drop start x =
     drop-drop (blanks (drop so_far.place x)) so_far.place x ∙ ap (λ (n : ℕ). drop n x) (sym so_far.at_start) in
-    let first : First (unblanked (drop so_far.place x)) told.token told.bytes told.behind =
-    subst (λ (y : List ℕ). First y told.token told.bytes told.behind) (sym here) (found_first (drop start x) front found told) in
+    let first : LongestToken (unblanked (drop so_far.place x)) told.token told.bytes told.behind =
+    subst (λ (y : List ℕ). LongestToken y told.token told.bytes told.behind) (sym here) (found_first (drop start x) front found told) in
     let size : token.end ≡ start + length told.bytes = omega (arith, end, told.same_length) in
     let behind : drop token.end x ≡ told.behind =
     ap (λ (n : ℕ). drop n x) size ∙ sym (drop-drop (length told.bytes) start x)
@@ -98,8 +98,8 @@ one_more_cut x placed start token next so_far h after =
       within = bounds.1;
       at_start = after;
       same = ap (λ (l : List Placed). l ++ (token ∷ [])) so_far.same
-          ∙ ap (λ (p : Placed). map kept so_far.pieces ++ (p ∷ [])) (same_placed told.token front start token.end token told.same_kind (sym end) same)
-          ∙ sym (map_push kept so_far.pieces piece);
+          ∙ ap (λ (p : Placed). map placed_of so_far.pieces ++ (p ∷ [])) (same_placed told.token front start token.end token told.same_kind (sym end) same)
+          ∙ sym (map_push placed_of so_far.pieces piece);
       goes_on = λ rest stop cuts.
           let further : Cuts rest token.end told.behind stop = subst (λ (y : List ℕ). Cuts rest token.end y stop) behind cuts in
           subst (λ (l : List Piece). Cuts l 0 x stop) (sym (append_assoc so_far.pieces (piece ∷ []) rest))
@@ -114,7 +114,7 @@ all_cut x placed start so_far past =
     drop-drop (blanks (drop so_far.place x)) so_far.place x ∙ ap (λ (n : ℕ). drop n x) (sym so_far.at_start) in (
       so_far.pieces ++ [],
       so_far.goes_on [] None (here ∙ drop_all start x past),
-      so_far.same ∙ ap (map kept) (sym (append-nil so_far.pieces)),
+      so_far.same ∙ ap (map placed_of) (sym (append-nil so_far.pieces)),
     )
 
 -- behind the last token no further one can be made
@@ -127,5 +127,5 @@ cut_stops x placed start so_far before h =
     let more : unblanked (drop so_far.place x) ≡ [] → ⊥ = λ e. omega (arith, before, ap length (sym here ∙ e), length-drop start x) in (
       so_far.pieces ++ [],
       so_far.goes_on [] (Some start) (more, subst NoToken (sym here) none, so_far.at_start),
-      so_far.same ∙ ap (map kept) (sym (append-nil so_far.pieces)),
+      so_far.same ∙ ap (map placed_of) (sym (append-nil so_far.pieces)),
     )

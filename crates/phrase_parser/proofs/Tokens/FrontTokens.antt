@@ -14,7 +14,7 @@ use Rattle.plcs_grammar.specs.Sign.{signs, sign_bytes, sign_of}
 use Rattle.plcs_grammar.specs.Token.{Token, IsToken, begins_with, is_quote, numeral_value, quoted, bit_bytes}
 use Rattle.phrase_parser.specs.declared.front.Front.{Front}
 use Rattle.phrase_parser.specs.declared.token.TokenKind.TheVariants as kind
-use Rattle.phrase_parser.specs.Private.Kept.{kept_kind}
+use Rattle.phrase_parser.specs.Private.PlacedToken.{kept_kind}
 use Rattle.phrase_parser.specs.Private.Front.{front_of, word_front, number_front, constant_of, constant_front, bit_constant, bit_value, constant_end, longer_sign, sign_kept, sign_front, double_at, ends_word}
 use Rattle.phrase_parser.proofs.FoundElements.{found_passes}
 use Rattle.phrase_parser.proofs.Tokens.ByteRuns.{run_all, run_ends, run_begins, run_first}

@@ -14,8 +14,8 @@ use Rattle.plcs_grammar.specs.Token.{Token, IsToken, IsNumeral, IsConstantText, 
 use Rattle.phrase_parser.specs.declared.front.Front.{Front}
 use Rattle.phrase_parser.specs.declared.token.TokenKind.{TokenKind}
 use Rattle.phrase_parser.specs.declared.token.TokenKind.TheVariants as kind
-use Rattle.phrase_parser.specs.Private.Kept.{kept_kind, greatest_kept}
-use Rattle.phrase_parser.specs.Private.Front.{front_of, word_of, word_front, number_kept, number_front, constant_of, constant_front, bit_constant, constant_end, longer_sign, sign_front, double_at, ends_word}
+use Rattle.phrase_parser.specs.Private.PlacedToken.{kept_kind, greatest_kept}
+use Rattle.phrase_parser.specs.Private.Front.{front_of, front_of_word, word_front, number_kept, number_front, constant_of, constant_front, bit_constant, constant_end, longer_sign, sign_front, double_at, ends_word}
 use Rattle.phrase_parser.proofs.Tokens.ByteRuns.{run_append, run_none, run_begins}
 use Rattle.phrase_parser.proofs.Tokens.QuotedTexts.{quoted_read, quoted_append}
 use Rattle.phrase_parser.proofs.Tokens.FrontTokens.{BeginsBit, bit_tells, bit_read}
@@ -74,7 +74,7 @@ word_found (first ∷ rest) behind word short ends =
     let letter = (and_parts (is_letter first) (list_all is_name_byte rest) word).0 in
     let size : prefix_len is_name_byte x ≡ length w =
     omega (arith, run_append is_name_byte w behind (word_bytes w word), run_none is_name_byte behind ends) in
-    at_letter first (rest ++ behind) letter ∙ ap (λ (n : ℕ). word_of n x) size
+    at_letter first (rest ++ behind) letter ∙ ap (λ (n : ℕ). front_of_word n x) size
     ∙ cond-true (nat_le (length w) longest_name) (Some (front_with (cond (is_name (take (length w) x)) kind.Name kind.Keyword) (length w))) None (le-leb (length w) longest_name short)
     ∙ ap (λ (u : List ℕ). Some (front_with (cond (is_name u) kind.Name kind.Keyword) (length w))) (take_at w behind (length w) refl)
 

@@ -6,11 +6,11 @@ use Rattle.std.proofs.lemmas.List.{take_at, drop_at, length-append}
 use Rattle.plcs_base.specs.Name.{is_word, IsName}
 use Rattle.plcs_grammar.specs.declared.sign.Sign.{Sign}
 use Rattle.plcs_grammar.specs.Sign.{sign_bytes}
-use Rattle.plcs_grammar.specs.Token.{Token, IsToken, First, NoToken}
+use Rattle.plcs_grammar.specs.Token.{Token, IsToken, LongestToken, NoToken}
 use Rattle.plcs_grammar.specs.Cuts.{Piece, Cuts, unblanked}
 use Rattle.phrase_parser.specs.declared.front.Front.{Front}
 use Rattle.phrase_parser.specs.declared.token.TokenKind.{TokenKind}
-use Rattle.phrase_parser.specs.Private.Kept.{kept_kind}
+use Rattle.phrase_parser.specs.Private.PlacedToken.{kept_kind}
 use Rattle.phrase_parser.specs.Private.Front.{front_of}
 use Rattle.phrase_parser.proofs.Tokens.FrontTokens.{Tells, found_tells}
 use Rattle.phrase_parser.proofs.Tokens.LongestFront.{Covers, token_covered}
@@ -27,7 +27,7 @@ covered_at x o found token bytes behind whole is =
     subst (λ (p : Option Front). Covers (kept_kind token) (length bytes) p) (ap front_of (sym whole) ∙ found) (token_covered token bytes behind is)
 
 -- the front that is found is that of the longest token
-pub found_first : (x : List ℕ) (front : Front) → front_of x ≡ Some front → (t : Tells x front) → First x t.token t.bytes t.behind
+pub found_first : (x : List ℕ) (front : Front) → front_of x ≡ Some front → (t : Tells x front) → LongestToken x t.token t.bytes t.behind
 found_first x front found t = record {
   whole = t.whole;
   is_token = t.is_token;
@@ -100,7 +100,7 @@ same_front : (k : TokenKind) (n : ℕ) (front : Front) → n ≡ front.length �
 same_front k n front size same =
     ap (λ (t : TokenKind). record { kind = t; length = front.length }) (sym same) ∙ ap (λ (m : ℕ). record { kind = k; length = m }) (sym size)
 
-found_is : (x : List ℕ) (token : Token) (bytes behind : List ℕ) (o : Option Front) → front_of x ≡ o → First x token bytes behind
+found_is : (x : List ℕ) (token : Token) (bytes behind : List ℕ) (o : Option Front) → front_of x ≡ o → LongestToken x token bytes behind
     → o ≡ Some (record { kind = kept_kind token; length = length bytes })
 found_is x token bytes behind None found first = absurd (covered_at x None found token bytes behind first.whole first.is_token)
 found_is x token bytes behind (Some front) found first =
@@ -111,7 +111,7 @@ found_is x token bytes behind (Some front) found first =
     ap (λ (f : Front). Some f) (same_front (kept_kind token) (length bytes) front same.0 same.1)
 
 -- the longest token has the front that is found
-pub first_found : (x : List ℕ) (token : Token) (bytes behind : List ℕ) → First x token bytes behind
+pub first_found : (x : List ℕ) (token : Token) (bytes behind : List ℕ) → LongestToken x token bytes behind
     → front_of x ≡ Some (record { kind = kept_kind token; length = length bytes })
 first_found x token bytes behind first = found_is x token bytes behind (front_of x) refl first
 
@@ -122,7 +122,7 @@ same_cut w v y z size same = (
 )
 
 -- a text has one longest token at its front
-pub one_first : (x : List ℕ) (j k : Token) (w v y z : List ℕ) → First x j w y → First x k v z → (j ≡ k) × (w ≡ v) × (y ≡ z)
+pub one_first : (x : List ℕ) (j k : Token) (w v y z : List ℕ) → LongestToken x j w y → LongestToken x k v z → (j ≡ k) × (w ≡ v) × (y ≡ z)
 one_first x j k w v y z a b =
     let below : length w ≤ length v = b.longest j w y a.whole a.is_token in
     let above : length v ≤ length w = a.longest k v z b.whole b.is_token in
@@ -140,7 +140,7 @@ same_piece p q a b c =
     ∙ ap (λ (n : ℕ). record { token = q.token; start = n; end = p.end }) b
     ∙ ap (λ (n : ℕ). record { token = q.token; start = q.start; end = n }) c
 
-no_first_at_end : (x : List ℕ) (token : Token) (bytes behind : List ℕ) → x ≡ [] → First x token bytes behind → ⊥
+no_first_at_end : (x : List ℕ) (token : Token) (bytes behind : List ℕ) → x ≡ [] → LongestToken x token bytes behind → ⊥
 no_first_at_end x token bytes behind end first =
     omega (arith, token_not_empty token bytes behind first.is_token, ap length (sym end ∙ first.whole), length-append bytes behind)
 

@@ -1,7 +1,7 @@
 -- The token that a text begins with, as a function: a model of the code, which proofs compare with the longest token.
 use Rattle.std.specs.Prelude.{ℕ, ◌+◌, min, Bool, true, false, ◌&&◌, ◌==◌, not, nat_le, if◌then◌else◌, List, [], ◌∷◌, take, drop, Option, Some, None}
 use Rattle.std.specs.List.{prefix_len}
-use Rattle.phrase_parser.specs.Private.Kept.{greatest_kept}
+use Rattle.phrase_parser.specs.Private.PlacedToken.{greatest_kept}
 use Rattle.plcs_base.specs.Text.{longest_text}
 use Rattle.plcs_base.specs.Byte.{is_letter, is_digit, is_name_byte, is_printable, is_blank}
 use Rattle.plcs_base.specs.Name.{is_name, longest_name}
@@ -25,14 +25,14 @@ abbrev pub ends_word : List ℕ → Bool
 ends_word behind = not (begins_with is_name_byte behind)
 
 -- the name or keyword that the first so many bytes of a text are
-abbrev pub word_of : ℕ → List ℕ → Option Front
-word_of length x =
+abbrev pub front_of_word : ℕ → List ℕ → Option Front
+front_of_word length x =
     if nat_le length longest_name then Some (record { kind = if is_name (take length x) then kind.Name else kind.Keyword; length = length })
     else None
 
 -- the name or keyword at the front of a text: the letters, digits and `_` that it begins with
 abbrev pub word_front : List ℕ → Option Front
-word_front x = word_of (prefix_len is_name_byte x) x
+word_front x = front_of_word (prefix_len is_name_byte x) x
 
 -- the number that the first so many digits of a text write, as it is kept
 abbrev pub number_kept : ℕ → List ℕ → Front

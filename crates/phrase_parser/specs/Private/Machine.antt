@@ -27,13 +27,13 @@ pub data Base : Type 0 where
   call_arguments : List ℕ → PlainExprs → Base
 
 -- the machine's stack: what is open around an operand, the innermost outside
-pub data Stack : Type 0 where
-  base : Base → Stack
-  prefix : PrefixOp → Stack → Stack
-  left : PlainExpr → InfixOp → Stack → Stack
-  parenthesis : Stack → Stack
-  subscript : List ℕ → Stack → Stack
-  arguments : Builtin → PlainExprs → Stack → Stack
+pub data ParseStack : Type 0 where
+  base : Base → ParseStack
+  prefix : PrefixOp → ParseStack → ParseStack
+  left : PlainExpr → InfixOp → ParseStack → ParseStack
+  parenthesis : ParseStack → ParseStack
+  subscript : List ℕ → ParseStack → ParseStack
+  arguments : Builtin → PlainExprs → ParseStack → ParseStack
 
 -- the machine's role: what a name that stands in no expression is for, with what of the phrase stands before it
 pub data Role : Type 0 where
@@ -46,30 +46,30 @@ pub data Role : Type 0 where
   procedure : Role
 
 -- a state of the machine: what was read last, and what is wanted
-pub data State : Type 0 where
+pub data ParseState : Type 0 where
   -- the machine's state in which an operand is wanted
-  wanted : Stack → State
+  wanted : ParseStack → ParseState
   -- the machine's state in which an operand that is no operator with its own operands was just read
-  had : Stack → PlainExpr → State
+  had : ParseStack → PlainExpr → ParseState
   -- the machine's states in which a name is wanted, or was just read
-  name_wanted : Role → State
-  name_had : Role → List ℕ → State
+  name_wanted : Role → ParseState
+  name_had : Role → List ℕ → ParseState
   -- the machine's states behind the closing parenthesis of a target's subscript, a variable's subscript or a call's
   -- arguments
-  target_had : PlainVarRef → State
-  variable_had : List PlainVarRef → State
-  call_had : List ℕ → PlainExprs → State
+  target_had : PlainVarRef → ParseState
+  variable_had : List PlainVarRef → ParseState
+  call_had : List ℕ → PlainExprs → ParseState
   -- the machine's states in which the size of an array is wanted, or it or the parenthesis behind it was just read
-  size_wanted : List Item → List ℕ → State
-  size_had : List Item → List ℕ → ℕ → State
-  item_had : List Item → State
+  size_wanted : List Item → List ℕ → ParseState
+  size_had : List Item → List ℕ → ℕ → ParseState
+  item_had : List Item → ParseState
   -- the machine's states in which a length is wanted, or was just read
-  length_wanted : State
-  length_had : ℕ → State
+  length_wanted : ParseState
+  length_had : ℕ → ParseState
 
 -- the machine's stack and the operand on it
 abbrev pub Operand : Type 0
-Operand = Stack × PlainExpr
+Operand = ParseStack × PlainExpr
 
 -- a list of expressions that the machine read, with one more at the end
 abbrev pub expr_push : PlainExprs → PlainExpr → PlainExprs
@@ -101,7 +101,7 @@ infix_of Sign.Divide = Some between.Divide
 infix_of sign = None
 
 -- an operand, joined with each operator of the level or a higher one that is open on the machine's stack
-abbrev pub reduced : Stack → ℕ → PlainExpr → Operand
+abbrev pub reduced : ParseStack → ℕ → PlainExpr → Operand
 reduced (base b) level t = (base b, t)
 reduced (prefix op s) level t = reduced s level (PlainExpr.unary op t)
 reduced (left a op s) level t = if nat_le level (priority op) then reduced s level (PlainExpr.binary op a t) else (left a op s, t)
@@ -110,170 +110,170 @@ reduced (subscript name s) level t = (subscript name s, t)
 reduced (arguments function done s) level t = (arguments function done s, t)
 
 -- the machine's state behind an infix operator whose left operand is joined
-abbrev pub behind_infix : InfixOp → Operand → State
-behind_infix op o = wanted (left o.1 op o.0)
+abbrev pub after_infix : InfixOp → Operand → ParseState
+after_infix op o = wanted (left o.1 op o.0)
 
 -- the machine's state behind a whole operand
-abbrev pub step_operand : State → PlainExpr → Option State
-step_operand (wanted s) t = Some (had s t)
-step_operand state t = None
+abbrev pub shift_operand : ParseState → PlainExpr → Option ParseState
+shift_operand (wanted s) t = Some (had s t)
+shift_operand state t = None
 
 -- the machine's state behind a name
-abbrev pub step_name : State → List ℕ → Option State
-step_name (wanted s) name = Some (had s (PlainExpr.variable (PlainVarRef.simple name)))
-step_name (name_wanted role) name = Some (name_had role name)
-step_name state name = None
+abbrev pub shift_name : ParseState → List ℕ → Option ParseState
+shift_name (wanted s) name = Some (had s (PlainExpr.variable (PlainVarRef.simple name)))
+shift_name (name_wanted role) name = Some (name_had role name)
+shift_name state name = None
 
 -- the machine's state behind a number
-abbrev pub step_number : State → ℕ → Option State
-step_number (wanted s) n = Some (had s (PlainExpr.number (pos n)))
-step_number (size_wanted done name) n = if nat_le 1 n then Some (size_had done name n) else None
-step_number length_wanted n = if nat_le 1 n && nat_le n longest_text then Some (length_had n) else None
-step_number state n = None
+abbrev pub shift_number : ParseState → ℕ → Option ParseState
+shift_number (wanted s) n = Some (had s (PlainExpr.number (pos n)))
+shift_number (size_wanted done name) n = if nat_le 1 n then Some (size_had done name n) else None
+shift_number length_wanted n = if nat_le 1 n && nat_le n longest_text then Some (length_had n) else None
+shift_number state n = None
 
 -- the machine's stack on which a parenthesis is opened behind a name in an expression
-abbrev pub open_frame : List ℕ → Option Builtin → Stack → Stack
+abbrev pub open_frame : List ℕ → Option Builtin → ParseStack → ParseStack
 open_frame name None s = subscript name s
 open_frame name (Some function) s = arguments function PlainExprs.nil s
 
 -- the machine's state behind a parenthesis that is opened behind an operand, which a name alone takes
-abbrev pub step_open_behind : Stack → PlainExpr → Option State
-step_open_behind s (PlainExpr.variable (PlainVarRef.simple name)) = Some (wanted (open_frame name (builtin_of name) s))
-step_open_behind s t = None
+abbrev pub shift_open_after : ParseStack → PlainExpr → Option ParseState
+shift_open_after s (PlainExpr.variable (PlainVarRef.simple name)) = Some (wanted (open_frame name (builtin_of name) s))
+shift_open_after s t = None
 
 -- the machine's state behind a parenthesis that is opened behind a name that stands in no expression
-abbrev pub step_open_role : Role → List ℕ → Option State
-step_open_role target name = Some (wanted (base (target_subscript name)))
-step_open_role (variables done) name = Some (wanted (base (variable_subscript done name)))
-step_open_role callee name = Some (wanted (base (call_arguments name PlainExprs.nil)))
-step_open_role (items done) name = Some (size_wanted done name)
-step_open_role role name = None
+abbrev pub shift_open_role : Role → List ℕ → Option ParseState
+shift_open_role target name = Some (wanted (base (target_subscript name)))
+shift_open_role (variables done) name = Some (wanted (base (variable_subscript done name)))
+shift_open_role callee name = Some (wanted (base (call_arguments name PlainExprs.nil)))
+shift_open_role (items done) name = Some (size_wanted done name)
+shift_open_role role name = None
 
 -- the machine's state behind an opening parenthesis
-abbrev pub step_open : State → Option State
-step_open (wanted s) = Some (wanted (parenthesis s))
-step_open (had s t) = step_open_behind s t
-step_open (name_had role name) = step_open_role role name
-step_open state = None
+abbrev pub shift_open : ParseState → Option ParseState
+shift_open (wanted s) = Some (wanted (parenthesis s))
+shift_open (had s t) = shift_open_after s t
+shift_open (name_had role name) = shift_open_role role name
+shift_open state = None
 
 -- the machine's state behind the closing parenthesis of a subscript or call in which the phrase's own expression stands
-abbrev pub step_close_base : Base → PlainExpr → Option State
-step_close_base (target_subscript name) t = Some (target_had (PlainVarRef.subscripted name t))
-step_close_base (variable_subscript done name) t = Some (variable_had (done ++ (PlainVarRef.subscripted name t ∷ [])))
-step_close_base (call_arguments name done) t = Some (call_had name (expr_push done t))
-step_close_base b t = None
+abbrev pub shift_close_base : Base → PlainExpr → Option ParseState
+shift_close_base (target_subscript name) t = Some (target_had (PlainVarRef.subscripted name t))
+shift_close_base (variable_subscript done name) t = Some (variable_had (done ++ (PlainVarRef.subscripted name t ∷ [])))
+shift_close_base (call_arguments name done) t = Some (call_had name (expr_push done t))
+shift_close_base b t = None
 
 -- the machine's state behind the closing parenthesis of the innermost that is open on the stack
-abbrev pub step_close_stack : Stack → PlainExpr → Option State
-step_close_stack (base b) t = step_close_base b t
-step_close_stack (prefix op s) t = None
-step_close_stack (left a op s) t = None
-step_close_stack (parenthesis s) t = Some (had s (PlainExpr.parenthesized t))
-step_close_stack (subscript name s) t = Some (had s (PlainExpr.variable (PlainVarRef.subscripted name t)))
-step_close_stack (arguments function done s) t = Some (had s (PlainExpr.builtin function (expr_push done t)))
+abbrev pub shift_close_stack : ParseStack → PlainExpr → Option ParseState
+shift_close_stack (base b) t = shift_close_base b t
+shift_close_stack (prefix op s) t = None
+shift_close_stack (left a op s) t = None
+shift_close_stack (parenthesis s) t = Some (had s (PlainExpr.parenthesized t))
+shift_close_stack (subscript name s) t = Some (had s (PlainExpr.variable (PlainVarRef.subscripted name t)))
+shift_close_stack (arguments function done s) t = Some (had s (PlainExpr.builtin function (expr_push done t)))
 
 -- the machine's state behind a closing parenthesis
-abbrev pub step_close : State → Option State
-step_close (had s t) = let o = reduced s 1 t in step_close_stack o.0 o.1
-step_close (size_had done name n) = Some (item_had (done ++ (record { name = name; size = Some n } ∷ [])))
-step_close state = None
+abbrev pub shift_close : ParseState → Option ParseState
+shift_close (had s t) = let o = reduced s 1 t in shift_close_stack o.0 o.1
+shift_close (size_had done name n) = Some (item_had (done ++ (record { name = name; size = Some n } ∷ [])))
+shift_close state = None
 
 -- the machine's state behind a comma that follows the phrase's own expression
-abbrev pub step_comma_base : Base → PlainExpr → Option State
-step_comma_base (expressions done) t = Some (wanted (base (expressions (expr_push done t))))
-step_comma_base (call_arguments name done) t = Some (wanted (base (call_arguments name (expr_push done t))))
-step_comma_base b t = None
+abbrev pub shift_comma_base : Base → PlainExpr → Option ParseState
+shift_comma_base (expressions done) t = Some (wanted (base (expressions (expr_push done t))))
+shift_comma_base (call_arguments name done) t = Some (wanted (base (call_arguments name (expr_push done t))))
+shift_comma_base b t = None
 
 -- the machine's state behind a comma in the innermost parenthesis that is open on the stack
-abbrev pub step_comma_stack : Stack → PlainExpr → Option State
-step_comma_stack (base b) t = step_comma_base b t
-step_comma_stack (arguments function done s) t = Some (wanted (arguments function (expr_push done t) s))
-step_comma_stack s t = None
+abbrev pub shift_comma_stack : ParseStack → PlainExpr → Option ParseState
+shift_comma_stack (base b) t = shift_comma_base b t
+shift_comma_stack (arguments function done s) t = Some (wanted (arguments function (expr_push done t) s))
+shift_comma_stack s t = None
 
 -- the machine's state behind a comma that follows a name that stands in no expression
-abbrev pub step_comma_role : Role → List ℕ → Option State
-step_comma_role (variables done) name = Some (name_wanted (variables (done ++ (PlainVarRef.simple name ∷ []))))
-step_comma_role (items done) name = Some (name_wanted (items (done ++ (record { name = name; size = None } ∷ []))))
-step_comma_role (names done) name = Some (name_wanted (names (done ++ (name ∷ []))))
-step_comma_role role name = None
+abbrev pub shift_comma_role : Role → List ℕ → Option ParseState
+shift_comma_role (variables done) name = Some (name_wanted (variables (done ++ (PlainVarRef.simple name ∷ []))))
+shift_comma_role (items done) name = Some (name_wanted (items (done ++ (record { name = name; size = None } ∷ []))))
+shift_comma_role (names done) name = Some (name_wanted (names (done ++ (name ∷ []))))
+shift_comma_role role name = None
 
 -- the machine's state behind a comma
-abbrev pub step_comma : State → Option State
-step_comma (had s t) = let o = reduced s 1 t in step_comma_stack o.0 o.1
-step_comma (name_had role name) = step_comma_role role name
-step_comma (variable_had done) = Some (name_wanted (variables done))
-step_comma (item_had done) = Some (name_wanted (items done))
-step_comma state = None
+abbrev pub shift_comma : ParseState → Option ParseState
+shift_comma (had s t) = let o = reduced s 1 t in shift_comma_stack o.0 o.1
+shift_comma (name_had role name) = shift_comma_role role name
+shift_comma (variable_had done) = Some (name_wanted (variables done))
+shift_comma (item_had done) = Some (name_wanted (items done))
+shift_comma state = None
 
 -- the machine's state behind `=` that follows a name that stands in no expression
-abbrev pub step_equal_role : Role → List ℕ → Option State
-step_equal_role target name = Some (wanted (base (assigned (PlainVarRef.simple name))))
-step_equal_role role name = None
+abbrev pub shift_equal_role : Role → List ℕ → Option ParseState
+shift_equal_role target name = Some (wanted (base (assigned (PlainVarRef.simple name))))
+shift_equal_role role name = None
 
 -- the machine's state behind `=`: it assigns to the target of an assignment, and elsewhere it compares
-abbrev pub step_equal : State → Option State
-step_equal (had s t) = Some (behind_infix between.Equal (reduced s (priority between.Equal) t))
-step_equal (name_had role name) = step_equal_role role name
-step_equal (target_had reference) = Some (wanted (base (assigned reference)))
-step_equal state = None
+abbrev pub shift_equal : ParseState → Option ParseState
+shift_equal (had s t) = Some (after_infix between.Equal (reduced s (priority between.Equal) t))
+shift_equal (name_had role name) = shift_equal_role role name
+shift_equal (target_had reference) = Some (wanted (base (assigned reference)))
+shift_equal state = None
 
 -- the machine's state behind a sign where an operand is wanted, with the prefix operator that it is there
-abbrev pub step_prefix : Stack → Option PrefixOp → Option State
-step_prefix s None = None
-step_prefix s (Some op) = Some (wanted (prefix op s))
+abbrev pub shift_prefix : ParseStack → Option PrefixOp → Option ParseState
+shift_prefix s None = None
+shift_prefix s (Some op) = Some (wanted (prefix op s))
 
 -- the machine's state behind a sign that follows an operand, with the infix operator that it is there
-abbrev pub step_infix : Stack → PlainExpr → Option InfixOp → Option State
-step_infix s t None = None
-step_infix s t (Some op) = Some (behind_infix op (reduced s (priority op) t))
+abbrev pub shift_infix : ParseStack → PlainExpr → Option InfixOp → Option ParseState
+shift_infix s t None = None
+shift_infix s t (Some op) = Some (after_infix op (reduced s (priority op) t))
 
 -- the machine's state behind a sign that is an operator wherever it stands
-abbrev pub step_operator : State → Sign → Option State
-step_operator (wanted s) sign = step_prefix s (prefix_of sign)
-step_operator (had s t) sign = step_infix s t (infix_of sign)
-step_operator state sign = None
+abbrev pub shift_operator : ParseState → Sign → Option ParseState
+shift_operator (wanted s) sign = shift_prefix s (prefix_of sign)
+shift_operator (had s t) sign = shift_infix s t (infix_of sign)
+shift_operator state sign = None
 
 -- the machine's state behind a sign
-abbrev pub step_sign : State → Sign → Option State
-step_sign state Sign.OpenParenthesis = step_open state
-step_sign state Sign.CloseParenthesis = step_close state
-step_sign state Sign.Comma = step_comma state
-step_sign state Sign.Equal = step_equal state
-step_sign state sign = step_operator state sign
+abbrev pub shift_sign : ParseState → Sign → Option ParseState
+shift_sign state Sign.OpenParenthesis = shift_open state
+shift_sign state Sign.CloseParenthesis = shift_close state
+shift_sign state Sign.Comma = shift_comma state
+shift_sign state Sign.Equal = shift_equal state
+shift_sign state sign = shift_operator state sign
 
 -- the machine's state behind one more token, if it can stand there
-abbrev pub step : State → Token → Option State
-step state (Token.name name) = step_name state name
-step state (Token.keyword word) = None
-step state (Token.number n) = step_number state n
-step state (Token.text value) = step_operand state (PlainExpr.text value)
-step state (Token.bit value) = step_operand state (PlainExpr.bit value)
-step state (Token.sign sign) = step_sign state sign
+abbrev pub shift : ParseState → Token → Option ParseState
+shift state (Token.name name) = shift_name state name
+shift state (Token.keyword word) = None
+shift state (Token.number n) = shift_number state n
+shift state (Token.text value) = shift_operand state (PlainExpr.text value)
+shift state (Token.bit value) = shift_operand state (PlainExpr.bit value)
+shift state (Token.sign sign) = shift_sign state sign
 
 -- the machine's state behind one more token, if the machine has not stopped and the token can stand there
-abbrev pub step_if : Option State → Token → Option State
-step_if None token = None
-step_if (Some state) token = step state token
+abbrev pub shift_if : Option ParseState → Token → Option ParseState
+shift_if None token = None
+shift_if (Some state) token = shift state token
 
 -- the machine's state behind more tokens, if they can stand there
-abbrev pub run : List Token → Option State → Option State
-run [] state = state
-run (token ∷ tokens) state = run tokens (step_if state token)
+abbrev pub shift_all : List Token → Option ParseState → Option ParseState
+shift_all [] state = state
+shift_all (token ∷ tokens) state = shift_all tokens (shift_if state token)
 
 -- the machine's state before all tokens of a phrase; a comment has no tokens
-abbrev pub start : Category → Option State
-start Assignment = Some (name_wanted target)
-start Condition = Some (wanted (base condition))
-start Expression = Some (wanted (base expression))
-start ExpressionList = Some (wanted (base (expressions PlainExprs.nil)))
-start VariableList = Some (name_wanted (variables []))
-start Variable = Some (name_wanted variable)
-start CallRef = Some (name_wanted callee)
-start DeclaredList = Some (name_wanted (items []))
-start ProcedureName = Some (name_wanted procedure)
-start NameList = Some (name_wanted (names []))
-start Length = Some length_wanted
-start CommentText = None
+abbrev pub start_state : Category → Option ParseState
+start_state Assignment = Some (name_wanted target)
+start_state Condition = Some (wanted (base condition))
+start_state Expression = Some (wanted (base expression))
+start_state ExpressionList = Some (wanted (base (expressions PlainExprs.nil)))
+start_state VariableList = Some (name_wanted (variables []))
+start_state Variable = Some (name_wanted variable)
+start_state CallRef = Some (name_wanted callee)
+start_state DeclaredList = Some (name_wanted (items []))
+start_state ProcedureName = Some (name_wanted procedure)
+start_state NameList = Some (name_wanted (names []))
+start_state Length = Some length_wanted
+start_state CommentText = None
 
 -- the phrase that the machine's base ends as with the phrase's own expression, if it may
 abbrev pub phrase_of_base : Base → PlainExpr → Option PlainPhrase
@@ -284,7 +284,7 @@ phrase_of_base (assigned reference) t = Some (PlainPhrase.assignment reference t
 phrase_of_base b t = None
 
 -- the phrase that the machine's stack ends as with an expression, if nothing is open around it
-abbrev pub phrase_of_stack : Stack → PlainExpr → Option PlainPhrase
+abbrev pub phrase_of_stack : ParseStack → PlainExpr → Option PlainPhrase
 phrase_of_stack (base b) t = phrase_of_base b t
 phrase_of_stack s t = None
 
@@ -299,7 +299,7 @@ phrase_of_role variable name = Some (PlainPhrase.variable_name name)
 phrase_of_role procedure name = Some (PlainPhrase.procedure_name name)
 
 -- the phrase that the machine's state ends as, if the tokens that were read are all of it
-abbrev pub phrase_of : State → Option PlainPhrase
+abbrev pub phrase_of : ParseState → Option PlainPhrase
 phrase_of (had s t) = let o = reduced s 1 t in phrase_of_stack o.0 o.1
 phrase_of (name_had role name) = phrase_of_role role name
 phrase_of (variable_had done) = Some (PlainPhrase.variable_list done)
@@ -309,6 +309,6 @@ phrase_of (length_had n) = Some (PlainPhrase.greatest_length n)
 phrase_of state = None
 
 -- the phrase that the machine ends as, if it has not stopped and the tokens are all of it
-abbrev pub phrase_of_if : Option State → Option PlainPhrase
+abbrev pub phrase_of_if : Option ParseState → Option PlainPhrase
 phrase_of_if None = None
 phrase_of_if (Some state) = phrase_of state

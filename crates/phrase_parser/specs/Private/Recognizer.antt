@@ -1,6 +1,6 @@
 -- The recognizer, the machine without trees: which tokens can stand where, may be a phrase, and open which levels.
 use Rattle.std.specs.Prelude.{ℕ, ◌+◌, min, Bool, true, false, ◌&&◌, nat_le, if◌then◌else◌, List, [], ◌∷◌, Option, Some, None}
-use Rattle.phrase_parser.specs.Private.Kept.{greatest_kept}
+use Rattle.phrase_parser.specs.Private.PlacedToken.{greatest_kept}
 use Rattle.plcs_base.specs.Text.{longest_text}
 use Rattle.plcs_grammar.specs.declared.operator.PrefixOp.{PrefixOp}
 use Rattle.plcs_grammar.specs.declared.operator.InfixOp.{InfixOp}
@@ -57,9 +57,9 @@ pub data Shape : Type 0 where
   length_had : Shape
 
 -- how many levels the open parentheses opened, by the recognizer's count
-abbrev pub inside : Ground → List Bracket → ℕ
-inside g [] = ground_level g
-inside g (bracket ∷ brackets) = bracket.level
+abbrev pub levels_inside : Ground → List Bracket → ℕ
+levels_inside g [] = ground_level g
+levels_inside g (bracket ∷ brackets) = bracket.level
 
 -- the recognizer's shape behind a name
 abbrev pub next_name : Shape → Bool → Option Shape
@@ -85,9 +85,9 @@ bracketed takes_commas g brackets level =
     wanted g (record { takes_commas = takes_commas; level = level + 1 } ∷ brackets) (level + 1)
 
 -- the recognizer's shape behind a parenthesis that is opened behind an operand, which a name alone takes
-abbrev pub next_open_behind : Last → Ground → List Bracket → Option Shape
-next_open_behind Last.Operand g brackets = None
-next_open_behind (Last.Named is_builtin level) g brackets = Some (bracketed is_builtin g brackets level)
+abbrev pub next_open_after : Last → Ground → List Bracket → Option Shape
+next_open_after Last.Operand g brackets = None
+next_open_after (Last.Named is_builtin level) g brackets = Some (bracketed is_builtin g brackets level)
 
 -- the recognizer's shape behind a parenthesis that is opened behind a name that stands in no expression
 abbrev pub next_open_name : Purpose → Option Shape
@@ -101,7 +101,7 @@ next_open_name Purpose.Single = None
 -- the recognizer's shape behind an opening parenthesis
 abbrev pub next_open : Shape → Option Shape
 next_open (wanted g brackets level) = Some (bracketed false g brackets level)
-next_open (had last g brackets) = next_open_behind last g brackets
+next_open (had last g brackets) = next_open_after last g brackets
 next_open (name_had purpose) = next_open_name purpose
 next_open shape = None
 
@@ -163,7 +163,7 @@ next_equal_name purpose = None
 
 -- the recognizer's shape behind `=`
 abbrev pub next_equal : Shape → Option Shape
-next_equal (had last g brackets) = Some (wanted g brackets (inside g brackets))
+next_equal (had last g brackets) = Some (wanted g brackets (levels_inside g brackets))
 next_equal (name_had purpose) = next_equal_name purpose
 next_equal target_had = Some (wanted Ground.Whole [] 0)
 next_equal shape = None
@@ -177,7 +177,7 @@ next_prefix g brackets level (Some op) = Some (wanted g brackets (level + 1))
 -- operator is open any more
 abbrev pub next_infix : Ground → List Bracket → Option InfixOp → Option Shape
 next_infix g brackets None = None
-next_infix g brackets (Some op) = Some (wanted g brackets (inside g brackets))
+next_infix g brackets (Some op) = Some (wanted g brackets (levels_inside g brackets))
 
 -- the recognizer's shape behind a sign that is an operator wherever it stands
 abbrev pub next_operator : Shape → Sign → Option Shape
@@ -248,9 +248,9 @@ may_end length_had = true
 may_end shape = false
 
 -- the level that a parenthesis opens behind an operand, by the recognizer's count
-abbrev pub level_behind : Last → ℕ
-level_behind Last.Operand = 0
-level_behind (Last.Named is_builtin level) = level + 1
+abbrev pub level_after : Last → ℕ
+level_after Last.Operand = 0
+level_after (Last.Named is_builtin level) = level + 1
 
 -- the level that a parenthesis opens behind a name of a purpose, by the recognizer's count; an array's size opens none
 abbrev pub level_by_purpose : Purpose → ℕ
@@ -260,7 +260,7 @@ level_by_purpose purpose = 1
 -- the level that a sign opens at the recognizer's shape, or 0
 abbrev pub sign_level : Shape → Sign → ℕ
 sign_level (wanted g brackets level) s = level + 1
-sign_level (had last g brackets) Sign.OpenParenthesis = level_behind last
+sign_level (had last g brackets) Sign.OpenParenthesis = level_after last
 sign_level (name_had purpose) Sign.OpenParenthesis = level_by_purpose purpose
 sign_level shape s = 0
 

@@ -89,9 +89,9 @@ over_of (NumberTooLarge place) = OverLimit.number_too_large place
 over_of (TooDeep place) = OverLimit.too_deep place
 
 -- the place of what the check finds past a limit
-abbrev pub over_place : OverLimit → ℕ
-over_place (OverLimit.number_too_large place) = place
-over_place (OverLimit.too_deep place) = place
+abbrev pub over_offset : OverLimit → ℕ
+over_offset (OverLimit.number_too_large place) = place
+over_offset (OverLimit.too_deep place) = place
 
 -- what the check finds past a limit, if it finds anything, as the definitions of the grammar have it
 abbrev pub over_if : Option Over → Option OverLimit

@@ -1,7 +1,7 @@
 //! The base of an expression that stands in no other, and what each sign behind the expression does to it.
 
 ghost use Rattle.std.specs.Prelude.{◌≡◌};
-ghost use Rattle.phrase_parser.specs.Private.Machine.{Stack as OpenStack, State as MachineState, step_close_base, step_close, step_comma_base, phrase_of_base};
+ghost use Rattle.phrase_parser.specs.Private.Machine.{ParseStack as OpenStack, ParseState as MachineState, shift_close_base, shift_close, shift_comma_base, phrase_of_base};
 ghost use Rattle.phrase_parser.specs.Private.Gives.{Gives};
 ghost use Rattle.phrase_parser.specs.Private.Views.{base_of, state_of};
 ghost use Rattle.plcs_grammar.specs.PlainPhrase.{plain_expr, plain_phrase};
@@ -10,8 +10,8 @@ use crate::builder::expr::subscripted;
 use crate::builder::fault::BuildError;
 use crate::builder::lists::{with_expr, with_variable};
 use crate::builder::primary::expression;
-use crate::builder::stack::Stack;
-use crate::builder::state::State;
+use crate::builder::stack::ParseStack;
+use crate::builder::state::ParseState;
 use plcs_base::Name;
 use plcs_grammar::{Expr, Phrase, VarRef};
 use std::alloc::Global;
@@ -36,25 +36,25 @@ pub enum Base {
 }
 
 /// The state on a base alone: an operand is wanted, and nothing but the base is open.
-pub fn wanted_on(alloc: Global, base: Base) -> State
+pub fn wanted_on(alloc: Global, base: Base) -> ParseState
     ensures { state_of result ≡ MachineState.wanted (OpenStack.base (base_of base)) }
 {
     let frames = Vec::new(alloc);
-    State::Wanted(Stack { base, frames })
+    ParseState::Wanted(ParseStack { base, frames })
 }
 
 /// The state that a base becomes behind the closing parenthesis of the subscript or call in which its expression
 /// stands, if it stands in one.
-pub fn step_close_base(alloc: Global, base: Base, expr: Expr) -> Result<State, BuildError>
-    ensures { Gives state_of result (step_close_base (base_of base) (plain_expr expr)) }
+pub fn shift_close_base(alloc: Global, base: Base, expr: Expr) -> Result<ParseState, BuildError>
+    ensures { Gives state_of result (shift_close_base (base_of base) (plain_expr expr)) }
 {
     match base {
-        Base::TargetSubscript(name) => Ok(State::TargetHad(subscripted(alloc, name, expr)?)),
+        Base::TargetSubscript(name) => Ok(ParseState::TargetHad(subscripted(alloc, name, expr)?)),
         Base::VariableSubscript(done, name) => {
             let variable = subscripted(alloc, name, expr)?;
-            Ok(State::VariableHad(with_variable(done, variable)?))
+            Ok(ParseState::VariableHad(with_variable(done, variable)?))
         }
-        Base::CallArguments(name, done) => Ok(State::CallHad(name, with_expr(done, expr)?)),
+        Base::CallArguments(name, done) => Ok(ParseState::CallHad(name, with_expr(done, expr)?)),
         Base::Condition | Base::Expression | Base::Expressions(_) | Base::Assigned(_) => {
             Err(BuildError::Refused)
         }
@@ -62,8 +62,8 @@ pub fn step_close_base(alloc: Global, base: Base, expr: Expr) -> Result<State, B
 }
 
 /// The state that a base becomes behind a comma that follows its expression, if one can stand there.
-pub fn step_comma_base(alloc: Global, base: Base, expr: Expr) -> Result<State, BuildError>
-    ensures { Gives state_of result (step_comma_base (base_of base) (plain_expr expr)) }
+pub fn shift_comma_base(alloc: Global, base: Base, expr: Expr) -> Result<ParseState, BuildError>
+    ensures { Gives state_of result (shift_comma_base (base_of base) (plain_expr expr)) }
 {
     match base {
         Base::Expressions(done) => {

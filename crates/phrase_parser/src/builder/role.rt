@@ -1,6 +1,6 @@
 //! The role of a name that stands in no expression, and what each sign behind the name does to it.
 
-ghost use Rattle.phrase_parser.specs.Private.Machine.{step_open_role, step_open, step_comma_role, step_equal_role, phrase_of_role};
+ghost use Rattle.phrase_parser.specs.Private.Machine.{shift_open_role, shift_open, shift_comma_role, shift_equal_role, phrase_of_role};
 ghost use Rattle.phrase_parser.specs.Private.Gives.{Gives};
 ghost use Rattle.phrase_parser.specs.Private.Views.{role_of, state_of};
 ghost use Rattle.plcs_grammar.specs.PlainPhrase.{plain_phrase};
@@ -10,7 +10,7 @@ use crate::builder::expr::simple;
 use crate::builder::fault::BuildError;
 use crate::builder::lists::{with_item, with_name, with_variable};
 use crate::builder::primary::expression;
-use crate::builder::state::{State, step_open};
+use crate::builder::state::{ParseState, shift_open};
 use plcs_base::Name;
 use plcs_grammar::{Item, Phrase, VarRef};
 use std::alloc::Global;
@@ -35,42 +35,42 @@ pub enum Role {
 }
 
 /// The state that a role becomes behind a parenthesis that is opened behind its name, if one can stand there.
-pub fn step_open_role(alloc: Global, role: Role, name: Name) -> Result<State, BuildError>
-    ensures { Gives state_of result (step_open_role (role_of role) name) }
+pub fn shift_open_role(alloc: Global, role: Role, name: Name) -> Result<ParseState, BuildError>
+    ensures { Gives state_of result (shift_open_role (role_of role) name) }
 {
     match role {
         Role::Target => Ok(wanted_on(alloc, Base::TargetSubscript(name))),
         Role::Variables(done) => Ok(wanted_on(alloc, Base::VariableSubscript(done, name))),
         Role::Callee => Ok(wanted_on(alloc, Base::CallArguments(name, Vec::new(alloc)))),
-        Role::Items(done) => Ok(State::SizeWanted(done, name)),
+        Role::Items(done) => Ok(ParseState::SizeWanted(done, name)),
         Role::Names(_) | Role::Variable | Role::Procedure => Err(BuildError::Refused),
     }
 }
 
 /// The state that a role becomes behind a comma that follows its name, if one can stand there.
-pub fn step_comma_role(role: Role, name: Name) -> Result<State, BuildError>
-    ensures { Gives state_of result (step_comma_role (role_of role) name) }
+pub fn shift_comma_role(role: Role, name: Name) -> Result<ParseState, BuildError>
+    ensures { Gives state_of result (shift_comma_role (role_of role) name) }
 {
     match role {
         Role::Variables(done) => {
             let done = with_variable(done, simple(name))?;
-            Ok(State::NameWanted(Role::Variables(done)))
+            Ok(ParseState::NameWanted(Role::Variables(done)))
         }
         Role::Items(done) => {
             let done = with_item(done, name, None)?;
-            Ok(State::NameWanted(Role::Items(done)))
+            Ok(ParseState::NameWanted(Role::Items(done)))
         }
         Role::Names(done) => {
             let done = with_name(done, name)?;
-            Ok(State::NameWanted(Role::Names(done)))
+            Ok(ParseState::NameWanted(Role::Names(done)))
         }
         Role::Target | Role::Callee | Role::Variable | Role::Procedure => Err(BuildError::Refused),
     }
 }
 
 /// The state that a role becomes behind `=` that follows its name, if it can stand there.
-pub fn step_equal_role(alloc: Global, role: Role, name: Name) -> Result<State, BuildError>
-    ensures { Gives state_of result (step_equal_role (role_of role) name) }
+pub fn shift_equal_role(alloc: Global, role: Role, name: Name) -> Result<ParseState, BuildError>
+    ensures { Gives state_of result (shift_equal_role (role_of role) name) }
 {
     match role {
         Role::Target => Ok(wanted_on(alloc, Base::Assigned(simple(name)))),

@@ -1,19 +1,19 @@
 //! The builder's stack: what stands open around an operand, and what each sign does to it.
 
 ghost use Rattle.std.specs.Prelude.{◌≡◌, IfOk};
-ghost use Rattle.phrase_parser.specs.Private.Machine.{open_frame, step_open_behind, step_open, Stack as OpenStack, step_close_base, step_close_stack, step_close, step_comma_base, step_comma_stack, behind_infix, step_prefix, step_infix, phrase_of_base, phrase_of_stack, reduced};
+ghost use Rattle.phrase_parser.specs.Private.Machine.{open_frame, shift_open_after, shift_open, ParseStack as OpenStack, shift_close_base, shift_close_stack, shift_close, shift_comma_base, shift_comma_stack, after_infix, shift_prefix, shift_infix, phrase_of_base, phrase_of_stack, reduced};
 ghost use Rattle.phrase_parser.specs.Private.Gives.{Gives};
 ghost use Rattle.phrase_parser.specs.Private.Views.{stack_of, primary_of, state_of, pushed, pair_of};
 ghost use Rattle.plcs_grammar.specs.PlainPhrase.{plain_expr, plain_phrase};
 ghost use Rattle.plcs_grammar.specs.Level.{priority};
 ghost use Rattle.phrase_parser.specs.Private.Reduction.{rest_of};
 
-use crate::builder::base::{Base, phrase_of_base, step_close_base, step_comma_base};
+use crate::builder::base::{Base, phrase_of_base, shift_close_base, shift_comma_base};
 use crate::builder::expr::{binary, unary};
 use crate::builder::fault::BuildError;
 use crate::builder::lists::with_expr;
-use crate::builder::primary::{Primary, cell, expression, parenthesized};
-use crate::builder::state::{State, step_close, step_open};
+use crate::builder::primary::{Primary, element, expression, parenthesized};
+use crate::builder::state::{ParseState, shift_close, shift_open};
 use crate::operator::priority;
 use plcs_base::Name;
 use plcs_grammar::{Builtin, Expr, InfixOp, Phrase, PrefixOp};
@@ -21,16 +21,16 @@ use std::alloc::{AllocError, Global};
 
 /// The builder's stack: all that stands open around an operand.
 #[derive(Drop)]
-pub struct Stack {
+pub struct ParseStack {
     /// What the outermost expression is for.
     pub base: Base,
     /// What stands open inside it, the innermost last.
-    pub frames: Vec<Frame>,
+    pub frames: Vec<ParseFrame>,
 }
 
 /// A frame of the stack: one thing that stands open around an operand.
 #[derive(Drop)]
-pub enum Frame {
+pub enum ParseFrame {
     /// An operator that waits for its operand.
     Prefix(PrefixOp),
     /// An operator with its left operand, which waits for its right one.
@@ -44,115 +44,115 @@ pub enum Frame {
 }
 
 /// The state that a stack becomes behind a parenthesis that is opened behind an operand, which only a name takes.
-pub fn step_open_behind(alloc: Global, stack: Stack, primary: Primary) -> Result<State, BuildError>
-    ensures { Gives state_of result (step_open_behind (stack_of stack) (primary_of primary)) }
+pub fn shift_open_after(alloc: Global, stack: ParseStack, primary: Primary) -> Result<ParseState, BuildError>
+    ensures { Gives state_of result (shift_open_after (stack_of stack) (primary_of primary)) }
 {
     let Primary::Name(name) = primary else {
         return Err(BuildError::Refused);
     };
     let function = Builtin::read(name.as_bytes());
     let frame = open_frame(alloc, name, function);
-    Ok(State::Wanted(with_frame(stack, frame)?))
+    Ok(ParseState::Wanted(with_frame(stack, frame)?))
 }
 
 /// The frame that a parenthesis opens on the stack behind a name, which may be that of the built-in function.
-fn open_frame(alloc: Global, name: Name, function: Option<Builtin>) -> Frame
+fn open_frame(alloc: Global, name: Name, function: Option<Builtin>) -> ParseFrame
     ensures { (s : OpenStack) → pushed result s ≡ open_frame name function s }
 {
     match function {
-        None => Frame::Subscript(name),
-        Some(function) => Frame::Arguments(function, Vec::new(alloc)),
+        None => ParseFrame::Subscript(name),
+        Some(function) => ParseFrame::Arguments(function, Vec::new(alloc)),
     }
 }
 
 /// The state that a stack becomes behind the closing parenthesis of the innermost that is open on it.
 #[tactic(auto, using(crate::proofs::Frames::FrameStacks::stack_on_push))]
-pub fn step_close_stack(alloc: Global, stack: Stack, expr: Expr) -> Result<State, BuildError>
-    ensures { Gives state_of result (step_close_stack (stack_of stack) (plain_expr expr)) }
+pub fn shift_close_stack(alloc: Global, stack: ParseStack, expr: Expr) -> Result<ParseState, BuildError>
+    ensures { Gives state_of result (shift_close_stack (stack_of stack) (plain_expr expr)) }
 {
-    let Stack { base, mut frames } = stack;
+    let ParseStack { base, mut frames } = stack;
     let Some(frame) = frames.pop() else {
-        return step_close_base(alloc, base, expr);
+        return shift_close_base(alloc, base, expr);
     };
     let primary = match frame {
-        Frame::Parenthesis => parenthesized(alloc, expr)?,
-        Frame::Subscript(name) => cell(alloc, name, expr)?,
-        Frame::Arguments(function, done) => Primary::Call(function, with_expr(done, expr)?),
-        Frame::Prefix(_) | Frame::Left(_, _) => return Err(BuildError::Refused),
+        ParseFrame::Parenthesis => parenthesized(alloc, expr)?,
+        ParseFrame::Subscript(name) => element(alloc, name, expr)?,
+        ParseFrame::Arguments(function, done) => Primary::Call(function, with_expr(done, expr)?),
+        ParseFrame::Prefix(_) | ParseFrame::Left(_, _) => return Err(BuildError::Refused),
     };
-    Ok(State::Had(Stack { base, frames }, primary))
+    Ok(ParseState::Had(ParseStack { base, frames }, primary))
 }
 
 /// The state that a stack becomes behind a comma in the innermost parenthesis that is open on it.
 #[tactic(auto, using(crate::proofs::Frames::FrameStacks::stack_on_push))]
-pub fn step_comma_stack(alloc: Global, stack: Stack, expr: Expr) -> Result<State, BuildError>
-    ensures { Gives state_of result (step_comma_stack (stack_of stack) (plain_expr expr)) }
+pub fn shift_comma_stack(alloc: Global, stack: ParseStack, expr: Expr) -> Result<ParseState, BuildError>
+    ensures { Gives state_of result (shift_comma_stack (stack_of stack) (plain_expr expr)) }
 {
-    let Stack { base, mut frames } = stack;
+    let ParseStack { base, mut frames } = stack;
     match frames.pop() {
-        None => step_comma_base(alloc, base, expr),
-        Some(Frame::Arguments(function, done)) => {
+        None => shift_comma_base(alloc, base, expr),
+        Some(ParseFrame::Arguments(function, done)) => {
             let done = with_expr(done, expr)?;
-            let stack = with_frame(Stack { base, frames }, Frame::Arguments(function, done))?;
-            Ok(State::Wanted(stack))
+            let stack = with_frame(ParseStack { base, frames }, ParseFrame::Arguments(function, done))?;
+            Ok(ParseState::Wanted(stack))
         }
-        Some(Frame::Prefix(_) | Frame::Left(_, _) | Frame::Parenthesis | Frame::Subscript(_)) => {
+        Some(ParseFrame::Prefix(_) | ParseFrame::Left(_, _) | ParseFrame::Parenthesis | ParseFrame::Subscript(_)) => {
             Err(BuildError::Refused)
         }
     }
 }
 
 /// The state that a stack becomes behind a prefix operator, where an operand is wanted.
-pub fn step_prefix(stack: Stack, op: Option<PrefixOp>) -> Result<State, BuildError>
-    ensures { Gives state_of result (step_prefix (stack_of stack) op) }
+pub fn shift_prefix(stack: ParseStack, op: Option<PrefixOp>) -> Result<ParseState, BuildError>
+    ensures { Gives state_of result (shift_prefix (stack_of stack) op) }
 {
     match op {
         None => Err(BuildError::Refused),
-        Some(op) => Ok(State::Wanted(with_frame(stack, Frame::Prefix(op))?)),
+        Some(op) => Ok(ParseState::Wanted(with_frame(stack, ParseFrame::Prefix(op))?)),
     }
 }
 
 /// The state that a stack becomes behind an infix operator, once the operand before it is joined.
-pub fn step_infix(
+pub fn shift_infix(
     alloc: Global,
-    stack: Stack,
+    stack: ParseStack,
     primary: Primary,
     op: Option<InfixOp>,
-) -> Result<State, BuildError>
-    ensures { Gives state_of result (step_infix (stack_of stack) (primary_of primary) op) }
+) -> Result<ParseState, BuildError>
+    ensures { Gives state_of result (shift_infix (stack_of stack) (primary_of primary) op) }
 {
     match op {
         None => Err(BuildError::Refused),
         Some(op) => {
             let (stack, left) = reduced(alloc, stack, priority(op), expression(primary))?;
-            Ok(behind_infix(stack, left, op)?)
+            Ok(after_infix(stack, left, op)?)
         }
     }
 }
 
 /// The state that a stack becomes behind an infix operator whose left operand is joined already.
-pub fn behind_infix(stack: Stack, left: Expr, op: InfixOp) -> Result<State, AllocError>
-    ensures { IfOk result (λ s. state_of s ≡ behind_infix op (pair_of (stack, left))) }
+pub fn after_infix(stack: ParseStack, left: Expr, op: InfixOp) -> Result<ParseState, AllocError>
+    ensures { IfOk result (λ s. state_of s ≡ after_infix op (pair_of (stack, left))) }
 {
-    Ok(State::Wanted(with_frame(stack, Frame::Left(left, op))?))
+    Ok(ParseState::Wanted(with_frame(stack, ParseFrame::Left(left, op))?))
 }
 
 /// The stack with one frame more.
 #[tactic(auto, using(crate::proofs::Frames::FrameStacks::stack_on_push))]
-pub fn with_frame(stack: Stack, frame: Frame) -> Result<Stack, AllocError>
+pub fn with_frame(stack: ParseStack, frame: ParseFrame) -> Result<ParseStack, AllocError>
     ensures { IfOk result (λ s. stack_of s ≡ pushed frame (stack_of stack)) }
 {
-    let Stack { base, mut frames } = stack;
+    let ParseStack { base, mut frames } = stack;
     frames.push(frame)?;
-    Ok(Stack { base, frames })
+    Ok(ParseStack { base, frames })
 }
 
 /// The phrase that a stack ends as behind the expression, unless something is still open on it.
 #[tactic(auto, using(crate::proofs::Frames::FrameStacks::stack_on_push, crate::proofs::Frames::FrameStacks::ended_at_open))]
-pub fn phrase_of_stack(stack: Stack, expr: Expr) -> Result<Phrase, BuildError>
+pub fn phrase_of_stack(stack: ParseStack, expr: Expr) -> Result<Phrase, BuildError>
     ensures { Gives plain_phrase result (phrase_of_stack (stack_of stack) (plain_expr expr)) }
 {
-    let Stack { base, mut frames } = stack;
+    let ParseStack { base, mut frames } = stack;
     match frames.pop() {
         None => phrase_of_base(base, expr),
         Some(_) => Err(BuildError::Refused),
@@ -167,38 +167,38 @@ pub const EVERY_LEVEL: u8 = 1;
 #[tactic(auto, using(crate::proofs::Frames::FrameStacks::stack_on_push))]
 pub fn reduced(
     alloc: Global,
-    stack: Stack,
+    stack: ParseStack,
     level: u8,
     operand: Expr,
-) -> Result<(Stack, Expr), AllocError>
+) -> Result<(ParseStack, Expr), AllocError>
     ensures { IfOk result (λ o. pair_of o ≡ reduced (stack_of stack) level (plain_expr operand)) }
 {
-    let Stack { base, mut frames } = stack;
+    let ParseStack { base, mut frames } = stack;
     let mut operand = operand;
     while let Some(frame) = frames.pop() {
         match join(alloc, frame, level, operand)? {
             Joined::Operand(whole) => operand = whole,
             Joined::Open(frame, left_over) => {
                 frames.push(frame)?;
-                return Ok((Stack { base, frames }, left_over));
+                return Ok((ParseStack { base, frames }, left_over));
             }
         }
     }
-    Ok((Stack { base, frames }, operand))
+    Ok((ParseStack { base, frames }, operand))
 }
 
 /// An operand, joined with the frame of the stack around it if that is an operator of the level or a higher one.
-fn join(alloc: Global, frame: Frame, level: u8, operand: Expr) -> Result<Joined, AllocError>
+fn join(alloc: Global, frame: ParseFrame, level: u8, operand: Expr) -> Result<Joined, AllocError>
     ensures { IfOk result
         (λ j. (s : OpenStack) → reduced (pushed frame s) level (plain_expr operand) ≡ rest_of j s level) }
 {
     match frame {
-        Frame::Prefix(op) => Ok(Joined::Operand(unary(alloc, op, operand)?)),
-        Frame::Left(left, op) => {
+        ParseFrame::Prefix(op) => Ok(Joined::Operand(unary(alloc, op, operand)?)),
+        ParseFrame::Left(left, op) => {
             if level <= priority(op) {
                 Ok(Joined::Operand(binary(alloc, op, left, operand)?))
             } else {
-                Ok(Joined::Open(Frame::Left(left, op), operand))
+                Ok(Joined::Open(ParseFrame::Left(left, op), operand))
             }
         }
         frame => Ok(Joined::Open(frame, operand)),
@@ -211,5 +211,5 @@ pub enum Joined {
     /// The two are an operand.
     Operand(Expr),
     /// The frame stays open.
-    Open(Frame, Expr),
+    Open(ParseFrame, Expr),
 }

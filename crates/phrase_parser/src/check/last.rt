@@ -1,7 +1,7 @@
 //! What the last token of an expression was.
 
 ghost use Rattle.std.specs.Prelude.{◌≡◌};
-ghost use Rattle.phrase_parser.specs.Private.Recognizer.{level_behind};
+ghost use Rattle.phrase_parser.specs.Private.Recognizer.{level_after};
 ghost use Rattle.phrase_parser.specs.Private.Shapes.{LastWithin, deepest_level};
 
 /// What the last token of an expression was.
@@ -14,9 +14,9 @@ pub enum Last {
 }
 
 /// The level that a parenthesis opens behind the last token of an expression, or 0.
-pub fn level_behind(last: Last) -> u32
+pub fn level_after(last: Last) -> u32
     requires { LastWithin deepest_level last }
-    ensures { result ≡ level_behind last }
+    ensures { result ≡ level_after last }
 {
     match last {
         Last::Operand => 0,

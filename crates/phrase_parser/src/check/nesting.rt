@@ -1,7 +1,7 @@
 //! The nesting of an operand: the open parentheses around it, and what each sign does to them.
 
 ghost use Rattle.std.specs.Prelude.{◌≡◌, ◌≤◌, IfOk, [], reverse};
-ghost use Rattle.phrase_parser.specs.Private.Recognizer.{ground_level, inside, bracketed, next_close_ground, next_close_in, next_comma_ground, next_comma_in, may_end_in, Shape as model};
+ghost use Rattle.phrase_parser.specs.Private.Recognizer.{ground_level, levels_inside, bracketed, next_close_ground, next_close_in, next_comma_ground, next_comma_in, may_end_in, Shape as model};
 ghost use Rattle.phrase_parser.specs.Private.Shapes.{shape_of, shape_if, deepest_level};
 
 use crate::check::ground::{Ground, ground_level, next_close_ground, next_comma_ground};
@@ -91,10 +91,10 @@ pub fn next_comma_in(alloc: Global, nesting: Nesting) -> Result<Option<Shape>, A
 }
 
 /// The shape that a nesting becomes behind an infix operator, where an operand is wanted.
-pub fn behind_operator(nesting: Nesting) -> Shape
+pub fn after_operator(nesting: Nesting) -> Shape
     ensures { shape_of result
         ≡ model.wanted nesting.place (reverse nesting.brackets.items)
-        (inside nesting.place (reverse nesting.brackets.items)) }
+        (levels_inside nesting.place (reverse nesting.brackets.items)) }
 {
     let level = inside(&nesting);
     Shape::Wanted(nesting, level)
@@ -112,7 +112,7 @@ pub fn may_end_in(nesting: &Nesting) -> bool
 
 /// How many levels the open parentheses of a nesting opened.
 pub fn inside(nesting: &Nesting) -> u32
-    ensures { result ≡ inside nesting.now.place (reverse nesting.now.brackets.items) }
+    ensures { result ≡ levels_inside nesting.now.place (reverse nesting.now.brackets.items) }
 {
     match nesting.brackets.last() {
         Some(bracket) => bracket.level,

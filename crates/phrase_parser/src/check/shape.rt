@@ -1,13 +1,13 @@
 //! The check's shape: what was read last and what is wanted, without trees, and what each token does to it.
 
 ghost use Rattle.std.specs.Prelude.{◌≡◌, IfOk};
-ghost use Rattle.phrase_parser.specs.Private.Recognizer.{next_name, next_constant, next_number, next_open_name, next_open, next_close, next_comma_name, next_comma, next_equal_name, next_equal, next_operator, next_sign, next, first_shape, may_end, level_behind, level_by_purpose, sign_level, level_of};
+ghost use Rattle.phrase_parser.specs.Private.Recognizer.{next_name, next_constant, next_number, next_open_name, next_open, next_close, next_comma_name, next_comma, next_equal_name, next_equal, next_operator, next_sign, next, first_shape, may_end, level_after, level_by_purpose, sign_level, level_of};
 ghost use Rattle.phrase_parser.specs.Private.Shapes.{shape_of, shape_if, Within, deepest_level};
 
 use crate::check::ground::{Ground, wanted};
-use crate::check::last::{Last, level_behind};
+use crate::check::last::{Last, level_after};
 use crate::check::nesting::{
-    Nesting, behind_operator, bracketed, may_end_in, next_close_in, next_comma_in,
+    Nesting, after_operator, bracketed, may_end_in, next_close_in, next_comma_in,
 };
 use crate::check::purpose::{
     Purpose, level_by_purpose, next_comma_name, next_equal_name, next_open_name,
@@ -182,7 +182,7 @@ fn next_equal(alloc: Global, shape: Shape) -> Option<Shape>
     ensures { shape_if result ≡ next_equal (shape_of shape) }
 {
     match shape {
-        Shape::Had(_, nesting) => Some(behind_operator(nesting)),
+        Shape::Had(_, nesting) => Some(after_operator(nesting)),
         Shape::NameHad(purpose) => next_equal_name(alloc, purpose),
         Shape::TargetHad => Some(wanted(alloc, Ground::Whole, 0)),
         _ => None,
@@ -200,7 +200,7 @@ fn next_operator(shape: Shape, sign: Sign) -> Option<Shape>
             nesting,
             level + 1,
         )),
-        Shape::Had(_, nesting) if infix_of(sign).is_some() => Some(behind_operator(nesting)),
+        Shape::Had(_, nesting) if infix_of(sign).is_some() => Some(after_operator(nesting)),
         _ => None,
     }
 }
@@ -240,7 +240,7 @@ fn sign_level(shape: &Shape, sign: Sign) -> u32
 {
     match (shape, sign) {
         (Shape::Wanted(_, level), _) => *level + 1,
-        (Shape::Had(last, _), Sign::OpenParenthesis) => level_behind(*last),
+        (Shape::Had(last, _), Sign::OpenParenthesis) => level_after(*last),
         (Shape::NameHad(purpose), Sign::OpenParenthesis) => level_by_purpose(*purpose),
         _ => 0,
     }

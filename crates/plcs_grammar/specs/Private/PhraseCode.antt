@@ -96,14 +96,14 @@ expr_of (inr (inr (inr (inr (inr (inl f)))))) a b = PlainExpr.builtin f a.exprs
 expr_of (inr (inr (inr (inr (inr (inr true)))))) a b = PlainExpr.variable a.reference
 expr_of (inr (inr (inr (inr (inr (inr false)))))) a b = PlainExpr.parenthesized a.expr
 
-abbrev pub name_in : Mark → List ℕ
-name_in (inl z) = []
-name_in (inr (inl value)) = value
-name_in (inr (inr other)) = []
+abbrev pub name_in_code : Mark → List ℕ
+name_in_code (inl z) = []
+name_in_code (inr (inl value)) = value
+name_in_code (inr (inr other)) = []
 
 abbrev pub reference_of : Mark → Built → Bush → PlainVarRef
-reference_of mark a leaf = PlainVarRef.simple (name_in mark)
-reference_of mark a (twig other left right) = PlainVarRef.subscripted (name_in mark) a.expr
+reference_of mark a leaf = PlainVarRef.simple (name_in_code mark)
+reference_of mark a (twig other left right) = PlainVarRef.subscripted (name_in_code mark) a.expr
 
 abbrev pub built : Bush → Built
 built leaf = record { expr = PlainExpr.bit false; reference = PlainVarRef.simple []; exprs = PlainExprs.nil }

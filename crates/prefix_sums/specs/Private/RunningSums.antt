@@ -1,10 +1,10 @@
 -- The running sums that are kept beside a list of numbers.
 use Rattle.std.specs.Prelude.{◌≡◌, ℕ, ◌+◌, ◌-◌, ◌*◌, ◌^◌, ◌<◌, ◌≤◌, List, length, min, sum, take, slice_index, vec_len, vec_capacity}
 use Rattle.prefix_sums.specs.declared.sums.PrefixSums.TheInside.{Inside}
-use Rattle.prefix_sums.specs.PlainSums.{PlainSums}
+use Rattle.prefix_sums.specs.PlainPrefixSums.{PlainPrefixSums}
 
 -- what a list in memory, kept with its running sums, is seen as
-abbrev pub seen : Inside → PlainSums
+abbrev pub seen : Inside → PlainPrefixSums
 seen a =
     record {
       numbers = a.numbers.items;

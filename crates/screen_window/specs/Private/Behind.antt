@@ -1,6 +1,6 @@
 -- The cells of a row from a column on.
 use Rattle.std.specs.Prelude.{ℕ, ◌+◌, ◌-◌, nat_lt, if◌then◌else◌, List, slice_index_or}
-use Rattle.screen_window.specs.Cell.{blank}
+use Rattle.screen_window.specs.ScreenCell.{blank}
 use Rattle.screen_window.specs.ShownRow.{shown_cell}
 
 -- the cell of a row in a column, where these cells are shown from another column on

@@ -1,18 +1,18 @@
 -- Grids while a view is drawn on them.
 use Rattle.std.specs.Prelude.{◌≡◌, ℕ, ◌<◌, Bool, false, nat_lt, if◌then◌else◌, List, [], slice_index_or, Option, None, Some, find}
 use Rattle.std.specs.List.{range_with_len}
-use Rattle.unparse_layout.specs.LaidLine.{LaidLine}
+use Rattle.unparse_layout.specs.LaidLine.{PlainLine}
 use Rattle.screen_window.specs.PlainGrid.{PlainGrid}
 use Rattle.screen_window.specs.PlainView.{PlainView}
 use Rattle.screen_window.specs.Cursor.{begins_node}
 use Rattle.screen_window.specs.Window.{window_line}
 
 -- the program's line in a row of the screen that is drawn, where that lies in the window, which has so many rows
-abbrev pub row_line : ℕ → PlainView → ℕ → Option LaidLine
+abbrev pub row_line : ℕ → PlainView → ℕ → Option PlainLine
 row_line window view row = if nat_lt row window then window_line view row else None
 
 -- whether a line that is drawn is the first of the node in the slot, where there is a slot
-abbrev pub begins_stop : Option ℕ → Option LaidLine → Bool
+abbrev pub begins_stop : Option ℕ → Option PlainLine → Bool
 begins_stop None laid = false
 begins_stop (Some slot) laid = begins_node slot laid
 

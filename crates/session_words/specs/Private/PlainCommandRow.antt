@@ -1,8 +1,8 @@
 -- What a row of the code's table stands for.
 use Rattle.session_words.specs.declared.command_table.CommandRow.{CommandRow}
-use Rattle.session_words.specs.CommandTable.{PlainCommandRow, row}
+use Rattle.session_words.specs.CommandTable.{PlainCommandRow, command_row}
 use Rattle.session_words.specs.Private.PlainArgumentRule.{plain_argument_rule}
 
 -- the row of the definitions with the same word
 abbrev pub plain_command_row : CommandRow → PlainCommandRow
-plain_command_row r = row r.word.now (plain_argument_rule r.rule)
+plain_command_row r = command_row r.word.now (plain_argument_rule r.rule)

@@ -12,7 +12,7 @@ pub record IsToClear (run : Status) (given : ℕ) (ended : Bool) : Type 0 where
   pub going : ended ≡ false
 
 -- a journal is cleared exactly where it is to be
-abbrev pub Agrees : Closing → Status → ℕ → Bool → Type 0
-Agrees LeftStanding run given ended = IsToClear run given ended → ⊥
-Agrees Cleared run given ended = IsToClear run given ended
-Agrees (NotCleared fault) run given ended = IsToClear run given ended
+abbrev pub ClosesAsDue : Closing → Status → ℕ → Bool → Type 0
+ClosesAsDue LeftStanding run given ended = IsToClear run given ended → ⊥
+ClosesAsDue Cleared run given ended = IsToClear run given ended
+ClosesAsDue (NotCleared fault) run given ended = IsToClear run given ended

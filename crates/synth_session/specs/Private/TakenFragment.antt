@@ -15,7 +15,7 @@ use Rattle.synth_session.specs.SessionView.{Agrees}
 
 -- what stands at a stop was taken out of the program, which is what the edit makes of it, and is given out whole, or the edit
 -- was refused for this fault and the program is as it was; what depends on the program is that of the program
-pub record TakesOut {W : Type 0} (before now : Program W) (at : Stop) (result : Result Taken TreeFault) : Type 0 where
+pub record TakesOutFragment {W : Type 0} (before now : Program W) (at : Stop) (result : Result Taken TreeFault) : Type 0 where
   pub agrees : Agrees now
   pub became : IfOk result (λ taken.
       HasBecome (edited (roomless_tree before.tree) (plain_stop at) PlainEdit.take) (roomless_tree now.tree) (plain_stop taken.stop))

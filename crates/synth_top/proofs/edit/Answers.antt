@@ -1,10 +1,10 @@
 use Rattle.std.proofs.Common.{ℕ, ap, inr, subst}
 use Rattle.synth_outside.specs.Files.{PlainFiles}
 use Rattle.synth_session.specs.SessionView.{plain_session}
-use Rattle.synth_top.specs.Private.PlainForms.{plain_loads, plain_options}
-use Rattle.synth_top.specs.Private.Running.{Runs}
-use Rattle.synth_top.specs.Run.{Told}
-use Rattle.synth_top.specs.Turn.{State}
+use Rattle.synth_top.specs.Private.PlainForms.{plain_first_loads, plain_options}
+use Rattle.synth_top.specs.Private.EditorRuns.{EditorRuns}
+use Rattle.synth_top.specs.WholeRun.{Told}
+use Rattle.synth_top.specs.Turn.{EditorState}
 use Rattle.synth_top.proofs.Whole.{opened_first, ran, unloaded, unopened}
 use Rattle.synth_top.proofs.edit.Goals as goal
 
@@ -12,7 +12,7 @@ use Rattle.synth_top.proofs.edit.Goals as goal
 pub returns-clause-ended : goal.returns-clause-ended
 returns-clause-ended g c =
     let options = plain_options c.args.options.now in
-    let loads = plain_loads c.in-Ok.loads in
+    let loads = plain_first_loads c.in-Ok.loads in
     let before : ℕ → Told = λ laid. record {
       left = g.S.Source.left c.args.keys.now;
       reads = g.S.Source.reads c.args.keys.now;
@@ -46,12 +46,12 @@ returns-clause-ended g c =
       wants = g.F.Files.wants c.rescue.new.files;
     } in
     let opened = plain_session c.in-Ok-open.editor.session in
-    let first : State = record { session = opened; files = loaded.stored } in
+    let first : EditorState = record { session = opened; files = loaded.stored } in
     let after_reads = g.S.Source.leads_to c.args.keys.now c.run-status.new.keys in
     let after_fault = g.S.Source.breaks_at c.args.keys.now c.run-status.new.keys in
     let session = plain_session c.run-status.new.self.session in
-    let runs : Runs c.run-status.result options first (before (g.W.Work.laid c.args.work.now)) now loaded behind after_reads after_fault session =
-    subst (λ laid. Runs c.run-status.result options first (before laid) now loaded behind after_reads after_fault session)
+    let runs : EditorRuns c.run-status.result options first (before (g.W.Work.laid c.args.work.now)) now loaded behind after_reads after_fault session =
+    subst (λ laid. EditorRuns c.run-status.result options first (before laid) now loaded behind after_reads after_fault session)
     c.in-Ok-open.ensures.laid c.run-status.ensures.runs in
     inr (ran c.run-status.result options loads (before (g.W.Work.laid c.args.work.now)) now files loaded behind saved first after_reads after_fault session
     c.in-Ok.ensures.loads (opened_first options loads files.stored loaded.stored opened c.in-Ok-open.ensures.opened.session c.in-Ok.ensures.loads.read.stored)
@@ -98,6 +98,6 @@ returns-in-Err-open-clause-ended g c =
       faults = g.F.Files.faults c.load_first.new.files;
       wants = g.F.Files.wants c.load_first.new.files;
     } in
-    unopened (plain_options c.args.options.now) (plain_loads c.in-Ok.loads) (told (g.W.Work.laid c.args.work.now)) (told (g.W.Work.laid c.open.new.work)) files loaded
+    unopened (plain_options c.args.options.now) (plain_first_loads c.in-Ok.loads) (told (g.W.Work.laid c.args.work.now)) (told (g.W.Work.laid c.open.new.work)) files loaded
     (g.S.Source.leads_to c.args.keys.now c.args.keys.now) (g.S.Source.breaks_at c.args.keys.now c.args.keys.now) c.in-Ok.ensures.loads
     (ap told c.in-Err-open.ensures.laid) (g.S.Source.leads_to_itself c.args.keys.now)

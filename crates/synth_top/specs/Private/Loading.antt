@@ -9,7 +9,7 @@ use Rattle.file_store.specs.declared.refusal.FileRefusal.{FileRefusal}
 use Rattle.file_store.specs.Limit.{longest_input}
 use Rattle.synth_session.specs.FileReply.{CanReply, Reply}
 use Rattle.synth_top.specs.declared.loading.FileLoad.{FileLoad}
-use Rattle.synth_top.specs.Loads.{CanLoad, InputReply, IsInputReply, Loads, input_failure, load_failures, program_request}
+use Rattle.synth_top.specs.Loads.{CanLoad, InputReply, IsInputReply, PlainFirstLoads, input_failure, load_failures, program_request}
 use Rattle.synth_top.specs.Options.{PlainOptions}
 use Rattle.synth_top.specs.Turn.{failure}
 
@@ -33,7 +33,7 @@ pub record InputLoads (name : Option (List ℕ)) (reply : InputReply) (before no
   pub read : OnlyRead (input_failure reply) before now
 
 -- program and input were both loaded so before a session is opened
-pub record BothLoad (options : PlainOptions) (loads : Loads) (before now : PlainFiles) : Type 0 where
+pub record BothLoad (options : PlainOptions) (loads : PlainFirstLoads) (before now : PlainFiles) : Type 0 where
   pub can : CanLoad options before.stored loads
   pub read : OnlyRead (load_failures loads) before now
 

@@ -8,7 +8,7 @@ use Rattle.synth_top.specs.declared.loading.FileLoad.{FileLoad}
 use Rattle.synth_top.specs.declared.loading.FirstLoads.{FirstLoads}
 use Rattle.synth_top.specs.declared.options.Options.{Options}
 use Rattle.synth_top.specs.Given.{PlainGiven}
-use Rattle.synth_top.specs.Loads.{InputReply, Loads}
+use Rattle.synth_top.specs.Loads.{InputReply, PlainFirstLoads}
 use Rattle.synth_top.specs.Options.{PlainOptions}
 
 -- the plain form of what words give
@@ -43,5 +43,5 @@ input_reply (FileLoad.Loaded bytes) = InputReply.Loaded bytes.items
 input_reply (FileLoad.Refused refusal) = InputReply.Refused refusal
 
 -- the plain form of both first loads
-abbrev pub plain_loads : FirstLoads → Loads
-plain_loads loads = record { program = program_reply loads.program; input = input_reply loads.input }
+abbrev pub plain_first_loads : FirstLoads → PlainFirstLoads
+plain_first_loads loads = record { program = program_reply loads.program; input = input_reply loads.input }

@@ -12,17 +12,17 @@ use Rattle.synth_session.specs.MemoryTaken.{key_takes_memory}
 use Rattle.synth_session.specs.PlainSession.{PlainSession}
 use Rattle.synth_session.specs.Press.{press}
 use Rattle.synth_session.specs.SessionView.{IsSession, plain_session, shown_grid}
-use Rattle.synth_top.specs.declared.run.Editor.{Editor}
-use Rattle.synth_top.specs.declared.run.Going.{Going}
-use Rattle.synth_top.specs.declared.run.Going.TheVariants.{On, Over}
+use Rattle.synth_top.specs.declared.editor.Editor.{Editor}
+use Rattle.synth_top.specs.declared.editor.Going.{Going}
+use Rattle.synth_top.specs.declared.editor.Going.TheVariants.{On, Over}
 use Rattle.synth_top.specs.declared.status.Status.{Status}
 use Rattle.synth_top.specs.declared.status.Status.TheVariants.{Done, ReadFault, WriteFault, NoMemory, BadWords, KeyLimit}
 use Rattle.synth_top.specs.Laid.{LaysFor}
-use Rattle.synth_top.specs.Loads.{Loads, first_session}
+use Rattle.synth_top.specs.Loads.{PlainFirstLoads, first_session}
 use Rattle.synth_top.specs.Options.{PlainOptions}
-use Rattle.synth_top.specs.Run.{painted_over}
+use Rattle.synth_top.specs.WholeRun.{painted_over}
 use Rattle.synth_top.specs.Status.{CausedBy}
-use Rattle.synth_top.specs.Turn.{HaveReplies, IsToldAs, PressedKey, State, after, ends, failures, grids, keys_pressed}
+use Rattle.synth_top.specs.Turn.{HaveReplies, IsToldAs, PressedKey, EditorState, state_after_keys, ends, failures, grids, keys_pressed}
 use Rattle.synth_top.specs.Keys.{IsFront}
 
 -- ---- an editor
@@ -38,7 +38,7 @@ pub record IsUnshown {W : Type 0} (e : Editor W) : Type 0 where
   pub reader : e.reader ≡ []
 
 -- an editor with the session of these options and loads, before its first screen
-pub record IsOpened {W : Type 0} (options : PlainOptions) (loads : Loads) (e : Editor W) : Type 0 where
+pub record IsOpened {W : Type 0} (options : PlainOptions) (loads : PlainFirstLoads) (e : Editor W) : Type 0 where
   pub unshown : IsUnshown e
   pub session : plain_session e.session ≡ first_session options loads
 
@@ -78,7 +78,7 @@ moment_of e taken files laid = record {
 }
 
 -- the state that is seen at a moment: the map is claimed that the files tell
-abbrev pub state_at : Moment → State
+abbrev pub state_at : Moment → EditorState
 state_at m = record { session = m.session; files = m.files.stored }
 
 -- the last of some screens, where the first is painted over this one
@@ -90,8 +90,8 @@ last_shown shown (next ∷ rest) = last_shown next rest
 pub record AllShown (before now : Moment) (pressed : List PressedKey) : Type 0 where
   pub can_reply : HaveReplies (state_at before) pressed
   pub going : ends (state_at before) pressed ≡ false
-  pub session : now.session ≡ (after (state_at before) pressed).session
-  pub files : IsToldAs (after (state_at before) pressed).files now.files.stored
+  pub session : now.session ≡ (state_after_keys (state_at before) pressed).session
+  pub files : IsToldAs (state_after_keys (state_at before) pressed).files now.files.stored
   pub shown : now.shown ≡ last_shown before.shown (grids (state_at before) pressed)
   pub wrote : Appends before.taken now.taken (painted_over before.shown (grids (state_at before) pressed))
   pub faults : RoseBy (failures pressed) before.files.faults now.files.faults
@@ -103,8 +103,8 @@ pub record UpToLast (before now : Moment) (earlier : List PressedKey) (last : Pr
     : Type 0 where
   pub can_reply : HaveReplies (state_at before) (earlier ++ last ∷ [])
   pub going : ends (state_at before) earlier ≡ false
-  pub session : now.session ≡ (after (state_at before) (earlier ++ last ∷ [])).session
-  pub files : IsToldAs (after (state_at before) (earlier ++ last ∷ [])).files now.files.stored
+  pub session : now.session ≡ (state_after_keys (state_at before) (earlier ++ last ∷ [])).session
+  pub files : IsToldAs (state_after_keys (state_at before) (earlier ++ last ∷ [])).files now.files.stored
   pub wrote : Appends before.taken now.taken
       (take count (painted_over before.shown (grids (state_at before) (earlier ++ last ∷ []))))
   pub whole : length (painted_over before.shown (grids (state_at before) earlier)) ≤ count
@@ -142,8 +142,8 @@ pub record KeysCut (keys : List Key) (before now : Moment) : Type 0 where
 pub record KeysWanted (keys : List Key) (before now : Moment) : Type 0 where
   pub pressed : List PressedKey
   pub wanted : Key
-  pub takes : IsTrue (key_takes_memory (after (state_at before) pressed).session wanted)
-  pub counts : CountsWant (request (after (state_at before) pressed).session wanted) before.files.wants now.files.wants
+  pub takes : IsTrue (key_takes_memory (state_after_keys (state_at before) pressed).session wanted)
+  pub counts : CountsWant (request (state_after_keys (state_at before) pressed).session wanted) before.files.wants now.files.wants
   pub front : IsFront (keys_pressed pressed ++ wanted ∷ []) keys
   pub shown : AllShown before now pressed
 

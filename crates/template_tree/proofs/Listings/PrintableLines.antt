@@ -20,7 +20,7 @@ use Rattle.template_tree.specs.PlainTree.{Forest}
 use Rattle.template_tree.specs.Program.{parts_of, sort_of, AreParts, AreNodes}
 use Rattle.template_tree.specs.Section.{same_sort, left_for, left_in, left_after, next_lead}
 use Rattle.template_tree.specs.Line.{Line, line_bytes, segments_text, fixed_line, head_line, lines, listing_lines}
-use Rattle.template_tree.specs.Listing.{bytes_of, split_at_ends, ListingSplitsInLines}
+use Rattle.template_tree.specs.Listing.{bytes_of_lines, split_at_ends, ListingSplitsInLines}
 
 -- each byte can be shown
 abbrev printable : List ℕ → Bool
@@ -146,11 +146,11 @@ split_line front (byte ∷ x) rest h =
     rw (no_end byte both.0)
     (split_line (front ++ (byte ∷ [])) x rest both.1 ∙ ap (λ z. z ∷ split_at_ends [] rest) (append_assoc front (byte ∷ []) x))
 
-split_lines : (all : List Line) → IsTrue (printable_lines all) → split_at_ends [] (bytes_of all) ≡ map line_bytes all ++ ([] ∷ [])
+split_lines : (all : List Line) → IsTrue (printable_lines all) → split_at_ends [] (bytes_of_lines all) ≡ map line_bytes all ++ ([] ∷ [])
 split_lines [] h = refl
 split_lines (line ∷ all) h =
     let both = and_parts (printable line.text) (printable_lines all) h in
-    split_line [] (line_bytes line) (bytes_of all)
+    split_line [] (line_bytes line) (bytes_of_lines all)
     (printable_append (replicate (2 * line.level) 32) line.text (blanks_printable (2 * line.level)) both.0)
     ∙ ap (λ z. line_bytes line ∷ z) (split_lines all both.1)
 

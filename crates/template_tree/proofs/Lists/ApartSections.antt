@@ -4,10 +4,10 @@ use Rattle.plcs_grammar.specs.declared.node_kind.NodeKind.{NodeKind}
 use Rattle.plcs_grammar.specs.declared.node_kind.NodeKind.TheVariants.{DeclarationHole, StatementHole, ProcedureHole, Main, Assign, Filled}
 use Rattle.plcs_grammar.specs.declared.template.Template.{Template}
 use Rattle.plcs_grammar.specs.declared.template.Template.TheVariants.{Fixed, Bit, Char, If, IfElse, While, For, Group, Get, Put, PutSkip, Call, Return, Comment, Proc, ProcP}
-use Rattle.plcs_grammar.specs.Template.{block, program_sections, row_of, template_row}
+use Rattle.plcs_grammar.specs.Template.{procedure_sections, program_sections, row_of, template_row}
 use Rattle.template_tree.specs.Private.Apart.{AreApart}
 
-block_apart : AreApart block
+block_apart : AreApart procedure_sections
 block_apart = ((refl, refl), ((refl, refl), tt))
 
 template_apart : (template : Template) → AreApart (template_row template).sections

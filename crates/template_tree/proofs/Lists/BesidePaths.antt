@@ -12,18 +12,18 @@ use Rattle.template_tree.specs.PlainTree.{Forest, PlainNode, forest, nodes_fores
 use Rattle.template_tree.specs.Program.{sorts, sort_of}
 use Rattle.template_tree.specs.Section.{same_sort}
 use Rattle.template_tree.specs.ListItem.{sections_at, siblings_at, how_many}
-use Rattle.template_tree.specs.Path.{last_of, with_last}
+use Rattle.template_tree.specs.Path.{last_child_number, with_last}
 use Rattle.template_tree.specs.Private.Beside.{side_of}
 use Rattle.template_tree.specs.declared.side.Side.{Side}
 
-last_front : (front : List ℕ) (k : ℕ) → last_of (front ++ (k ∷ [])) ≡ k
+last_front : (front : List ℕ) (k : ℕ) → last_child_number (front ++ (k ∷ [])) ≡ k
 last_front [] k = refl
 last_front (a ∷ []) k = refl
 last_front (a ∷ (b ∷ front)) k = last_front (b ∷ front) k
 
 -- the last number is the last
-pub last_is : (front path : List ℕ) (k : ℕ) → path ≡ front ++ (k ∷ []) → last_of path ≡ k
-last_is front path k e = ap last_of e ∙ last_front front k
+pub last_is : (front path : List ℕ) (k : ℕ) → path ≡ front ++ (k ∷ []) → last_child_number path ≡ k
+last_is front path k e = ap last_child_number e ∙ last_front front k
 
 other_front : (other : ℕ → ℕ) (front : List ℕ) (k : ℕ) → with_last other (front ++ (k ∷ [])) ≡ front ++ (other k ∷ [])
 other_front other [] k = refl
@@ -90,14 +90,14 @@ pub next_counts : (sort : Sort) (items : List PlainNode) (k : ℕ) (node : Plain
 next_counts sort items k node within is = rw (add-one k, drop-cons items k node within, ← is) refl
 
 -- on which side of the item that is left a node stood
-pub side_first : (front path : List ℕ) (k : ℕ) → path ≡ front ++ (k ∷ []) → k ≡ 0 → Side.Before ≡ side_of (last_of path)
+pub side_first : (front path : List ℕ) (k : ℕ) → path ≡ front ++ (k ∷ []) → k ≡ 0 → Side.Before ≡ side_of (last_child_number path)
 side_first front path k e zero_is = sym (ap side_of (last_is front path k e ∙ zero_is))
 
 side_suc : (k : ℕ) → (k ≡ 0 → ⊥) → Side.After ≡ side_of k
 side_suc zero other = absurd (other refl)
 side_suc (suc k) other = refl
 
-pub side_later : (front path : List ℕ) (k : ℕ) → path ≡ front ++ (k ∷ []) → (k ≡ 0 → ⊥) → Side.After ≡ side_of (last_of path)
+pub side_later : (front path : List ℕ) (k : ℕ) → path ≡ front ++ (k ∷ []) → (k ≡ 0 → ⊥) → Side.After ≡ side_of (last_child_number path)
 side_later front path k e other = side_suc k other ∙ sym (ap side_of (last_is front path k e))
 
 bit_at_most : (b : Bool) → (if b then 1 else 0) ≤ 1

@@ -10,7 +10,7 @@ use Rattle.template_tree.specs.Section.{same_sort}
 use Rattle.template_tree.specs.Program.{AreItems, Fill}
 use Rattle.template_tree.specs.Edit.{hole_of}
 use Rattle.template_tree.specs.ListItem.{is_list, is_listed, how_many}
-use Rattle.template_tree.specs.Private.Apart.{has_sort, IsApart, AreApart}
+use Rattle.template_tree.specs.Private.Apart.{sections_have_sort, IsApart, AreApart}
 
 -- sorts that are found to be one are one
 pub same_is : (one other : Sort) → same_sort one other ≡ true → one ≡ other
@@ -165,11 +165,11 @@ or_false true b e = absurd (false≢true (sym e))
 or_false false b e = (refl, e)
 
 -- where no section holds items of the sort, there are none
-pub absent : (sort : Sort) (sections : List PlainSection) (items : List Sort) → has_sort sort sections ≡ false → Fill sections items
+pub absent : (sort : Sort) (sections : List PlainSection) (items : List Sort) → sections_have_sort sort sections ≡ false → Fill sections items
     → how_many sort items ≡ 0
 absent sort [] items none fill = ap (how_many sort) fill
 absent sort (section ∷ sections) items none fill =
-    let apart = or_false (same_sort section.sort sort) (has_sort sort sections) none in
+    let apart = or_false (same_sort section.sort sort) (sections_have_sort sort sections) none in
     let own = own_of section.amount section.sort fill.0 fill.3 in
     omega (
       arith,
@@ -190,7 +190,7 @@ passed false one other e h = h
 
 -- a list has items of a sort, one or more, with no section behind it that holds such
 many_apart : (amount : Amount) (sort : Sort) (sections : List PlainSection) → is_list amount ≡ true → IsApart amount sort sections
-    → (amount ≡ Amount.Many) × (is_some (hole_of sort) ≡ true) × (has_sort sort sections ≡ false)
+    → (amount ≡ Amount.Many) × (is_some (hole_of sort) ≡ true) × (sections_have_sort sort sections ≡ false)
 many_apart Amount.One sort sections list apart = absurd (false≢true list)
 many_apart Amount.Many sort sections list apart = (refl, apart.0, apart.1)
 
@@ -211,7 +211,7 @@ listed_hole sort (section ∷ sections) apart listed =
     hole_by (same_sort section.sort sort) sort section sections refl apart listed (λ h. listed_hole sort sections apart.1 h)
 
 -- an item among the others is no item of this list's sort
-not_behind : (sort : Sort) (sections : List PlainSection) (others : List Sort) (place : ℕ) → has_sort sort sections ≡ false → Fill sections others
+not_behind : (sort : Sort) (sections : List PlainSection) (others : List Sort) (place : ℕ) → sections_have_sort sort sections ≡ false → Fill sections others
     → slice_get others place ≡ Some sort → ⊥
 not_behind sort sections others place none fill there = absurd (omega (arith, absent sort sections others none fill, counts sort others place there))
 
@@ -239,7 +239,7 @@ doubled_in false sort section sections own others k e apart listed there are fil
 doubled_in true sort section sections own others k e apart listed there are fill law (inr a) =
     let many = many_apart section.amount section.sort sections
     (chosen (same_sort section.sort sort) (is_list section.amount) (is_listed sort sections) e listed) apart.0 in
-    absurd (not_behind sort sections others a.place (subst (λ s. has_sort s sections ≡ false) (same_is section.sort sort e) many.2) fill (sym a.there ∙ there))
+    absurd (not_behind sort sections others a.place (subst (λ s. sections_have_sort s sections ≡ false) (same_is section.sort sort e) many.2) fill (sym a.there ∙ there))
 doubled_in false sort section sections own others k e apart listed there are fill law (inr a) = (
   own,
   doubled a.place others,
@@ -267,7 +267,7 @@ without_in true sort section sections own others k e apart listed there two are 
     let many = many_apart section.amount section.sort sections
     (chosen (same_sort section.sort sort) (is_list section.amount) (is_listed sort sections) e listed) apart.0 in
     let o = own_of section.amount section.sort own are in
-    let none : has_sort sort sections ≡ false = subst (λ s. has_sort s sections ≡ false) (same_is section.sort sort e) many.2 in (
+    let none : sections_have_sort sort sections ≡ false = subst (λ s. sections_have_sort s sections ≡ false) (same_is section.sort sort e) many.2 in (
       without k own,
       others,
       a.without_is,
@@ -284,7 +284,7 @@ without_in false sort section sections own others k e apart listed there two are
 without_in true sort section sections own others k e apart listed there two are fill law (inr a) =
     let many = many_apart section.amount section.sort sections
     (chosen (same_sort section.sort sort) (is_list section.amount) (is_listed sort sections) e listed) apart.0 in
-    absurd (not_behind sort sections others a.place (subst (λ s. has_sort s sections ≡ false) (same_is section.sort sort e) many.2) fill (sym a.there ∙ there))
+    absurd (not_behind sort sections others a.place (subst (λ s. sections_have_sort s sections ≡ false) (same_is section.sort sort e) many.2) fill (sym a.there ∙ there))
 without_in false sort section sections own others k e apart listed there two are fill law (inr a) =
     let o = own_of section.amount section.sort own are in (
       own,

@@ -6,7 +6,7 @@ use Rattle.std.proofs.Common.{ap, sym, ◌∙◌, arith}
 use Rattle.std.proofs.lemmas.Option.{none-some}
 use Rattle.template_tree.specs.declared.side.Side.{Side}
 use Rattle.template_tree.specs.PlainTree.{Label, Forest, PlainNode, PlainNodes, forest, nodes_forest, roomless, roomless_node}
-use Rattle.template_tree.specs.Lend.{with_item, without_item}
+use Rattle.template_tree.specs.Lend.{with_node_set, with_node_removed}
 use Rattle.template_tree.specs.Path.{node_at}
 use Rattle.template_tree.specs.Edit.{edit_at}
 use Rattle.template_tree.specs.Receipt.{list_room, with_beside}
@@ -90,7 +90,7 @@ item_there items k (j ∷ path) e = absurd (omega (arith, e))
 
 -- the list from which it was taken
 taken_from : (o : Option PlainNode) (list new : PlainNodes) (k : ℕ) → o ≡ slice_get list.items k
-    → IfSome o (λ _. new ≡ without_item list k) → IfNone o (new ≡ list)
+    → IfSome o (λ _. new ≡ with_node_removed list k) → IfNone o (new ≡ list)
     → roomless (forest new.items) ≡ edit_at (λ _. []) (k ∷ []) (roomless (forest list.items))
 taken_from None list new k e some none =
     ap (λ (l : PlainNodes). roomless (forest l.items)) none ∙ no_item (λ _. []) list.items k [] (sym e)
@@ -98,18 +98,18 @@ taken_from (Some node) list new k e some none =
     ap (λ (l : PlainNodes). roomless (forest l.items)) some ∙ removed list.items k node (sym e)
 
 pub taken_here : (o : Option PlainNode) (list new : PlainNodes) (k : ℕ) (path : List ℕ) → length path ≡ 0 → o ≡ slice_get list.items k
-    → IfSome o (λ _. new ≡ without_item list k) → IfNone o (new ≡ list)
+    → IfSome o (λ _. new ≡ with_node_removed list k) → IfNone o (new ≡ list)
     → roomless (forest new.items) ≡ edit_at (λ _. []) (k ∷ path) (roomless (forest list.items))
 taken_here o list new k [] empty e some none = taken_from o list new k e some none
 taken_here o list new k (j ∷ path) empty e some none = absurd (omega (arith, empty))
 
 -- it has room
-has_room : (o : Option PlainNode) (list new : PlainNodes) (k : ℕ) → IfSome o (λ _. new ≡ without_item list k) → IfSome o (λ _. 0 < new.spare)
+has_room : (o : Option PlainNode) (list new : PlainNodes) (k : ℕ) → IfSome o (λ _. new ≡ with_node_removed list k) → IfSome o (λ _. 0 < new.spare)
 has_room None list new k some = tt
 has_room (Some node) list new k some = omega (arith, ap (λ (l : PlainNodes). l.spare) some)
 
 pub room_here : (o : Option PlainNode) (list new : PlainNodes) (k : ℕ) (path : List ℕ) → length path ≡ 0
-    → IfSome o (λ _. new ≡ without_item list k) → IfSome o (λ _. 0 < list_room new.spare (forest new.items) (k ∷ path))
+    → IfSome o (λ _. new ≡ with_node_removed list k) → IfSome o (λ _. 0 < list_room new.spare (forest new.items) (k ∷ path))
 room_here o list new k [] empty some = has_room o list new k some
 room_here o list new k (j ∷ path) empty some = absurd (omega (arith, empty))
 
@@ -131,7 +131,7 @@ set_same (item ∷ items) (suc k) node new e same = ap (λ rest. item ∷ rest) 
 pub list_same : (list : PlainNodes) (k : ℕ) (label : Label) (before after : PlainNodes) (node : PlainNode)
     → slice_get list.items k ≡ Some node
     → node ≡ record { label = record label { spare = before.spare }; inner = forest before.items } → after ≡ before
-    → with_item list k record { label = record label { spare = after.spare }; inner = forest after.items } ≡ list
+    → with_node_set list k record { label = record label { spare = after.spare }; inner = forest after.items } ≡ list
 list_same list k label before after node e node_is same =
     let new : PlainNode = record { label = record label { spare = after.spare }; inner = forest after.items } in
     let back : new ≡ node =
@@ -144,7 +144,7 @@ list_same list k label before after node e node_is same =
 pub none_same : {A : Type 0} (o : Option A) (list : PlainNodes) (k : ℕ) (label : Label) (before after : PlainNodes) (node : PlainNode)
     → slice_get list.items k ≡ Some node
     → node ≡ record { label = record label { spare = before.spare }; inner = forest before.items } → IfNone o (after ≡ before)
-    → IfNone o (with_item list k record { label = record label { spare = after.spare }; inner = forest after.items } ≡ list)
+    → IfNone o (with_node_set list k record { label = record label { spare = after.spare }; inner = forest after.items } ≡ list)
 none_same None list k label before after node e node_is same = list_same list k label before after node e node_is same
 none_same (Some a) list k label before after node e node_is same = tt
 
@@ -196,6 +196,6 @@ level_ok (Err b) change items k j path rest node new way e same h = tt
 pub err_same : {A B : Type 0} (o : Result A B) (list : PlainNodes) (k : ℕ) (label : Label) (before after : PlainNodes) (node : PlainNode)
     → slice_get list.items k ≡ Some node
     → node ≡ record { label = record label { spare = before.spare }; inner = forest before.items } → IfErr o (λ _. after ≡ before)
-    → IfErr o (λ _. with_item list k record { label = record label { spare = after.spare }; inner = forest after.items } ≡ list)
+    → IfErr o (λ _. with_node_set list k record { label = record label { spare = after.spare }; inner = forest after.items } ≡ list)
 err_same (Ok a) list k label before after node e node_is same = tt
 err_same (Err b) list k label before after node e node_is same = list_same list k label before after node e node_is same

@@ -12,14 +12,14 @@ use Rattle.template_tree.specs.declared.change.Change.{Change}
 use Rattle.template_tree.specs.declared.change.What.{What}
 use Rattle.template_tree.specs.PlainTree.{Forest, PlainNode, PlainTree, nodes, roomless, roomless_node, roomless_tree}
 use Rattle.template_tree.specs.Program.{sorts, sort_of}
-use Rattle.template_tree.specs.Path.{added_path, last_of, node_at, with_last}
+use Rattle.template_tree.specs.Path.{added_path, last_child_number, node_at, with_last}
 use Rattle.template_tree.specs.Slots.{count, depth, times}
 use Rattle.template_tree.specs.Limit.{most_slots, most_drawn_slots}
 use Rattle.template_tree.specs.Tree.{IsTree}
 use Rattle.template_tree.specs.Edit.{Add, Drop, Differs, DifferBy, changed_in, edit_at, edit_below, edit_slot, give_way, hole_of, lone, procedure_of}
 use Rattle.template_tree.specs.TreeEdit.{TreeEdit}
 use Rattle.template_tree.specs.Receipt.{PlainUndoing, PlainReceipt, list_room, undone, with_beside}
-use Rattle.template_tree.specs.EditAnswer.{IsEdit, IsListItem, IsOver, IsSpareHole, IsWithin}
+use Rattle.template_tree.specs.EditAnswer.{IsEdit, IsListItem, IsOverTreeLimit, IsSpareHole, IsWithin}
 use Rattle.template_tree.specs.ListItem.{siblings_at}
 use Rattle.template_tree.specs.Private.Exchange.{MeetsLimit, first_item}
 use Rattle.template_tree.specs.Private.Beside.{side_of}
@@ -110,7 +110,7 @@ put_first hole items (suc k) e two = behind hole items k e
 
 -- so a node that left is put back
 put_again : (hole : PlainNode) (items : Forest) (path : List ℕ) → node_at items path ≡ Some hole → 2 ≤ length (nodes (siblings_at items path))
-    → edit_at (with_beside (side_of (last_of path)) hole) (with_last pred path) (edit_at (λ _. []) path items) ≡ items
+    → edit_at (with_beside (side_of (last_child_number path)) hole) (with_last pred path) (edit_at (λ _. []) path items) ≡ items
 put_again hole items [] e two = absurd (none-some hole e)
 put_again hole items (k ∷ []) e two = put_first hole items k (sibling_there items (k ∷ []) hole e) two
 put_again hole Forest.nil (k ∷ (j ∷ path)) e two = absurd (none-some hole e)
@@ -158,7 +158,7 @@ first_there (Forest.cons label inner rest) (zero ∷ path) node slot e told = ap
 first_there (Forest.cons label inner rest) (suc k ∷ path) node slot e told = first_there rest (k ∷ path) node slot e told
 
 -- a last number is below the number of nodes
-pub last_small : (items : Forest) (path : List ℕ) (node : PlainNode) → node_at items path ≡ Some node → last_of path < count items
+pub last_small : (items : Forest) (path : List ℕ) (node : PlainNode) → node_at items path ≡ Some node → last_child_number path < count items
 last_small items [] node e = absurd (none-some node e)
 last_small Forest.nil (k ∷ path) node e = absurd (none-some node e)
 last_small (Forest.cons label inner rest) (zero ∷ []) node e = omega arith
@@ -192,13 +192,13 @@ pub drop_edit : (tree : PlainTree) (path : List ℕ) (node : PlainNode) (after :
     record {
       change = change;
       path = with_last pred path;
-      undoing = PlainUndoing.put_in (side_of (last_of path)) (roomless_node node);
+      undoing = PlainUndoing.put_in (side_of (last_child_number path)) (roomless_node node);
       drawn = tree.drawn;
       live = tree.live;
     }
     None
 drop_edit tree path node after change t there spare others drawn_is live_is room says =
-    let side = side_of (last_of path) in
+    let side = side_of (last_child_number path) in
     let left : Forest = edit_at (λ _. []) path tree.items in
     let receipt : PlainReceipt =
     record { change = change; path = with_last pred path; undoing = PlainUndoing.put_in side (roomless_node node); drawn = tree.drawn; live = tree.live }
@@ -317,7 +317,7 @@ add_depth tree path node side kind t there hole =
 -- the first limit that is met is the one that the tree would be over
 pub add_over : (fault : TreeFault) (tree : PlainTree) (path : List ℕ) (node : PlainNode) (side : Side) (kind : NodeKind) → IsTree tree
     → node_at tree.items path ≡ Some node → hole_of (sort_of node.label.kind) ≡ Some kind
-    → MeetsLimit true (tree.live + 1) (tree.drawn + 1) fault → IsOver fault (Add tree node.label.slot side)
+    → MeetsLimit true (tree.live + 1) (tree.drawn + 1) fault → IsOverTreeLimit fault (Add tree node.label.slot side)
 add_over TreeFault.NotHere tree path node side kind t there hole meets = meets
 add_over TreeFault.TooDeep tree path node side kind t there hole meets = absurd (false≢true (sym meets))
 add_over TreeFault.TooLarge tree path node side kind t there hole meets = (

@@ -11,7 +11,7 @@ use Rattle.template_tree.specs.declared.side.Side.{Side}
 use Rattle.template_tree.specs.PlainTree.{Forest, PlainNode, PlainTree, nodes, forest}
 use Rattle.template_tree.specs.Program.{sorts, sort_of, Fill, AreNodes, IsProgram, IsSubtree}
 use Rattle.template_tree.specs.Slots.{count, depth, times, AllBelow}
-use Rattle.template_tree.specs.Path.{below, last_of, node_at}
+use Rattle.template_tree.specs.Path.{below, last_child_number, node_at}
 use Rattle.template_tree.specs.Limit.{most_slots, most_drawn_slots}
 use Rattle.template_tree.specs.Tree.{IsTree}
 use Rattle.template_tree.specs.Edit.{Add, Drop, is_hole, edit_at, give_way, hole_list, hole_of, lone, with_hole}
@@ -134,7 +134,7 @@ abbrev pub KeepsAt : (PlainNode → List PlainNode) → List PlainSection → Fo
 KeepsAt change sections items path =
     AreApart (sections_at sections items path) → Fill (sections_at sections items path) (sorts (siblings_at items path))
     → AreNodes (siblings_at items path)
-    → KeepsList change (sections_at sections items path) (siblings_at items path) (last_of path)
+    → KeepsList change (sections_at sections items path) (siblings_at items path) (last_child_number path)
 
 carried : (change : PlainNode → List PlainNode) (k : ℕ) {one other : List PlainSection} {before after : Forest} → one ≡ other → before ≡ after
     → (AreApart one → Fill one (sorts before) → AreNodes before → KeepsList change one before k)
@@ -157,7 +157,7 @@ below_item change sections items k j path node there keeps =
     let siblings_are : siblings_at items (k ∷ (j ∷ path)) ≡ siblings_at node.inner (j ∷ path) =
     ap (λ o. option_map_or (λ (n : PlainNode). siblings_at n.inner (j ∷ path)) o Forest.nil) there
     in
-    carried change (last_of (j ∷ path)) sections_are siblings_are keeps
+    carried change (last_child_number (j ∷ path)) sections_are siblings_are keeps
 
 -- so it keeps the nodes
 pub kept : (change : PlainNode → List PlainNode) (sections : List PlainSection) (items : Forest) (k : ℕ) (path : List ℕ)
@@ -174,7 +174,7 @@ kept change sections items k (j ∷ path) apart fill sound keeps =
 
 -- the node at a path stands among its siblings
 pub sibling_there : (items : Forest) (path : List ℕ) (node : PlainNode) → node_at items path ≡ Some node
-    → slice_get (nodes (siblings_at items path)) (last_of path) ≡ Some node
+    → slice_get (nodes (siblings_at items path)) (last_child_number path) ≡ Some node
 sibling_there items [] node e = absurd (none-some node e)
 sibling_there items (k ∷ []) node e =
     let g = got (slice_get (nodes items) k) [] node e in g.1 ∙ g.2
@@ -183,7 +183,7 @@ sibling_there items (k ∷ (j ∷ path)) node e =
     let siblings_are : siblings_at items (k ∷ (j ∷ path)) ≡ siblings_at g.0.inner (j ∷ path) =
     ap (λ o. option_map_or (λ (n : PlainNode). siblings_at n.inner (j ∷ path)) o Forest.nil) g.1
     in
-    ap (λ f. slice_get (nodes f) (last_of (j ∷ path))) siblings_are ∙ sibling_there g.0.inner (j ∷ path) node g.2
+    ap (λ f. slice_get (nodes f) (last_child_number (j ∷ path))) siblings_are ∙ sibling_there g.0.inner (j ∷ path) node g.2
 
 -- the sections in which a node stands
 item_apart : (o : Option PlainNode) (path : List ℕ) → ((node : PlainNode) → AreApart (sections_at (row_of node.label.kind).sections node.inner path))
@@ -299,7 +299,7 @@ added_program tree [] node side kind t there listed hole = absurd (none-some nod
 added_program tree (k ∷ path) node side kind t there listed hole =
     let h = kept (with_beside side (lone tree.drawn kind)) program_sections tree.items k path program_apart t.program.listed t.program.sound
     (beside_keeps side (lone tree.drawn kind) (sections_at program_sections tree.items (k ∷ path)) (siblings_at tree.items (k ∷ path))
-    (last_of (k ∷ path)) node (sibling_there tree.items (k ∷ path) node there) (hole_sort (sort_of node.label.kind) kind hole)
+    (last_child_number (k ∷ path)) node (sibling_there tree.items (k ∷ path) node there) (hole_sort (sort_of node.label.kind) kind hole)
     (hole_subtree tree.drawn (sort_of node.label.kind) kind hole) listed)
     in record { listed = h.0; sound = h.1 }
 
@@ -309,7 +309,7 @@ left_program : (tree : PlainTree) (path : List ℕ) (node : PlainNode) → IsTre
 left_program tree [] node t there spare = absurd (none-some node there)
 left_program tree (k ∷ path) node t there spare =
     let h = kept (λ _. []) program_sections tree.items k path program_apart t.program.listed t.program.sound
-    (left_keeps (sections_at program_sections tree.items (k ∷ path)) (siblings_at tree.items (k ∷ path)) (last_of (k ∷ path)) node
+    (left_keeps (sections_at program_sections tree.items (k ∷ path)) (siblings_at tree.items (k ∷ path)) (last_child_number (k ∷ path)) node
     (sibling_there tree.items (k ∷ path) node there) spare.listed spare.others)
     in record { listed = h.0; sound = h.1 }
 

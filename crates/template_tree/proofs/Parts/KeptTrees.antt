@@ -10,14 +10,14 @@ use Rattle.plcs_grammar.specs.declared.template.Template.TheVariants.{Comment}
 use Rattle.plcs_grammar.specs.PlainPhrase.{PlainPhrase}
 use Rattle.plcs_grammar.specs.Template.{row_of, program_sections}
 use Rattle.template_tree.specs.PlainTree.{Label, Forest, PlainNode, PlainTree}
-use Rattle.template_tree.specs.Program.{sorts, sort_of, parts_of, Fill, AreParts, IsNode, IsPhrase, AreNodes, IsSubtree}
-use Rattle.template_tree.specs.Part.{Takes, IsPlace, part_category, with_part}
+use Rattle.template_tree.specs.Program.{sorts, sort_of, parts_of, Fill, AreParts, IsNode, IsPartPhrase, AreNodes, IsSubtree}
+use Rattle.template_tree.specs.Part.{Takes, IsPhrasePlace, part_category, with_part}
 use Rattle.template_tree.specs.Slots.{count, depth, times, AllBelow}
 use Rattle.template_tree.specs.Path.{node_at}
 use Rattle.template_tree.specs.Tree.{IsTree}
 use Rattle.template_tree.specs.Edit.{edit_at, Part, edit_slot, with_items}
 use Rattle.template_tree.specs.TreeLend.{with_node}
-use Rattle.template_tree.specs.Elision.{is_comment, turn}
+use Rattle.template_tree.specs.Elision.{is_comment, toggled}
 use Rattle.template_tree.proofs.Edits.SameEdits.{taken, edits_alike}
 use Rattle.template_tree.proofs.Edits.SlotEdits.{slot_edit_is_path_edit}
 use Rattle.template_tree.proofs.Trees.Subtrees.{subtree_at}
@@ -125,16 +125,16 @@ kept_items tree items t a = (
 
 -- parts of which one is set to what it takes
 parts_set : (categories : List Category) (parts : List (Option PlainPhrase)) (k : ℕ) (place : Option PlainPhrase) → AreParts categories parts
-    → Takes (slice_get categories k) place → IsPlace place → AreParts categories (slice_set parts k place)
+    → Takes (slice_get categories k) place → IsPhrasePlace place → AreParts categories (slice_set parts k place)
 parts_set [] parts k place h t p = absurd t
 parts_set (category ∷ categories) [] k place h t p = absurd h
 parts_set (category ∷ categories) (part ∷ parts) zero None h t p = (t, h.1)
-parts_set (category ∷ categories) (part ∷ parts) zero (Some phrase) h t p = (subst (λ c. IsPhrase c phrase) t p, h.1)
+parts_set (category ∷ categories) (part ∷ parts) zero (Some phrase) h t p = (subst (λ c. IsPartPhrase c phrase) t p, h.1)
 parts_set (category ∷ categories) (part ∷ parts) (suc k) place h t p = (h.0, parts_set categories parts k place h.1 t p)
 
 -- a node of which a part is set
 pub part_relabels : (node : PlainNode) (part : ℕ) (place : Option PlainPhrase) → IsSubtree node
-    → Takes (part_category node.label.kind part) place → IsPlace place → Relabels node (with_part part place node)
+    → Takes (part_category node.label.kind part) place → IsPhrasePlace place → Relabels node (with_part part place node)
 part_relabels node part place sound takes place_is =
     record {
       slot = refl;
@@ -170,12 +170,12 @@ turned_if true node e sound =
     }
 turned_if false node e sound = record { slot = refl; kind = refl; inner = refl; sound = sound.0 }
 
-pub turned_relabels : (node new : PlainNode) → IsSubtree node → turn node ≡ new ∷ [] → Relabels node new
+pub turned_relabels : (node new : PlainNode) → IsSubtree node → toggled node ≡ new ∷ [] → Relabels node new
 turned_relabels node new sound e = subst (Relabels node) (ap (first node) e) (turned_if (is_comment node.label.kind) node refl sound)
 
 -- a tree of which a part of the node in a slot is set
 pub part_keeps_tree : (tree : PlainTree) (path : List ℕ) (node : PlainNode) (part : ℕ) (place : Option PlainPhrase) → IsTree tree
-    → node_at tree.items path ≡ Some node → Takes (part_category node.label.kind part) place → IsPlace place
+    → node_at tree.items path ≡ Some node → Takes (part_category node.label.kind part) place → IsPhrasePlace place
     → IsTree (Part tree node.label.slot part place) × ((Part tree node.label.slot part place).live ≡ tree.live)
 part_keeps_tree tree path node part place t there takes place_is =
     let change : PlainNode → List PlainNode = λ n. with_part part place n ∷ [] in

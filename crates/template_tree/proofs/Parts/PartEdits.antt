@@ -8,7 +8,7 @@ use Rattle.plcs_grammar.specs.PlainPhrase.{PlainPhrase}
 use Rattle.plcs_grammar.specs.Template.{row_of}
 use Rattle.template_tree.specs.declared.change.What.{What}
 use Rattle.template_tree.specs.PlainTree.{Forest, PlainNode, PlainTree, roomless, roomless_tree}
-use Rattle.template_tree.specs.Part.{IsPlace, Takes, part_category, with_part}
+use Rattle.template_tree.specs.Part.{IsPhrasePlace, Takes, part_category, with_part}
 use Rattle.template_tree.specs.Program.{parts_of}
 use Rattle.template_tree.specs.Stop.{part_stops}
 use Rattle.template_tree.specs.Path.{node_at}
@@ -50,7 +50,7 @@ with_node_same tree path node e =
 
 -- the tree with the node whose part was set is the tree with that part set in its slot
 pub part_is : (tree : PlainTree) (path : List ℕ) (node : PlainNode) (part : ℕ) (place : Option PlainPhrase) → IsTree tree
-    → node_at tree.items path ≡ Some node → Takes (part_category node.label.kind part) place → IsPlace place
+    → node_at tree.items path ≡ Some node → Takes (part_category node.label.kind part) place → IsPhrasePlace place
     → with_node tree path (with_part part place node) ≡ Part tree node.label.slot part place
 part_is tree path node part place t there takes place_is =
     let change : PlainNode → List PlainNode = λ n. with_part part place n ∷ [] in
@@ -73,7 +73,7 @@ part_stop (NodeKind.Filled template) part place another takes = takes_there (par
 -- the whole of it
 pub part_edit : (tree : PlainTree) (path : List ℕ) (node : PlainNode) (part : ℕ) (place old : Option PlainPhrase) (after : PlainTree)
     (slot procedure : Slot) (receipt : PlainReceipt) → IsTree tree → node_at tree.items path ≡ Some node
-    → Takes (part_category node.label.kind part) place → IsPlace place → slice_get node.label.parts part ≡ Some old
+    → Takes (part_category node.label.kind part) place → IsPhrasePlace place → slice_get node.label.parts part ≡ Some old
     → after ≡ with_node tree path (with_part part place node) → slot.0 ≡ node.label.slot
     → IfSome (first_item tree.items path) (λ item. procedure.0 ≡ item.label.slot)
     → receipt

@@ -8,7 +8,7 @@ use Rattle.plcs_grammar.specs.PlainPhrase.{PlainPhrase}
 use Rattle.template_tree.specs.Program.{AreParts}
 use Rattle.plcs_grammar.specs.Template.{row_of}
 use Rattle.template_tree.specs.declared.phrase_place.PhrasePlace.{PhrasePlace}
-use Rattle.template_tree.specs.PlainPlace.{plain_place}
+use Rattle.template_tree.specs.PlainPhrasePlace.{plain_phrase_place}
 use Rattle.template_tree.specs.PlainTree.{PlainNode}
 use Rattle.template_tree.specs.Program.{parts_of}
 use Rattle.template_tree.specs.Part.{Takes, part_category}
@@ -36,11 +36,11 @@ takes_in_node node part place parts takes =
 
 -- what is read of a part in memory
 pub part_read : (parts : List PhrasePlace) (part : ℕ) (there : PhrasePlace) → part < length parts → there ≡ get_or parts part there
-    → slice_get (map plain_place parts) part ≡ Some (plain_place there)
+    → slice_get (map plain_phrase_place parts) part ≡ Some (plain_phrase_place there)
 part_read parts part there within is =
-    slice_get-map plain_place parts part ∙ ap (option_map plain_place) (slice_get_read parts (length parts) part there refl within is)
+    slice_get-map plain_phrase_place parts part ∙ ap (option_map plain_phrase_place) (slice_get_read parts (length parts) part there refl within is)
 
 -- what is written to one
 pub part_written : (parts : List PhrasePlace) (part : ℕ) (new place : PhrasePlace) → new ≡ place
-    → map plain_place (slice_set parts part new) ≡ slice_set (map plain_place parts) part (plain_place place)
-part_written parts part new place same = map-set plain_place parts part new ∙ ap (λ p. slice_set (map plain_place parts) part (plain_place p)) same
+    → map plain_phrase_place (slice_set parts part new) ≡ slice_set (map plain_phrase_place parts) part (plain_phrase_place place)
+part_written parts part new place same = map-set plain_phrase_place parts part new ∙ ap (λ p. slice_set (map plain_phrase_place parts) part (plain_phrase_place p)) same

@@ -7,9 +7,9 @@ use Rattle.plcs_grammar.specs.declared.node_kind.NodeKind.{NodeKind}
 use Rattle.plcs_grammar.specs.declared.node_kind.Sort.{Sort}
 use Rattle.plcs_grammar.specs.PlainPhrase.{PlainPhrase, category_of}
 use Rattle.template_tree.specs.PlainTree.{PlainNode, PlainTree, roomless_node}
-use Rattle.template_tree.specs.Part.{IsPlace}
+use Rattle.template_tree.specs.Part.{IsPhrasePlace}
 use Rattle.template_tree.specs.Path.{node_at}
-use Rattle.template_tree.specs.Program.{IsPhrase, IsSubtree, sort_of}
+use Rattle.template_tree.specs.Program.{IsPartPhrase, IsSubtree, sort_of}
 use Rattle.template_tree.specs.Tree.{IsTree}
 use Rattle.template_tree.specs.Edit.{Put}
 use Rattle.template_tree.specs.FreshNode.{assignment_node}
@@ -21,9 +21,9 @@ use Rattle.template_tree.proofs.Puts.Holes.{subtree_with_room}
 use Rattle.template_tree.proofs.Puts.Refusals.{within_like}
 
 -- an assignment is a part of a program
-pub assignment_subtree : (phrase : PlainPhrase) → IsPlace (Some phrase) → category_of phrase ≡ Category.Assignment → IsSubtree (assignment_node phrase)
+pub assignment_subtree : (phrase : PlainPhrase) → IsPhrasePlace (Some phrase) → category_of phrase ≡ Category.Assignment → IsSubtree (assignment_node phrase)
 assignment_subtree phrase place is =
-    (record { parts = (subst (λ c. IsPhrase c phrase) is place, tt); inner = refl; elision = λ e. absurd (false≢true e) }, tt)
+    (record { parts = (subst (λ c. IsPartPhrase c phrase) is place, tt); inner = refl; elision = λ e. absurd (false≢true e) }, tt)
 
 -- what becomes an assignment is a statement
 statement : (kind : NodeKind) → (kind ≡ NodeKind.StatementHole) ⊎ (kind ≡ NodeKind.Assign) → sort_of kind ≡ Sort.Statement
@@ -39,7 +39,7 @@ assignment_within tree path there phrase t at =
 
 -- so it may come, whatever room it has
 pub assignment_may_replace : (tree : PlainTree) (path : List ℕ) (there node : PlainNode) (phrase : PlainPhrase) → IsTree tree
-    → node_at tree.items path ≡ Some there → TakesAssignment phrase there → IsPlace (Some phrase) → roomless_node node ≡ assignment_node phrase
+    → node_at tree.items path ≡ Some there → TakesAssignment phrase there → IsPhrasePlace (Some phrase) → roomless_node node ≡ assignment_node phrase
     → MayReplace tree node there
 assignment_may_replace tree path there node phrase t at takes place same =
     record {

@@ -8,7 +8,7 @@ use Rattle.template_tree.specs.Path.{node_at}
 use Rattle.template_tree.specs.Slots.{count, depth}
 use Rattle.template_tree.specs.Tree.{IsTree}
 use Rattle.template_tree.specs.Edit.{Put, whole}
-use Rattle.template_tree.specs.EditAnswer.{IsWithin, IsOver}
+use Rattle.template_tree.specs.EditAnswer.{IsWithin, IsOverTreeLimit}
 use Rattle.template_tree.specs.Private.Exchange.{MeetsLimit}
 use Rattle.template_tree.proofs.Trees.DrawnSlots.{depth_numbered}
 use Rattle.template_tree.proofs.Edits.EditedNodes.{deep_enough, no_deeper, edit_same}
@@ -65,7 +65,7 @@ pub put_over : (tree : PlainTree) (path : List ℕ) (old new : PlainNode) (shall
     → IsTree tree → node_at tree.items path ≡ Some old → count old.inner ≡ 0
     → (shallow ≡ true → length path + depth new.inner ≤ deepest_path) → (shallow ≡ false → deepest_path < length path + depth new.inner)
     → slots ≤ count new.inner → (slots ≤ most_slots → count new.inner ≡ slots)
-    → MeetsLimit shallow (tree.live + slots) (tree.drawn + slots) fault → IsOver fault (Put tree old.label.slot new)
+    → MeetsLimit shallow (tree.live + slots) (tree.drawn + slots) fault → IsOverTreeLimit fault (Put tree old.label.slot new)
 put_over tree path old new shallow slots TreeFault.NotHere t there empty shallow_is deep_is fewer exact meets = absurd meets
 put_over tree path old new shallow slots TreeFault.TooDeep t there empty shallow_is deep_is fewer exact meets =
     omega (arith, deep_is meets, put_deep tree path old new t there)

@@ -13,7 +13,7 @@ use Rattle.template_tree.specs.Tree.{IsTree}
 use Rattle.template_tree.specs.Edit.{Put}
 use Rattle.template_tree.specs.Private.Exchange.{MayReplace, MeetsLimit}
 use Rattle.template_tree.specs.TreeEdit.{TreeEdit, tree_after}
-use Rattle.template_tree.specs.EditAnswer.{IsHoleFor, IsOver, IsWithin, Refuses}
+use Rattle.template_tree.specs.EditAnswer.{IsHoleFor, IsOverTreeLimit, IsWithin, Refuses}
 use Rattle.template_tree.proofs.Puts.PutEdits.{at_there}
 use Rattle.template_tree.proofs.Puts.PutLimits.{put_over, put_under}
 use Rattle.template_tree.proofs.Puts.Holes.{hole_empty, hole_sort}
@@ -23,16 +23,16 @@ use Rattle.template_tree.proofs.Trees.Subtrees.{subtree_at}
 
 -- the node is what it has to be, and the tree after would be over a limit
 pub refused_by : (fault : TreeFault) (edit : TreeEdit) (there : Option PlainNode) (Here : PlainNode → Type 0) (before : PlainTree) (node : PlainNode)
-    → there ≡ Some node → Here node → IsOver fault (tree_after edit before node.label.slot) → Refuses edit there Here before fault
+    → there ≡ Some node → Here node → IsOverTreeLimit fault (tree_after edit before node.label.slot) → Refuses edit there Here before fault
 refused_by TreeFault.NotHere edit there Here before node at here over = absurd over
 refused_by TreeFault.TooDeep edit there Here before node at here over =
-    at_there there (λ n. Here n × IsOver TreeFault.TooDeep (tree_after edit before n.label.slot)) node at (here, over)
+    at_there there (λ n. Here n × IsOverTreeLimit TreeFault.TooDeep (tree_after edit before n.label.slot)) node at (here, over)
 refused_by TreeFault.TooLarge edit there Here before node at here over =
-    at_there there (λ n. Here n × IsOver TreeFault.TooLarge (tree_after edit before n.label.slot)) node at (here, over)
+    at_there there (λ n. Here n × IsOverTreeLimit TreeFault.TooLarge (tree_after edit before n.label.slot)) node at (here, over)
 refused_by TreeFault.SlotsUsedUp edit there Here before node at here over =
-    at_there there (λ n. Here n × IsOver TreeFault.SlotsUsedUp (tree_after edit before n.label.slot)) node at (here, over)
+    at_there there (λ n. Here n × IsOverTreeLimit TreeFault.SlotsUsedUp (tree_after edit before n.label.slot)) node at (here, over)
 refused_by TreeFault.OutOfMemory edit there Here before node at here over =
-    at_there there (λ n. Here n × IsOver TreeFault.OutOfMemory (tree_after edit before n.label.slot)) node at (here, over)
+    at_there there (λ n. Here n × IsOverTreeLimit TreeFault.OutOfMemory (tree_after edit before n.label.slot)) node at (here, over)
 
 -- what was asked of a node before it comes to the end of a path of this length: whether it is shallow enough, and how many
 -- slots it brings, as far as that is counted

@@ -5,7 +5,7 @@ use Rattle.std.proofs.lemmas.List.{set-get_or}
 use Rattle.std.proofs.lemmas.Option.{none-some, get_or_from_slice_get}
 use Rattle.template_tree.specs.PlainTree.{Label, PlainNode, PlainNodes, nodes, forest, forest_nodes, nodes_forest}
 use Rattle.template_tree.specs.Path.{below}
-use Rattle.template_tree.specs.Lend.{with_item}
+use Rattle.template_tree.specs.Lend.{with_node_set}
 use Rattle.template_tree.specs.Descent.{put_below, put_in}
 
 -- what is there, or else the node
@@ -78,7 +78,7 @@ lent_twice list k front middle back label items e new =
     ap (λ xs. record { label = label; inner = forest (slice_set xs middle (put_below back new (slice_index_or xs middle new))) }) (nodes_forest items)
     in
     rw (get_or_from_slice_get list.items k g.0 (with_below label items middle back new) g.1, get_or_from_slice_get list.items k g.0 new g.1)
-    (ap (with_item list k) (ap (λ below_it. put_below front below_it g.0) (sym same) ∙ put_joined g.0 node new front (middle ∷ back) g.2))
+    (ap (with_node_set list k) (ap (λ below_it. put_below front below_it g.0) (sym same) ∙ put_joined g.0 node new front (middle ∷ back) g.2))
 
 -- the list is as it was where the lent node comes back as it was
 pub lent_back : (list : PlainNodes) (k : ℕ) (path : List ℕ) (node : PlainNode)
@@ -89,7 +89,7 @@ lent_back list k path node e =
     let inside : put_below path node (slice_index_or list.items k node) ≡ slice_index_or list.items k node =
     rw kid (put_same g.0 node path g.2)
     in
-    ap (with_item list k) inside ∙ ap (λ items. record list { items = items }) (set-get_or list.items k node)
+    ap (with_node_set list k) inside ∙ ap (λ items. record list { items = items }) (set-get_or list.items k node)
 
 -- what stands further down is what stands at the whole path
 pub found_twice : (items : List PlainNode) (k : ℕ) (front : List ℕ) (middle : ℕ) (back : List ℕ) (label : Label) (inner : List PlainNode)

@@ -5,7 +5,7 @@ use Rattle.std.proofs.Math.Bool.{false≢true}
 use Rattle.std.proofs.lemmas.Bool.{ne_eqb}
 use Rattle.plcs_grammar.specs.declared.node_kind.NodeKind.{NodeKind}
 use Rattle.plcs_grammar.specs.declared.node_kind.Sort.{Sort}
-use Rattle.plcs_grammar.specs.Template.{program_sections, block}
+use Rattle.plcs_grammar.specs.Template.{program_sections, procedure_sections}
 use Rattle.template_tree.specs.PlainTree.{Forest, PlainNode, forest, roomless, with_spare}
 use Rattle.template_tree.specs.Program.{sorts, Fill, AreNodes, IsNode}
 use Rattle.template_tree.specs.Slots.{count, times, AllBelow}
@@ -80,7 +80,7 @@ one_of : {sort : Sort} → All (λ item. item ≡ sort) (sort ∷ [])
 one_of zero d h = refl
 one_of (suc k) d h = absurd (omega arith)
 
-pub block_filled : Fill block (Sort.Declaration ∷ (Sort.Statement ∷ []))
+pub block_filled : Fill procedure_sections (Sort.Declaration ∷ (Sort.Statement ∷ []))
 block_filled = (
   Sort.Declaration ∷ [],
   Sort.Statement ∷ [],

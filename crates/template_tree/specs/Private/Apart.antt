@@ -7,14 +7,14 @@ use Rattle.template_tree.specs.Section.{same_sort}
 use Rattle.template_tree.specs.Edit.{hole_of}
 
 -- whether one of the sections behind a list holds items of the sort
-abbrev pub has_sort : Sort → List PlainSection → Bool
-has_sort sort [] = false
-has_sort sort (section ∷ sections) = same_sort section.sort sort || has_sort sort sections
+abbrev pub sections_have_sort : Sort → List PlainSection → Bool
+sections_have_sort sort [] = false
+sections_have_sort sort (section ∷ sections) = same_sort section.sort sort || sections_have_sort sort sections
 
 -- a section that is a list is told apart: it has holes, and no section behind it holds items of its sort
 abbrev pub IsApart : Amount → Sort → List PlainSection → Type 0
 IsApart Amount.One sort sections = Unit {0}
-IsApart Amount.Many sort sections = (is_some (hole_of sort) ≡ true) × (has_sort sort sections ≡ false)
+IsApart Amount.Many sort sections = (is_some (hole_of sort) ≡ true) × (sections_have_sort sort sections ≡ false)
 
 -- each list among the sections is told apart from those behind it
 abbrev pub AreApart : List PlainSection → Type 0

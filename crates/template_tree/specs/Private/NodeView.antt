@@ -2,7 +2,7 @@
 use Rattle.std.specs.Prelude.{map}
 use Rattle.template_tree.specs.declared.node.Node.TheInside.{Inside}
 use Rattle.template_tree.specs.PlainTree.{PlainNode, forest}
-use Rattle.template_tree.specs.PlainPlace.{plain_place}
+use Rattle.template_tree.specs.PlainPhrasePlace.{plain_phrase_place}
 
 -- a node in memory as plain data: its fields, with the parts in plain form and the list of what stands inside as a
 -- forest
@@ -11,6 +11,6 @@ seen a =
     record {
       label =
           record
-          { slot = a.slot.0; kind = a.kind; parts = map plain_place a.parts.items; elided = a.elided; spare = a.inner.spare };
+          { slot = a.slot.0; kind = a.kind; parts = map plain_phrase_place a.parts.items; elided = a.elided; spare = a.inner.spare };
       inner = forest a.inner.items;
     }

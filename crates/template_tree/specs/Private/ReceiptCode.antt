@@ -25,9 +25,9 @@ pieces_of PlainUndoing.take_out = (None, (None, (None, true)))
 pieces_of (PlainUndoing.put_in side hole) = (Some hole, (Some side, (None, false)))
 
 -- the undoing of which the pieces are a node and perhaps its side
-abbrev pub with_node : PlainNode → Option Side → PlainUndoing
-with_node node None = PlainUndoing.put node
-with_node node (Some side) = PlainUndoing.put_in side node
+abbrev pub with_node_code : PlainNode → Option Side → PlainUndoing
+with_node_code node None = PlainUndoing.put node
+with_node_code node (Some side) = PlainUndoing.put_in side node
 
 -- the undoing of which no piece is a node
 abbrev pub without_node : Option (ℕ × Option PlainPhrase) → Bool → PlainUndoing
@@ -37,7 +37,7 @@ without_node None false = PlainUndoing.put_back
 
 -- the undoing that has these pieces
 abbrev pub undoing_from : Option PlainNode → Option Side → Option (ℕ × Option PlainPhrase) → Bool → PlainUndoing
-undoing_from (Some node) side part taken = with_node node side
+undoing_from (Some node) side part taken = with_node_code node side
 undoing_from None side part taken = without_node part taken
 
 -- an undoing is made again of its pieces

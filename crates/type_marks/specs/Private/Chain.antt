@@ -15,13 +15,13 @@ with_later (Some offence) gives (Ok kind) = Err offence
 
 -- what is found in a whole chain whose operator furthest to the left is this, if it has one, where this is found to the
 -- left of it
-abbrev pub ended : Option Link → Option MarkKind → Kind → Result Kind MarkKind → Result Kind MarkKind
-ended None later gives found = found
-ended (Some link) later gives found = with_later later gives (both_found found link.right (infix_found link.op))
+abbrev pub chain_ended : Option Link → Option MarkKind → Kind → Result Kind MarkKind → Result Kind MarkKind
+chain_ended None later gives found = found
+chain_ended (Some link) later gives found = with_later later gives (both_found found link.right (infix_found link.op))
 
 -- what is found in the whole chain, where this is found in the operand to the left of it
 abbrev pub chain_end : Chain → Result Kind MarkKind → Result Kind MarkKind
-chain_end chain found = ended chain.first chain.later chain.gives found
+chain_end chain found = chain_ended chain.first chain.later chain.gives found
 
 -- the other chain has an operator before those of the one
 abbrev pub EndsBefore : Chain → InfixOp → Result Kind MarkKind → Chain → Type 0

@@ -37,7 +37,7 @@ known_surroundings decls program procedure slot =
     record (surroundings program procedure slot) { items = items_in decls.items procedure.label.slot }
 
 -- the node is main or a procedure of the program: the one that is found by its slot, a subtree, with each slot but once
-pub record IsItem (program : Forest) (procedure : PlainNode) : Type 0 where
+pub record IsProcedureItem (program : Forest) (procedure : PlainNode) : Type 0 where
   pub found : procedure_at program procedure.label.slot ≡ Some procedure
   pub subtree : IsSubtree procedure
   pub few : count procedure.inner < most_slots
@@ -53,6 +53,6 @@ AreListed inner label =
     (part : ℕ) (phrase : PlainPhrase) → part_at label.parts part ≡ Some phrase → IsListIn inner label.slot phrase
 
 -- main or the procedure to which the path leads, or in which it leads to a node
-abbrev pub item_on : (program : Forest) → (path : List ℕ) → Option PlainNode
-item_on program [] = None
-item_on program (k ∷ path) = slice_get (nodes program) k
+abbrev pub procedure_item_on : (program : Forest) → (path : List ℕ) → Option PlainNode
+procedure_item_on program [] = None
+procedure_item_on program (k ∷ path) = slice_get (nodes program) k

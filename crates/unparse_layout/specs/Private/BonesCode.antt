@@ -5,7 +5,7 @@ use Rattle.std.specs.Coded.{Coded, code_by, coded×, coded_ℕ, coded_bool, code
 use base.Stored.{Gv, gnil, gnum, gcons}
 use Rattle.plcs_grammar.specs.declared.node_kind.NodeKind.{NodeKind}
 use Rattle.plcs_grammar.specs.contracts.node_kind.NodeKind as kind_row
-use Rattle.unparse_layout.specs.Bones.{Bone, Bones}
+use Rattle.unparse_layout.specs.Bones.{Bone, PlainLayout}
 use Rattle.unparse_layout.specs.Private.PlainNodeLayout.{PlainNodeLayout, PlainNodeLayouts}
 
 -- what a layout keeps of a node is told by its fields
@@ -35,28 +35,28 @@ IsPair (gnum n) = ⊥
 IsPair (gcons a b) = Unit {0}
 
 -- a layout's nodes in order as a tree of labels
-abbrev pub bones_code_of : Bones → Gv
-bones_code_of Bones.nil = gnil
-bones_code_of (Bones.cons bone inner rest) = gcons (bone_code.code bone) (gcons (bones_code_of inner) (bones_code_of rest))
+abbrev pub bones_code_of : PlainLayout → Gv
+bones_code_of PlainLayout.nil = gnil
+bones_code_of (PlainLayout.cons bone inner rest) = gcons (bone_code.code bone) (gcons (bones_code_of inner) (bones_code_of rest))
 
 -- the tree of labels of a layout's nodes gives them back
-pub bones_code_of_inj : (x y : Bones) → bones_code_of x ≡ bones_code_of y → x ≡ y
-bones_code_of_inj Bones.nil Bones.nil p = refl
-bones_code_of_inj (Bones.cons l a b) (Bones.cons m c d) p =
+pub bones_code_of_inj : (x y : PlainLayout) → bones_code_of x ≡ bones_code_of y → x ≡ y
+bones_code_of_inj PlainLayout.nil PlainLayout.nil p = refl
+bones_code_of_inj (PlainLayout.cons l a b) (PlainLayout.cons m c d) p =
     λ i.
-    Bones.cons (bone_code.inj l m (ap front p) i) (bones_code_of_inj a c (ap (λ g. front (back g)) p) i)
+    PlainLayout.cons (bone_code.inj l m (ap front p) i) (bones_code_of_inj a c (ap (λ g. front (back g)) p) i)
     (bones_code_of_inj b d (ap (λ g. back (back g)) p) i)
-bones_code_of_inj Bones.nil (Bones.cons m c d) p = absurd (subst IsPair (sym p) tt)
-bones_code_of_inj (Bones.cons l a b) Bones.nil p = absurd (subst IsPair p tt)
+bones_code_of_inj PlainLayout.nil (PlainLayout.cons m c d) p = absurd (subst IsPair (sym p) tt)
+bones_code_of_inj (PlainLayout.cons l a b) PlainLayout.nil p = absurd (subst IsPair p tt)
 
 -- a layout's nodes in order are told by their tree of labels
-abbrev pub bones_code : Coded Bones
+abbrev pub bones_code : Coded PlainLayout
 bones_code = record { code = bones_code_of; inj = bones_code_of_inj }
 
 -- a node of a layout is told by its fields
 abbrev pub node_layout_code : Coded PlainNodeLayout
 node_layout_code =
-    code_by (Bone × Bones) (coded× bone_code bones_code) (λ o. (o.bone, o.inner))
+    code_by (Bone × PlainLayout) (coded× bone_code bones_code) (λ o. (o.bone, o.inner))
     (λ t. record { bone = t.0; inner = t.1 }) (λ _. refl)
 
 -- a list of nodes of a layout is told by its items and its room

@@ -1,7 +1,7 @@
 -- How many lines of the screen nodes have, and how many nodes a layout keeps.
 use Rattle.std.specs.Prelude.{ℕ, Bool, ◌+◌, if◌then◌else◌, List, Option, Some, None}
 use Rattle.plcs_grammar.specs.Template.{row_of}
-use Rattle.unparse_layout.specs.Bones.{Bone, Bones}
+use Rattle.unparse_layout.specs.Bones.{Bone, PlainLayout}
 use Rattle.unparse_layout.specs.Private.PlainNodeLayout.{PlainNodeLayout}
 
 -- how many lines of the screen an entry of the table of templates takes: one where it is there
@@ -19,15 +19,15 @@ height_around bone inside =
     one_if bone.led + (1 + ((if bone.elided then 1 else inside) + line_count (row_of bone.kind).last))
 
 -- how many lines of the screen nodes of a layout have together
-abbrev pub heights : Bones → ℕ
-heights Bones.nil = 0
-heights (Bones.cons bone inner rest) = height_around bone (heights inner) + heights rest
+abbrev pub heights : PlainLayout → ℕ
+heights PlainLayout.nil = 0
+heights (PlainLayout.cons bone inner rest) = height_around bone (heights inner) + heights rest
 
 -- how many lines of the screen a node of a layout has, by what stands inside it
 abbrev pub height : PlainNodeLayout → ℕ
 height node_layout = height_around node_layout.bone (heights node_layout.inner)
 
 -- how many nodes a layout keeps
-abbrev pub bone_count : Bones → ℕ
-bone_count Bones.nil = 0
-bone_count (Bones.cons bone inner rest) = bone_count inner + bone_count rest + 1
+abbrev pub bone_count : PlainLayout → ℕ
+bone_count PlainLayout.nil = 0
+bone_count (PlainLayout.cons bone inner rest) = bone_count inner + bone_count rest + 1

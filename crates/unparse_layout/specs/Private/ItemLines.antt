@@ -5,7 +5,7 @@ use Rattle.template_tree.specs.Program.{sort_of}
 use Rattle.template_tree.specs.Section.{left_for, left_after, next_lead}
 use Rattle.template_tree.specs.PlainTree.{Forest, PlainNode}
 use Rattle.unparse_layout.specs.declared.line.LineKind.{LineKind}
-use Rattle.unparse_layout.specs.Bones.{Bones}
+use Rattle.unparse_layout.specs.Bones.{PlainLayout}
 use Rattle.unparse_layout.specs.OwnedLine.{OwnedLine, first_line, owned_lines, partless_line, table_line}
 use Rattle.unparse_layout.specs.Private.PlainNodeLayout.{node_layouts}
 use Rattle.unparse_layout.specs.Private.Height.{height, one_if}
@@ -29,7 +29,7 @@ item_lines owner level lead node =
     table_line owner LineKind.Lead (level - 1) lead ++ node_lines level node
 
 -- how many lines of the screen stand before the first line of the node at a path, which begins with this number
-abbrev pub lines_before : Bones → (k : ℕ) (rest : List ℕ) → ℕ
+abbrev pub lines_before : PlainLayout → (k : ℕ) (rest : List ℕ) → ℕ
 lines_before items k [] =
     sum (take k (map height (node_layouts items)))
     + unwrap_or (option_map (λ item. one_if item.bone.led) (slice_get (node_layouts items) k)) 0

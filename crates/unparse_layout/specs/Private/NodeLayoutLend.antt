@@ -3,8 +3,8 @@ use Rattle.std.specs.Prelude.{ℕ, Bool, List, [], ◌∷◌, option_map, unwrap
 use Rattle.unparse_layout.specs.Private.PlainNodeLayout.{PlainNodeLayout, PlainNodeLayouts, bones, node_layouts}
 
 -- a list of nodes of a layout with another node in this place
-abbrev pub with_item : PlainNodeLayouts → ℕ → PlainNodeLayout → PlainNodeLayouts
-with_item list k item = record list { items = slice_set list.items k item }
+abbrev pub with_node_layout_set : PlainNodeLayouts → ℕ → PlainNodeLayout → PlainNodeLayouts
+with_node_layout_set list k item = record list { items = slice_set list.items k item }
 
 -- a node of a layout after the elision of the node at the path below it was set
 abbrev pub with_elision : List ℕ → Bool → PlainNodeLayout → PlainNodeLayout

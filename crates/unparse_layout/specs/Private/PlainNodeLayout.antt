@@ -3,12 +3,12 @@ use Rattle.std.specs.Prelude.{Bool, ◌≡◌, ℕ, List, [], ◌∷◌, ◌++�
 use Rattle.std.proofs.Common.{ap}
 use Rattle.plcs_grammar.specs.Template.{row_of}
 use Rattle.template_tree.specs.PlainTree.{PlainNode}
-use Rattle.unparse_layout.specs.Bones.{Bone, Bones, bones_of}
+use Rattle.unparse_layout.specs.Bones.{Bone, PlainLayout, bones_of}
 
 -- a node of a layout: what is kept of a node of the tree, and of the nodes inside it
 pub record PlainNodeLayout : Type 0 where
   pub bone : Bone
-  pub inner : Bones
+  pub inner : PlainLayout
 
 -- a list of nodes of a layout, with how many more it has room for
 pub record PlainNodeLayouts : Type 0 where
@@ -16,14 +16,14 @@ pub record PlainNodeLayouts : Type 0 where
   pub spare : ℕ
 
 -- nodes of a layout in order as a list
-abbrev pub node_layouts : Bones → List PlainNodeLayout
-node_layouts Bones.nil = []
-node_layouts (Bones.cons bone inner rest) = record { bone = bone; inner = inner } ∷ node_layouts rest
+abbrev pub node_layouts : PlainLayout → List PlainNodeLayout
+node_layouts PlainLayout.nil = []
+node_layouts (PlainLayout.cons bone inner rest) = record { bone = bone; inner = inner } ∷ node_layouts rest
 
 -- a list of nodes of a layout as nodes in order
-abbrev pub bones : List PlainNodeLayout → Bones
-bones [] = Bones.nil
-bones (node_layout ∷ rest) = Bones.cons node_layout.bone node_layout.inner (bones rest)
+abbrev pub bones : List PlainNodeLayout → PlainLayout
+bones [] = PlainLayout.nil
+bones (node_layout ∷ rest) = PlainLayout.cons node_layout.bone node_layout.inner (bones rest)
 
 -- a list of nodes of a layout, made nodes in order and these a list again, is that list
 pub node_layouts_bones : (items : List PlainNodeLayout) → node_layouts (bones items) ≡ items
@@ -31,9 +31,9 @@ node_layouts_bones [] = refl
 node_layouts_bones (node_layout ∷ rest) = ap (λ items. node_layout ∷ items) (node_layouts_bones rest)
 
 -- nodes of a layout in order, made a list and that nodes in order again, are those nodes
-pub bones_node_layouts : (items : Bones) → bones (node_layouts items) ≡ items
-bones_node_layouts Bones.nil = refl
-bones_node_layouts (Bones.cons bone inner rest) = ap (λ items. Bones.cons bone inner items) (bones_node_layouts rest)
+pub bones_node_layouts : (items : PlainLayout) → bones (node_layouts items) ≡ items
+bones_node_layouts PlainLayout.nil = refl
+bones_node_layouts (PlainLayout.cons bone inner rest) = ap (λ items. PlainLayout.cons bone inner items) (bones_node_layouts rest)
 
 -- the node of a layout for a node of the tree, before which a line of the table stands where it is led
 abbrev pub node_layout_of : Bool → PlainNode → PlainNodeLayout
@@ -46,5 +46,5 @@ node_layout_of led node =
     }
 
 -- a node of a layout with an item behind the nodes inside it
-abbrev pub with_last : PlainNodeLayout → PlainNodeLayout → PlainNodeLayout
-with_last node_layout item = record node_layout { inner = bones (node_layouts node_layout.inner ++ (item ∷ [])) }
+abbrev pub with_last_node_layout : PlainNodeLayout → PlainNodeLayout → PlainNodeLayout
+with_last_node_layout node_layout item = record node_layout { inner = bones (node_layouts node_layout.inner ++ (item ∷ [])) }

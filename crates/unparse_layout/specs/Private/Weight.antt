@@ -2,13 +2,13 @@
 use Rattle.std.specs.Prelude.{ℕ, suc, ◌+◌, ◌≤◌, List, [], ◌∷◌}
 use Rattle.std.proofs.Common.{arith}
 use denote.Param.Weighed.{most}
-use Rattle.unparse_layout.specs.Bones.{Bones}
+use Rattle.unparse_layout.specs.Bones.{PlainLayout}
 use Rattle.unparse_layout.specs.Private.PlainNodeLayout.{PlainNodeLayout, PlainNodeLayouts, bones}
 
 -- how large the nodes of a layout are: two for each, since a node and its list take turns
-abbrev pub bones_weight : Bones → ℕ
-bones_weight Bones.nil = 0
-bones_weight (Bones.cons bone inner rest) = suc (suc (bones_weight inner + bones_weight rest))
+abbrev pub bones_weight : PlainLayout → ℕ
+bones_weight PlainLayout.nil = 0
+bones_weight (PlainLayout.cons bone inner rest) = suc (suc (bones_weight inner + bones_weight rest))
 
 -- how large a node of a layout is
 abbrev pub weight : PlainNodeLayout → ℕ

@@ -1,8 +1,8 @@
 use Rattle.std.proofs.Common.{arith, refl}
 use Rattle.file_store.specs.Private.Come.{come_of}
 use Rattle.file_store.specs.Private.Reader.{program_of}
-use Rattle.file_store.specs.Private.Views.{stack_of}
-use Rattle.file_store.proofs.FrameStacks.{refused_is}
+use Rattle.file_store.specs.Private.Views.{open_nodes_of}
+use Rattle.file_store.proofs.OpenNodes.{refused_is}
 use Rattle.file_store.proofs.LoadedTrees.{fits, loaded}
 use Rattle.file_store.proofs.ReadListings.{few_lines, line_left, line_refused, one_more, unended, unfinished}
 use Rattle.file_store.proofs.reader.read_lines.Goals as goal
@@ -60,4 +60,4 @@ pub returns-in-Err-Refused : goal.returns-in-Err-Refused
 returns-in-Err-Refused c =
     unfinished c.line_laws.ensures c.args.bytes.now c.loop-line.rest.now (come_of c.loop-line.reader) _ c.if-bytes-gt-LONGEST_LISTING.false
     c.loop-line.invariant (c.is_left.ensures.none c.if-is_left.false) refl
-    (refused_is c.in-Err-Refused.field-0 (program_of (stack_of c.loop-line.reader.stack)) c.in-Err-Refused.field-0-is c.in-Err-Refused.ensures)
+    (refused_is c.in-Err-Refused.field-0 (program_of (open_nodes_of c.loop-line.reader.stack)) c.in-Err-Refused.field-0-is c.in-Err-Refused.ensures)

@@ -9,7 +9,7 @@ use Rattle.plcs_grammar.specs.Token.{Token}
 use Rattle.plcs_grammar.specs.PlainPhrase.{PlainExpr}
 use Rattle.plcs_grammar.specs.Level.{priority}
 use Rattle.phrase_parser.specs.Private.Machine
-use Rattle.phrase_parser.specs.Private.Machine.{Stack, Role, State, Operand, reduced, behind_infix, prefix_of, infix_of}
+use Rattle.phrase_parser.specs.Private.Machine.{ParseStack, Role, ParseState, Operand, reduced, after_infix, prefix_of, infix_of}
 use Rattle.phrase_parser.proofs.Machine.ExprSpelling.{spell}
 use Rattle.phrase_parser.proofs.Machine.ExprsRead.{above_none}
 use Rattle.phrase_parser.proofs.Machine.ConsumedTokens.{flat_stack, hole, SoundStack, SoundRole, Sound}
@@ -17,29 +17,29 @@ use Rattle.phrase_parser.proofs.Machine.Soundness.JoinedOperands.{Joins, reduced
 use Rattle.phrase_parser.proofs.Machine.Soundness.TakenTokens.{After, AfterIf}
 
 -- the state behind an infix operator has joined what stands before it
-joined_after : (op : InfixOp) (s : Stack) (t : PlainExpr) (o : Operand) → Joins (priority op) s t o
-    → After (State.had s t) (Token.sign (infix_sign op)) (behind_infix op o)
+joined_after : (op : InfixOp) (s : ParseStack) (t : PlainExpr) (o : Operand) → Joins (priority op) s t o
+    → After (ParseState.had s t) (Token.sign (infix_sign op)) (after_infix op o)
 joined_after op s t o joined = record {
   sound = (joined.low, joined.fits, joined.sound);
   tokens = sym (append_assoc (flat_stack o.0) (spell o.1) (Token.sign (infix_sign op) ∷ [])) ∙ ap (λ z. z ++ (Token.sign (infix_sign op) ∷ [])) joined.tokens;
   category = joined.category;
 }
 
-infix_after : (op : InfixOp) (s : Stack) (t : PlainExpr) → Sound (State.had s t)
-    → After (State.had s t) (Token.sign (infix_sign op)) (behind_infix op (reduced s (priority op) t))
+infix_after : (op : InfixOp) (s : ParseStack) (t : PlainExpr) → Sound (ParseState.had s t)
+    → After (ParseState.had s t) (Token.sign (infix_sign op)) (after_infix op (reduced s (priority op) t))
 infix_after op s t is_sound =
     joined_after op s t (reduced s (priority op) t)
     (reduced_joins (priority op) s t is_sound.0 (is_sound.1 (hole s)) (is_sound.1 (priority op)) (above_none op))
 
 assigned_by_role_after : (role : Role) (name : List ℕ) → SoundRole role
-    → AfterIf (State.name_had role name) (Token.sign Sign.Equal) (Machine.step_equal_role role name)
+    → AfterIf (ParseState.name_had role name) (Token.sign Sign.Equal) (Machine.step_equal_role role name)
 assigned_by_role_after Role.target name is_sound = record { sound = tt; tokens = refl; category = refl }
 assigned_by_role_after role name is_sound = tt
 
-pub equated_after : (s : State) → Sound s → AfterIf s (Token.sign Sign.Equal) (Machine.step_equal s)
-equated_after (State.had s t) is_sound = infix_after between.Equal s t is_sound
-equated_after (State.name_had role name) is_sound = assigned_by_role_after role name is_sound
-equated_after (State.target_had reference) is_sound = record { sound = is_sound; tokens = refl; category = refl }
+pub equated_after : (s : ParseState) → Sound s → AfterIf s (Token.sign Sign.Equal) (Machine.step_equal s)
+equated_after (ParseState.had s t) is_sound = infix_after between.Equal s t is_sound
+equated_after (ParseState.name_had role name) is_sound = assigned_by_role_after role name is_sound
+equated_after (ParseState.target_had reference) is_sound = record { sound = is_sound; tokens = refl; category = refl }
 equated_after s is_sound = tt
 
 -- a prefix operator, if there is one, has the sign
@@ -74,19 +74,19 @@ infix_is Sign.Times = refl
 infix_is Sign.Divide = refl
 infix_is sign = tt
 
-with_prefix_after : (s : Stack) (sign : Sign) (found : Option PrefixOp) → PrefixIs sign found → SoundStack s
-    → AfterIf (State.wanted s) (Token.sign sign) (Machine.step_prefix s found)
+with_prefix_after : (s : ParseStack) (sign : Sign) (found : Option PrefixOp) → PrefixIs sign found → SoundStack s
+    → AfterIf (ParseState.wanted s) (Token.sign sign) (Machine.step_prefix s found)
 with_prefix_after s sign None is_sign is_sound = tt
 with_prefix_after s sign (Some op) is_sign is_sound =
     record { sound = is_sound; tokens = ap (λ x. flat_stack s ++ (Token.sign x ∷ [])) is_sign; category = refl }
 
-with_infix_after : (s : Stack) (t : PlainExpr) (sign : Sign) (found : Option InfixOp) → InfixIs sign found → Sound (State.had s t)
-    → AfterIf (State.had s t) (Token.sign sign) (Machine.step_infix s t found)
+with_infix_after : (s : ParseStack) (t : PlainExpr) (sign : Sign) (found : Option InfixOp) → InfixIs sign found → Sound (ParseState.had s t)
+    → AfterIf (ParseState.had s t) (Token.sign sign) (Machine.step_infix s t found)
 with_infix_after s t sign None is_sign is_sound = tt
 with_infix_after s t sign (Some op) is_sign is_sound =
-    subst (λ x. After (State.had s t) (Token.sign x) (behind_infix op (reduced s (priority op) t))) is_sign (infix_after op s t is_sound)
+    subst (λ x. After (ParseState.had s t) (Token.sign x) (after_infix op (reduced s (priority op) t))) is_sign (infix_after op s t is_sound)
 
-pub operated_after : (s : State) (sign : Sign) → Sound s → AfterIf s (Token.sign sign) (Machine.step_operator s sign)
-operated_after (State.wanted s) sign is_sound = with_prefix_after s sign (prefix_of sign) (prefix_is sign) is_sound
-operated_after (State.had s t) sign is_sound = with_infix_after s t sign (infix_of sign) (infix_is sign) is_sound
+pub operated_after : (s : ParseState) (sign : Sign) → Sound s → AfterIf s (Token.sign sign) (Machine.step_operator s sign)
+operated_after (ParseState.wanted s) sign is_sound = with_prefix_after s sign (prefix_of sign) (prefix_is sign) is_sound
+operated_after (ParseState.had s t) sign is_sound = with_infix_after s t sign (infix_of sign) (infix_is sign) is_sound
 operated_after s sign is_sound = tt

@@ -2,7 +2,7 @@
 use Rattle.std.proofs.Common.{◌≡◌, List, [], ◌∷◌, ◌++◌, Option, Some, None, sym, ◌∙◌, append_assoc}
 use Rattle.plcs_grammar.specs.declared.sign.Sign.{Sign}
 use Rattle.plcs_grammar.specs.Token.{Token}
-use Rattle.phrase_parser.specs.Private.Machine.{State}
+use Rattle.phrase_parser.specs.Private.Machine.{ParseState}
 use Rattle.phrase_parser.proofs.Machine.ConsumedTokens.{flat, Sound, state_category}
 
 -- the token that is a comma
@@ -18,13 +18,13 @@ abbrev pub open_ : Token
 open_ = Token.sign Sign.OpenParenthesis
 
 -- a state behind one more token
-pub record After (s : State) (k : Token) (z : State) : Type 0 where
+pub record After (s : ParseState) (k : Token) (z : ParseState) : Type 0 where
   pub sound : Sound z
   pub tokens : flat z ≡ flat s ++ (k ∷ [])
   pub category : state_category z ≡ state_category s
 
 -- the token stops the machine, or is one more that it has read
-abbrev pub AfterIf : State → Token → Option State → Type 0
+abbrev pub AfterIf : ParseState → Token → Option ParseState → Type 0
 AfterIf s k None = Unit {0}
 AfterIf s k (Some z) = After s k z
 

@@ -1,9 +1,9 @@
 use Rattle.std.proofs.Common.{◌+◌, drop, false}
 use Rattle.template_tree.specs.PlainTree.{forest}
 use Rattle.template_tree.specs.Line.{lines}
-use Rattle.template_tree.specs.Listing.{bytes_of}
-use Rattle.template_tree.specs.Private.NodeLines.{Lacks}
-use Rattle.template_tree.specs.PlainLeft.{plain_left}
+use Rattle.template_tree.specs.Listing.{bytes_of_lines}
+use Rattle.template_tree.specs.Private.NodeLines.{LacksRest}
+use Rattle.template_tree.specs.PlainSectionsLeft.{plain_sections_left}
 use Rattle.template_tree.specs.Private.Weight.{forest_weight, weight}
 use Rattle.template_tree.proofs.listing.+lines.Given as goal
 
@@ -15,5 +15,5 @@ decreases-put_node g l = weight l.node.now
 
 abbrev pub invariant-put_nodes-loop-node : goal.invariant-put_nodes-loop-node
 invariant-put_nodes-loop-node g l =
-    Lacks g.O.ByteOut.puts l.fn.out (bytes_of (lines false l.fn.level (plain_left l.fn.sections) (forest l.fn.nodes))) l.out
-    (bytes_of (lines false l.fn.level (plain_left l.left) (forest (drop l.node-index l.nodes))))
+    LacksRest g.O.ByteOut.puts l.fn.out (bytes_of_lines (lines false l.fn.level (plain_sections_left l.fn.sections) (forest l.fn.nodes))) l.out
+    (bytes_of_lines (lines false l.fn.level (plain_sections_left l.left) (forest (drop l.node-index l.nodes))))

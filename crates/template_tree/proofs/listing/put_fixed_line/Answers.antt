@@ -2,15 +2,15 @@ use Rattle.std.proofs.Common.{sym, ap, option_map}
 use Rattle.plcs_base.specs.Put.{puts_nothing}
 use Rattle.plcs_base.proofs.Putting.{puts_append, puts_behind, puts_same}
 use Rattle.template_tree.specs.Line.{fixed_line}
-use Rattle.template_tree.specs.Listing.{bytes_of}
+use Rattle.template_tree.specs.Listing.{bytes_of_lines}
 use Rattle.template_tree.proofs.listing.put_fixed_line.Goals as goal
 
 pub returns-in-Some : goal.returns-in-Some
 returns-in-Some g c =
-    puts_same (ap (λ text. bytes_of (fixed_line c.args.level (option_map (λ bytes. bytes.now) text))) (sym c.in-Some.is))
+    puts_same (ap (λ text. bytes_of_lines (fixed_line c.args.level (option_map (λ bytes. bytes.now) text))) (sym c.in-Some.is))
     (puts_behind (puts_append c.put_blanks.ensures c.put_bytes.ensures) c.put.ensures)
 
 pub returns-in_default : goal.returns-in_default
 returns-in_default g c =
-    puts_same (ap (λ text. bytes_of (fixed_line c.args.level (option_map (λ bytes. bytes.now) text))) (sym c.in_default.is))
+    puts_same (ap (λ text. bytes_of_lines (fixed_line c.args.level (option_map (λ bytes. bytes.now) text))) (sym c.in_default.is))
     puts_nothing

@@ -3,18 +3,18 @@ use Rattle.plcs_base.specs.Put.{puts_nothing}
 use Rattle.plcs_base.proofs.Putting.{puts_same}
 use Rattle.plcs_grammar.specs.Template.{plain_segment}
 use Rattle.template_tree.specs.Line.{segments_text}
-use Rattle.template_tree.specs.PlainPlace.{plain_place}
+use Rattle.template_tree.specs.PlainPhrasePlace.{plain_phrase_place}
 use Rattle.template_tree.proofs.Listings.PutLines.{nothing_left, put_next_segment}
 use Rattle.template_tree.proofs.listing.put_segments.Goals as goal
 
 pub loop-segment-preserved : goal.loop-segment-preserved
 loop-segment-preserved g c =
-    put_next_segment _ c.args.segments.now c.loop-segment.segment-index _ (map plain_place c.loop-segment.left.now)
-    (map plain_place c.put_segment-left.result.now) (omega arith) c.put_segment-left.ensures.left c.loop-segment.invariant
+    put_next_segment _ c.args.segments.now c.loop-segment.segment-index _ (map plain_phrase_place c.loop-segment.left.now)
+    (map plain_phrase_place c.put_segment-left.result.now) (omega arith) c.put_segment-left.ensures.left c.loop-segment.invariant
     c.put_segment-left.ensures.text
 
 pub returns : goal.returns
 returns g c =
     let end = nothing_left c.args.segments.now c.loop-segment.segment-index (omega arith) in
     c.loop-segment.invariant _
-    (puts_same (sym (ap (λ n. segments_text (map plain_segment n) (map plain_place c.loop-segment.left.now)) end)) puts_nothing)
+    (puts_same (sym (ap (λ n. segments_text (map plain_segment n) (map plain_phrase_place c.loop-segment.left.now)) end)) puts_nothing)

@@ -1,7 +1,7 @@
 use Rattle.std.specs.Prelude.{false, true}
 use Rattle.std.proofs.Common.{ap}
 use Rattle.plcs_grammar.specs.Template.{program_sections}
-use Rattle.template_tree.specs.Listing.{bytes_of}
+use Rattle.template_tree.specs.Listing.{bytes_of_lines}
 use Rattle.template_tree.proofs.Room.Rooms.{count_roomless}
 use Rattle.template_tree.proofs.Room.RoomlessEdits.{roomless_twice}
 use Rattle.template_tree.proofs.Room.RoomlessNodes.{node_roomless, slot_at_roomless, stop_roomless, stop_with_room, visible_roomless}
@@ -38,7 +38,7 @@ pub returns-clause-lines : goal.returns-clause-lines
 returns-clause-lines c = lines_roomless true 0 program_sections
 
 pub returns-clause-listing : goal.returns-clause-listing
-returns-clause-listing c items = ap bytes_of (lines_roomless false 0 program_sections items)
+returns-clause-listing c items = ap bytes_of_lines (lines_roomless false 0 program_sections items)
 
 pub returns-clause-turns : goal.returns-clause-turns
 returns-clause-turns c = turn_roomless

@@ -3,7 +3,7 @@ use Rattle.std.specs.FinMap.{get}
 use Rattle.std.proofs.Common.{false, ap, ◌∙◌, subst}
 use Rattle.plcs_grammar.specs.PlainPhrase.{PlainPhrase}
 use Rattle.template_tree.specs.Line.{part_text}
-use Rattle.unparse_layout.specs.LaidLine.{cell, is_marked}
+use Rattle.unparse_layout.specs.LaidLine.{screen_cell, is_marked}
 use Rattle.template_tree.specs.Part.{part_at}
 use Rattle.unparse_layout.specs.Private.Cells.{PutsAside}
 use Rattle.unparse_layout.proofs.PutCells.{part_put}
@@ -16,5 +16,5 @@ returns g c =
     c.is_some-out.ensures ∙ ap is_some c.mark.ensures
     ∙ ap (λ (n : ℕ). is_some (get (g.M.Marked.marks c.args.marks.now) record { slot = record { 0 = n }; part = c.args.part })) c.slot.ensures in
     let text = ap (λ (o : Option (Option PlainPhrase)). part_text c.args.category (option_and_then (λ phrase. phrase) o)) c.part.ensures in
-    subst (λ b. PutsAside c.args.out.now (map (cell b) (part_text c.args.category (part_at c.args.node.now.label.parts c.args.part))) record { cells = c.put_place.new.out.cells; negative = false }) marked
-    (subst (λ xs. PutsAside c.args.out.now (map (cell c.is_some-out.result) xs) record { cells = c.put_place.new.out.cells; negative = false }) text put)
+    subst (λ b. PutsAside c.args.out.now (map (screen_cell b) (part_text c.args.category (part_at c.args.node.now.label.parts c.args.part))) record { cells = c.put_place.new.out.cells; negative = false }) marked
+    (subst (λ xs. PutsAside c.args.out.now (map (screen_cell c.is_some-out.result) xs) record { cells = c.put_place.new.out.cells; negative = false }) text put)

@@ -2,14 +2,14 @@ use Rattle.std.proofs.Common.{arith, ap, sym, ◌∙◌}
 use Rattle.plcs_grammar.specs.Template.{PlainRow, row_of}
 use Rattle.template_tree.specs.PlainTree.{nodes}
 use Rattle.template_tree.specs.Section.{left_for}
-use Rattle.template_tree.specs.PlainLeft.{plain_left}
+use Rattle.template_tree.specs.PlainSectionsLeft.{plain_sections_left}
 use Rattle.unparse_layout.proofs.Leads.{lead_first, lead_next, lead_here, lead_past}
 use Rattle.unparse_layout.proofs.PlanLines.{past_where_none}
 use Rattle.unparse_layout.proofs.plan.lead_before.Goals as goal
 
 pub loop-i-init : goal.loop-i-init
 loop-i-init c =
-    lead_first (row_of c.args.node.now.label.kind).sections (plain_left c.of-left.result) c.args.node.now.inner c.args.k
+    lead_first (row_of c.args.node.now.label.kind).sections (plain_sections_left c.of-left.result) c.args.node.now.inner c.args.k
     (c.of-left.ensures ∙ ap (λ (r : PlainRow). r.sections) (c.row.ensures ∙ ap row_of c.kind.ensures))
 
 pub returns-in_default : goal.returns-in_default
@@ -20,9 +20,9 @@ returns-in_default c =
 pub loop-i-preserved : goal.loop-i-preserved
 loop-i-preserved c =
     let node = c.in-Some.child.now in
-    lead_next (plain_left c.loop-i.left) (plain_left c.at.result) (plain_left c.after-left.result) (nodes c.args.node.now.inner) c.loop-i.i
+    lead_next (plain_sections_left c.loop-i.left) (plain_sections_left c.at.result) (plain_sections_left c.after-left.result) (nodes c.args.node.now.inner) c.loop-i.i
     c.args.k node (sym c.in-Some.ensures) c.loop-i-test.true
-    (c.at.ensures ∙ ap (λ (r : PlainRow). left_for r.sort (plain_left c.loop-i.left)) (c.row-in-loop-i.ensures ∙ ap row_of c.kind-in-loop-i.ensures))
+    (c.at.ensures ∙ ap (λ (r : PlainRow). left_for r.sort (plain_sections_left c.loop-i.left)) (c.row-in-loop-i.ensures ∙ ap row_of c.kind-in-loop-i.ensures))
     c.after-left.ensures
     ∙ c.loop-i.invariant
 
@@ -35,7 +35,7 @@ pub returns : goal.returns
 returns c =
     let node = c.in-Some-child.child.now in
     c.lead.ensures
-    ∙ lead_here (plain_left c.loop-i.left) (plain_left c.at-2.result) (nodes c.args.node.now.inner) c.loop-i.i c.args.k node
+    ∙ lead_here (plain_sections_left c.loop-i.left) (plain_sections_left c.at-2.result) (nodes c.args.node.now.inner) c.loop-i.i c.args.k node
     (sym c.in-Some-child.ensures) (omega arith)
-    (c.at-2.ensures ∙ ap (λ (r : PlainRow). left_for r.sort (plain_left c.loop-i.left)) (c.row-2.ensures ∙ ap row_of c.kind-2.ensures))
+    (c.at-2.ensures ∙ ap (λ (r : PlainRow). left_for r.sort (plain_sections_left c.loop-i.left)) (c.row-2.ensures ∙ ap row_of c.kind-2.ensures))
     ∙ c.loop-i.invariant

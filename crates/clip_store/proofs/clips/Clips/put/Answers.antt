@@ -4,7 +4,7 @@ use Rattle.std.specs.List.{IsDistinct}
 use Rattle.std.specs.Map.{keys_of}
 use Rattle.std.specs.Str.{bytes_eq}
 use Rattle.clip_store.specs.PlainFragment.{plain_fragment, slots_of}
-use Rattle.clip_store.specs.PlainClips.{clip_named, slots_held, with_clip, without}
+use Rattle.clip_store.specs.PlainClips.{clip_named, slots_held, with_clip, without_name}
 use Rattle.clip_store.specs.ClipLimit.{AreClips, IsClip, is_full, has_room}
 use Rattle.clip_store.specs.Private.ClipsView.{pairs_of, seen}
 use Rattle.clip_store.proofs.MapPairs.{clip_named-pairs, given_holds, keys_of-pairs, with_clip-pairs}
@@ -24,8 +24,8 @@ invariant_of-self c =
     subst (λ clips. is_full c.args.name (slots_of fragment) clips.pairs ≡ false) (sym c.self.view_is)
     (fits c.args.name (slots_of fragment) c.slots-slots.result c.args.self.now.pairs c.would_hold.result
     c.would_hold.ensures c.if-not-would_hold.false c.slots-slots.ensures) in
-    let others : c.other_slots-others.result ≡ slots_held (without c.args.name pairs) =
-    subst (λ clips. c.other_slots-others.result ≡ slots_held (without c.args.name clips.pairs)) (sym c.self.view_is)
+    let others : c.other_slots-others.result ≡ slots_held (without_name c.args.name pairs) =
+    subst (λ clips. c.other_slots-others.result ≡ slots_held (without_name c.args.name clips.pairs)) (sym c.self.view_is)
     c.other_slots-others.ensures.sum in
     record {
       clips =

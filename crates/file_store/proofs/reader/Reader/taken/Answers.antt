@@ -1,9 +1,9 @@
 use Rattle.std.proofs.Common.{◌∙◌, ◌+◌, if◌then◌else◌, ap, sym, subst, refl, Some, None}
 use Rattle.file_store.specs.Private.Come.{come_of}
-use Rattle.file_store.specs.Private.Reader.{step}
+use Rattle.file_store.specs.Private.Reader.{line_taken}
 use Rattle.file_store.specs.Private.Reading.{IsPast}
-use Rattle.file_store.specs.Private.Views.{said_of, stack_of}
-use Rattle.file_store.proofs.FrameStacks.{refused_is}
+use Rattle.file_store.specs.Private.Views.{said_of, open_nodes_of}
+use Rattle.file_store.proofs.OpenNodes.{refused_is}
 use Rattle.file_store.proofs.ReadListings.{past_refused}
 use Rattle.file_store.proofs.Texts.{one_line}
 use Rattle.file_store.proofs.reader.Reader.taken.Goals as goal
@@ -12,14 +12,14 @@ pub returns-in-Err-Refused-step-clause-refused : goal.returns-in-Err-Refused-ste
 returns-in-Err-Refused-step-clause-refused c = (
   refl,
   (λ said h.
-      ap (step (stack_of c.args.self.stack))
+      ap (line_taken (open_nodes_of c.args.self.stack))
       (one_line c.line_laws.ensures said (said_of c.in-Ok.said) h.0 c.in-Ok.ensures.says.0 (h.1 ∙ sym c.in-Ok.ensures.says.1))
-      ∙ refused_is c.in-Err-Refused-step.field-0 (step (stack_of c.args.self.stack) (said_of c.in-Ok.said)) c.in-Err-Refused-step.field-0-is c.in-Err-Refused-step.ensures),
+      ∙ refused_is c.in-Err-Refused-step.field-0 (line_taken (open_nodes_of c.args.self.stack) (said_of c.in-Ok.said)) c.in-Err-Refused-step.field-0-is c.in-Err-Refused-step.ensures),
 )
 
 pub returns-in-Some-clause-refused : goal.returns-in-Some-clause-refused
 returns-in-Some-clause-refused c =
-    past_refused c.args.line.now (come_of c.args.self) (said_of c.in-Ok.said) (stack_of c.in-Ok-step.stack) c.in-Some.refusal c.in-Ok.ensures.says c.in-Ok-step.ensures
+    past_refused c.args.line.now (come_of c.args.self) (said_of c.in-Ok.said) (open_nodes_of c.in-Ok-step.stack) c.in-Some.refusal c.in-Ok.ensures.says c.in-Ok-step.ensures
     (subst (λ b. IsPast b c.in-Ok.said.level c.args.self.opened (Some c.in-Some.refusal)) c.opens-opens.ensures c.in-Some.ensures)
 
 pub returns-in-None-clause-taken : goal.returns-in-None-clause-taken

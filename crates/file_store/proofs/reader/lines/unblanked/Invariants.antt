@@ -1,5 +1,5 @@
 use Rattle.std.proofs.Common.{◌≡◌, ◌+◌, ◌≤◌, ◌++◌, length}
-use Rattle.file_store.specs.Private.LineReading.{blanks}
+use Rattle.file_store.specs.Private.LineReading.{blank_bytes}
 use Rattle.file_store.proofs.reader.lines.unblanked.Given as goal
 
 abbrev pub decreases-loop-more : goal.decreases-loop-more
@@ -7,6 +7,6 @@ decreases-loop-more l = length l.rest
 
 abbrev pub invariant-loop-more : goal.invariant-loop-more
 invariant-loop-more l = record {
-  whole : l.fn.line ≡ blanks l.level ++ l.rest;
+  whole : l.fn.line ≡ blank_bytes l.level ++ l.rest;
   few : l.level + length l.rest ≤ length l.fn.line;
 }

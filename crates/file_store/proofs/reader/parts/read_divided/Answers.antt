@@ -1,6 +1,6 @@
 use Rattle.std.proofs.Common.{◌∷◌, map, refl}
 use Rattle.plcs_grammar.specs.Template.{PlainSegment, plain_segment}
-use Rattle.template_tree.specs.PlainPlace.{plain_place}
+use Rattle.template_tree.specs.PlainPhrasePlace.{plain_phrase_place}
 use Rattle.file_store.specs.Private.LineReading.{AreNoSegments, IsNoPart}
 use Rattle.file_store.proofs.PartTexts.{divided_front, fault_too, no_divided_part, undivided}
 use Rattle.file_store.proofs.reader.parts.read_divided.Goals as goal
@@ -12,7 +12,7 @@ returns-in_default c =
 
 pub returns-in-Ok : goal.returns-in-Ok
 returns-in-Ok c =
-    divided_front c.line_laws.ensures c.args.category c.args.words.now c.args.text.now c.in-Some.part.now c.in-Some.rest.now (plain_place c.in-Ok.place) _
+    divided_front c.line_laws.ensures c.args.category c.args.words.now c.args.text.now c.in-Some.part.now c.in-Some.rest.now (plain_phrase_place c.in-Ok.place) _
     (map plain_segment c.args.later.now) refl c.requires.some c.requires.cut c.in-Some.ensures c.in-Ok.ensures
 
 pub returns-in-Err : goal.returns-in-Err

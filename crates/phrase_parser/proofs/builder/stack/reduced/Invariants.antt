@@ -6,7 +6,7 @@ use Rattle.phrase_parser.proofs.builder.stack.reduced.Given as goal
 
 abbrev pub invariant-loop-frame : goal.invariant-loop-frame
 invariant-loop-frame l =
-    machine.reduced (stack_on (machine.Stack.base (base_of l.base)) l.frames.items) l.level (plain_expr l.operand)
+    machine.reduced (stack_on (machine.ParseStack.base (base_of l.base)) l.frames.items) l.level (plain_expr l.operand)
     ≡ machine.reduced (stack_of l.fn.stack) l.fn.level (plain_expr l.fn.operand)
 
 abbrev pub decreases-loop-frame : goal.decreases-loop-frame

@@ -1,13 +1,13 @@
 use Rattle.std.specs.Prelude.{◌≡◌, ◌+◌, ◌*◌, ◌<◌, length, get_or}
 use Rattle.std.specs.List.{insert}
 use Rattle.std.proofs.Common.{arith, ap, ◌∙◌}
-use Rattle.prefix_sums.specs.PlainSums.{PlainSums}
+use Rattle.prefix_sums.specs.PlainPrefixSums.{PlainPrefixSums}
 use Rattle.prefix_sums.proofs.Turns.{insert_turn, mark_fits}
 use Rattle.prefix_sums.proofs.sums.PrefixSums.insert.Goals as goal
 
 pub overflow_add-index : goal.overflow_add-index
 overflow_add-index c =
-    let same = ap (λ (v : PlainSums). v.numbers) c.self.view_is in
+    let same = ap (λ (v : PlainPrefixSums). v.numbers) c.self.view_is in
     let there : c.loop-b.b < length c.loop-b.self-inside.marks.items = omega arith in
     let fits =
     mark_fits c.args.self.now.numbers c.args.k c.args.number c.loop-b.self-inside.marks.items c.loop-b.b c.index.result.now
@@ -16,7 +16,7 @@ overflow_add-index c =
 
 pub overflow_sub-index : goal.overflow_sub-index
 overflow_sub-index c =
-    let same = ap (λ (v : PlainSums). v.numbers) c.self.view_is in
+    let same = ap (λ (v : PlainPrefixSums). v.numbers) c.self.view_is in
     let there : c.loop-b.b < length c.loop-b.self-inside.marks.items = omega arith in
     let news : c.loop-b.self-inside.numbers.items ≡ insert c.args.self.now.numbers c.args.k c.args.number = cc in
     (insert_turn c.args.self.now.numbers c.args.k c.args.number c.loop-b.self-inside.marks.items c.loop-b.b c.index.result.now
@@ -26,7 +26,7 @@ overflow_sub-index c =
 
 pub loop-b-preserved : goal.loop-b-preserved
 loop-b-preserved c =
-    let same = ap (λ (v : PlainSums). v.numbers) c.self.view_is in
+    let same = ap (λ (v : PlainPrefixSums). v.numbers) c.self.view_is in
     let there : c.loop-b.b < length c.loop-b.self-inside.marks.items = omega arith in
     let news : c.loop-b.self-inside.numbers.items ≡ insert c.args.self.now.numbers c.args.k c.args.number = cc in
     record {

@@ -2,13 +2,13 @@ use Rattle.std.specs.Prelude.{◌≡◌, refl, ◌+◌, ◌-◌, ◌*◌, ◌^�
 use Rattle.std.specs.List.{remove}
 use Rattle.std.proofs.Common.{arith, ap, sym, ◌∙◌}
 use Rattle.std.proofs.lemmas.Option.{slice_get_read}
-use Rattle.prefix_sums.specs.PlainSums.{PlainSums}
+use Rattle.prefix_sums.specs.PlainPrefixSums.{PlainPrefixSums}
 use Rattle.prefix_sums.proofs.Turns.{remove_turn}
 use Rattle.prefix_sums.proofs.sums.PrefixSums.remove.Goals as goal
 
 pub overflow_add-index : goal.overflow_add-index
 overflow_add-index c =
-    let same = ap (λ (v : PlainSums). v.numbers) c.self.view_is in
+    let same = ap (λ (v : PlainPrefixSums). v.numbers) c.self.view_is in
     let there : c.loop-b.b < length c.loop-b.self-inside.marks.items = omega arith in
     let news : c.loop-b.self-inside.numbers.items ≡ remove c.args.self.now.numbers c.args.k = cc in
     let turn =
@@ -22,7 +22,7 @@ overflow_add-index c =
 
 pub overflow_sub-index : goal.overflow_sub-index
 overflow_sub-index c =
-    let same = ap (λ (v : PlainSums). v.numbers) c.self.view_is in
+    let same = ap (λ (v : PlainPrefixSums). v.numbers) c.self.view_is in
     let there : c.loop-b.b < length c.loop-b.self-inside.marks.items = omega arith in
     let news : c.loop-b.self-inside.numbers.items ≡ remove c.args.self.now.numbers c.args.k = cc in
     (remove_turn c.args.self.now.numbers c.args.k c.remove-number.result c.loop-b.self-inside.marks.items c.loop-b.b
@@ -33,7 +33,7 @@ overflow_sub-index c =
 
 pub loop-b-preserved : goal.loop-b-preserved
 loop-b-preserved c =
-    let same = ap (λ (v : PlainSums). v.numbers) c.self.view_is in
+    let same = ap (λ (v : PlainPrefixSums). v.numbers) c.self.view_is in
     let there : c.loop-b.b < length c.loop-b.self-inside.marks.items = omega arith in
     let news : c.loop-b.self-inside.numbers.items ≡ remove c.args.self.now.numbers c.args.k = cc in
     record {
@@ -51,7 +51,7 @@ loop-b-preserved c =
 
 pub returns-clause-taken : goal.returns-clause-taken
 returns-clause-taken c =
-    let same = ap (λ (v : PlainSums). v.numbers) c.self.view_is in
+    let same = ap (λ (v : PlainPrefixSums). v.numbers) c.self.view_is in
     sym
     (slice_get_read c.args.self.now.numbers (length c.args.self.now.numbers) c.args.k c.remove-number.result refl (omega arith)
     (c.remove-number.ensures.value ∙ ap (λ n. get_or n c.args.k c.remove-number.result) same))

@@ -1,12 +1,12 @@
 use Rattle.std.specs.Prelude.{◌<◌, length, get_or}
 use Rattle.std.proofs.Common.{arith, ap, ◌∙◌}
-use Rattle.prefix_sums.specs.PlainSums.{PlainSums}
+use Rattle.prefix_sums.specs.PlainPrefixSums.{PlainPrefixSums}
 use Rattle.prefix_sums.proofs.Turns.{set_turn}
 use Rattle.prefix_sums.proofs.sums.PrefixSums.set.Goals as goal
 
 pub overflow_sub-index : goal.overflow_sub-index
 overflow_sub-index c =
-    let same = ap (λ (v : PlainSums). v.numbers) c.self.view_is in
+    let same = ap (λ (v : PlainPrefixSums). v.numbers) c.self.view_is in
     let there : c.loop-b.b < length c.loop-b.self-inside.marks.items = omega arith in
     (set_turn c.args.self.now.numbers c.args.k c.args.number c.loop-b.self-inside.marks.items c.loop-b.b c.index.result.now
     c.index-old.result.now c.requires.there (omega arith) there c.index.ensures
@@ -14,7 +14,7 @@ overflow_sub-index c =
 
 pub overflow_add-index : goal.overflow_add-index
 overflow_add-index c =
-    let same = ap (λ (v : PlainSums). v.numbers) c.self.view_is in
+    let same = ap (λ (v : PlainPrefixSums). v.numbers) c.self.view_is in
     let there : c.loop-b.b < length c.loop-b.self-inside.marks.items = omega arith in
     let turn =
     set_turn c.args.self.now.numbers c.args.k c.args.number c.loop-b.self-inside.marks.items c.loop-b.b c.index.result.now
@@ -24,7 +24,7 @@ overflow_add-index c =
 
 pub loop-b-preserved : goal.loop-b-preserved
 loop-b-preserved c =
-    let same = ap (λ (v : PlainSums). v.numbers) c.self.view_is in
+    let same = ap (λ (v : PlainPrefixSums). v.numbers) c.self.view_is in
     let there : c.loop-b.b < length c.loop-b.self-inside.marks.items = omega arith in
     record {
       mended =

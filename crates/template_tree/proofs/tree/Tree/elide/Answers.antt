@@ -1,7 +1,7 @@
 use Rattle.std.specs.Prelude.{◌∷◌, []}
 use Rattle.std.proofs.Common.{ap, sym}
 use Rattle.template_tree.specs.PlainTree.{Forest}
-use Rattle.template_tree.specs.Elision.{turn}
+use Rattle.template_tree.specs.Elision.{toggled}
 use Rattle.template_tree.proofs.Parts.KeptTrees.{kept_tree, turned_relabels}
 use Rattle.template_tree.proofs.Edits.SameEdits.{edits_alike, edit_nowhere}
 use Rattle.template_tree.proofs.tree.Tree.elide.Goals as goal
@@ -9,12 +9,12 @@ use Rattle.template_tree.proofs.tree.Tree.elide.Goals as goal
 pub returns-in_default-clause-changed : goal.returns-in_default-clause-changed
 returns-in_default-clause-changed c =
     ap (λ (items : Forest). record c.args.self.now { items = items })
-    (sym (edit_nowhere turn c.args.self.now.items c.args.path.now.items (sym c.in_default.ensures.found)))
+    (sym (edit_nowhere toggled c.args.self.now.items c.args.path.now.items (sym c.in_default.ensures.found)))
 
 pub returns-clause-changed : goal.returns-clause-changed
 returns-clause-changed c =
     ap (λ (items : Forest). record c.args.self.now { items = items })
-    (edits_alike (λ _. c.turn.new.self ∷ []) turn c.args.self.now.items c.args.path.now.items c.in-Some.node.now
+    (edits_alike (λ _. c.turn.new.self ∷ []) toggled c.args.self.now.items c.args.path.now.items c.in-Some.node.now
     (sym c.in-Some.ensures.found) (sym c.turn.ensures.turned))
 
 pub returns-clause-tree : goal.returns-clause-tree

@@ -2,7 +2,7 @@ use Rattle.std.specs.Prelude.{◌≡◌, List, Option, map}
 use Rattle.std.proofs.Common.{ap}
 use Rattle.plcs_grammar.specs.PlainPhrase.{PlainPhrase}
 use Rattle.plcs_grammar.specs.declared.node_kind.NodeKind.{NodeKind}
-use Rattle.template_tree.specs.PlainPlace.{plain_place}
+use Rattle.template_tree.specs.PlainPhrasePlace.{plain_phrase_place}
 use Rattle.template_tree.specs.PlainTree.{PlainNode, forest, roomless}
 use Rattle.template_tree.specs.NewTree.{bare_label, new_items}
 use Rattle.template_tree.proofs.Trees.NewPrograms.{new_is, new_is_tree}
@@ -14,7 +14,7 @@ items_are c =
     new_is c.in_ok-items.items.items c.in_ok-two.field-0.items
     record {
       label =
-          record (bare_label 0 NodeKind.Main) { parts = map plain_place c.new.result.items; spare = c.in_ok-two.field-0.spare };
+          record (bare_label 0 NodeKind.Main) { parts = map plain_phrase_place c.new.result.items; spare = c.in_ok-two.field-0.spare };
       inner = forest c.in_ok-two.field-0.items;
     }
     record {
@@ -27,7 +27,7 @@ items_are c =
       inner_is = c.in_ok-two.ensures;
       main_is =
           ap (λ (parts : List (Option PlainPhrase)). let node : PlainNode = record { label = record (bare_label 0 NodeKind.Main) { parts = parts }; inner = forest c.in_ok-two.field-0.items } in node)
-          (ap (map plain_place) c.new.ensures.items);
+          (ap (map plain_phrase_place) c.new.ensures.items);
       items_are = c.in_ok-items.ensures;
     }
 

@@ -2,7 +2,7 @@ use Rattle.std.specs.Prelude.{refl}
 use Rattle.std.proofs.Common.{ap, sym, ◌∙◌, subst}
 use Rattle.std.proofs.Math.Bool.{false≢true}
 use Rattle.template_tree.specs.declared.change.What.{What}
-use Rattle.template_tree.specs.PlainPlace.{plain_place}
+use Rattle.template_tree.specs.PlainPhrasePlace.{plain_phrase_place}
 use Rattle.template_tree.specs.PlainTree.{PlainNode, PlainTree}
 use Rattle.template_tree.specs.Path.{node_at}
 use Rattle.template_tree.specs.Receipt.{PlainUndoing}
@@ -35,17 +35,17 @@ returns-clause-edited c =
     let drawn = ap (λ (t : PlainTree). t.drawn) c.self.view_is in
     let live = ap (λ (t : PlainTree). t.live) c.self.view_is in
     rw c.in-Some.is
-    (edits_at (TreeEdit.set_part c.in-Some.part (plain_place c.args.place)) (node_at c.args.self.now.items c.args.stop.now.path.items)
-    (TakesAtStop c.in-Some.part (plain_place c.args.place)) _ _ _ node there
-    (part_stop node.label.kind c.in-Some.part (plain_place c.args.place) (λ is. false≢true (sym c.if-is_assignment.false ∙ c.is_assignment.ensures.1 (kind ∙ is))) takes, takes)
-    (part_edit c.args.self.now c.args.stop.now.path.items node c.in-Some.part (plain_place c.args.place) (plain_place c.in-Ok.old) _
+    (edits_at (TreeEdit.set_part c.in-Some.part (plain_phrase_place c.args.place)) (node_at c.args.self.now.items c.args.stop.now.path.items)
+    (TakesAtStop c.in-Some.part (plain_phrase_place c.args.place)) _ _ _ node there
+    (part_stop node.label.kind c.in-Some.part (plain_phrase_place c.args.place) (λ is. false≢true (sym c.if-is_assignment.false ∙ c.is_assignment.ensures.1 (kind ∙ is))) takes, takes)
+    (part_edit c.args.self.now c.args.stop.now.path.items node c.in-Some.part (plain_phrase_place c.args.place) (plain_phrase_place c.in-Ok.old) _
     c.node.inside.slot c.procedure_at-procedure.result _ c.requires.tree there takes c.requires.phrase c.in-Ok.ensures.set.0
     (ap (with_node c.args.self.now c.args.stop.now.path.items) c.in-Ok.ensures.set.1) (ap (λ (n : PlainNode). n.label.slot) c.node.view_is)
     c.procedure_at-procedure.ensures
     (λ i. record {
       change = record { slot = c.node.inside.slot; procedure = c.procedure_at-procedure.result; what = What.Part c.in-Some.part };
       path = c.copy_path.ensures i;
-      undoing = PlainUndoing.set_part c.in-Some.part (plain_place c.in-Ok.old);
+      undoing = PlainUndoing.set_part c.in-Some.part (plain_phrase_place c.in-Ok.old);
       drawn = drawn i;
       live = live i;
     })))
@@ -55,9 +55,9 @@ returns-clause-tree c =
     let node = c.in-Some-node_mut.node.now in
     subst IsTree
     (sym (ap (with_node c.args.self.now c.args.stop.now.path.items) c.in-Ok.ensures.set.1
-    ∙ part_is c.args.self.now c.args.stop.now.path.items node c.in-Some.part (plain_place c.args.place) c.requires.tree
+    ∙ part_is c.args.self.now c.args.stop.now.path.items node c.in-Some.part (plain_phrase_place c.args.place) c.requires.tree
     (sym c.in-Some-node_mut.ensures.found) (c.in-Ok.ensures.fits.0 refl) c.requires.phrase))
-    (part_keeps_tree c.args.self.now c.args.stop.now.path.items node c.in-Some.part (plain_place c.args.place) c.requires.tree
+    (part_keeps_tree c.args.self.now c.args.stop.now.path.items node c.in-Some.part (plain_phrase_place c.args.place) c.requires.tree
     (sym c.in-Some-node_mut.ensures.found) (c.in-Ok.ensures.fits.0 refl) c.requires.phrase).0
 
 pub returns-in-Err-clause-tree : goal.returns-in-Err-clause-tree

@@ -2,7 +2,7 @@ use Rattle.std.proofs.Common.{◌∙◌, sym, ap}
 use Rattle.std.specs.Prelude.{Ok}
 use Rattle.std.specs.Option.{option_or}
 use Rattle.template_tree.specs.Verdict.{both_found, infix_found, offence_in}
-use Rattle.type_marks.specs.Private.Chain.{ended}
+use Rattle.type_marks.specs.Private.Chain.{chain_ended}
 use Rattle.type_marks.proofs.FoundChains.{ends_before}
 use Rattle.type_marks.proofs.chain.Chain.before.Goals as goal
 
@@ -13,4 +13,4 @@ returns-in-Some c =
     ends_before next c.args.self.later c.args.self.gives c.args.op c.args.right found c.first_offence.result
     (c.first_offence.ensures
     ∙ ap (λ f. option_or (offence_in f) c.args.self.later) (c.found-found.ensures ∙ ap (λ k. both_found (Ok k) next.right (infix_found next.op)) c.infix_gives-in-Some.ensures))
-    ∙ ap (λ first. ended first c.args.self.later c.args.self.gives (both_found found c.args.right (infix_found c.args.op))) (sym c.in-Some.is)
+    ∙ ap (λ first. chain_ended first c.args.self.later c.args.self.gives (both_found found c.args.right (infix_found c.args.op))) (sym c.in-Some.is)

@@ -5,8 +5,8 @@ use Rattle.plcs_base.specs.declared.place.PhraseAt.{PhraseAt}
 use Rattle.plcs_grammar.specs.PlainPhrase.{plain_phrase}
 use Rattle.decl_table.proofs.AddedUses.{then_ok}
 use Rattle.template_tree.specs.Marks.{VerdictList, surroundings}
-use Rattle.template_tree.specs.Mention.{phrase_place}
-use Rattle.template_tree.specs.PlainPlace.{plain_place}
+use Rattle.template_tree.specs.Mention.{phrase_at}
+use Rattle.template_tree.specs.PlainPhrasePlace.{plain_phrase_place}
 use Rattle.template_tree.specs.Verdict.{verdict}
 use Rattle.type_marks.specs.Private.DeclaredItems.{IsListIn}
 use Rattle.type_marks.specs.Private.MarksView.{with_all}
@@ -21,11 +21,11 @@ returns-in_default-clause-noted g t c =
 
 pub overflow_add-part : goal.overflow_add-part
 overflow_add-part g t c =
-    omega (arith, slice_get_within c.args.node.now.label.parts c.args.part (plain_place c.in-Some.place.now) (sym c.in-Some.ensures), c.requires.few)
+    omega (arith, slice_get_within c.args.node.now.label.parts c.args.part (plain_phrase_place c.in-Some.place.now) (sym c.in-Some.ensures), c.requires.few)
 
 pub note_parts-requires : goal.note_parts-requires
 note_parts-requires g t c κs within =
-    let there = slice_get_within c.args.node.now.label.parts c.args.part (plain_place c.in-Some.place.now) (sym c.in-Some.ensures) in (
+    let there = slice_get_within c.args.node.now.label.parts c.args.part (plain_phrase_place c.in-Some.place.now) (sym c.in-Some.ensures) in (
       omega (arith, there),
       (within, (c.requires.tree, (c.requires.decls, (c.requires.item, (c.requires.listed, c.requires.few))))),
     )
@@ -37,14 +37,14 @@ returns-in_err-note_parts-clause-checked g t c =
       arith,
       c.note_parts.ensures.checked,
       parts_shorter (surroundings c.args.tree.now.items c.args.procedure.now slot) slot c.args.part c.args.node.now.label.parts
-          (plain_place c.in-Some.place.now) (sym c.in-Some.ensures),
+          (plain_phrase_place c.in-Some.place.now) (sym c.in-Some.ensures),
     )
 
 pub returns-in_default-place-clause-noted : goal.returns-in_default-place-clause-noted
 returns-in_default-place-clause-noted g t c =
     let slot = c.args.node.now.label.slot in
     let parts = c.args.node.now.label.parts in
-    let there : slice_get parts c.args.part ≡ Some None = sym c.in-Some.ensures ∙ ap (λ p. Some (plain_place p)) c.in_default-place.is in
+    let there : slice_get parts c.args.part ≡ Some None = sym c.in-Some.ensures ∙ ap (λ p. Some (plain_phrase_place p)) c.in_default-place.is in
     c.in_ok-note_parts.ensures.noted
     ∙ ap (λ (verdicts : VerdictList). with_all verdicts c.args.self.now)
     (sym (part_empty (surroundings c.args.tree.now.items c.args.procedure.now slot) slot c.args.part parts there))
@@ -56,14 +56,14 @@ returns-in_default-place-clause-checked g t c =
       arith,
       c.note_parts.ensures.checked,
       parts_shorter (surroundings c.args.tree.now.items c.args.procedure.now slot) slot c.args.part c.args.node.now.label.parts
-          (plain_place c.in-Some.place.now) (sym c.in-Some.ensures),
+          (plain_phrase_place c.in-Some.place.now) (sym c.in-Some.ensures),
     )
 
 pub checked-verdict-requires-clause-listed : goal.checked-verdict-requires-clause-listed
 checked-verdict-requires-clause-listed g t c =
     let parts = c.args.node.now.label.parts in
     let phrase = plain_phrase c.in-Filled.phrase in
-    let there : slice_get parts c.args.part ≡ Some (Some phrase) = sym c.in-Some.ensures ∙ ap (λ p. Some (plain_place p)) c.in-Filled.is in
+    let there : slice_get parts c.args.part ≡ Some (Some phrase) = sym c.in-Some.ensures ∙ ap (λ p. Some (plain_phrase_place p)) c.in-Filled.is in
     subst (λ (slot : ℕ). IsListIn c.args.procedure.now.inner slot phrase) (sym c.slot-2.ensures)
     (c.requires.listed c.args.part phrase (ap option_flatten there))
 
@@ -75,9 +75,9 @@ returns-clause-noted g t c =
     let parts = c.args.node.now.label.parts in
     let part = c.args.part in
     let phrase = plain_phrase c.in-Filled.phrase in
-    let there : slice_get parts part ≡ Some (Some phrase) = sym c.in-Some.ensures ∙ ap (λ p. Some (plain_place p)) c.in-Filled.is in
+    let there : slice_get parts part ≡ Some (Some phrase) = sym c.in-Some.ensures ∙ ap (λ p. Some (plain_phrase_place p)) c.in-Filled.is in
     let at : PhraseAt = record { slot = c.slot.result; part = part } in
-    let at_is : at ≡ phrase_place slot part = ap (λ (n : ℕ). phrase_place n part) c.slot.ensures in
+    let at_is : at ≡ phrase_at slot part = ap (λ (n : ℕ). phrase_at n part) c.slot.ensures in
     let found_is : c.checked-verdict.result ≡ verdict (surroundings program procedure slot) phrase =
     c.checked-verdict.ensures.verdict ∙ ap (λ (n : ℕ). verdict (surroundings program procedure n) phrase) c.slot-2.ensures in
     then_ok c.note.result
@@ -90,7 +90,7 @@ returns-clause-checked g t c =
     let slot = c.args.node.now.label.slot in
     let parts = c.args.node.now.label.parts in
     let phrase = plain_phrase c.in-Filled.phrase in
-    let there : slice_get parts c.args.part ≡ Some (Some phrase) = sym c.in-Some.ensures ∙ ap (λ p. Some (plain_place p)) c.in-Filled.is in
+    let there : slice_get parts c.args.part ≡ Some (Some phrase) = sym c.in-Some.ensures ∙ ap (λ p. Some (plain_phrase_place p)) c.in-Filled.is in
     let more = part_filled (surroundings c.args.tree.now.items c.args.procedure.now slot) slot c.args.part parts phrase there in
     omega (
       arith,

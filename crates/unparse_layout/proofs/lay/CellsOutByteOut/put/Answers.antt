@@ -1,7 +1,7 @@
 use Rattle.std.specs.Prelude.{◌≡◌, refl, ℕ, ◌∷◌, [], take, length}
 use Rattle.std.proofs.Common.{arith, ap, ◌∙◌}
 use Rattle.arrayvec.specs.ArrayVec.{ArrayVec}
-use Rattle.unparse_layout.specs.LaidLine.{cell, longest_line}
+use Rattle.unparse_layout.specs.LaidLine.{screen_cell, longest_line}
 use Rattle.unparse_layout.proofs.PutCells.{take_full}
 use Rattle.unparse_layout.proofs.lay.CellsOutByteOut.put.Goals as goal
 
@@ -11,7 +11,7 @@ returns-in-Err c =
     let full : length c.args.self.now.cells.items ≡ longest_line = c.in-Err.ensures.full in
     record {
       put = record {
-        cells = ap (take longest_line) same ∙ take_full longest_line c.args.self.now.cells.items (cell c.args.self.now.negative c.args.byte ∷ []) (omega (arith, full));
+        cells = ap (take longest_line) same ∙ take_full longest_line c.args.self.now.cells.items (screen_cell c.args.self.now.negative c.args.byte ∷ []) (omega (arith, full));
       };
       image = refl;
       short = omega (arith, ap length same, full);

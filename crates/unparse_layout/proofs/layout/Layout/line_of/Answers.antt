@@ -3,7 +3,7 @@ use Rattle.std.proofs.Common.{arith, ap, sym, ◌∙◌}
 use Rattle.plcs_grammar.specs.Template.{program_sections}
 use Rattle.template_tree.specs.PlainTree.{roomless}
 use Rattle.template_tree.specs.Stop.{plain_stop}
-use Rattle.unparse_layout.specs.Bones.{Bones, bones_of}
+use Rattle.unparse_layout.specs.Bones.{PlainLayout, bones_of}
 use Rattle.unparse_layout.specs.Private.Height.{bone_count}
 use Rattle.unparse_layout.specs.Private.ItemLines.{lines_before}
 use Rattle.unparse_layout.proofs.Heights.{count_bones, heights_le}
@@ -22,7 +22,7 @@ returns-clause-line g c =
     let items = roomless c.args.tree.now.items in
     let all = line_of_stop items (plain_stop c.args.stop.now) c.in-Some.k.now c.in-Some.rest.now (sym c.deref.ensures.0 ∙ c.in-Some.ensures.cases.0) c.requires.stop in
     c.lines_before.ensures
-    ∙ ap (λ (b : Bones). lines_before b c.in-Some.k.now c.in-Some.rest.now)
+    ∙ ap (λ (b : PlainLayout). lines_before b c.in-Some.k.now c.in-Some.rest.now)
     (c.self.view_is ∙ c.requires.agrees ∙ sym (bones_roomless program_sections c.args.tree.now.items))
     ∙ all.is
 
@@ -32,7 +32,7 @@ returns-clause-below g c =
     let all = line_of_stop items (plain_stop c.args.stop.now) c.in-Some.k.now c.in-Some.rest.now (sym c.deref.ensures.0 ∙ c.in-Some.ensures.cases.0) c.requires.stop in
     let same : lines_before (bones_of program_sections items) c.in-Some.k.now c.in-Some.rest.now ≡ c.lines_before.result =
     sym (c.lines_before.ensures
-    ∙ ap (λ (b : Bones). lines_before b c.in-Some.k.now c.in-Some.rest.now)
+    ∙ ap (λ (b : PlainLayout). lines_before b c.in-Some.k.now c.in-Some.rest.now)
     (c.self.view_is ∙ c.requires.agrees ∙ sym (bones_roomless program_sections c.args.tree.now.items))) in
     omega (arith, all.within, same, shown_length items)
 
@@ -43,7 +43,7 @@ returns-clause-few g c =
     let kept = sym (bones_roomless program_sections c.args.tree.now.items) in
     let same : lines_before (bones_of program_sections items) c.in-Some.k.now c.in-Some.rest.now ≡ c.lines_before.result =
     sym (c.lines_before.ensures
-    ∙ ap (λ (b : Bones). lines_before b c.in-Some.k.now c.in-Some.rest.now)
+    ∙ ap (λ (b : PlainLayout). lines_before b c.in-Some.k.now c.in-Some.rest.now)
     (c.self.view_is ∙ c.requires.agrees ∙ kept)) in
     let count : bone_count (bones_of program_sections c.args.tree.now.items) ≡ bone_count (bones_of program_sections items) = ap bone_count kept in
     omega (arith, all.within, same, count, heights_le (bones_of program_sections items), count_bones program_sections c.args.tree.now.items, c.requires.tree.few)

@@ -2,14 +2,14 @@ use Rattle.std.specs.Prelude.{◌-◌, ◌≤◌, drop, length}
 use Rattle.plcs_grammar.specs.Template.{program_sections}
 use Rattle.template_tree.specs.PlainTree.{nodes}
 use Rattle.unparse_layout.specs.Bones.{bones_of}
-use Rattle.template_tree.specs.PlainLeft.{plain_left}
+use Rattle.template_tree.specs.PlainSectionsLeft.{plain_sections_left}
 use Rattle.unparse_layout.proofs.MadeBones.{IsMade}
 use Rattle.unparse_layout.proofs.layout.Layout.new.Given as goal
 
 abbrev pub invariant-loop-item : goal.invariant-loop-item
 invariant-loop-item g l = record {
   made :
-      IsMade (bones_of program_sections l.tree.items) l.root.inner (plain_left l.left) (drop l.k (nodes l.tree.items));
+      IsMade (bones_of program_sections l.tree.items) l.root.inner (plain_sections_left l.left) (drop l.k (nodes l.tree.items));
   within : l.k ≤ length (nodes l.tree.items);
 }
 

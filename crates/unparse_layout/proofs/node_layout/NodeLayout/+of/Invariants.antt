@@ -3,7 +3,7 @@ use Rattle.plcs_grammar.specs.Template.{row_of}
 use Rattle.template_tree.specs.PlainTree.{nodes}
 use Rattle.template_tree.specs.Slots.{count}
 use Rattle.unparse_layout.specs.Bones.{bones_of}
-use Rattle.template_tree.specs.PlainLeft.{plain_left}
+use Rattle.template_tree.specs.PlainSectionsLeft.{plain_sections_left}
 use Rattle.unparse_layout.proofs.MadeBones.{IsMade}
 use Rattle.unparse_layout.proofs.node_layout.NodeLayout.+of.Given as goal
 
@@ -16,7 +16,7 @@ decreases-loop-child l = length (nodes l.node.inner) - l.k
 abbrev pub invariant-loop-child : goal.invariant-loop-child
 invariant-loop-child l = record {
   made :
-      IsMade (bones_of (row_of l.node.label.kind).sections l.node.inner) l.node_layout.inner (plain_left l.left)
+      IsMade (bones_of (row_of l.node.label.kind).sections l.node.inner) l.node_layout.inner (plain_sections_left l.left)
       (drop l.k (nodes l.node.inner));
   bone : l.node_layout.bone ≡ l.initial.node_layout.bone;
   within : l.k ≤ length (nodes l.node.inner);

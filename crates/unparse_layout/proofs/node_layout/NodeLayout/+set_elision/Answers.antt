@@ -4,7 +4,7 @@ use Rattle.std.proofs.lemmas.List.{length-map, map-set}
 use Rattle.std.proofs.lemmas.Option.{slice_get_within}
 use Rattle.unparse_layout.specs.Private.PlainNodeLayout.{PlainNodeLayout, node_layouts}
 use Rattle.unparse_layout.specs.Private.Height.{bone_count, height, heights}
-use Rattle.prefix_sums.specs.PlainSums.{PlainSums}
+use Rattle.prefix_sums.specs.PlainPrefixSums.{PlainPrefixSums}
 use Rattle.unparse_layout.proofs.Heights.{height_le, heights_le, node_layout_few}
 use Rattle.unparse_layout.proofs.Opened.{found_again, numbers_sum}
 use Rattle.unparse_layout.proofs.TurnedBones.{count_elision, set_fits}
@@ -53,7 +53,7 @@ pub invariant_of-self-2 : goal.invariant_of-self-2
 invariant_of-self-2 t c =
     record {
       heights =
-          ap (λ (s : PlainSums). s.numbers) c.set.ensures
+          ap (λ (s : PlainPrefixSums). s.numbers) c.set.ensures
           ∙ ap (λ ns. slice_set ns c.in-Some.k.now c.height-height.result) c.self.invariant.heights
           ∙ ap (slice_set (map height c.self.inside.inner.items) c.in-Some.k.now) c.height-height.ensures
           ∙ sym (map-set height c.self.inside.inner.items c.in-Some.k.now c.set_elision.new.self);

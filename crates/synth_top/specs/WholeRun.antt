@@ -1,0 +1,237 @@
+-- A whole run: from the bytes of keys to the bytes of screens.
+use Rattle.std.specs.Prelude.{◌≡◌, ◌⊎◌, ℕ, ◌+◌, ◌<◌, ◌≤◌, true, false, IsTrue, List, [], ◌∷◌, ◌++◌, length, take, Option, codes}
+use Rattle.std.specs.Io.KnownBytes.{Appends, Consumes, IsAtEnd}
+use Rattle.plcs_base.specs.Count.{RoseBy, raised_by}
+use Rattle.synth_outside.specs.Files.{PlainFiles}
+use Rattle.screen_window.specs.Paint.{Paint, control}
+use Rattle.screen_window.specs.PlainGrid.{PlainGrid, blank_grid}
+use Rattle.synth_session.specs.declared.key.Key.{Key}
+use Rattle.synth_session.specs.FileReply.{CountsWant}
+use Rattle.synth_session.specs.KeyRequest.{request}
+use Rattle.synth_session.specs.MemoryTaken.{key_takes_memory}
+use Rattle.synth_session.specs.PlainSession.{PlainSession}
+use Rattle.synth_session.specs.SessionScreen.{grid}
+use Rattle.synth_top.specs.declared.status.Status.{Status}
+use Rattle.synth_top.specs.declared.status.Status.TheVariants.{Done, ReadFault, WriteFault, NoMemory, BadWords, KeyLimit}
+use Rattle.synth_top.specs.Keys.{IsFront, completed, keys}
+use Rattle.synth_top.specs.Laid.{LaysFor}
+use Rattle.synth_top.specs.Loads.{CanLoad, PlainFirstLoads, first_state, load_failures}
+use Rattle.synth_top.specs.Options.{PlainOptions}
+use Rattle.synth_top.specs.Rescue.{CountsRescueWant, IsRescue, Rescue, files_with, rescue_failure}
+use Rattle.synth_top.specs.Turn.{HaveReplies, IsToldAs, PressedKey, EditorState, state_after_keys, ends, failures, grids, keys_pressed}
+
+-- ---- what is written
+
+-- the first piece, which sets the default image and clears the screen
+abbrev pub clear_piece : List ℕ
+clear_piece = control (codes "0m") ++ control (codes "2J")
+
+-- the bytes of the opening screen, which is painted over a cleared one
+unfoldable pub opening : PlainSession → List ℕ
+opening s = clear_piece ++ Paint (blank_grid s.size.rows s.size.cols) (grid s)
+
+-- the bytes of screens in turn: each painted over the one before, the first over the one that is shown
+abbrev pub painted_over : PlainGrid → List PlainGrid → List ℕ
+painted_over shown [] = []
+painted_over shown (next ∷ rest) = Paint shown next ++ painted_over next rest
+
+-- all bytes that a run writes: the opening screen, and then turn by turn each screen over the one before
+unfoldable pub written : EditorState → List PressedKey → List ℕ
+written state pressed =
+    opening state.session ++ painted_over (grid state.session) (grids state pressed)
+
+-- ---- what a run begins with
+
+-- what is told of keys and screens at a moment of a run: the bytes that the source has left and how many reads it
+-- counted, the bytes that the sink took, and how many lines were counted as laid
+pub record Told : Type 0 where
+  pub left : Option (List ℕ)
+  pub reads : ℕ
+  pub taken : Option (List ℕ)
+  pub laid : ℕ
+
+-- ---- what a run has done
+
+-- below the limit one read was made behind these bytes, and it found the source's end
+pub record EndRead (options : PlainOptions) (now : Told) (bytes : List ℕ) (reads : ℕ) : Type 0 where
+  pub one_more : reads ≡ length bytes + 1
+  pub below : length bytes < options.key_limit
+  pub ended : IsAtEnd now.left
+
+-- as many bytes were taken as the limit says, and no read was made behind them
+pub record LimitTaken (options : PlainOptions) (bytes : List ℕ) (reads : ℕ) : Type 0 where
+  pub one_each : reads ≡ length bytes
+  pub many : length bytes ≡ options.key_limit
+
+-- no byte of keys comes behind these: the source's end was read, or the limit is met
+abbrev pub NoKeyComes : PlainOptions → Told → List ℕ → ℕ → Type 0
+NoKeyComes options now bytes reads = EndRead options now bytes reads ⊎ LimitTaken options bytes reads
+
+-- one read a byte was made; or the source's end was read too, and these keys begin with all that the
+-- bytes complete
+abbrev pub ReadsInTurn : PlainOptions → Told → List ℕ → ℕ → List PressedKey → Type 0
+ReadsInTurn options now bytes reads pressed =
+    (reads ≡ length bytes)
+    ⊎ (EndRead options now bytes reads × IsFront (completed bytes) (keys_pressed pressed))
+
+-- what a run from this state of its opening screen has done between two moments
+pub record Course (options : PlainOptions) (first : EditorState) (before now : Told) : Type 0 where
+  -- the bytes of keys, each taken once and in order, and at most one that a failed read lost
+  pub bytes : List ℕ
+  pub lost : List ℕ
+  pub read : Consumes before.left now.left (bytes ++ lost)
+  pub one : length lost ≤ 1
+  pub within : length bytes ≤ options.key_limit
+  -- how many reads were made
+  pub reads : ℕ
+  pub made : now.reads ≡ raised_by reads before.reads
+  -- the keys pressed, each with what the files replied in it; what isn't complete is pressed only where
+  -- no byte comes any more
+  pub pressed : List PressedKey
+  pub can_reply : HaveReplies first pressed
+  pub in_order : IsFront (keys_pressed pressed) (keys bytes)
+  pub complete : IsFront (keys_pressed pressed) (completed bytes) ⊎ NoKeyComes options now bytes reads
+  -- how many bytes of all that is written the sink took
+  pub count : ℕ
+  pub wrote : Appends before.taken now.taken (take count (written first pressed))
+  -- the lines laid: at most as many as the windows of the opening screen and of the screens of the keys
+  -- have rows
+  pub laid : LaysFor (grid first.session ∷ grids first pressed) before.laid now.laid
+
+-- ---- why a run stopped
+
+module _ {options : PlainOptions} {first : EditorState} {before now : Told} (course : Course options first before now) where
+  -- the state behind all keys that a run pressed
+  abbrev pub state_after : EditorState
+  state_behind = state_after_keys first course.pressed
+
+  -- the sink took all that a run writes
+  abbrev pub AllWritten : Type 0
+  AllWritten = length (written first course.pressed) ≤ course.count
+
+  -- a run lost no byte of its source
+  abbrev pub NoneLost : Type 0
+  NoneLost = course.lost ≡ []
+
+  -- a run pressed just these keys, and none ended the session
+  pub record PressedAll (all : List Key) : Type 0 where
+    pub pressed : keys_pressed course.pressed ≡ all
+    pub going : ends first course.pressed ≡ false
+
+  -- the source's end was read below the limit, and then what isn't complete was pressed too
+  pub record SourceEnded : Type 0 where
+    pub all : PressedAll (keys course.bytes)
+    pub end : EndRead options now course.bytes course.reads
+
+  -- as many bytes were taken as the limit says, and then what isn't complete was pressed too
+  pub record LimitMet : Type 0 where
+    pub all : PressedAll (keys course.bytes)
+    pub limit : LimitTaken options course.bytes course.reads
+
+  -- below the limit the read behind the bytes gave no answer, and what isn't complete wasn't pressed
+  pub record ReadCut : Type 0 where
+    pub all : PressedAll (completed course.bytes)
+    pub below : length course.bytes < options.key_limit
+    pub one_more : course.reads ≡ length course.bytes + 1
+
+  -- the newest byte was taken, and the source's end read, only behind the keys that the bytes before it
+  -- complete, which are among these
+  pub record TakenBehind (pressed : List PressedKey) : Type 0 where
+    pub in_turn : (seen : List ℕ) (newest : ℕ) → course.bytes ≡ seen ++ newest ∷ [] →
+        IsFront (completed seen) (keys_pressed pressed)
+    pub reads : ReadsInTurn options now course.bytes course.reads pressed
+
+  -- the run stopped at the last key pressed: none before it ended the session, the screens of those
+  -- were all written, and no byte was taken before they were pressed
+  pub record AtLastKey : Type 0 where
+    pub earlier : List PressedKey
+    pub last : PressedKey
+    pub is_last : course.pressed ≡ earlier ++ last ∷ []
+    pub going : ends first earlier ≡ false
+    pub shown : length (written first earlier) ≤ course.count
+    pub taken : TakenBehind earlier
+
+  -- the last key pressed ended the session, and no read was made behind its byte
+  pub record QuitPressed : Type 0 where
+    pub at_key : AtLastKey
+    pub quit : ends first course.pressed ≡ true
+    pub no_read : course.reads ≡ length course.bytes
+
+  -- a write of the opening screen gave no answer, before any read
+  pub record OpeningCut : Type 0 where
+    pub no_read : course.reads ≡ 0
+    pub no_byte : course.bytes ≡ []
+    pub no_key : course.pressed ≡ []
+
+  -- a write of a screen of the last key pressed gave no answer
+  pub record ScreenCut : Type 0 where
+    pub at_key : AtLastKey
+    pub going : ends first course.pressed ≡ false
+
+  -- a key wanted memory, which is one that takes some, between these counts of the files' wants: it isn't
+  -- among those pressed but is the next one of the keys of the bytes, those pressed didn't end the session,
+  -- and no byte was taken before they were
+  pub record KeyWanted (wants_before wants_now : ℕ) : Type 0 where
+    pub wanted : Key
+    pub takes : IsTrue (key_takes_memory state_after.session wanted)
+    pub counts : CountsWant (request state_after.session wanted) wants_before wants_now
+    pub next : IsFront (keys_pressed course.pressed ++ wanted ∷ []) (keys course.bytes)
+    pub complete : IsFront (keys_pressed course.pressed ++ wanted ∷ []) (completed course.bytes)
+        ⊎ NoKeyComes options now course.bytes course.reads
+    pub going : ends first course.pressed ≡ false
+    pub taken : TakenBehind course.pressed
+
+  -- what each status says of the run, between these counts of the files' wants
+  abbrev pub Stopped : (wants_before wants_now : ℕ) → Status → Type 0
+  Stopped wants_before wants_now Done = AllWritten × NoneLost × (SourceEnded ⊎ QuitPressed)
+  Stopped wants_before wants_now KeyLimit = AllWritten × NoneLost × LimitMet
+  Stopped wants_before wants_now ReadFault = AllWritten × ReadCut
+  Stopped wants_before wants_now WriteFault = NoneLost × (OpeningCut ⊎ ScreenCut)
+  Stopped wants_before wants_now NoMemory =
+      (AllWritten × ReadCut) ⊎ ((NoneLost × (OpeningCut ⊎ ScreenCut)) ⊎ (AllWritten × NoneLost × KeyWanted wants_before wants_now))
+  Stopped wants_before wants_now BadWords = ⊥
+
+  -- what the source keeps besides its bytes is as after reads that were Ok, and then no byte was lost;
+  -- or as behind one that wasn't, and then that read cut the run
+  abbrev pub LeavesSource : Type 0 → Type 0 → Type 0
+  LeavesSource after_reads after_fault = (after_reads × NoneLost) ⊎ (after_fault × ReadCut)
+
+-- ---- a whole run
+
+-- no session was opened, for want of memory: nothing was read or written, the map of the files is as before, and their counts
+-- haven't fallen
+pub record NotOpened (status : Status) (before now : Told) (files_before files_now : PlainFiles) (after_reads : Type 0) : Type 0 where
+  pub wanted : status ≡ NoMemory
+  pub same : now ≡ before
+  pub source : after_reads
+  pub stored : files_now.stored ≡ files_before.stored
+  pub faults : files_before.faults ≤ files_now.faults
+  pub wants : files_before.wants ≤ files_now.wants
+
+-- a session was opened: the run did this, and stopped, left its source and saved as its status says
+pub record Ran (status : Status) (options : PlainOptions) (before now : Told) (files_before files_now : PlainFiles)
+    (after_reads after_fault : Type 0) : Type 0 where
+  -- what the files did in the loads before the first screen
+  pub loads : PlainFirstLoads
+  pub can_load : CanLoad options files_before.stored loads
+  -- what was done from the first screen on, why it stopped, and how many wants the files had counted then
+  pub course : Course options (first_state options files_before.stored loads) before now
+  pub wants : ℕ
+  pub wants_later : files_before.wants ≤ wants
+  pub stopped : Stopped course files_before.wants wants status
+  pub source : LeavesSource course after_reads after_fault
+  -- what was saved at the end
+  pub rescue : Rescue
+  pub rescued : IsRescue status rescue
+  pub wants_now : CountsRescueWant rescue wants files_now.wants
+  -- the map of the files as the keys and what was saved make it, and at least as many faults of theirs as
+  -- failures
+  pub files : IsToldAs (files_with rescue (state_after course)) files_now.stored
+  pub faults : RoseBy (load_failures loads + failures course.pressed + rescue_failure rescue)
+      files_before.faults files_now.faults
+
+-- the editor ended so: no session was opened, or the run went to its end
+abbrev pub Ended : Status → PlainOptions → (before now : Told) → (files_before files_now : PlainFiles) → (after_reads after_fault : Type 0) → Type 0
+Ended status options before now files_before files_now after_reads after_fault =
+    NotOpened status before now files_before files_now after_reads
+    ⊎ Ran status options before now files_before files_now after_reads after_fault

@@ -1,0 +1,341 @@
+//! The run: keys come in byte by byte, are pressed in their order, and their screens go out.
+
+ghost use Rattle.std.specs.Prelude.{◌≡◌, ◌≤◌, ◌∷◌, [], option_to_list, IfOk, OnOk, OnErr};
+ghost use Rattle.plcs_base.specs.Count.{raised};
+ghost use Rattle.screen_window.specs.Paint.{Paint};
+ghost use Rattle.screen_window.specs.PlainGrid.{blank_grid};
+ghost use Rattle.screen_window.specs.Writes.{Writes};
+ghost use Rattle.synth_outside.specs.Cause.{HasCause};
+ghost use Rattle.synth_outside.specs.Source.{LosesAtMost};
+ghost use Rattle.synth_session.specs.SessionScreen.{grid};
+ghost use Rattle.synth_session.specs.SessionView.{plain_session, shown_grid};
+ghost use Rattle.synth_top.specs.Keys.{keys, listed_keys};
+ghost use Rattle.synth_top.specs.Laid.{LaysFor};
+ghost use Rattle.synth_top.specs.Loads.{loaded_input, refusal_told};
+ghost use Rattle.synth_top.specs.Private.Loading.{IsInputIfLoaded, IsTreeIfLoaded};
+ghost use Rattle.synth_top.specs.Private.PlainForms.{input_reply, plain_first_loads, plain_options};
+ghost use Rattle.synth_top.specs.Private.Pressing.{IsOpened, IsReady, IsUnshown, PressesKeys, ReadsByte, ended_as, moment_of};
+ghost use Rattle.synth_top.specs.Private.EditorRuns.{Rescues, EditorRuns};
+ghost use Rattle.synth_top.specs.WholeRun.{opening};
+ghost use Rattle.synth_top.specs.Status.{CausedBy, LeftAs};
+
+use crate::key::{KeyReader, Keys};
+use crate::loading::{FileLoad, FirstLoads};
+use crate::options::Options;
+use crate::status::Status;
+use file_store::FileRefusal;
+use plcs_base::{OutOfMemory, Work};
+use screen_window::write_piece;
+use std::alloc::Global;
+use synth_outside::{Files, Sink, SinkFault, Source, SourceFault};
+use synth_session::{Answer, Key, Refusal, Session};
+
+/// Whether the session of a run goes on.
+#[derive(Clone, Copy, Debug)]
+pub enum Going {
+    /// It goes on.
+    On,
+    /// It ended so.
+    Over(Status),
+}
+
+impl Going {
+    /// The status with which the run ends: the one that ended the session, or else this one.
+    fn ended_as(self, status: Status) -> Status
+        ensures { result ≡ ended_as self status }
+    {
+        match self {
+            Going::On => status,
+            Going::Over(ended) => ended,
+        }
+    }
+}
+
+/// The editor in a run: a session with the reader of its keys.
+#[derive(Drop)]
+pub struct Editor<W> {
+    pub session: Session<W>,
+    pub reader: KeyReader,
+}
+
+impl<W: Work> Editor<W> {
+    /// An editor for a session over the program that was loaded, or a new one, with the input that was
+    /// loaded, before its first screen. It tells of the first load that was refused.
+    pub fn open(
+        alloc: Global,
+        options: &Options<'_>,
+        loads: FirstLoads,
+        work: &mut W,
+    ) -> Result<Self, OutOfMemory>
+        requires tree { IsTreeIfLoaded loads.program }
+        requires within { IsInputIfLoaded loads.input }
+        ensures opened { IfOk result (λ e. IsOpened (plain_options options.now) (plain_first_loads loads) e) }
+        ensures checks { W.checked work.old ≤ W.checked work.new }
+        ensures emitted { W.emitted work.new ≡ W.emitted work.old }
+        ensures fetched { W.fetched work.new ≡ W.fetched work.old }
+        ensures laid { W.laid work.new ≡ W.laid work.old }
+    {
+        let refusal = loads.first_refusal();
+        let input = bytes_or_none(alloc, loads.input);
+        let session = Session::open(alloc, options.size, loads.program.loaded(), input, work)?;
+        let mut editor = Editor {
+            session,
+            reader: KeyReader::new(),
+        };
+        editor.tell(refusal);
+        Ok(editor)
+    }
+
+    /// Shows the refusal of a first load on the message row, if there was one.
+    fn tell(&mut self, refusal: Option<FileRefusal>)
+        requires { IsReady self.old }
+        ensures session { plain_session self.new.session ≡ refusal_told refusal (plain_session self.old.session) }
+        ensures ready { IsReady self.new }
+        ensures shown { shown_grid self.new.session ≡ shown_grid self.old.session }
+        ensures reader { self.new.reader ≡ self.old.reader }
+    {
+        if let Some(refusal) = refusal {
+            self.session.show_message(Refusal::File(refusal));
+        }
+    }
+
+    /// Saves the program where memory ran out; that it can't be saved ends the run no other way.
+    pub fn rescue<F: Files>(&self, status: Status, files: &mut F)
+        requires { IsReady self.now }
+        ensures { Rescues status (plain_session self.now.session)
+            (record { stored = F.stored files.old; faults = F.faults files.old; wants = F.wants files.old })
+            (record { stored = F.stored files.new; faults = F.faults files.new; wants = F.wants files.new }) }
+    {
+        if let Status::NoMemory = status {
+            let _ = self.session.rescue(files);
+        }
+    }
+
+    /// Runs the session to its end: the opening screen, and then one byte of keys after the other,
+    /// at most as many as the limit.
+    pub fn run<S: Source, K: Sink, F: Files>(
+        &mut self,
+        alloc: Global,
+        options: &Options<'_>,
+        keys: &mut S,
+        screen: &mut K,
+        files: &mut F,
+        work: &mut W,
+    ) -> Status
+        requires { IsUnshown self.old }
+        ensures runs { EditorRuns result (plain_options options.now) (record { session = plain_session self.old.session; files = F.stored files.old })
+            (record { left = S.left keys.old; reads = S.reads keys.old; taken = K.taken screen.old; laid = W.laid work.old })
+            (record { left = S.left keys.new; reads = S.reads keys.new; taken = K.taken screen.new; laid = W.laid work.new })
+            (record { stored = F.stored files.old; faults = F.faults files.old; wants = F.wants files.old })
+            (record { stored = F.stored files.new; faults = F.faults files.new; wants = F.wants files.new })
+            (S.leads_to keys.old keys.new) (S.breaks_at keys.old keys.new) (plain_session self.new.session) }
+        ensures ready { IsReady self.new }
+        ensures read { CausedBy (result ≡ Status.ReadFault) (S.faults keys.old) (S.faults keys.new) }
+        ensures write { CausedBy (result ≡ Status.WriteFault)
+            (K.faults screen.old) (K.faults screen.new) }
+        ensures source { LeftAs result
+            (S.leads_to keys.old keys.new) (S.breaks_at keys.old keys.new) }
+        ensures emitted { W.emitted work.new ≡ W.emitted work.old }
+        ensures checks { W.checked work.old ≤ W.checked work.new }
+        ensures fetched { W.fetched work.new ≡ W.fetched work.old }
+    {
+        match self.start(screen, work) {
+            Ok(()) => {}
+            Err(SinkFault::Failed) => return Status::WriteFault,
+            Err(SinkFault::OutOfMemory) => return Status::NoMemory,
+        }
+        for _ in 0..options.key_limit {
+            match read_byte(keys) {
+                Ok(Some(byte)) => {
+                    let given = self.reader.feed(byte);
+                    if let Going::Over(status) = self.press_keys(
+                        alloc, given, screen, files, work,
+                    ) {
+                        return status;
+                    }
+                }
+                Ok(None) => return self
+                    .finish(alloc, screen, files, work)
+                    .ended_as(Status::Done),
+                Err(SourceFault::Failed) => return Status::ReadFault,
+                Err(SourceFault::OutOfMemory) => return Status::NoMemory,
+            }
+        }
+        self.finish(alloc, screen, files, work)
+            .ended_as(Status::KeyLimit)
+    }
+
+    /// Clears the screen and paints the opening screen.
+    #[tactic(auto, unfolding(crate::specs::Run::opening))]
+    fn start<K: Sink>(&mut self, screen: &mut K, work: &mut W) -> Result<(), SinkFault>
+        requires ready { IsReady self.old }
+        requires painted { shown_grid self.old.session ≡ blank_grid (plain_session self.old.session).size.rows (plain_session self.old.session).size.cols }
+        ensures wrote { Writes (opening (plain_session self.old.session)) result
+            (K.taken screen.old) (K.taken screen.new) (K.faults screen.old) (K.faults screen.new) }
+        ensures ready { IsReady self.new }
+        ensures shown { OnOk result
+            (shown_grid self.new.session ≡ grid (plain_session self.old.session)) }
+        ensures session { plain_session self.new.session ≡ plain_session self.old.session }
+        ensures reader { self.new.reader ≡ self.old.reader }
+        ensures laid { LaysFor (grid (plain_session self.old.session) ∷ []) (W.laid work.old) (W.laid work.new) }
+        ensures emitted { W.emitted work.new ≡ W.emitted work.old }
+        ensures checked { W.checked work.new ≡ W.checked work.old }
+        ensures fetched { W.fetched work.new ≡ W.fetched work.old }
+    {
+        write_piece(screen, b"\x1b[0m\x1b[2J")?;
+        self.show(screen, work)
+    }
+
+    /// Presses the key that isn't complete, where no byte comes any more.
+    fn finish<K: Sink, F: Files>(
+        &mut self,
+        alloc: Global,
+        screen: &mut K,
+        files: &mut F,
+        work: &mut W,
+    ) -> Going
+        requires { IsReady self.old }
+        ensures presses { PressesKeys result (keys self.old.reader)
+            (moment_of self.old (K.taken screen.old) (record { stored = F.stored files.old; faults = F.faults files.old; wants = F.wants files.old }) (W.laid work.old))
+            (moment_of self.new (K.taken screen.new) (record { stored = F.stored files.new; faults = F.faults files.new; wants = F.wants files.new }) (W.laid work.new))
+            (K.faults screen.old) (K.faults screen.new) self.new }
+        ensures emitted { W.emitted work.new ≡ W.emitted work.old }
+        ensures checks { W.checked work.old ≤ W.checked work.new }
+        ensures fetched { W.fetched work.new ≡ W.fetched work.old }
+    {
+        let key = self.reader.end();
+        self.press_if(alloc, key, screen, files, work)
+    }
+
+    /// Presses the keys of one byte in their order.
+    fn press_keys<K: Sink, F: Files>(
+        &mut self,
+        alloc: Global,
+        keys: Keys,
+        screen: &mut K,
+        files: &mut F,
+        work: &mut W,
+    ) -> Going
+        requires { IsReady self.old }
+        ensures presses { PressesKeys result (listed_keys keys)
+            (moment_of self.old (K.taken screen.old) (record { stored = F.stored files.old; faults = F.faults files.old; wants = F.wants files.old }) (W.laid work.old))
+            (moment_of self.new (K.taken screen.new) (record { stored = F.stored files.new; faults = F.faults files.new; wants = F.wants files.new }) (W.laid work.new))
+            (K.faults screen.old) (K.faults screen.new) self.new }
+        ensures reader { self.new.reader ≡ self.old.reader }
+        ensures emitted { W.emitted work.new ≡ W.emitted work.old }
+        ensures checks { W.checked work.old ≤ W.checked work.new }
+        ensures fetched { W.fetched work.new ≡ W.fetched work.old }
+    {
+        if let Going::Over(status) = self.press_if(alloc, keys.first, screen, files, work) {
+            return Going::Over(status);
+        }
+        self.press_if(alloc, keys.second, screen, files, work)
+    }
+
+    /// Presses a key in a run, if there is one.
+    fn press_if<K: Sink, F: Files>(
+        &mut self,
+        alloc: Global,
+        key: Option<Key>,
+        screen: &mut K,
+        files: &mut F,
+        work: &mut W,
+    ) -> Going
+        requires { IsReady self.old }
+        ensures presses { PressesKeys result (option_to_list key)
+            (moment_of self.old (K.taken screen.old) (record { stored = F.stored files.old; faults = F.faults files.old; wants = F.wants files.old }) (W.laid work.old))
+            (moment_of self.new (K.taken screen.new) (record { stored = F.stored files.new; faults = F.faults files.new; wants = F.wants files.new }) (W.laid work.new))
+            (K.faults screen.old) (K.faults screen.new) self.new }
+        ensures reader { self.new.reader ≡ self.old.reader }
+        ensures emitted { W.emitted work.new ≡ W.emitted work.old }
+        ensures checks { W.checked work.old ≤ W.checked work.new }
+        ensures fetched { W.fetched work.new ≡ W.fetched work.old }
+    {
+        match key {
+            Some(key) => self.press(alloc, key, screen, files, work),
+            None => Going::On,
+        }
+    }
+
+    /// Presses a key in a run and paints the screen behind it. A key that ends the session has none, and
+    /// one that wants memory does nothing.
+    fn press<K: Sink, F: Files>(
+        &mut self,
+        alloc: Global,
+        key: Key,
+        screen: &mut K,
+        files: &mut F,
+        work: &mut W,
+    ) -> Going
+        requires { IsReady self.old }
+        ensures presses { PressesKeys result (key ∷ [])
+            (moment_of self.old (K.taken screen.old) (record { stored = F.stored files.old; faults = F.faults files.old; wants = F.wants files.old }) (W.laid work.old))
+            (moment_of self.new (K.taken screen.new) (record { stored = F.stored files.new; faults = F.faults files.new; wants = F.wants files.new }) (W.laid work.new))
+            (K.faults screen.old) (K.faults screen.new) self.new }
+        ensures reader { self.new.reader ≡ self.old.reader }
+        ensures emitted { W.emitted work.new ≡ W.emitted work.old }
+        ensures checks { W.checked work.old ≤ W.checked work.new }
+        ensures fetched { W.fetched work.new ≡ W.fetched work.old }
+    {
+        let Ok(answer) = self.session.press(alloc, key, files, work) else {
+            return Going::Over(Status::NoMemory);
+        };
+        if let Answer::Quit = answer {
+            return Going::Over(Status::Done);
+        }
+        match self.show(screen, work) {
+            Ok(()) => Going::On,
+            Err(SinkFault::Failed) => Going::Over(Status::WriteFault),
+            Err(SinkFault::OutOfMemory) => Going::Over(Status::NoMemory),
+        }
+    }
+
+    /// Draws the session and paints its screen over the one that is shown.
+    fn show<K: Sink>(&mut self, screen: &mut K, work: &mut W) -> Result<(), SinkFault>
+        requires { IsReady self.old }
+        ensures wrote { Writes
+            (Paint (shown_grid self.old.session) (grid (plain_session self.old.session))) result
+            (K.taken screen.old) (K.taken screen.new) (K.faults screen.old) (K.faults screen.new) }
+        ensures ready { IsReady self.new }
+        ensures shown { OnOk result
+            (shown_grid self.new.session ≡ grid (plain_session self.old.session)) }
+        ensures session { plain_session self.new.session ≡ plain_session self.old.session }
+        ensures reader { self.new.reader ≡ self.old.reader }
+        ensures laid { LaysFor (grid (plain_session self.old.session) ∷ []) (W.laid work.old) (W.laid work.new) }
+        ensures emitted { W.emitted work.new ≡ W.emitted work.old }
+        ensures checked { W.checked work.new ≡ W.checked work.old }
+        ensures fetched { W.fetched work.new ≡ W.fetched work.old }
+    {
+        self.session.draw(work);
+        self.session.paint(screen)
+    }
+}
+
+/// The bytes of the input with which an editor is opened: those that were loaded, and else none.
+fn bytes_or_none(alloc: Global, input: FileLoad<Vec<u8>>) -> Vec<u8>
+    ensures { result.items ≡ loaded_input (input_reply input) }
+{
+    match input {
+        FileLoad::Loaded(bytes) => bytes,
+        _ => Vec::new(alloc),
+    }
+}
+
+/// Reads one byte of keys; `None` is the end.
+fn read_byte<S: Source>(keys: &mut S) -> Result<Option<u8>, SourceFault>
+    ensures byte { IfOk result (λ byte. ReadsByte byte (S.left keys.old) (S.left keys.new)) }
+    ensures one { S.reads keys.new ≡ raised (S.reads keys.old) }
+    ensures lost { OnErr result (LosesAtMost (S.left keys.old) (S.left keys.new) 1) }
+    ensures cause { HasCause SourceFault.Failed (S.faults keys.old) (S.faults keys.new) result }
+    ensures led { IfOk result (λ _. (first : S) → S.leads_to first keys.old →
+        S.leads_to first keys.new) }
+    ensures broke { OnErr result ((first : S) → S.leads_to first keys.old →
+        S.breaks_at first keys.new) }
+{
+    let mut buf = [0u8; 1];
+    let count = keys.read(&mut buf)?;
+    if count == 0 {
+        return Ok(None);
+    }
+    Ok(Some(buf[0]))
+}

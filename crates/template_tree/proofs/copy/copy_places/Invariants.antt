@@ -1,6 +1,0 @@
-use Rattle.std.specs.Prelude.{◌≡◌, take, map}
-use Rattle.template_tree.specs.PlainPlace.{plain_place}
-use Rattle.template_tree.proofs.copy.copy_places.Given as goal
-
-abbrev pub invariant-loop-place : goal.invariant-loop-place
-invariant-loop-place l = map plain_place l.copies.items ≡ map plain_place (take l.place-index l.places)

@@ -1,0 +1,87 @@
+-- The laws of steps: each edit is one, and those that follow one another make one way.
+use Rattle.std.specs.Prelude.{◌≡◌, List, Option, Some, ℕ}
+use Rattle.plcs_grammar.specs.declared.node_kind.NodeKind.{NodeKind}
+use Rattle.plcs_grammar.specs.declared.template.Template.{Template}
+use Rattle.plcs_grammar.specs.PlainPhrase.{PlainPhrase}
+use Rattle.template_tree.specs.declared.side.Side.{Side}
+use Rattle.template_tree.specs.EditAnswer.{Edits, IsHoleFor, IsListItem, IsSpareHole, TakesAssignment, TakesAtStop, TakesOut}
+use Rattle.template_tree.specs.Elision.{with_toggled_at}
+use Rattle.template_tree.specs.FreshNode.{assignment_node, fresh_node}
+use Rattle.template_tree.specs.Path.{node_at}
+use Rattle.template_tree.specs.PlainTree.{PlainNode, PlainTree, roomless_tree}
+use Rattle.template_tree.specs.Receipt.{PlainReceipt}
+use Rattle.template_tree.specs.Tree.{IsTree}
+use Rattle.template_tree.specs.TreeEdit.{TreeEdit}
+use Rattle.tree_steps.specs.EditStep.{CameByEdits, IsSameTree, IsEditStep}
+
+-- ---- each edit is a step
+
+-- a hole that was filled with a template
+abbrev pub FillIsEditStep : Type 0
+FillIsEditStep =
+    (before after : PlainTree) (receipt : PlainReceipt) (path : List ℕ) (template : Template) → IsTree before
+    → Edits (TreeEdit.put (fresh_node (NodeKind.Filled template))) (node_at before.items path) (IsHoleFor (NodeKind.Filled template)) before after receipt
+    → IsEditStep before after
+
+-- a hole or an assignment that became an assignment
+abbrev pub FillAssignIsEditStep : Type 0
+FillAssignIsEditStep =
+    (before after : PlainTree) (receipt : PlainReceipt) (path : List ℕ) (phrase : PlainPhrase) → IsTree before
+    → Edits (TreeEdit.put (assignment_node phrase)) (node_at before.items path) (TakesAssignment phrase) before after receipt
+    → IsEditStep before after
+
+-- a hole that became a node
+abbrev pub InsertIsEditStep : Type 0
+InsertIsEditStep =
+    (before after : PlainTree) (receipt : PlainReceipt) (path : List ℕ) (node : PlainNode) → IsTree before
+    → Edits (TreeEdit.put node) (node_at before.items path) (IsHoleFor node.label.kind) before after receipt
+    → IsEditStep before after
+
+-- a part that was set
+abbrev pub SetPhraseIsEditStep : Type 0
+SetPhraseIsEditStep =
+    (before after : PlainTree) (receipt : PlainReceipt) (path : List ℕ) (part : ℕ) (place : Option PlainPhrase) → IsTree before
+    → Edits (TreeEdit.set_part part place) (node_at before.items path) (TakesAtStop part place) before after receipt
+    → IsEditStep before after
+
+-- a node that was taken out
+abbrev pub TakeIsEditStep : Type 0
+TakeIsEditStep =
+    (before after : PlainTree) (receipt : PlainReceipt) (path : List ℕ) (node : PlainNode) → IsTree before
+    → node_at before.items path ≡ Some node → TakesOut node before after receipt
+    → IsEditStep before after
+
+-- a hole that was added
+abbrev pub AddHoleIsEditStep : Type 0
+AddHoleIsEditStep =
+    (before after : PlainTree) (receipt : PlainReceipt) (path : List ℕ) (side : Side) → IsTree before
+    → Edits (TreeEdit.add side) (node_at before.items path) (IsListItem before.items path) before after receipt
+    → IsEditStep before after
+
+-- a hole that was dropped
+abbrev pub DropHoleIsEditStep : Type 0
+DropHoleIsEditStep =
+    (before after : PlainTree) (receipt : PlainReceipt) (path : List ℕ) → IsTree before
+    → Edits TreeEdit.drop (node_at before.items path) (IsSpareHole before.items path) before after receipt
+    → IsEditStep before after
+
+-- ---- what is no step
+
+-- a turned comment leaves the same tree
+abbrev pub TogglesAreNoEdits : Type 0
+TogglesAreNoEdits = (tree : PlainTree) (path : List ℕ) → IsSameTree tree (with_toggled_at path tree)
+
+-- trees that are the same without room are the same tree
+abbrev pub RoomIsNoEdit : Type 0
+RoomIsNoEdit = (one other : PlainTree) → roomless_tree one ≡ roomless_tree other → IsSameTree one other
+
+-- ---- steps in turn
+
+-- a tree that a step made of another came from it by edits: by that one
+abbrev pub EditStepsAreWays : Type 0
+EditStepsAreWays = (before after : PlainTree) → IsEditStep before after → CameByEdits before after
+
+-- edits that follow edits; the last tree is one
+abbrev pub EditsFollow : Type 0
+EditsFollow =
+    (first second third : PlainTree) → IsTree third → CameByEdits first second → CameByEdits second third → CameByEdits first third
