@@ -1,5 +1,5 @@
 //! A script of cases of files: listings read and damaged, programs saved and loaded, sources and sinks. Each
-//! line of the script is printed as it is, and behind a case its answer, in lines that begin with `= `.
+//! line of the script is printed as it is, and after a case its answer, in lines that begin with `= `.
 #![tactic(auto)]
 
 mod call;

@@ -54,7 +54,7 @@ fn recovered(alloc: Global, image: &[u8]) -> Result<Vec<u8>, DiskFault> {
     Ok(given)
 }
 
-/// The keys that are recovered from the images that a crash may leave behind these calls, each once, in
+/// The keys that are recovered from the images that a crash may leave after these calls, each once, in
 /// lines.
 pub(crate) fn recoveries(alloc: Global, calls: &[DiskCall]) -> Result<String, DiskFault> {
     let mut all = Vec::new(alloc);
@@ -115,7 +115,7 @@ fn said(alloc: Global, seen: u64) -> Result<String, AllocError> {
     format!(in alloc; "{images} holds the keys that were given, or these and the next one")
 }
 
-/// Behind how many calls of the session so many keys were given, and no more. A session with one key more
+/// After how many calls of the session so many keys were given, and no more. A session with one key more
 /// goes on behind one with fewer, so while it has done fewer calls than one with all the keys up to the
 /// next, so many were given.
 fn end_of(alloc: Global, keys: &[u8], given: usize, calls: usize) -> Result<usize, DiskFault> {
@@ -126,7 +126,7 @@ fn end_of(alloc: Global, keys: &[u8], given: usize, calls: usize) -> Result<usiz
     Ok(behind.done().len().min(calls))
 }
 
-/// How many images a crash may leave behind these calls, where so many keys or one more are recovered
+/// How many images a crash may leave after these calls, where so many keys or one more are recovered
 /// from each.
 fn images_with(
     alloc: Global,

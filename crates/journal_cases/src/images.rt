@@ -3,7 +3,7 @@
 use key_journal::{Disk, DiskCall, DiskFault, MemDisk};
 use std::alloc::{AllocError, Global};
 
-/// Each image that a crash may leave behind these calls on an empty disk.
+/// Each image that a crash may leave after these calls on an empty disk.
 pub(crate) fn images(alloc: Global, calls: &[DiskCall]) -> Result<Vec<Vec<u8>>, DiskFault> {
     let mut disk = MemDisk::new(alloc, Vec::new(alloc));
     let mut images = only(alloc, b"")?;

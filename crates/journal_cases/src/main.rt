@@ -1,5 +1,5 @@
 //! A script of cases of the journal of keys: disks, journals over them, and what a crash leaves. Each line
-//! of the script is printed as it is, and behind a case its answer, in lines that begin with `= `.
+//! of the script is printed as it is, and after a case its answer, in lines that begin with `= `.
 #![tactic(auto)]
 
 mod call;

@@ -71,7 +71,7 @@ pub recovered_cut : (keys rest : List ℕ) → length rest ≤ 1 → recovered (
 recovered_cut keys rest short =
     recovered_blocks keys rest ∙ ap (λ (more : List ℕ). keys ++ more) (cut_recovers rest short) ∙ append-nil keys
 
--- what a journal recovers that is shut behind its keys
+-- what a journal recovers that is shut after its keys
 pub shut_count : (count : ℕ) (bytes : List ℕ) (shut : IsShut count bytes) → recovered bytes ≡ shut.keys
 shut_count count bytes shut = ap recovered shut.whole ∙ recovered_shut shut.keys shut.rest shut.gate shut.shut
 

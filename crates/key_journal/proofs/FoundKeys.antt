@@ -31,7 +31,7 @@ get_seam (first ∷ front) rest key = get_seam front rest key
 taken_length : (count : ℕ) (keys : List ℕ) → count ≤ length keys → length (take count keys) ≡ count
 taken_length count keys enough = grind (arith, common_steps)
 
--- an open gate stands behind so many keys
+-- an open gate stands after so many keys
 found_open : (given key : ℕ) (state : DiskState) → IsReplaying given state →
     BeginsWithGate (Open key) (drop (2 * given) state.bytes) →
     Gave given key (recovered state.bytes) state × IsReplaying (given + 1) state

@@ -211,7 +211,7 @@ untold_before : (before now : List DiskState) (P : DiskState → Type 0) → bef
 untold_before [] now P none each = each
 untold_before (state ∷ before) now P none each = absurd (cc)
 
--- the ends behind one more key
+-- the ends after one more key
 counts_key : {S D E : Type 0} (left : S → Option (List ℕ)) (past : D → List DiskState)
     (first old now : PlainJournalKeys S D) (key : ℕ) (taken : List ℕ) → CountsEnds left past first old →
     Consumes (left first.inner) (left old.inner) taken →

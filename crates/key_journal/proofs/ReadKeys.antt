@@ -151,7 +151,7 @@ same_kept (state ∷ past) now each =
       newest_kept [] each reads = absurd (not_none each.0 each.1)
       newest_kept (next ∷ now) each reads = reads
 
--- a read goes on behind a call after which the same keys are recovered
+-- a read goes on after a call after which the same keys are recovered
 pub read_behind : {E : Type 0} (left left_after : Option (List ℕ)) (given : ℕ)
     (past between now : List DiskState) (result : Result (Option ℕ) E) →
     Throughout (LeavesOnly (kept_keys past)) past between →

@@ -1,5 +1,5 @@
 //! Plays a script of cases on phrases and words: names, signs, texts that are parsed and shown, command
-//! lines, messages. It prints each line of the script, and behind a case what the calls answered.
+//! lines, messages. It prints each line of the script, and after a case what the calls answered.
 #![tactic(auto)]
 
 mod answer;

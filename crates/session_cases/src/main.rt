@@ -1,5 +1,5 @@
 //! Whole sessions by cases: runs of the editor over keys, screens and files in memory, and sessions pressed
-//! key by key. Each line of standard input is printed, and behind a case its answer.
+//! key by key. Each line of standard input is printed, and after a case its answer.
 #![tactic(auto)]
 
 mod file_cases;

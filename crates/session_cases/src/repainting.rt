@@ -13,7 +13,7 @@ use synth_outside::MemFiles;
 use synth_session::Session;
 use synth_top::KeyReader;
 
-/// `repaint`: paints the screen of the session behind each byte of the keys at hand over the one before. It
+/// `repaint`: paints the screen of the session after each byte of the keys at hand over the one before. It
 /// answers whether a terminal shows each time what it shows where that screen is painted anew.
 pub fn repaint(rt: &HostRuntime, scene: &mut Scene, arguments: &[Vec<u8>]) -> io::Result<bool> {
     match first_other(rt.alloc(), scene.keys.as_slice()) {
@@ -93,7 +93,7 @@ fn paint_over(
     Ok(())
 }
 
-/// Whether the terminal shows what one shows on which the screen behind these keys is painted anew.
+/// Whether the terminal shows what one shows on which the screen after these keys is painted anew.
 fn is_as_anew(alloc: Global, terminal: &Terminal, keys: &[u8]) -> Result<bool, OutOfMemory>
     requires { terminal.now.rows ≡ 12 }
 {
@@ -103,7 +103,7 @@ fn is_as_anew(alloc: Global, terminal: &Terminal, keys: &[u8]) -> Result<bool, O
     Ok(show_the_same(terminal, &other))
 }
 
-/// What the screen behind these keys writes where it is painted anew.
+/// What the screen after these keys writes where it is painted anew.
 fn painted_after(alloc: Global, keys: &[u8]) -> Result<Vec<u8>, OutOfMemory> {
     let mut session = opened(alloc)?;
     let mut files = MemFiles::new(alloc, Vec::new(alloc));

@@ -14,14 +14,14 @@ use synth_outside::MemFiles;
 use synth_session::{Answer, ClipRefusal, Refusal, Tick};
 use template_tree::TreeFault;
 
-/// `from KEYS`: a session over a new program behind these keys. It answers what the last of them answers, and
+/// `from KEYS`: a session over a new program after these keys. It answers what the last of them answers, and
 /// how many slots are live then.
 pub fn from(rt: &HostRuntime, scene: &mut Scene, arguments: &[Vec<u8>]) -> io::Result<bool> {
     scene.keys = Vec::new(rt.alloc());
     on(rt, scene, arguments)
 }
 
-/// `on KEYS`: the same behind the keys at hand and then these.
+/// `on KEYS`: the same after the keys at hand and then these.
 pub fn on(rt: &HostRuntime, scene: &mut Scene, arguments: &[Vec<u8>]) -> io::Result<bool> {
     let [keys] = arguments else {
         return Ok(false);
@@ -51,7 +51,7 @@ pub fn listing(rt: &HostRuntime, scene: &mut Scene, arguments: &[Vec<u8>]) -> io
     Ok(arguments.is_empty())
 }
 
-/// The listing of the program behind these keys.
+/// The listing of the program after these keys.
 fn listing_after(alloc: Global, keys: &[u8]) -> Result<Vec<u8>, OutOfMemory> {
     let session = after_keys(alloc, keys)?;
     let mut out = Bytes {
@@ -116,7 +116,7 @@ static REFUSALS: [(&[u8], Refusal); 22] = [
     (b"NotBuilt", Refusal::NotBuilt),
 ];
 
-/// `tell REFUSAL`: what painting writes once this refusal is shown behind the keys at hand, and whether steps of
+/// `tell REFUSAL`: what painting writes once this refusal is shown after the keys at hand, and whether steps of
 /// a run are to be made then.
 pub fn tell(rt: &HostRuntime, scene: &mut Scene, arguments: &[Vec<u8>]) -> io::Result<bool> {
     let [word] = arguments else {
@@ -143,7 +143,7 @@ fn refusal_of(word: &[u8]) -> Option<Refusal> {
     None
 }
 
-/// What painting writes once this refusal is shown in a session behind these keys, and its tick.
+/// What painting writes once this refusal is shown in a session after these keys, and its tick.
 fn painted_with(
     alloc: Global,
     keys: &[u8],
@@ -171,7 +171,7 @@ pub fn rescue(rt: &HostRuntime, scene: &mut Scene, arguments: &[Vec<u8>]) -> io:
     Ok(true)
 }
 
-/// What comes of the rescue of the program behind these keys.
+/// What comes of the rescue of the program after these keys.
 fn rescued(
     alloc: Global,
     keys: &[u8],

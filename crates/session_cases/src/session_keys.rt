@@ -23,7 +23,7 @@ pub fn opened(alloc: Global) -> Result<Session<Counts>, OutOfMemory>
     )
 }
 
-/// A session behind these keys.
+/// A session after these keys.
 pub fn after_keys(alloc: Global, keys: &[u8]) -> Result<Session<Counts>, OutOfMemory>
     ensures { IfOk result (λ session. IsSession session) }
 {

@@ -14,7 +14,7 @@ same_front xs ys rest more whole many =
 none_both : (taken : List ℕ) → taken ≡ [] → taken ++ [] ≡ []
 none_both taken none = append-nil taken ∙ none
 
--- behind reads that were Ok: just as many as were given
+-- after reads that were Ok: just as many as were given
 pub given_all : (keys left left_after bytes taken now : List ℕ) (given : ℕ) → left ≡ taken ++ left_after →
     now ≡ keys ++ taken → given ≤ length (keys ++ taken) →
     (taken ≡ []) ⊎ (given ≡ length (keys ++ taken)) →
@@ -45,7 +45,7 @@ given_all keys left left_after bytes taken now given took same within behind rea
       are (inr all) = inl (same_front bytes (keys ++ taken) (drop given now) []
           (sym whole ∙ sym (append-nil (keys ++ taken))) (many ∙ all))
 
--- behind a read that wasn't Ok
+-- after a read that wasn't Ok
 pub given_before : (keys left left_after bytes lost taken last now : List ℕ) (given ends : ℕ) →
     left ≡ (taken ++ last) ++ left_after → (now ≡ keys ++ taken) ⊎ (now ≡ (keys ++ taken) ++ last) →
     given ≤ length (keys ++ taken) → (taken ++ last ≡ []) ⊎ (given ≡ length (keys ++ taken)) →

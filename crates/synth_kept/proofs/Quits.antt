@@ -39,7 +39,7 @@ module _ (options : PlainOptions) (limited : IsLimited options) (first : EditorS
       let made : now.reads ≡ course.reads = omega (arith, course.made, unread, course.within, limited, few) in
       omega (arith, made, counted (omega (arith, made, course.within, limited, few)))
 
-  -- a quit is pressed behind a key that was given
+  -- a quit is pressed after a key that was given
   quit_clears : (run : Status) → run ≡ Done → QuitPressed course → IsToClear run given ended
   quit_clears run done quit = record {
     done = done;

@@ -1,4 +1,4 @@
--- How a journal is closed behind a run of the editor, and what a crash then leaves of it.
+-- How a journal is closed after a run of the editor, and what a crash then leaves of it.
 use Rattle.std.specs.Prelude.{◌≡◌, ℕ, List, []}
 use Rattle.key_journal.specs.Crash.{LeavesOnly, LeavesOneOf, Throughout}
 use Rattle.key_journal.specs.Disk.{DiskState, Newest}

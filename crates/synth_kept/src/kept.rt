@@ -90,7 +90,7 @@ fn is_to_clear<S: Source, D: Disk>(run: Status, journal: &JournalKeys<S, D>) -> 
     }
 }
 
-// Clears the journal behind the run, which forgets the keys that are kept.
+// Clears the journal after the run, which forgets the keys that are kept.
 fn clear<S: Source, D: Disk>(journal: JournalKeys<S, D>) -> (KeptStatus, S, D)
     requires { 0 < journal.given }
     ensures cleared { ClearsKeys result.0 (D.past journal.disk) (D.past result.2)

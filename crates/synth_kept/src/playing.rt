@@ -184,7 +184,7 @@ fn only(alloc: Global, image: &[u8]) -> Result<Vec<Vec<u8>>, AllocError> {
     Ok(images)
 }
 
-/// Each image that a crash may leave behind these calls on an empty disk.
+/// Each image that a crash may leave after these calls on an empty disk.
 pub fn images(alloc: Global, calls: &[DiskCall]) -> Result<Vec<Vec<u8>>, DiskFault> {
     let mut disk = MemDisk::new(alloc, Vec::new(alloc));
     let mut images = only(alloc, b"")?;

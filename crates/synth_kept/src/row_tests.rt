@@ -116,7 +116,7 @@ fn a_quit_that_was_kept_quits_again(rt: HostRuntime) -> Result<(), Fail> {
     Ok(())
 }
 
-/// Whether each image that a crash may leave behind these calls recovers to nothing or to these keys, and
+/// Whether each image that a crash may leave after these calls recovers to nothing or to these keys, and
 /// one to these.
 fn leaves(alloc: Global, calls: &[DiskCall], keys: &[u8]) -> Result<bool, DiskFault> {
     let mut is_found = false;
@@ -189,7 +189,7 @@ static ENDINGS: [Ending; 4] = [
         shown: b"a",
         kept: b"\x01a\x00b\x00",
     },
-    // The write of the screen behind the first key fails: the key is kept.
+    // The write of the screen after the first key fails: the key is kept.
     Ending {
         keys: b"abc",
         disk_call: NEVER,

@@ -15,7 +15,7 @@ edit_refusal TreeFault.TooLarge = why.Tree TreeFault.TooLarge
 edit_refusal TreeFault.SlotsUsedUp = why.Tree TreeFault.SlotsUsedUp
 edit_refusal TreeFault.OutOfMemory = why.Tree TreeFault.OutOfMemory
 
--- what comes of an edit of the program: the tree and the cursor behind it, or its refusal
+-- what comes of an edit of the program: the tree and the cursor after it, or its refusal
 abbrev pub edit_outcome : PlainSession → Edited → KeyOutcome
 edit_outcome s (Edited.became tree stop taken what slot) = line_acceptance_outcome (record s { tree = tree; stop = stop })
 edit_outcome s (Edited.refused fault) = refusal_outcome s (edit_refusal fault)

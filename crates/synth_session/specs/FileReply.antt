@@ -59,7 +59,7 @@ abbrev pub CountsFault : Reply → ℕ → ℕ → Type 0
 CountsFault (Reply.Refused refusal) before now = RisesWith (refusal ≡ FileRefusal.FileFault) before now
 CountsFault reply before now = now ≡ before
 
--- the files replied so to what was asked: they can, and their map and their counts are as behind this reply
+-- the files replied so to what was asked: they can, and their map and their counts are as after this reply
 pub record HaveReplied (request : Request) (reply : Reply) (before now : PlainFiles) : Type 0 where
   pub can : CanReply before.stored request reply
   pub stored : IsMapAfter request reply before.stored now.stored

@@ -1,4 +1,4 @@
--- What comes of a key: the session behind it, and the answer.
+-- What comes of a key: the session after it, and the answer.
 use Rattle.std.specs.Prelude.{[]}
 use Rattle.session_words.specs.declared.message.Message.{Message}
 use Rattle.session_words.specs.declared.message.Notice.{Notice}
@@ -9,7 +9,7 @@ use Rattle.synth_session.specs.PlainSession.{PlainSession}
 use Rattle.synth_session.specs.RefusalText.{refusal_text}
 use Rattle.synth_session.specs.Window.{with_cursor_seen}
 
--- the session behind a key, and the answer to the key
+-- the session after a key, and the answer to the key
 pub record KeyOutcome : Type 0 where
   pub after : PlainSession
   pub answer : Answer

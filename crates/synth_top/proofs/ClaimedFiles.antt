@@ -27,7 +27,7 @@ pub told_through : (a b c : Option FileMap) → IsToldAs a b → IsToldAs b c �
 told_through None b c first second = tt
 told_through (Some map) b c first second = subst (λ files. IsToldAs files c) first second
 
--- the map that files have behind a reply may be claimed
+-- the map that files have after a reply may be claimed
 pub told_behind : (request : Request) (reply : Reply) (before now : Option FileMap) → IsMapAfter request reply before now
     → IsToldAs (files_after request reply before) now
 told_behind Request.Nothing reply before now is = told_same before now is
@@ -38,7 +38,7 @@ told_behind (Request.Save name bytes) (Reply.Refused refusal) before now is = to
 told_behind (Request.Save name bytes) Reply.Saved None now is = tt
 told_behind (Request.Save name bytes) Reply.Saved (Some map) now is = is
 
--- nothing is claimed behind a reply where nothing was
+-- nothing is claimed after a reply where nothing was
 untold_behind : (request : Request) (reply : Reply) → files_after request reply None ≡ None
 untold_behind Request.Nothing reply = refl
 untold_behind (Request.Load name) reply = refl
@@ -47,7 +47,7 @@ untold_behind (Request.Save name bytes) (Reply.Loaded tree) = refl
 untold_behind (Request.Save name bytes) (Reply.Refused refusal) = refl
 untold_behind (Request.Save name bytes) Reply.Saved = refl
 
--- no more is claimed behind a reply where no more was
+-- no more is claimed after a reply where no more was
 less_behind : (request : Request) (reply : Reply) (a b : Option FileMap) → IsToldAs a b
     → IsToldAs (files_after request reply a) (files_after request reply b)
 less_behind request reply None b told = subst (λ files. IsToldAs files (files_after request reply b)) (sym (untold_behind request reply)) tt

@@ -114,7 +114,7 @@ module _ (options : PlainOptions) (first : EditorState) (before : Told) (files :
       lays_then (grid first.session) _ before.laid opened.laid now is_opened.laid
       (subst (λ s. LaysFor (grids s ps) opened.laid now) is_opened.state laid)
 
-  -- what is seen behind some keys: the session, the map that is claimed, and the faults of the files
+  -- what is seen after some keys: the session, the map that is claimed, and the faults of the files
   behind_session : (ps : List PressedKey) → m.session ≡ (state_after_keys (state_at opened) ps).session → m.session ≡ (state_after_keys first ps).session
   behind_session ps is = is ∙ ap (λ s. (state_after_keys s ps).session) is_opened.state
 

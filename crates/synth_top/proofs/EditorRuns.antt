@@ -395,7 +395,7 @@ module _ (number : ℕ) (options : PlainOptions) (first : EditorState) (before :
     in_turn_still earlier seen newest e =
         front_trans _ _ _ (so.in_turn seen newest e) (keys_pressed earlier, keys_pressed-append so.pressed earlier)
 
-    -- the source's end was read behind the keys that the bytes complete
+    -- the source's end was read after the keys that the bytes complete
     reads_still : (earlier : List PressedKey) → ReadsInTurn options (told_at now_left now_reads now) so.bytes reads (so.pressed ++ earlier)
     reads_still earlier =
         let done : completed so.bytes ≡ pressed_keys = completed_list so.bytes held pressed_keys so.completed_are so.held_is in

@@ -29,7 +29,7 @@ pub keys_pressed-append : (ps qs : List PressedKey) → keys_pressed (ps ++ qs) 
 keys_pressed-append ps qs = map-append (λ (p : PressedKey). p.key) ps qs
 
 module _ (a b : Moment) (ps : List PressedKey) (shown : AllShown a b ps) where
-  -- the state behind claims no more than the next moment tells
+  -- the state after claims no more than the next moment tells
   behind_less : ClaimsNoMore (state_after_keys (state_at a) ps) (state_at b)
   behind_less = record { session = sym shown.session; files = shown.files }
 
@@ -51,7 +51,7 @@ module _ (a b : Moment) (ps : List PressedKey) (shown : AllShown a b ps) where
   pub ends_more : (qs : List PressedKey) → ends (state_at a) (ps ++ qs) ≡ ends (state_at b) qs
   ends_more qs = ends-going (state_at a) ps qs shown.going ∙ same_ends (state_after_keys (state_at a) ps) (state_at b) qs behind_less
 
-  -- the state behind claims no more than that behind the others alone
+  -- the state after claims no more than that after the others alone
   pub after_more : (qs : List PressedKey) → ClaimsNoMore (state_after_keys (state_at a) (ps ++ qs)) (state_after_keys (state_at b) qs)
   after_more qs =
       subst (λ s. ClaimsNoMore s (state_after_keys (state_at b) qs)) (sym (after-append (state_at a) ps qs))

@@ -39,7 +39,7 @@ module _ (key : Key) (answer : Answer) (a b : Moment) (s : PlainSession) (presse
   abbrev one : PressedKey
   one = record { key = key; reply = pressed.reply }
 
-  -- the map that is claimed behind it
+  -- the map that is claimed after it
   abbrev files_claimed : Option FileMap
   files_claimed = files_after (request a.session key) pressed.reply a.files.stored
 
@@ -53,7 +53,7 @@ module _ (key : Key) (answer : Answer) (a b : Moment) (s : PlainSession) (presse
   ends_is : ends (state_at a) (one ∷ []) ≡ is_quit answer
   ends_is = ap (λ (t : Turn). t.ends || false) turn_is ∙ or_nothing (is_quit answer)
 
-  -- the session and the map behind it
+  -- the session and the map after it
   session_is : b.session ≡ (state_after_keys (state_at a) (one ∷ [])).session
   session_is = same ∙ sym (ap (λ (t : Turn). t.after.session) turn_is)
 

@@ -14,7 +14,7 @@ or_parts : (a b : Bool) → (a || b) ≡ false → (a ≡ false) × (b ≡ false
 or_parts true b e = absurd (cc)
 or_parts false b e = (refl, e)
 
--- the state behind
+-- the state after
 pub after-append : (s : EditorState) (ps qs : List PressedKey) → state_after_keys s (ps ++ qs) ≡ state_after_keys (state_after_keys s ps) qs
 after-append s [] qs = refl
 after-append s (p ∷ ps) qs = after-append (turn s p).after ps qs

@@ -57,7 +57,7 @@ pub opened_first : (options : PlainOptions) (loads : PlainFirstLoads) (stored lo
 opened_first options loads stored loaded s opened same =
     ap (λ (z : PlainSession). state_with z loaded) opened ∙ ap (λ (f : Option FileMap). state_with (first_session options loads) f) same
 
--- the loads, the run from the session that they make, and the rescue behind it
+-- the loads, the run from the session that they make, and the rescue after it
 pub ran : (status : Status) (options : PlainOptions) (loads : PlainFirstLoads) (before now : Told) (files loaded behind files_now : PlainFiles)
     (first : EditorState) (after_reads after_fault : Type 0) (session : PlainSession) → BothLoad options loads files loaded
     → first ≡ first_state options files.stored loads
@@ -88,7 +88,7 @@ pub unloaded : (options : PlainOptions) (told : Told) (files files_now : PlainFi
 unloaded options told files files_now after_reads after_fault nothing led =
     inl (record { wanted = refl; same = refl; source = led; stored = nothing.stored; faults = nothing.faults; wants = nothing.wants })
 
--- no session was opened, since memory ran out behind the loads
+-- no session was opened, since memory ran out after the loads
 pub unopened : (options : PlainOptions) (loads : PlainFirstLoads) (before now : Told) (files files_now : PlainFiles) (after_reads after_fault : Type 0)
     → BothLoad options loads files files_now → now ≡ before → after_reads → Ended NoMemory options before now files files_now after_reads after_fault
 unopened options loads before now files files_now after_reads after_fault load same led =

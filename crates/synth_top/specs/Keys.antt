@@ -33,7 +33,7 @@ move_of byte =
 abbrev pub begins_move : ℕ → ℕ → Bool
 begins_move byte next = byte == 27 && next == 91
 
--- the keys of bytes behind which nothing comes: what isn't complete at their end is one Other
+-- the keys of bytes after which nothing comes: what isn't complete at their end is one Other
 unfoldable pub keys : List ℕ → List Key
 keys [] = []
 keys (byte ∷ []) = key_of byte ∷ []
@@ -43,7 +43,7 @@ keys (byte ∷ next ∷ last ∷ rest) =
     if begins_move byte next then move_of last ∷ keys rest
     else key_of byte ∷ keys (next ∷ last ∷ rest)
 
--- the keys of bytes behind which others may come: what isn't complete at their end is none yet
+-- the keys of bytes after which others may come: what isn't complete at their end is none yet
 unfoldable pub completed : List ℕ → List Key
 completed [] = []
 completed (byte ∷ []) = if byte == 27 then [] else key_of byte ∷ []

@@ -21,7 +21,7 @@ abbrev pub IsRescue : Status → Rescue → Type 0
 IsRescue NoMemory rescue = rescue ≢ NoRescue
 IsRescue status rescue = rescue ≡ NoRescue
 
--- the map of the files behind a rescue: where the program was saved, it has its listing under the name `RESCUE`
+-- the map of the files after a rescue: where the program was saved, it has its listing under the name `RESCUE`
 abbrev pub files_with : Rescue → EditorState → Option FileMap
 files_with Rescued state = option_map (λ map. insert map (codes "RESCUE") (Listing state.session.tree.items)) state.files
 files_with other state = state.files

@@ -44,7 +44,7 @@ asked state pressed = request state.session pressed.key
 abbrev pub HasReply : EditorState → PressedKey → Type 0
 HasReply state pressed = CanReply state.files (asked state pressed) pressed.reply
 
--- the map that is claimed of the files behind a key's turn: where they reply that bytes were saved it has them under
+-- the map that is claimed of the files after a key's turn: where they reply that bytes were saved it has them under
 -- their name, and else it is as before
 abbrev pub files_after : Request → Reply → Option FileMap → Option FileMap
 files_after (Request.Save name bytes) Reply.Saved files = option_map (λ map. insert map name bytes) files
@@ -56,14 +56,14 @@ is_quit Quit = true
 is_quit Done = false
 is_quit (Refused why) = false
 
--- what a turn gives: the screens that are painted in their order, the state behind it, and whether
+-- what a turn gives: the screens that are painted in their order, the state after it, and whether
 -- the session ends
 pub record Turn : Type 0 where
   pub grids : List PlainGrid
   pub after : EditorState
   pub ends : Bool
 
--- the turn of a key with this outcome, behind which the files have this map: one screen, but none where the session ends
+-- the turn of a key with this outcome, after which the files have this map: one screen, but none where the session ends
 abbrev pub turn_with : KeyOutcome → Option FileMap → Turn
 turn_with outcome files = record {
   grids = if is_quit outcome.answer then [] else grid outcome.after ∷ [];
@@ -78,7 +78,7 @@ turn state pressed =
 
 -- ---- one turn after the other
 
--- the state behind the turns of some keys
+-- the state after the turns of some keys
 abbrev pub state_after_keys : EditorState → List PressedKey → EditorState
 state_after_keys state [] = state
 state_after_keys state (first ∷ rest) = state_after_keys (turn state first).after rest

@@ -101,7 +101,7 @@ pub record Course (options : PlainOptions) (first : EditorState) (before now : T
 -- ---- why a run stopped
 
 module _ {options : PlainOptions} {first : EditorState} {before now : Told} (course : Course options first before now) where
-  -- the state behind all keys that a run pressed
+  -- the state after all keys that a run pressed
   abbrev pub state_after : EditorState
   state_behind = state_after_keys first course.pressed
 
@@ -134,7 +134,7 @@ module _ {options : PlainOptions} {first : EditorState} {before now : Told} (cou
     pub below : length course.bytes < options.key_limit
     pub one_more : course.reads ≡ length course.bytes + 1
 
-  -- the newest byte was taken, and the source's end read, only behind the keys that the bytes before it
+  -- the newest byte was taken, and the source's end read, only after the keys that the bytes before it
   -- complete, which are among these
   pub record TakenBehind (pressed : List PressedKey) : Type 0 where
     pub in_turn : (seen : List ℕ) (newest : ℕ) → course.bytes ≡ seen ++ newest ∷ [] →
@@ -151,7 +151,7 @@ module _ {options : PlainOptions} {first : EditorState} {before now : Told} (cou
     pub shown : length (written first earlier) ≤ course.count
     pub taken : TakenBehind earlier
 
-  -- the last key pressed ended the session, and no read was made behind its byte
+  -- the last key pressed ended the session, and no read was made after its byte
   pub record QuitPressed : Type 0 where
     pub at_key : AtLastKey
     pub quit : ends first course.pressed ≡ true

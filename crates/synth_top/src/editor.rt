@@ -257,7 +257,7 @@ impl<W: Work> Editor<W> {
         }
     }
 
-    /// Presses a key in a run and paints the screen behind it. A key that ends the session has none, and
+    /// Presses a key in a run and paints the screen after it. A key that ends the session has none, and
     /// one that wants memory does nothing.
     fn press<K: Sink, F: Files>(
         &mut self,

@@ -15,7 +15,7 @@ use synth_session::Key;
 pub struct Keys {
     /// The key that is pressed first.
     pub first: Option<Key>,
-    /// The key that is pressed behind it.
+    /// The key that is pressed after it.
     pub second: Option<Key>,
 }
 
@@ -86,7 +86,7 @@ impl KeyReader {
     }
 }
 
-/// What a byte gives to the reader: the keys that it completes, and what is held back behind it.
+/// What a byte gives to the reader: the keys that it completes, and what is held back after it.
 #[derive(Clone, Copy)]
 struct Fed {
     keys: Keys,

@@ -1,5 +1,5 @@
 //! Plays a script of cases over trees, moves of the cursor, edits at its stop, and clips: each line of the script
-//! is written as it is, and behind a case what the calls answered.
+//! is written as it is, and after a case what the calls answered.
 #![tactic(auto)]
 
 ghost use Rattle.template_tree.specs.Tree.{IsTree};
@@ -56,7 +56,7 @@ struct Cases {
     text: Vec<u8>,
 }
 
-/// Writes the line, and behind a case its answer.
+/// Writes the line, and after a case its answer.
 fn play_line(rt: &HostRuntime, cases: &mut Cases, line: &str) -> io::Result<()>
     requires { IsTree cases.old.trees.tree }
     ensures { IsTree cases.new.trees.tree }

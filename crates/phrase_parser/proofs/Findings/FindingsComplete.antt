@@ -16,7 +16,7 @@ use Rattle.phrase_parser.proofs.Machine.Limits.{within}
 use Rattle.phrase_parser.proofs.Findings.RecognizedTokens.{classes_of, follow_none, taken_begins, whole_form, levels_over, begins_taken, form_taken}
 use Rattle.phrase_parser.proofs.Findings.FindingsSound.{follow_pieces, over_pieces, follow_last, option_or_assoc, seen_as}
 
--- the check has come to a shape behind pieces, with what went past a limit first in them
+-- the check has come to a shape after pieces, with what went past a limit first in them
 abbrev Comes : List Piece → List Piece → Option ℕ → ℕ → Shape → Shape → Option OverLimit → Type 0
 Comes front rest stop end shape z found =
     findings (map seen_of (front ++ rest)) stop end shape found

@@ -17,7 +17,7 @@ use Rattle.phrase_parser.proofs.Findings.KeptNumbers.{kept_above}
 use Rattle.phrase_parser.proofs.Machine.Limits.{none_over}
 use Rattle.phrase_parser.proofs.Findings.RecognizedTokens.{classes_of, taken_begins, refused_begins, whole_form, part_form, levels_over}
 
--- the shape behind the pieces, if they can stand there
+-- the shape after the pieces, if they can stand there
 abbrev pub follow_pieces : List Piece → Option Shape → Option Shape
 follow_pieces pieces shape = follow (classes_of (tokens_of pieces)) shape
 
@@ -25,7 +25,7 @@ follow_pieces pieces shape = follow (classes_of (tokens_of pieces)) shape
 abbrev pub over_pieces : List Piece → Option Shape → Option OverLimit
 over_pieces pieces shape = first_over pieces (follow_levels (classes_of (tokens_of pieces)) shape)
 
--- the shape behind one more piece
+-- the shape after one more piece
 pub follow_last : (front : List Piece) (piece : Piece) (s : Option Shape)
     → follow_pieces (front ++ (piece ∷ [])) s ≡ next_if (follow_pieces front s) (class_of piece.token)
 follow_last [] piece s = refl

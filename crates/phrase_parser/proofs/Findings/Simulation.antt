@@ -125,7 +125,7 @@ same_place level (ParseStack.arguments function done s) t = (refl, refl)
 joins_at : (level : ℕ) (s : ParseStack) (t : PlainExpr) → Sound (ParseState.had s t) → 1 ≤ level → Joins level s t (reduced s level t)
 joins_at level s t h le = reduced_joins level s t h.0 (h.1 (hole s)) (h.1 level) le
 
--- the shape behind an infix operator is that of the state behind it
+-- the shape after an infix operator is that of the state after it
 sim_infix : (op : InfixOp) (s : ParseStack) (t : PlainExpr) → Sound (ParseState.had s t)
     → Shape.wanted (ground_of s) (brackets_of s) (levels_inside (ground_of s) (brackets_of s)) ≡ state_shape (after_infix op (reduced s (priority op) t))
 sim_infix op s t h =

@@ -9,7 +9,7 @@ use Rattle.phrase_parser.specs.Private.Machine.{ParseState, shift, shift_all, ph
 use Rattle.phrase_parser.specs.Private.Gives.{Fails}
 use Rattle.phrase_parser.proofs.Machine.MachineRuns.{run_none}
 
--- what fails at a state fails behind all tokens
+-- what fails at a state fails after all tokens
 pub fails_behind : (e : BuildError) (tokens : List Token) (s : Option ParseState) → Fails e s → Fails e (phrase_of_if (shift_all tokens s))
 fails_behind OutOfMemory tokens s h = tt
 fails_behind Refused tokens s h = ap (λ (o : Option ParseState). phrase_of_if (shift_all tokens o)) h ∙ ap phrase_of_if (run_none tokens)

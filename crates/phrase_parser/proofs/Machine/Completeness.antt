@@ -123,7 +123,7 @@ abbrev item_has_sized : List Item → List ℕ → Option ℕ → ParseState
 item_has_sized done name None = ParseState.name_had (Role.items done) name
 item_has_sized done name (Some size) = ParseState.item_had (done ++ (record { name = name; size = Some size } ∷ []))
 
--- the state behind a declared name, with a size or without one
+-- the state after a declared name, with a size or without one
 abbrev item_has : List Item → Item → ParseState
 item_has done item = item_has_sized done item.name item.size
 

@@ -18,7 +18,7 @@ module _ {X : Type 0} (g : X → List ℕ) where
   levels_listed [] = []
   levels_listed (x ∷ xs) = g x ++ levels_more xs
 
--- how the machine reads elements that are joined by commas: the state where one is wanted, and behind one
+-- how the machine reads elements that are joined by commas: the state where one is wanted, and after one
 pub record Listing (X : Type 0) (f : X → List Token) (g : X → List ℕ) (Fit : X → Type 0) : Type 0 where
   pub wants : List X → ParseState
   pub has : List X → X → ParseState

@@ -54,12 +54,12 @@ pub data ParseState : Type 0 where
   -- the machine's states in which a name is wanted, or was just read
   name_wanted : Role → ParseState
   name_had : Role → List ℕ → ParseState
-  -- the machine's states behind the closing parenthesis of a target's subscript, a variable's subscript or a call's
+  -- the machine's states after the closing parenthesis of a target's subscript, a variable's subscript or a call's
   -- arguments
   target_had : PlainVarRef → ParseState
   variable_had : List PlainVarRef → ParseState
   call_had : List ℕ → PlainExprs → ParseState
-  -- the machine's states in which the size of an array is wanted, or it or the parenthesis behind it was just read
+  -- the machine's states in which the size of an array is wanted, or it or the parenthesis after it was just read
   size_wanted : List Item → List ℕ → ParseState
   size_had : List Item → List ℕ → ℕ → ParseState
   item_had : List Item → ParseState
@@ -109,22 +109,22 @@ reduced (parenthesis s) level t = (parenthesis s, t)
 reduced (subscript name s) level t = (subscript name s, t)
 reduced (arguments function done s) level t = (arguments function done s, t)
 
--- the machine's state behind an infix operator whose left operand is joined
+-- the machine's state after an infix operator whose left operand is joined
 abbrev pub after_infix : InfixOp → Operand → ParseState
 after_infix op o = wanted (left o.1 op o.0)
 
--- the machine's state behind a whole operand
+-- the machine's state after a whole operand
 abbrev pub shift_operand : ParseState → PlainExpr → Option ParseState
 shift_operand (wanted s) t = Some (had s t)
 shift_operand state t = None
 
--- the machine's state behind a name
+-- the machine's state after a name
 abbrev pub shift_name : ParseState → List ℕ → Option ParseState
 shift_name (wanted s) name = Some (had s (PlainExpr.variable (PlainVarRef.simple name)))
 shift_name (name_wanted role) name = Some (name_had role name)
 shift_name state name = None
 
--- the machine's state behind a number
+-- the machine's state after a number
 abbrev pub shift_number : ParseState → ℕ → Option ParseState
 shift_number (wanted s) n = Some (had s (PlainExpr.number (pos n)))
 shift_number (size_wanted done name) n = if nat_le 1 n then Some (size_had done name n) else None
@@ -136,12 +136,12 @@ abbrev pub open_frame : List ℕ → Option Builtin → ParseStack → ParseStac
 open_frame name None s = subscript name s
 open_frame name (Some function) s = arguments function PlainExprs.nil s
 
--- the machine's state behind a parenthesis that is opened behind an operand, which a name alone takes
+-- the machine's state after a parenthesis that is opened after an operand, which a name alone takes
 abbrev pub shift_open_after : ParseStack → PlainExpr → Option ParseState
 shift_open_after s (PlainExpr.variable (PlainVarRef.simple name)) = Some (wanted (open_frame name (builtin_of name) s))
 shift_open_after s t = None
 
--- the machine's state behind a parenthesis that is opened behind a name that stands in no expression
+-- the machine's state after a parenthesis that is opened after a name that stands in no expression
 abbrev pub shift_open_role : Role → List ℕ → Option ParseState
 shift_open_role target name = Some (wanted (base (target_subscript name)))
 shift_open_role (variables done) name = Some (wanted (base (variable_subscript done name)))
@@ -149,21 +149,21 @@ shift_open_role callee name = Some (wanted (base (call_arguments name PlainExprs
 shift_open_role (items done) name = Some (size_wanted done name)
 shift_open_role role name = None
 
--- the machine's state behind an opening parenthesis
+-- the machine's state after an opening parenthesis
 abbrev pub shift_open : ParseState → Option ParseState
 shift_open (wanted s) = Some (wanted (parenthesis s))
 shift_open (had s t) = shift_open_after s t
 shift_open (name_had role name) = shift_open_role role name
 shift_open state = None
 
--- the machine's state behind the closing parenthesis of a subscript or call in which the phrase's own expression stands
+-- the machine's state after the closing parenthesis of a subscript or call in which the phrase's own expression stands
 abbrev pub shift_close_base : Base → PlainExpr → Option ParseState
 shift_close_base (target_subscript name) t = Some (target_had (PlainVarRef.subscripted name t))
 shift_close_base (variable_subscript done name) t = Some (variable_had (done ++ (PlainVarRef.subscripted name t ∷ [])))
 shift_close_base (call_arguments name done) t = Some (call_had name (expr_push done t))
 shift_close_base b t = None
 
--- the machine's state behind the closing parenthesis of the innermost that is open on the stack
+-- the machine's state after the closing parenthesis of the innermost that is open on the stack
 abbrev pub shift_close_stack : ParseStack → PlainExpr → Option ParseState
 shift_close_stack (base b) t = shift_close_base b t
 shift_close_stack (prefix op s) t = None
@@ -172,32 +172,32 @@ shift_close_stack (parenthesis s) t = Some (had s (PlainExpr.parenthesized t))
 shift_close_stack (subscript name s) t = Some (had s (PlainExpr.variable (PlainVarRef.subscripted name t)))
 shift_close_stack (arguments function done s) t = Some (had s (PlainExpr.builtin function (expr_push done t)))
 
--- the machine's state behind a closing parenthesis
+-- the machine's state after a closing parenthesis
 abbrev pub shift_close : ParseState → Option ParseState
 shift_close (had s t) = let o = reduced s 1 t in shift_close_stack o.0 o.1
 shift_close (size_had done name n) = Some (item_had (done ++ (record { name = name; size = Some n } ∷ [])))
 shift_close state = None
 
--- the machine's state behind a comma that follows the phrase's own expression
+-- the machine's state after a comma that follows the phrase's own expression
 abbrev pub shift_comma_base : Base → PlainExpr → Option ParseState
 shift_comma_base (expressions done) t = Some (wanted (base (expressions (expr_push done t))))
 shift_comma_base (call_arguments name done) t = Some (wanted (base (call_arguments name (expr_push done t))))
 shift_comma_base b t = None
 
--- the machine's state behind a comma in the innermost parenthesis that is open on the stack
+-- the machine's state after a comma in the innermost parenthesis that is open on the stack
 abbrev pub shift_comma_stack : ParseStack → PlainExpr → Option ParseState
 shift_comma_stack (base b) t = shift_comma_base b t
 shift_comma_stack (arguments function done s) t = Some (wanted (arguments function (expr_push done t) s))
 shift_comma_stack s t = None
 
--- the machine's state behind a comma that follows a name that stands in no expression
+-- the machine's state after a comma that follows a name that stands in no expression
 abbrev pub shift_comma_role : Role → List ℕ → Option ParseState
 shift_comma_role (variables done) name = Some (name_wanted (variables (done ++ (PlainVarRef.simple name ∷ []))))
 shift_comma_role (items done) name = Some (name_wanted (items (done ++ (record { name = name; size = None } ∷ []))))
 shift_comma_role (names done) name = Some (name_wanted (names (done ++ (name ∷ []))))
 shift_comma_role role name = None
 
--- the machine's state behind a comma
+-- the machine's state after a comma
 abbrev pub shift_comma : ParseState → Option ParseState
 shift_comma (had s t) = let o = reduced s 1 t in shift_comma_stack o.0 o.1
 shift_comma (name_had role name) = shift_comma_role role name
@@ -205,35 +205,35 @@ shift_comma (variable_had done) = Some (name_wanted (variables done))
 shift_comma (item_had done) = Some (name_wanted (items done))
 shift_comma state = None
 
--- the machine's state behind `=` that follows a name that stands in no expression
+-- the machine's state after `=` that follows a name that stands in no expression
 abbrev pub shift_equal_role : Role → List ℕ → Option ParseState
 shift_equal_role target name = Some (wanted (base (assigned (PlainVarRef.simple name))))
 shift_equal_role role name = None
 
--- the machine's state behind `=`: it assigns to the target of an assignment, and elsewhere it compares
+-- the machine's state after `=`: it assigns to the target of an assignment, and elsewhere it compares
 abbrev pub shift_equal : ParseState → Option ParseState
 shift_equal (had s t) = Some (after_infix between.Equal (reduced s (priority between.Equal) t))
 shift_equal (name_had role name) = shift_equal_role role name
 shift_equal (target_had reference) = Some (wanted (base (assigned reference)))
 shift_equal state = None
 
--- the machine's state behind a sign where an operand is wanted, with the prefix operator that it is there
+-- the machine's state after a sign where an operand is wanted, with the prefix operator that it is there
 abbrev pub shift_prefix : ParseStack → Option PrefixOp → Option ParseState
 shift_prefix s None = None
 shift_prefix s (Some op) = Some (wanted (prefix op s))
 
--- the machine's state behind a sign that follows an operand, with the infix operator that it is there
+-- the machine's state after a sign that follows an operand, with the infix operator that it is there
 abbrev pub shift_infix : ParseStack → PlainExpr → Option InfixOp → Option ParseState
 shift_infix s t None = None
 shift_infix s t (Some op) = Some (after_infix op (reduced s (priority op) t))
 
--- the machine's state behind a sign that is an operator wherever it stands
+-- the machine's state after a sign that is an operator wherever it stands
 abbrev pub shift_operator : ParseState → Sign → Option ParseState
 shift_operator (wanted s) sign = shift_prefix s (prefix_of sign)
 shift_operator (had s t) sign = shift_infix s t (infix_of sign)
 shift_operator state sign = None
 
--- the machine's state behind a sign
+-- the machine's state after a sign
 abbrev pub shift_sign : ParseState → Sign → Option ParseState
 shift_sign state Sign.OpenParenthesis = shift_open state
 shift_sign state Sign.CloseParenthesis = shift_close state
@@ -241,7 +241,7 @@ shift_sign state Sign.Comma = shift_comma state
 shift_sign state Sign.Equal = shift_equal state
 shift_sign state sign = shift_operator state sign
 
--- the machine's state behind one more token, if it can stand there
+-- the machine's state after one more token, if it can stand there
 abbrev pub shift : ParseState → Token → Option ParseState
 shift state (Token.name name) = shift_name state name
 shift state (Token.keyword word) = None
@@ -250,12 +250,12 @@ shift state (Token.text value) = shift_operand state (PlainExpr.text value)
 shift state (Token.bit value) = shift_operand state (PlainExpr.bit value)
 shift state (Token.sign sign) = shift_sign state sign
 
--- the machine's state behind one more token, if the machine has not stopped and the token can stand there
+-- the machine's state after one more token, if the machine has not stopped and the token can stand there
 abbrev pub shift_if : Option ParseState → Token → Option ParseState
 shift_if None token = None
 shift_if (Some state) token = shift state token
 
--- the machine's state behind more tokens, if they can stand there
+-- the machine's state after more tokens, if they can stand there
 abbrev pub shift_all : List Token → Option ParseState → Option ParseState
 shift_all [] state = state
 shift_all (token ∷ tokens) state = shift_all tokens (shift_if state token)

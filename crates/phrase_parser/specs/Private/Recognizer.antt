@@ -43,12 +43,12 @@ pub data Shape : Type 0 where
   -- the recognizer's shapes in which a name is wanted, or was read
   name_wanted : Purpose → Shape
   name_had : Purpose → Shape
-  -- the recognizer's shapes behind the closing parenthesis of a target's subscript, a variable's subscript or a call's
+  -- the recognizer's shapes after the closing parenthesis of a target's subscript, a variable's subscript or a call's
   -- arguments
   target_had : Shape
   variable_had : Shape
   call_had : Shape
-  -- the recognizer's shapes in which the size of an array is wanted, or it or the parenthesis behind it was read
+  -- the recognizer's shapes in which the size of an array is wanted, or it or the parenthesis after it was read
   size_wanted : Shape
   size_had : Shape
   item_had : Shape
@@ -61,35 +61,35 @@ abbrev pub levels_inside : Ground → List Bracket → ℕ
 levels_inside g [] = ground_level g
 levels_inside g (bracket ∷ brackets) = bracket.level
 
--- the recognizer's shape behind a name
+-- the recognizer's shape after a name
 abbrev pub next_name : Shape → Bool → Option Shape
 next_name (wanted g brackets level) is_builtin = Some (had (Last.Named is_builtin level) g brackets)
 next_name (name_wanted purpose) is_builtin = Some (name_had purpose)
 next_name shape is_builtin = None
 
--- the recognizer's shape behind a constant
+-- the recognizer's shape after a constant
 abbrev pub next_constant : Shape → Option Shape
 next_constant (wanted g brackets level) = Some (had Last.Operand g brackets)
 next_constant shape = None
 
--- the recognizer's shape behind a number
+-- the recognizer's shape after a number
 abbrev pub next_number : Shape → ℕ → Option Shape
 next_number (wanted g brackets level) n = Some (had Last.Operand g brackets)
 next_number size_wanted n = if nat_le 1 n then Some size_had else None
 next_number length_wanted n = if nat_le 1 n && nat_le n longest_text then Some length_had else None
 next_number shape n = None
 
--- the recognizer's shape behind a parenthesis that is opened in an expression
+-- the recognizer's shape after a parenthesis that is opened in an expression
 abbrev pub bracketed : Bool → Ground → List Bracket → ℕ → Shape
 bracketed takes_commas g brackets level =
     wanted g (record { takes_commas = takes_commas; level = level + 1 } ∷ brackets) (level + 1)
 
--- the recognizer's shape behind a parenthesis that is opened behind an operand, which a name alone takes
+-- the recognizer's shape after a parenthesis that is opened after an operand, which a name alone takes
 abbrev pub next_open_after : Last → Ground → List Bracket → Option Shape
 next_open_after Last.Operand g brackets = None
 next_open_after (Last.Named is_builtin level) g brackets = Some (bracketed is_builtin g brackets level)
 
--- the recognizer's shape behind a parenthesis that is opened behind a name that stands in no expression
+-- the recognizer's shape after a parenthesis that is opened after a name that stands in no expression
 abbrev pub next_open_name : Purpose → Option Shape
 next_open_name Purpose.Target = Some (wanted Ground.TargetIndex [] 1)
 next_open_name Purpose.ListedVariable = Some (wanted Ground.VariableIndex [] 1)
@@ -98,14 +98,14 @@ next_open_name Purpose.Item = Some size_wanted
 next_open_name Purpose.ListedName = None
 next_open_name Purpose.Single = None
 
--- the recognizer's shape behind an opening parenthesis
+-- the recognizer's shape after an opening parenthesis
 abbrev pub next_open : Shape → Option Shape
 next_open (wanted g brackets level) = Some (bracketed false g brackets level)
 next_open (had last g brackets) = next_open_after last g brackets
 next_open (name_had purpose) = next_open_name purpose
 next_open shape = None
 
--- the recognizer's shape behind the closing parenthesis of a subscript or call in which the phrase's own expression
+-- the recognizer's shape after the closing parenthesis of a subscript or call in which the phrase's own expression
 -- stands
 abbrev pub next_close_ground : Ground → Option Shape
 next_close_ground Ground.Whole = None
@@ -114,18 +114,18 @@ next_close_ground Ground.TargetIndex = Some target_had
 next_close_ground Ground.VariableIndex = Some variable_had
 next_close_ground Ground.CallList = Some call_had
 
--- the recognizer's shape behind the closing parenthesis of the innermost that is open
+-- the recognizer's shape after the closing parenthesis of the innermost that is open
 abbrev pub next_close_in : Ground → List Bracket → Option Shape
 next_close_in g [] = next_close_ground g
 next_close_in g (bracket ∷ brackets) = Some (had Last.Operand g brackets)
 
--- the recognizer's shape behind a closing parenthesis
+-- the recognizer's shape after a closing parenthesis
 abbrev pub next_close : Shape → Option Shape
 next_close (had last g brackets) = next_close_in g brackets
 next_close size_had = Some item_had
 next_close shape = None
 
--- the recognizer's shape behind a comma that follows the phrase's own expression
+-- the recognizer's shape after a comma that follows the phrase's own expression
 abbrev pub next_comma_ground : Ground → Option Shape
 next_comma_ground Ground.Whole = None
 next_comma_ground Ground.Listed = Some (wanted Ground.Listed [] 0)
@@ -133,13 +133,13 @@ next_comma_ground Ground.TargetIndex = None
 next_comma_ground Ground.VariableIndex = None
 next_comma_ground Ground.CallList = Some (wanted Ground.CallList [] 1)
 
--- the recognizer's shape behind a comma in the innermost open parenthesis
+-- the recognizer's shape after a comma in the innermost open parenthesis
 abbrev pub next_comma_in : Ground → List Bracket → Option Shape
 next_comma_in g [] = next_comma_ground g
 next_comma_in g (bracket ∷ brackets) =
     if bracket.takes_commas then Some (wanted g (bracket ∷ brackets) bracket.level) else None
 
--- the recognizer's shape behind a comma that follows a name that stands in no expression
+-- the recognizer's shape after a comma that follows a name that stands in no expression
 abbrev pub next_comma_name : Purpose → Option Shape
 next_comma_name Purpose.Target = None
 next_comma_name Purpose.ListedVariable = Some (name_wanted Purpose.ListedVariable)
@@ -148,7 +148,7 @@ next_comma_name Purpose.Item = Some (name_wanted Purpose.Item)
 next_comma_name Purpose.ListedName = Some (name_wanted Purpose.ListedName)
 next_comma_name Purpose.Single = None
 
--- the recognizer's shape behind a comma
+-- the recognizer's shape after a comma
 abbrev pub next_comma : Shape → Option Shape
 next_comma (had last g brackets) = next_comma_in g brackets
 next_comma (name_had purpose) = next_comma_name purpose
@@ -156,36 +156,36 @@ next_comma variable_had = Some (name_wanted Purpose.ListedVariable)
 next_comma item_had = Some (name_wanted Purpose.Item)
 next_comma shape = None
 
--- the recognizer's shape behind `=` that follows a name that stands in no expression
+-- the recognizer's shape after `=` that follows a name that stands in no expression
 abbrev pub next_equal_name : Purpose → Option Shape
 next_equal_name Purpose.Target = Some (wanted Ground.Whole [] 0)
 next_equal_name purpose = None
 
--- the recognizer's shape behind `=`
+-- the recognizer's shape after `=`
 abbrev pub next_equal : Shape → Option Shape
 next_equal (had last g brackets) = Some (wanted g brackets (levels_inside g brackets))
 next_equal (name_had purpose) = next_equal_name purpose
 next_equal target_had = Some (wanted Ground.Whole [] 0)
 next_equal shape = None
 
--- the recognizer's shape behind a sign where an operand is wanted, with the prefix operator that it is there
+-- the recognizer's shape after a sign where an operand is wanted, with the prefix operator that it is there
 abbrev pub next_prefix : Ground → List Bracket → ℕ → Option PrefixOp → Option Shape
 next_prefix g brackets level None = None
 next_prefix g brackets level (Some op) = Some (wanted g brackets (level + 1))
 
--- the recognizer's shape behind a sign that follows an operand, with the infix operator that it is there: no prefix
+-- the recognizer's shape after a sign that follows an operand, with the infix operator that it is there: no prefix
 -- operator is open any more
 abbrev pub next_infix : Ground → List Bracket → Option InfixOp → Option Shape
 next_infix g brackets None = None
 next_infix g brackets (Some op) = Some (wanted g brackets (levels_inside g brackets))
 
--- the recognizer's shape behind a sign that is an operator wherever it stands
+-- the recognizer's shape after a sign that is an operator wherever it stands
 abbrev pub next_operator : Shape → Sign → Option Shape
 next_operator (wanted g brackets level) s = next_prefix g brackets level (prefix_of s)
 next_operator (had last g brackets) s = next_infix g brackets (infix_of s)
 next_operator shape s = None
 
--- the recognizer's shape behind a sign
+-- the recognizer's shape after a sign
 abbrev pub next_sign : Shape → Sign → Option Shape
 next_sign shape Sign.OpenParenthesis = next_open shape
 next_sign shape Sign.CloseParenthesis = next_close shape
@@ -193,7 +193,7 @@ next_sign shape Sign.Comma = next_comma shape
 next_sign shape Sign.Equal = next_equal shape
 next_sign shape s = next_operator shape s
 
--- the recognizer's shape behind one more token, if it can stand there
+-- the recognizer's shape after one more token, if it can stand there
 abbrev pub next : Shape → TokenClass → Option Shape
 next shape (TokenClass.Name is_builtin) = next_name shape is_builtin
 next shape TokenClass.Keyword = None
@@ -201,12 +201,12 @@ next shape (TokenClass.Number n) = next_number shape n
 next shape TokenClass.Constant = next_constant shape
 next shape (TokenClass.Sign s) = next_sign shape s
 
--- the recognizer's shape behind one more token, if the recognizer has not stopped and the token can stand there
+-- the recognizer's shape after one more token, if the recognizer has not stopped and the token can stand there
 abbrev pub next_if : Option Shape → TokenClass → Option Shape
 next_if None class = None
 next_if (Some shape) class = next shape class
 
--- the recognizer's shape behind more tokens, if they can stand there
+-- the recognizer's shape after more tokens, if they can stand there
 abbrev pub follow : List TokenClass → Option Shape → Option Shape
 follow [] shape = shape
 follow (class ∷ classes) shape = follow classes (next_if shape class)

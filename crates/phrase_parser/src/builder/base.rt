@@ -43,7 +43,7 @@ pub fn wanted_on(alloc: Global, base: Base) -> ParseState
     ParseState::Wanted(ParseStack { base, frames })
 }
 
-/// The state that a base becomes behind the closing parenthesis of the subscript or call in which its expression
+/// The state that a base becomes after the closing parenthesis of the subscript or call in which its expression
 /// stands, if it stands in one.
 pub fn shift_close_base(alloc: Global, base: Base, expr: Expr) -> Result<ParseState, BuildError>
     ensures { Gives state_of result (shift_close_base (base_of base) (plain_expr expr)) }
@@ -61,7 +61,7 @@ pub fn shift_close_base(alloc: Global, base: Base, expr: Expr) -> Result<ParseSt
     }
 }
 
-/// The state that a base becomes behind a comma that follows its expression, if one can stand there.
+/// The state that a base becomes after a comma that follows its expression, if one can stand there.
 pub fn shift_comma_base(alloc: Global, base: Base, expr: Expr) -> Result<ParseState, BuildError>
     ensures { Gives state_of result (shift_comma_base (base_of base) (plain_expr expr)) }
 {

@@ -34,7 +34,7 @@ pub enum Role {
     Procedure,
 }
 
-/// The state that a role becomes behind a parenthesis that is opened behind its name, if one can stand there.
+/// The state that a role becomes after a parenthesis that is opened after its name, if one can stand there.
 pub fn shift_open_role(alloc: Global, role: Role, name: Name) -> Result<ParseState, BuildError>
     ensures { Gives state_of result (shift_open_role (role_of role) name) }
 {
@@ -47,7 +47,7 @@ pub fn shift_open_role(alloc: Global, role: Role, name: Name) -> Result<ParseSta
     }
 }
 
-/// The state that a role becomes behind a comma that follows its name, if one can stand there.
+/// The state that a role becomes after a comma that follows its name, if one can stand there.
 pub fn shift_comma_role(role: Role, name: Name) -> Result<ParseState, BuildError>
     ensures { Gives state_of result (shift_comma_role (role_of role) name) }
 {
@@ -68,7 +68,7 @@ pub fn shift_comma_role(role: Role, name: Name) -> Result<ParseState, BuildError
     }
 }
 
-/// The state that a role becomes behind `=` that follows its name, if it can stand there.
+/// The state that a role becomes after `=` that follows its name, if it can stand there.
 pub fn shift_equal_role(alloc: Global, role: Role, name: Name) -> Result<ParseState, BuildError>
     ensures { Gives state_of result (shift_equal_role (role_of role) name) }
 {

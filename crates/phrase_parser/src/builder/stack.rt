@@ -43,7 +43,7 @@ pub enum ParseFrame {
     Arguments(Builtin, Vec<Expr>),
 }
 
-/// The state that a stack becomes behind a parenthesis that is opened behind an operand, which only a name takes.
+/// The state that a stack becomes after a parenthesis that is opened after an operand, which only a name takes.
 pub fn shift_open_after(alloc: Global, stack: ParseStack, primary: Primary) -> Result<ParseState, BuildError>
     ensures { Gives state_of result (shift_open_after (stack_of stack) (primary_of primary)) }
 {
@@ -65,7 +65,7 @@ fn open_frame(alloc: Global, name: Name, function: Option<Builtin>) -> ParseFram
     }
 }
 
-/// The state that a stack becomes behind the closing parenthesis of the innermost that is open on it.
+/// The state that a stack becomes after the closing parenthesis of the innermost that is open on it.
 #[tactic(auto, using(crate::proofs::Frames::FrameStacks::stack_on_push))]
 pub fn shift_close_stack(alloc: Global, stack: ParseStack, expr: Expr) -> Result<ParseState, BuildError>
     ensures { Gives state_of result (shift_close_stack (stack_of stack) (plain_expr expr)) }
@@ -83,7 +83,7 @@ pub fn shift_close_stack(alloc: Global, stack: ParseStack, expr: Expr) -> Result
     Ok(ParseState::Had(ParseStack { base, frames }, primary))
 }
 
-/// The state that a stack becomes behind a comma in the innermost parenthesis that is open on it.
+/// The state that a stack becomes after a comma in the innermost parenthesis that is open on it.
 #[tactic(auto, using(crate::proofs::Frames::FrameStacks::stack_on_push))]
 pub fn shift_comma_stack(alloc: Global, stack: ParseStack, expr: Expr) -> Result<ParseState, BuildError>
     ensures { Gives state_of result (shift_comma_stack (stack_of stack) (plain_expr expr)) }
@@ -102,7 +102,7 @@ pub fn shift_comma_stack(alloc: Global, stack: ParseStack, expr: Expr) -> Result
     }
 }
 
-/// The state that a stack becomes behind a prefix operator, where an operand is wanted.
+/// The state that a stack becomes after a prefix operator, where an operand is wanted.
 pub fn shift_prefix(stack: ParseStack, op: Option<PrefixOp>) -> Result<ParseState, BuildError>
     ensures { Gives state_of result (shift_prefix (stack_of stack) op) }
 {
@@ -112,7 +112,7 @@ pub fn shift_prefix(stack: ParseStack, op: Option<PrefixOp>) -> Result<ParseStat
     }
 }
 
-/// The state that a stack becomes behind an infix operator, once the operand before it is joined.
+/// The state that a stack becomes after an infix operator, once the operand before it is joined.
 pub fn shift_infix(
     alloc: Global,
     stack: ParseStack,
@@ -130,7 +130,7 @@ pub fn shift_infix(
     }
 }
 
-/// The state that a stack becomes behind an infix operator whose left operand is joined already.
+/// The state that a stack becomes after an infix operator whose left operand is joined already.
 pub fn after_infix(stack: ParseStack, left: Expr, op: InfixOp) -> Result<ParseState, AllocError>
     ensures { IfOk result (λ s. state_of s ≡ after_infix op (pair_of (stack, left))) }
 {

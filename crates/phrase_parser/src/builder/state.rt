@@ -75,7 +75,7 @@ pub fn start_state(alloc: Global, category: Category) -> Result<ParseState, Buil
     }
 }
 
-/// The builder's state behind one more token, if it can stand there.
+/// The builder's state after one more token, if it can stand there.
 pub fn shift(alloc: Global, state: ParseState, text: &[u8], token: Placed) -> Result<ParseState, BuildError>
     requires { IsPlacedIn text.now token }
     ensures { Gives state_of result (shift (state_of state) (token_in text.now token)) }
@@ -91,7 +91,7 @@ pub fn shift(alloc: Global, state: ParseState, text: &[u8], token: Placed) -> Re
     }
 }
 
-/// The builder's state behind a name, if one can stand there.
+/// The builder's state after a name, if one can stand there.
 pub fn shift_name(state: ParseState, name: Name) -> Result<ParseState, BuildError>
     ensures { Gives state_of result (shift_name (state_of state) name) }
 {
@@ -102,7 +102,7 @@ pub fn shift_name(state: ParseState, name: Name) -> Result<ParseState, BuildErro
     }
 }
 
-/// The builder's state behind a number, if one can stand there.
+/// The builder's state after a number, if one can stand there.
 pub fn shift_number(state: ParseState, n: u32) -> Result<ParseState, BuildError>
     requires { n ≤ greatest_number }
     ensures { Gives state_of result (shift_number (state_of state) n) }
@@ -117,7 +117,7 @@ pub fn shift_number(state: ParseState, n: u32) -> Result<ParseState, BuildError>
     }
 }
 
-/// The builder's state behind a whole operand, if one can stand there.
+/// The builder's state after a whole operand, if one can stand there.
 pub fn shift_operand(state: ParseState, primary: Primary) -> Result<ParseState, BuildError>
     ensures { Gives state_of result (shift_operand (state_of state) (primary_of primary)) }
 {
@@ -127,7 +127,7 @@ pub fn shift_operand(state: ParseState, primary: Primary) -> Result<ParseState, 
     }
 }
 
-/// The builder's state behind a sign, if it can stand there.
+/// The builder's state after a sign, if it can stand there.
 pub fn shift_sign(alloc: Global, state: ParseState, sign: Sign) -> Result<ParseState, BuildError>
     ensures { Gives state_of result (shift_sign (state_of state) sign) }
 {
@@ -140,7 +140,7 @@ pub fn shift_sign(alloc: Global, state: ParseState, sign: Sign) -> Result<ParseS
     }
 }
 
-/// The builder's state behind an opening parenthesis, if one can stand there.
+/// The builder's state after an opening parenthesis, if one can stand there.
 pub fn shift_open(alloc: Global, state: ParseState) -> Result<ParseState, BuildError>
     ensures { Gives state_of result (shift_open (state_of state)) }
 {
@@ -152,7 +152,7 @@ pub fn shift_open(alloc: Global, state: ParseState) -> Result<ParseState, BuildE
     }
 }
 
-/// The builder's state behind a closing parenthesis, if one can stand there.
+/// The builder's state after a closing parenthesis, if one can stand there.
 pub fn shift_close(alloc: Global, state: ParseState) -> Result<ParseState, BuildError>
     ensures { Gives state_of result (shift_close (state_of state)) }
 {
@@ -168,7 +168,7 @@ pub fn shift_close(alloc: Global, state: ParseState) -> Result<ParseState, Build
     }
 }
 
-/// The builder's state behind a comma, if one can stand there.
+/// The builder's state after a comma, if one can stand there.
 pub fn shift_comma(alloc: Global, state: ParseState) -> Result<ParseState, BuildError>
     ensures { Gives state_of result (shift_comma (state_of state)) }
 {
@@ -184,7 +184,7 @@ pub fn shift_comma(alloc: Global, state: ParseState) -> Result<ParseState, Build
     }
 }
 
-/// The builder's state behind `=`, if it can stand there: it assigns to the target of an assignment, and elsewhere it
+/// The builder's state after `=`, if it can stand there: it assigns to the target of an assignment, and elsewhere it
 /// compares.
 fn shift_equal(alloc: Global, state: ParseState) -> Result<ParseState, BuildError>
     ensures { Gives state_of result (shift_equal (state_of state)) }
@@ -201,7 +201,7 @@ fn shift_equal(alloc: Global, state: ParseState) -> Result<ParseState, BuildErro
     }
 }
 
-/// The builder's state behind a sign that is an operator wherever it stands, if it can stand there.
+/// The builder's state after a sign that is an operator wherever it stands, if it can stand there.
 fn shift_operator(alloc: Global, state: ParseState, sign: Sign) -> Result<ParseState, BuildError>
     ensures { Gives state_of result (shift_operator (state_of state) sign) }
 {

@@ -30,7 +30,7 @@ pub fn wanted(alloc: Global, place: Ground, level: u32) -> Shape
     Shape::Wanted(Nesting::of(alloc, place), level)
 }
 
-/// The shape that a ground becomes behind the closing parenthesis of the subscript or call in which its expression
+/// The shape that a ground becomes after the closing parenthesis of the subscript or call in which its expression
 /// stands, if it stands in one.
 pub fn next_close_ground(place: Ground) -> Option<Shape>
     ensures { shape_if result ≡ next_close_ground place }
@@ -43,7 +43,7 @@ pub fn next_close_ground(place: Ground) -> Option<Shape>
     }
 }
 
-/// The shape that a ground becomes behind a comma that follows its expression, if one can stand there.
+/// The shape that a ground becomes after a comma that follows its expression, if one can stand there.
 pub fn next_comma_ground(alloc: Global, place: Ground) -> Option<Shape>
     ensures { shape_if result ≡ next_comma_ground place }
 {

@@ -38,7 +38,7 @@ impl Nesting {
     }
 }
 
-/// The shape that a nesting becomes behind a parenthesis that is opened where so many levels are open.
+/// The shape that a nesting becomes after a parenthesis that is opened where so many levels are open.
 #[tactic(auto, using(crate::proofs::Findings::OpenBrackets::brackets_push))]
 pub fn bracketed(nesting: Nesting, takes_commas: bool, level: u32) -> Result<Shape, AllocError>
     requires { level ≤ deepest_level }
@@ -56,7 +56,7 @@ pub fn bracketed(nesting: Nesting, takes_commas: bool, level: u32) -> Result<Sha
     Ok(Shape::Wanted(Nesting { place, brackets }, level))
 }
 
-/// The shape that a nesting becomes behind a parenthesis that closes its innermost one.
+/// The shape that a nesting becomes after a parenthesis that closes its innermost one.
 #[tactic(auto, using(crate::proofs::Findings::OpenBrackets::brackets_push))]
 pub fn next_close_in(nesting: Nesting) -> Option<Shape>
     ensures { shape_if result ≡ next_close_in nesting.place (reverse nesting.brackets.items) }
@@ -71,7 +71,7 @@ pub fn next_close_in(nesting: Nesting) -> Option<Shape>
     }
 }
 
-/// The shape that a nesting becomes behind a comma in its innermost parenthesis, if one can stand there.
+/// The shape that a nesting becomes after a comma in its innermost parenthesis, if one can stand there.
 #[tactic(auto, using(crate::proofs::Findings::OpenBrackets::brackets_push))]
 pub fn next_comma_in(alloc: Global, nesting: Nesting) -> Result<Option<Shape>, AllocError>
     ensures { IfOk result (λ s. shape_if s ≡ next_comma_in nesting.place (reverse nesting.brackets.items)) }
@@ -90,7 +90,7 @@ pub fn next_comma_in(alloc: Global, nesting: Nesting) -> Result<Option<Shape>, A
     Ok(Some(Shape::Wanted(Nesting { place, brackets }, bracket.level)))
 }
 
-/// The shape that a nesting becomes behind an infix operator, where an operand is wanted.
+/// The shape that a nesting becomes after an infix operator, where an operand is wanted.
 pub fn after_operator(nesting: Nesting) -> Shape
     ensures { shape_of result
         ≡ model.wanted nesting.place (reverse nesting.brackets.items)

@@ -25,7 +25,7 @@ pub enum Purpose {
     Single,
 }
 
-/// The shape that a purpose becomes behind a parenthesis that is opened behind its name, if one can stand there.
+/// The shape that a purpose becomes after a parenthesis that is opened after its name, if one can stand there.
 pub fn next_open_name(alloc: Global, purpose: Purpose) -> Option<Shape>
     ensures { shape_if result ≡ next_open_name purpose }
 {
@@ -38,7 +38,7 @@ pub fn next_open_name(alloc: Global, purpose: Purpose) -> Option<Shape>
     }
 }
 
-/// The shape that a purpose becomes behind a comma that follows its name, if one can stand there.
+/// The shape that a purpose becomes after a comma that follows its name, if one can stand there.
 pub fn next_comma_name(purpose: Purpose) -> Option<Shape>
     ensures { shape_if result ≡ next_comma_name purpose }
 {
@@ -50,7 +50,7 @@ pub fn next_comma_name(purpose: Purpose) -> Option<Shape>
     }
 }
 
-/// The shape that a purpose becomes behind `=` that follows its name, if it can stand there.
+/// The shape that a purpose becomes after `=` that follows its name, if it can stand there.
 pub fn next_equal_name(alloc: Global, purpose: Purpose) -> Option<Shape>
     ensures { shape_if result ≡ next_equal_name purpose }
 {

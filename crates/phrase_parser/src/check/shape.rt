@@ -65,7 +65,7 @@ pub fn first_shape(alloc: Global, category: Category) -> Option<Shape>
     }
 }
 
-/// The check's shape behind one more token, if it can stand there.
+/// The check's shape after one more token, if it can stand there.
 pub fn next(alloc: Global, shape: Shape, class: TokenClass) -> Result<Option<Shape>, AllocError>
     requires { Within deepest_level (shape_of shape) }
     ensures { IfOk result (λ s. shape_if s ≡ next (shape_of shape) class) }
@@ -79,7 +79,7 @@ pub fn next(alloc: Global, shape: Shape, class: TokenClass) -> Result<Option<Sha
     }
 }
 
-/// The check's shape behind a name, if one can stand there.
+/// The check's shape after a name, if one can stand there.
 fn next_name(shape: Shape, is_builtin: bool) -> Option<Shape>
     ensures { shape_if result ≡ next_name (shape_of shape) is_builtin }
 {
@@ -90,7 +90,7 @@ fn next_name(shape: Shape, is_builtin: bool) -> Option<Shape>
     }
 }
 
-/// The check's shape behind a number, if one can stand there.
+/// The check's shape after a number, if one can stand there.
 fn next_number(shape: Shape, n: u32) -> Option<Shape>
     ensures { shape_if result ≡ next_number (shape_of shape) n }
 {
@@ -102,7 +102,7 @@ fn next_number(shape: Shape, n: u32) -> Option<Shape>
     }
 }
 
-/// The check's shape behind a constant, if one can stand there.
+/// The check's shape after a constant, if one can stand there.
 fn next_constant(shape: Shape) -> Option<Shape>
     ensures { shape_if result ≡ next_constant (shape_of shape) }
 {
@@ -112,7 +112,7 @@ fn next_constant(shape: Shape) -> Option<Shape>
     }
 }
 
-/// The check's shape behind a sign, if it can stand there.
+/// The check's shape after a sign, if it can stand there.
 fn next_sign(alloc: Global, shape: Shape, sign: Sign) -> Result<Option<Shape>, AllocError>
     requires { Within deepest_level (shape_of shape) }
     ensures { IfOk result (λ s. shape_if s ≡ next_sign (shape_of shape) sign) }
@@ -138,7 +138,7 @@ fn next_sign(alloc: Global, shape: Shape, sign: Sign) -> Result<Option<Shape>, A
     }
 }
 
-/// The check's shape behind an opening parenthesis, if one can stand there.
+/// The check's shape after an opening parenthesis, if one can stand there.
 fn next_open(alloc: Global, shape: Shape) -> Result<Option<Shape>, AllocError>
     requires { Within deepest_level (shape_of shape) }
     ensures { IfOk result (λ s. shape_if s ≡ next_open (shape_of shape)) }
@@ -153,7 +153,7 @@ fn next_open(alloc: Global, shape: Shape) -> Result<Option<Shape>, AllocError>
     }
 }
 
-/// The check's shape behind a closing parenthesis, if one can stand there.
+/// The check's shape after a closing parenthesis, if one can stand there.
 fn next_close(shape: Shape) -> Option<Shape>
     ensures { shape_if result ≡ next_close (shape_of shape) }
 {
@@ -164,7 +164,7 @@ fn next_close(shape: Shape) -> Option<Shape>
     }
 }
 
-/// The check's shape behind a comma, if one can stand there.
+/// The check's shape after a comma, if one can stand there.
 fn next_comma(alloc: Global, shape: Shape) -> Result<Option<Shape>, AllocError>
     ensures { IfOk result (λ s. shape_if s ≡ next_comma (shape_of shape)) }
 {
@@ -177,7 +177,7 @@ fn next_comma(alloc: Global, shape: Shape) -> Result<Option<Shape>, AllocError>
     }
 }
 
-/// The check's shape behind `=`, if it can stand there.
+/// The check's shape after `=`, if it can stand there.
 fn next_equal(alloc: Global, shape: Shape) -> Option<Shape>
     ensures { shape_if result ≡ next_equal (shape_of shape) }
 {
@@ -189,7 +189,7 @@ fn next_equal(alloc: Global, shape: Shape) -> Option<Shape>
     }
 }
 
-/// The check's shape behind a sign that is an operator wherever it stands, if it can stand there.
+/// The check's shape after a sign that is an operator wherever it stands, if it can stand there.
 #[tactic(auto, using(crate::proofs::Findings::OperatorTests::prefix_if, crate::proofs::Findings::OperatorTests::infix_if))]
 fn next_operator(shape: Shape, sign: Sign) -> Option<Shape>
     requires { Within deepest_level (shape_of shape) }

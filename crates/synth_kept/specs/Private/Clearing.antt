@@ -1,4 +1,4 @@
--- What clearing a journal behind a run does.
+-- What clearing a journal after a run does.
 use Rattle.std.specs.Prelude.{◌≡◌, ◌⊎◌, ℕ, List, Ok, Err}
 use Rattle.key_journal.specs.ClearedJournal.{Clears}
 use Rattle.key_journal.specs.Disk.{DiskState}
@@ -10,14 +10,14 @@ use Rattle.synth_kept.specs.declared.status.KeptStatus.TheVariants.{Run}
 use Rattle.synth_outside.specs.Cause.{HasCause}
 use Rattle.synth_top.specs.declared.status.Status.TheVariants.{Done}
 
--- a journal was cleared behind a run
+-- a journal was cleared after a run
 pub record ClearsAll (status : KeptStatus) (past now : List DiskState) (faults_before faults_now : ℕ)
     : Type 0 where
   pub answer : status ≡ Run Done
   pub clears : Clears {E = DiskFault} past now (Ok (tt {0}))
   pub same : faults_now ≡ faults_before
 
--- a journal couldn't be cleared behind a run
+-- a journal couldn't be cleared after a run
 pub record FailsToClear (status : KeptStatus) (past now : List DiskState)
     (faults_before faults_now : ℕ) : Type 0 where
   pub fault : DiskFault
@@ -25,7 +25,7 @@ pub record FailsToClear (status : KeptStatus) (past now : List DiskState)
   pub clears : Clears past now (Err fault)
   pub cause : HasCause {T = Unit {0}} Failed faults_before faults_now (Err fault)
 
--- a journal was cleared behind a run, or couldn't be
+-- a journal was cleared after a run, or couldn't be
 abbrev pub ClearsKeys : KeptStatus → List DiskState → List DiskState → ℕ → ℕ → Type 0
 ClearsKeys status past now faults_before faults_now =
     ClearsAll status past now faults_before faults_now

@@ -79,7 +79,7 @@ returns-in-Err-clause-ended g c =
     unloaded (plain_options c.args.options.now) told files loaded (g.S.Source.leads_to c.args.keys.now c.args.keys.now)
     (g.S.Source.breaks_at c.args.keys.now c.args.keys.now) c.in-Err.ensures.wanted (g.S.Source.leads_to_itself c.args.keys.now)
 
--- memory ran out behind the loads
+-- memory ran out after the loads
 pub returns-in-Err-open-clause-ended : goal.returns-in-Err-open-clause-ended
 returns-in-Err-open-clause-ended g c =
     let told : ℕ → Told = λ laid. record {

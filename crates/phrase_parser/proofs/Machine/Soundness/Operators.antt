@@ -16,7 +16,7 @@ use Rattle.phrase_parser.proofs.Machine.ConsumedTokens.{flat_stack, hole, SoundS
 use Rattle.phrase_parser.proofs.Machine.Soundness.JoinedOperands.{Joins, reduced_joins}
 use Rattle.phrase_parser.proofs.Machine.Soundness.TakenTokens.{After, AfterIf}
 
--- the state behind an infix operator has joined what stands before it
+-- the state after an infix operator has joined what stands before it
 joined_after : (op : InfixOp) (s : ParseStack) (t : PlainExpr) (o : Operand) → Joins (priority op) s t o
     → After (ParseState.had s t) (Token.sign (infix_sign op)) (after_infix op o)
 joined_after op s t o joined = record {

@@ -32,7 +32,7 @@ step_after s (Token.text value) is_sound = operand_after s (Token.text value) (P
 step_after s (Token.bit value) is_sound = operand_after s (Token.bit value) (PlainExpr.bit value) (λ level. tt) refl is_sound
 step_after s (Token.sign sign) is_sound = signed_after s sign is_sound
 
--- a state behind more tokens
+-- a state after more tokens
 pub record Behind (s : ParseState) (ks : List Token) (z : ParseState) : Type 0 where
   pub sound : Sound z
   pub tokens : flat z ≡ flat s ++ ks
@@ -82,7 +82,7 @@ start_fresh NameList = record { sound = tt; tokens = refl; category = refl }
 start_fresh Length = record { sound = tt; tokens = refl; category = refl }
 start_fresh CommentText = tt
 
--- the state behind tokens from the start of a category has read them
+-- the state after tokens from the start of a category has read them
 pub record HasRead (c : Category) (ks : List Token) (s : ParseState) : Type 0 where
   pub sound : Sound s
   pub tokens : flat s ≡ ks

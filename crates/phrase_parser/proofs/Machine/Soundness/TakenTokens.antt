@@ -17,7 +17,7 @@ close = Token.sign Sign.CloseParenthesis
 abbrev pub open_ : Token
 open_ = Token.sign Sign.OpenParenthesis
 
--- a state behind one more token
+-- a state after one more token
 pub record After (s : ParseState) (k : Token) (z : ParseState) : Type 0 where
   pub sound : Sound z
   pub tokens : flat z ≡ flat s ++ (k ∷ [])
