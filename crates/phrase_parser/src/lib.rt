@@ -1,4 +1,17 @@
 //! Texts read as phrases of PL/CS.
+//!
+//! `parser` is `parse`. `lexer` cuts a text, by the token at its front (`front`), by runs of bytes (`byte_class`)
+//! and by the lengths of constants (`constant`); `token` is a token with its place. `check` goes without trees,
+//! and `builder` makes them, so their files come in pairs: `check/shape` and `builder/state` are what was read
+//! last and is wanted; `check/purpose` and `builder/role` what a name outside of expressions is for;
+//! `check/ground` and `builder/base` where an expression stands that is in no other; `check/nesting` and
+//! `builder/stack` what is open around an operand. `check/token_class` is what the check looks at of a token,
+//! also whether it is a number that is too large. What a sign makes of one of these stands in its own file,
+//! though it may make a shape or a state of it. `builder/primary`, `builder/expr`, `builder/lists` and
+//! `builder/token_value` make operands, expressions, longer lists and the values of tokens. `fault` is what
+//! `parse` answers where a text is refused; `check/finding` what the check finds while it goes over the tokens,
+//! which `parser` turns into that fault; `builder/fault` why the builder stopped, which is want of memory alone
+//! behind a check.
 #![tactic(auto)]
 
 mod builder;

@@ -1,4 +1,14 @@
 //! The tree of templates: programs, their listing, and how they are read.
+//!
+//! One file an edit: `fill`, `fill_assign`, `set_phrase`, `take`, `insert`, `list_edit` (`add_hole`,
+//! `drop_hole`), `elide`. They stand on `exchange` (a node in place of another; also the procedure that a change
+//! names), `list_change` (into a list or out of it), `put_part` (a part set to what it takes) and `descent` (a
+//! node lent for writing). `limit_reached` asks for the limits, depth and number of slots, before nodes come in;
+//! their values are in `limit`. Found by a path: `node_at` a node, `around_path` its sections and neighbours,
+//! `beside` the next path in a list, the path before, and on which side of an item another lies, `list_item`
+//! whether it is in a list, and whether two of its sort are; by a slot: `path_of` its path. `hole` is which hole
+//! stands for which kind. `build` makes nodes and trees from their leaves, and draws the slots of nodes. `undo`
+//! calls `undo_node`, `undo_part`, `undo_item`. `change` says what an edit changed, `receipt` what undoes it.
 #![tactic(auto)]
 
 mod around_path;
