@@ -2,6 +2,8 @@ pub mod Byte
 pub mod Name
 pub mod Text
 pub mod Count
+pub mod PlainCounts
+pub mod CountLaws
 pub mod Put
 pub mod Mark
 pub mod Scope

@@ -4,6 +4,7 @@
 
 mod byte;
 mod byte_out;
+mod count_laws;
 mod declared;
 mod mark;
 mod memory;
@@ -17,6 +18,7 @@ mod work;
 
 pub use byte::{is_digit, is_letter, is_name_byte, is_printable};
 pub use byte_out::{ByteOut, put_bytes};
+pub use count_laws::counts_add_up;
 pub use declared::{Declared, ItemType};
 pub use mark::{MarkKind, Marked};
 pub use memory::OutOfMemory;
