@@ -1,12 +1,30 @@
 -- Files by name: the map of them, and what the calls on files do, where they are told.
-use Rattle.std.specs.Prelude.{◌≡◌, ◌≢◌, ℕ, List, [], Option, Some, None, IsSome}
+use Rattle.std.specs.Prelude.{◌≡◌, ◌≢◌, ℕ, List, [], Option, Some, None, IsSome, Result}
 use Rattle.std.specs.Ordering.{nat_cmp}
 use Rattle.std.specs.Cmp.Lexicographic.{slice_cmp}
 use Rattle.std.specs.FinMap.{FinMap, get, insert}
+use Rattle.synth_outside.specs.Cause.{HasCause}
+use Rattle.synth_outside.specs.declared.faults.FilesFault.{FilesFault}
 
 -- the map of files: the bytes of each name that there is
 abbrev pub FileMap : Type 0
 FileMap = FinMap (slice_cmp nat_cmp) (List ℕ)
+
+-- what files tell: their map, where they tell it, and their counts of faults and of wants of memory
+pub record PlainFiles : Type 0 where
+  pub stored : Option FileMap
+  pub faults : ℕ
+  pub wants : ℕ
+
+-- a call on files counts its answer: each of their two counts has its cause in it
+pub record CountsAnswer {T : Type 0} (before now : PlainFiles) (result : Result T FilesFault) : Type 0 where
+  pub fault : HasCause FilesFault.Failed before.faults now.faults result
+  pub want : HasCause FilesFault.OutOfMemory before.wants now.wants result
+
+-- a call on files leaves their map as it is, and counts its answer
+pub record LeavesMap {T : Type 0} (before now : PlainFiles) (result : Result T FilesFault) : Type 0 where
+  pub stored : now.stored ≡ before.stored
+  pub counts : CountsAnswer before now result
 
 -- a new content of a file that was begun: the name that it is for, and its bytes so far, where they
 -- are told
@@ -61,9 +79,3 @@ OwnContentIsSet = (map : FileMap) (name bytes : List ℕ) → get (insert map na
 abbrev pub OtherContentsStay : Type 0
 OtherContentsStay = (map : FileMap) (name bytes other : List ℕ) → other ≢ name →
     get (insert map name bytes) other ≡ get map other
-
--- files as plain data: their map, where they tell it, and their counts of faults and of wants of memory
-pub record PlainFiles : Type 0 where
-  pub stored : Option FileMap
-  pub faults : ℕ
-  pub wants : ℕ

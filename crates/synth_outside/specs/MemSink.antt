@@ -2,7 +2,8 @@
 use Rattle.std.specs.Prelude.{ℕ, List}
 use Rattle.synth_outside.specs.Calls.{PlainCalls}
 
--- what a sink in memory is seen as: the bytes that it took, and the calls
+-- what a sink in memory is seen as: the bytes that it took, the calls, and the wants of memory
 pub record PlainMemSink : Type 0 where
   pub taken : List ℕ
   pub calls : PlainCalls
+  pub wants : ℕ

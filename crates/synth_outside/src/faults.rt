@@ -19,7 +19,7 @@ pub enum SinkFault {
     /// The write failed, which the sink counts.
     #[error("the write failed")]
     Failed,
-    /// Memory ran out, which isn't counted.
+    /// Memory ran out, which the sink counts too.
     #[error("memory ran out")]
     OutOfMemory,
 }

@@ -1,8 +1,7 @@
 //! The trait of files by name.
 
 ghost use Rattle.std.specs.Prelude.{◌≡◌, ◌≢◌, ℕ, ◌<◌, Bool, true, List, length, Option, None, Err, IsSome, OnOk, OnErr, IsErrOf};
-ghost use Rattle.synth_outside.specs.Cause.{HasCause};
-ghost use Rattle.synth_outside.specs.Files.{FileMap, NewContent, begun_bytes, begun_name, Opens, Lacks, BeginsContent, Commits, OwnContentIsSet, OtherContentsStay};
+ghost use Rattle.synth_outside.specs.Files.{NewContent, PlainFiles, CountsAnswer, LeavesMap, begun_bytes, begun_name, Opens, Lacks, BeginsContent, Commits, OwnContentIsSet, OtherContentsStay};
 ghost use Rattle.synth_outside.specs.Sink.{TakesBytes};
 ghost use Rattle.synth_outside.specs.Source.{GivesBytes};
 
@@ -10,15 +9,15 @@ use super::FilesFault;
 
 /// Files by name: one can be open for reading, and a new content of one can be begun.
 ///
-/// `stored` is the map from names to bytes; where it is `None`, nothing is claimed of it.
+/// `told` is what they tell: `stored` is the map from names to bytes; where it is `None`, nothing is
+/// claimed of it. `faults` counts the failures so far and `wants` the wants of memory. Neither ever
+/// falls, and each stays at 2^64 - 1 once it is there.
+///
 /// `is_open` says that a file is open for reading, and `left` is its bytes that are left, where
 /// they are told. `begun` is the new content that was begun, with its name, if there is one. It is
 /// no part of the map before it is committed, and a commit changes nothing of what is open.
-///
-/// `faults` counts the failures so far and `wants` the wants of memory. Neither ever falls, and
-/// each stays at 2^64 - 1 once it is there.
 pub trait Files {
-    ghost stored: { Self → Option FileMap };
+    ghost told: { Self → PlainFiles };
 
     ghost is_open: { Self → Bool };
 
@@ -26,24 +25,17 @@ pub trait Files {
 
     ghost begun: { Self → Option NewContent };
 
-    ghost faults: { Self → ℕ };
-
-    ghost wants: { Self → ℕ };
-
     /// Opens the file of the name for reading from its first byte, in place of one that is open.
     ///
     /// Of the answers `Ok` and `NoFile` it is `NoFile` exactly where the map lacks the name. After
     /// an answer that isn't `Ok` it isn't told whether a file is open.
     fn open_read(&mut self, name: &[u8]) -> Result<(), FilesFault>
-        ensures whole { OnOk result (Opens (stored self.old) name.now (left self.new)) }
+        ensures whole { OnOk result (Opens (told self.old).stored name.now (left self.new)) }
         ensures readable { OnOk result (is_open self.new ≡ true) }
-        ensures missing { IsErrOf result FilesFault.NoFile → Lacks (stored self.old) name.now }
+        ensures missing { IsErrOf result FilesFault.NoFile → Lacks (told self.old).stored name.now }
 
-        ensures same_stored { stored self.new ≡ stored self.old }
-        ensures same_begun { begun self.new ≡ begun self.old }
-
-        ensures cause { HasCause FilesFault.Failed (faults self.old) (faults self.new) result }
-        ensures want { HasCause FilesFault.OutOfMemory (wants self.old) (wants self.new) result };
+        ensures files { LeavesMap (told self.old) (told self.new) result }
+        ensures same_begun { begun self.new ≡ begun self.old };
 
     /// Moves the first bytes left of the open file into the front of the buffer, and answers how
     /// many.
@@ -59,25 +51,19 @@ pub trait Files {
         ensures readable { is_open self.new ≡ true }
         ensures found { result ≢ Err FilesFault.NoFile }
 
-        ensures same_stored { stored self.new ≡ stored self.old }
-        ensures same_begun { begun self.new ≡ begun self.old }
-
-        ensures cause { HasCause FilesFault.Failed (faults self.old) (faults self.new) result }
-        ensures want { HasCause FilesFault.OutOfMemory (wants self.old) (wants self.new) result };
+        ensures files { LeavesMap (told self.old) (told self.new) result }
+        ensures same_begun { begun self.new ≡ begun self.old };
 
     /// Begins a new content for the name, with no byte, and drops one that was begun before.
     ///
     /// After an answer that isn't `Ok` it isn't told whether a content is begun.
     fn begin(&mut self, name: &[u8]) -> Result<(), FilesFault>
-        ensures empty { OnOk result (BeginsContent (stored self.old) name.now (begun self.new)) }
+        ensures empty { OnOk result (BeginsContent (told self.old).stored name.now (begun self.new)) }
         ensures found { result ≢ Err FilesFault.NoFile }
 
-        ensures same_stored { stored self.new ≡ stored self.old }
+        ensures files { LeavesMap (told self.old) (told self.new) result }
         ensures same_readable { is_open self.new ≡ is_open self.old }
-        ensures same_left { left self.new ≡ left self.old }
-
-        ensures cause { HasCause FilesFault.Failed (faults self.old) (faults self.new) result }
-        ensures want { HasCause FilesFault.OutOfMemory (wants self.old) (wants self.new) result };
+        ensures same_left { left self.new ≡ left self.old };
 
     /// Appends the first bytes of the piece to the new content, at least one, and answers how many.
     ///
@@ -93,12 +79,9 @@ pub trait Files {
         ensures writable { IsSome (begun self.new) }
         ensures found { result ≢ Err FilesFault.NoFile }
 
-        ensures same_stored { stored self.new ≡ stored self.old }
+        ensures files { LeavesMap (told self.old) (told self.new) result }
         ensures same_readable { is_open self.new ≡ is_open self.old }
-        ensures same_left { left self.new ≡ left self.old }
-
-        ensures cause { HasCause FilesFault.Failed (faults self.old) (faults self.new) result }
-        ensures want { HasCause FilesFault.OutOfMemory (wants self.old) (wants self.new) result };
+        ensures same_left { left self.new ≡ left self.old };
 
     /// Sets the name that was begun to the new content, and then none is begun.
     ///
@@ -107,17 +90,15 @@ pub trait Files {
         requires { IsSome (begun self.old) }
 
         ensures committed { OnOk result
-            (Commits (stored self.old) (stored self.new) (begun self.old)) }
+            (Commits (told self.old).stored (told self.new).stored (begun self.old)) }
         ensures over { OnOk result (begun self.new ≡ None) }
         ensures found { result ≢ Err FilesFault.NoFile }
 
-        ensures same_stored { OnErr result (stored self.new ≡ stored self.old) }
+        ensures same_stored { OnErr result ((told self.new).stored ≡ (told self.old).stored) }
         ensures same_begun { OnErr result (begun self.new ≡ begun self.old) }
         ensures same_readable { is_open self.new ≡ is_open self.old }
         ensures same_left { left self.new ≡ left self.old }
-
-        ensures cause { HasCause FilesFault.Failed (faults self.old) (faults self.new) result }
-        ensures want { HasCause FilesFault.OutOfMemory (wants self.old) (wants self.new) result };
+        ensures files { CountsAnswer (told self.old) (told self.new) result };
 }
 
 /// A law of the map of files: a commit gives its own name the new content, and every other name

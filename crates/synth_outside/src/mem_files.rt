@@ -79,17 +79,17 @@ impl MemFiles {
 }
 
 impl Files for MemFiles {
-    ghost stored = { λ files. Some files.stored };
+    ghost told = { λ files. record {
+      stored = Some files.stored;
+      faults = files.calls.faults;
+      wants = files.wants;
+    } };
 
     ghost is_open = { λ files. is_some files.left };
 
     ghost left = { λ files. files.left };
 
     ghost begun = { λ files. new_content files.begun };
-
-    ghost faults = { λ files. files.calls.faults };
-
-    ghost wants = { λ files. files.wants };
 
     fn open_read(&mut self, name: &[u8]) -> Result<(), FilesFault>
         ensures whole { OnOk result (Opens (Some self.old.stored) name.now self.new.left) }

@@ -43,17 +43,13 @@ impl<'a, R: rt::Files<File = File>> StdFiles<'a, R> {
 }
 
 impl<'a, R: rt::Files<File = File>> Files for StdFiles<'a, R> {
-    ghost stored = { λ _. None };
+    ghost told = { λ files. record { stored = None; faults = files.faults; wants = files.wants } };
 
     ghost is_open = { λ files. is_some files.reading };
 
     ghost left = { λ _. None };
 
     ghost begun = { λ files. untold_content files.begun };
-
-    ghost faults = { λ files. files.faults };
-
-    ghost wants = { λ files. files.wants };
 
     fn open_read(&mut self, name: &[u8]) -> Result<(), FilesFault> {
         match file_of(self.rt, name) {

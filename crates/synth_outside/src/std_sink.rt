@@ -41,6 +41,8 @@ impl<W: Write> Sink for StdSink<W> {
 
     ghost faults = { λ sink. sink.faults };
 
+    ghost wants = { λ _. 0 };
+
     /// Each `Err` of the writer, a write that takes no byte and a failed flush raise the count by
     /// one and are answered `Failed`.
     fn write(&mut self, piece: &[u8]) -> Result<usize, SinkFault>
