@@ -14,10 +14,10 @@ returns-in_default-clause-changed c =
 pub returns-clause-changed : goal.returns-clause-changed
 returns-clause-changed c =
     ap (λ (items : Forest). record c.args.self.now { items = items })
-    (edits_alike (λ _. c.turn.new.self ∷ []) toggled c.args.self.now.items c.args.path.now.items c.in-Some.node.now
-    (sym c.in-Some.ensures.found) (sym c.turn.ensures.turned))
+    (edits_alike (λ _. c.toggle.new.self ∷ []) toggled c.args.self.now.items c.args.path.now.items c.in-Some.node.now
+    (sym c.in-Some.ensures.found) (sym c.toggle.ensures.turned))
 
 pub returns-clause-tree : goal.returns-clause-tree
 returns-clause-tree c =
-    kept_tree c.args.self.now c.args.path.now.items c.in-Some.node.now c.turn.new.self c.requires.tree (sym c.in-Some.ensures.found)
-    (turned_relabels c.in-Some.node.now c.turn.new.self c.in-Some.ensures.subtree c.turn.ensures.turned)
+    kept_tree c.args.self.now c.args.path.now.items c.in-Some.node.now c.toggle.new.self c.requires.tree (sym c.in-Some.ensures.found)
+    (turned_relabels c.in-Some.node.now c.toggle.new.self c.in-Some.ensures.subtree c.toggle.ensures.turned)
