@@ -84,8 +84,8 @@ role_sign_level (Role.names done) sign = refl
 role_sign_level Role.variable sign = refl
 role_sign_level Role.procedure sign = refl
 
-behind_level : (s : ParseStack) (t : PlainExpr) (z : ParseState) → Machine.step_open_behind s t ≡ Some z
-    → Recognizer.level_behind (last_of (stack_depth s) t) ≡ stack_depth s + 1
+behind_level : (s : ParseStack) (t : PlainExpr) (z : ParseState) → Machine.shift_open_after s t ≡ Some z
+    → Recognizer.level_after (last_of (stack_depth s) t) ≡ stack_depth s + 1
 behind_level s (PlainExpr.variable (PlainVarRef.simple name)) z e = refl
 behind_level s t z e = absurd (cc)
 

@@ -145,11 +145,11 @@ sim_open_name name (Some function) s e =
     ap (λ b. Some (Recognizer.bracketed b (ground_of s) (brackets_of s) (stack_depth s))) (builtin_known name function e)
 
 sim_open_behind : (s : ParseStack) (t : PlainExpr)
-    → Recognizer.next_open_behind (last_of (stack_depth s) t) (ground_of s) (brackets_of s) ≡ state_shape_if (Machine.step_open_behind s t)
+    → Recognizer.next_open_after (last_of (stack_depth s) t) (ground_of s) (brackets_of s) ≡ state_shape_if (Machine.shift_open_after s t)
 sim_open_behind s (PlainExpr.variable (PlainVarRef.simple name)) = sim_open_name name (builtin_of name) s refl
 sim_open_behind s t = refl
 
-sim_open_role : (role : Role) (name : List ℕ) → Recognizer.next_open_name (use_of role) ≡ state_shape_if (Machine.step_open_role role name)
+sim_open_role : (role : Role) (name : List ℕ) → Recognizer.next_open_name (use_of role) ≡ state_shape_if (Machine.shift_open_role role name)
 sim_open_role Role.target name = refl
 sim_open_role (Role.variables done) name = refl
 sim_open_role Role.callee name = refl
@@ -158,12 +158,12 @@ sim_open_role (Role.names done) name = refl
 sim_open_role Role.variable name = refl
 sim_open_role Role.procedure name = refl
 
-sim_open : (s : ParseState) → Recognizer.next_open (state_shape s) ≡ state_shape_if (Machine.step_open s)
+sim_open : (s : ParseState) → Recognizer.next_open (state_shape s) ≡ state_shape_if (Machine.shift_open s)
 sim_open (ParseState.had s t) = sim_open_behind s t
 sim_open (ParseState.name_had role name) = sim_open_role role name
 sim_open s = refl
 
-sim_close_base : (b : Base) (t : PlainExpr) → Recognizer.next_close_ground (ground_of_base b) ≡ state_shape_if (Machine.step_close_base b t)
+sim_close_base : (b : Base) (t : PlainExpr) → Recognizer.next_close_ground (ground_of_base b) ≡ state_shape_if (Machine.shift_close_base b t)
 sim_close_base Base.condition t = refl
 sim_close_base Base.expression t = refl
 sim_close_base (Base.expressions done) t = refl
@@ -173,7 +173,7 @@ sim_close_base (Base.variable_subscript done name) t = refl
 sim_close_base (Base.call_arguments name done) t = refl
 
 sim_close_at : (s : ParseStack) (t : PlainExpr) → hole s ≤ 1
-    → next_close_in (ground_of s) (brackets_of s) ≡ state_shape_if (Machine.step_close_stack s t)
+    → next_close_in (ground_of s) (brackets_of s) ≡ state_shape_if (Machine.shift_close_stack s t)
 sim_close_at (ParseStack.base b) t le = sim_close_base b t
 sim_close_at (ParseStack.prefix op s) t le = absurd (omega arith)
 sim_close_at (ParseStack.left a op s) t le = absurd (omega (arith, above_none op))
@@ -181,7 +181,7 @@ sim_close_at (ParseStack.parenthesis s) t le = refl
 sim_close_at (ParseStack.subscript name s) t le = refl
 sim_close_at (ParseStack.arguments function done s) t le = refl
 
-sim_close : (s : ParseState) → Sound s → Recognizer.next_close (state_shape s) ≡ state_shape_if (Machine.step_close s)
+sim_close : (s : ParseState) → Sound s → Recognizer.next_close (state_shape s) ≡ state_shape_if (Machine.shift_close s)
 sim_close (ParseState.had s t) h =
     let o = reduced s 1 t in
     let p = same_place 1 s t in
@@ -189,7 +189,7 @@ sim_close (ParseState.had s t) h =
 sim_close (ParseState.name_had role name) h = refl
 sim_close s h = refl
 
-sim_comma_base : (b : Base) (t : PlainExpr) → Recognizer.next_comma_ground (ground_of_base b) ≡ state_shape_if (Machine.step_comma_base b t)
+sim_comma_base : (b : Base) (t : PlainExpr) → Recognizer.next_comma_ground (ground_of_base b) ≡ state_shape_if (Machine.shift_comma_base b t)
 sim_comma_base Base.condition t = refl
 sim_comma_base Base.expression t = refl
 sim_comma_base (Base.expressions done) t = refl
@@ -199,7 +199,7 @@ sim_comma_base (Base.variable_subscript done name) t = refl
 sim_comma_base (Base.call_arguments name done) t = refl
 
 sim_comma_at : (s : ParseStack) (t : PlainExpr) → hole s ≤ 1
-    → next_comma_in (ground_of s) (brackets_of s) ≡ state_shape_if (Machine.step_comma_stack s t)
+    → next_comma_in (ground_of s) (brackets_of s) ≡ state_shape_if (Machine.shift_comma_stack s t)
 sim_comma_at (ParseStack.base b) t le = sim_comma_base b t
 sim_comma_at (ParseStack.prefix op s) t le = absurd (omega arith)
 sim_comma_at (ParseStack.left a op s) t le = absurd (omega (arith, above_none op))
@@ -207,7 +207,7 @@ sim_comma_at (ParseStack.parenthesis s) t le = refl
 sim_comma_at (ParseStack.subscript name s) t le = refl
 sim_comma_at (ParseStack.arguments function done s) t le = refl
 
-sim_comma_role : (role : Role) (name : List ℕ) → Recognizer.next_comma_name (use_of role) ≡ state_shape_if (Machine.step_comma_role role name)
+sim_comma_role : (role : Role) (name : List ℕ) → Recognizer.next_comma_name (use_of role) ≡ state_shape_if (Machine.shift_comma_role role name)
 sim_comma_role Role.target name = refl
 sim_comma_role (Role.variables done) name = refl
 sim_comma_role Role.callee name = refl
@@ -216,7 +216,7 @@ sim_comma_role (Role.names done) name = refl
 sim_comma_role Role.variable name = refl
 sim_comma_role Role.procedure name = refl
 
-sim_comma : (s : ParseState) → Sound s → Recognizer.next_comma (state_shape s) ≡ state_shape_if (Machine.step_comma s)
+sim_comma : (s : ParseState) → Sound s → Recognizer.next_comma (state_shape s) ≡ state_shape_if (Machine.shift_comma s)
 sim_comma (ParseState.had s t) h =
     let o = reduced s 1 t in
     let p = same_place 1 s t in
@@ -224,7 +224,7 @@ sim_comma (ParseState.had s t) h =
 sim_comma (ParseState.name_had role name) h = sim_comma_role role name
 sim_comma s h = refl
 
-sim_equal_role : (role : Role) (name : List ℕ) → Recognizer.next_equal_name (use_of role) ≡ state_shape_if (Machine.step_equal_role role name)
+sim_equal_role : (role : Role) (name : List ℕ) → Recognizer.next_equal_name (use_of role) ≡ state_shape_if (Machine.shift_equal_role role name)
 sim_equal_role Role.target name = refl
 sim_equal_role (Role.variables done) name = refl
 sim_equal_role Role.callee name = refl
@@ -233,34 +233,34 @@ sim_equal_role (Role.names done) name = refl
 sim_equal_role Role.variable name = refl
 sim_equal_role Role.procedure name = refl
 
-sim_equal : (s : ParseState) → Sound s → Recognizer.next_equal (state_shape s) ≡ state_shape_if (Machine.step_equal s)
+sim_equal : (s : ParseState) → Sound s → Recognizer.next_equal (state_shape s) ≡ state_shape_if (Machine.shift_equal s)
 sim_equal (ParseState.had s t) h = ap Some (sim_infix between.Equal s t h)
 sim_equal (ParseState.name_had role name) h = sim_equal_role role name
 sim_equal s h = refl
 
 sim_with_prefix : (s : ParseStack) (found : Option PrefixOp)
-    → Recognizer.next_prefix (ground_of s) (brackets_of s) (stack_depth s) found ≡ state_shape_if (Machine.step_prefix s found)
+    → Recognizer.next_prefix (ground_of s) (brackets_of s) (stack_depth s) found ≡ state_shape_if (Machine.shift_prefix s found)
 sim_with_prefix s None = refl
 sim_with_prefix s (Some op) = refl
 
 sim_with_infix : (s : ParseStack) (t : PlainExpr) (found : Option InfixOp) → Sound (ParseState.had s t)
-    → Recognizer.next_infix (ground_of s) (brackets_of s) found ≡ state_shape_if (Machine.step_infix s t found)
+    → Recognizer.next_infix (ground_of s) (brackets_of s) found ≡ state_shape_if (Machine.shift_infix s t found)
 sim_with_infix s t None h = refl
 sim_with_infix s t (Some op) h = ap Some (sim_infix op s t h)
 
-sim_operator : (s : ParseState) (sign : Sign) → Sound s → Recognizer.next_operator (state_shape s) sign ≡ state_shape_if (Machine.step_operator s sign)
+sim_operator : (s : ParseState) (sign : Sign) → Sound s → Recognizer.next_operator (state_shape s) sign ≡ state_shape_if (Machine.shift_operator s sign)
 sim_operator (ParseState.wanted s) sign h = sim_with_prefix s (prefix_of sign)
 sim_operator (ParseState.had s t) sign h = sim_with_infix s t (infix_of sign) h
 sim_operator s sign h = refl
 
-sim_sign : (s : ParseState) (sign : Sign) → Sound s → Recognizer.next_sign (state_shape s) sign ≡ state_shape_if (Machine.step_sign s sign)
+sim_sign : (s : ParseState) (sign : Sign) → Sound s → Recognizer.next_sign (state_shape s) sign ≡ state_shape_if (Machine.shift_sign s sign)
 sim_sign s Sign.OpenParenthesis h = sim_open s
 sim_sign s Sign.CloseParenthesis h = sim_close s h
 sim_sign s Sign.Comma h = sim_comma s h
 sim_sign s Sign.Equal h = sim_equal s h
 sim_sign s sign h = sim_operator s sign h
 
-sim_name : (s : ParseState) (name : List ℕ) → Recognizer.next_name (state_shape s) (is_builtin_name name) ≡ state_shape_if (Machine.step_name s name)
+sim_name : (s : ParseState) (name : List ℕ) → Recognizer.next_name (state_shape s) (is_builtin_name name) ≡ state_shape_if (Machine.shift_name s name)
 sim_name (ParseState.wanted s) name = refl
 sim_name (ParseState.name_wanted role) name = refl
 sim_name s name = refl
@@ -269,7 +269,7 @@ if_shape : (a b : Bool) (s : ParseState) → a ≡ b → cond a (Some (state_sha
 if_shape a true s e = ap (λ z. cond z (Some (state_shape s)) None) e
 if_shape a false s e = ap (λ z. cond z (Some (state_shape s)) None) e
 
-sim_number : (s : ParseState) (n : ℕ) → Recognizer.next_number (state_shape s) (min n greatest_kept) ≡ state_shape_if (Machine.step_number s n)
+sim_number : (s : ParseState) (n : ℕ) → Recognizer.next_number (state_shape s) (min n greatest_kept) ≡ state_shape_if (Machine.shift_number s n)
 sim_number (ParseState.size_wanted done name) n =
     if_shape (leb 1 (min n greatest_kept)) (leb 1 n) (ParseState.size_had done name n) (kept_from n 1 (lit≤ tt))
 sim_number ParseState.length_wanted n =
@@ -278,7 +278,7 @@ sim_number ParseState.length_wanted n =
 sim_number s n = refl
 
 sim_constant : (s : ParseState) (t : PlainExpr) → last_of 0 t ≡ Last.Operand → ((d : ℕ) → last_of d t ≡ Last.Operand)
-    → Recognizer.next_constant (state_shape s) ≡ state_shape_if (Machine.step_operand s t)
+    → Recognizer.next_constant (state_shape s) ≡ state_shape_if (Machine.shift_operand s t)
 sim_constant (ParseState.wanted s) t z e = ap (λ l. Some (Shape.had l (ground_of s) (brackets_of s))) (sym (e (stack_depth s)))
 sim_constant s t z e = refl
 

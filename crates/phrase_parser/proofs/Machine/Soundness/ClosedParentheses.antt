@@ -21,7 +21,7 @@ arguments_tokens a k done t =
     ∙ regroup a (k ∷ open_ ∷ spell_before done) (spell t) (close ∷ [])
 
 closed_base_after : (s : ParseStack) (t u : PlainExpr) (b : Base) → Joins 1 s u (ParseStack.base b, t)
-    → AfterIf (ParseState.had s u) close (Machine.step_close_base b t)
+    → AfterIf (ParseState.had s u) close (Machine.shift_close_base b t)
 closed_base_after s t u (Base.target_subscript name) joined =
     record { sound = joined.fits; tokens = ap (λ z. z ++ (close ∷ [])) joined.tokens; category = joined.category }
 closed_base_after s t u (Base.variable_subscript done name) joined = record {
@@ -39,7 +39,7 @@ closed_base_after s t u (Base.call_arguments name done) joined = record {
 closed_base_after s t u b joined = tt
 
 closed_at_after : (s : ParseStack) (t u : PlainExpr) (r : ParseStack) → Joins 1 s u (r, t)
-    → AfterIf (ParseState.had s u) close (Machine.step_close_stack r t)
+    → AfterIf (ParseState.had s u) close (Machine.shift_close_stack r t)
 closed_at_after s t u (ParseStack.base b) joined = closed_base_after s t u b joined
 closed_at_after s t u (ParseStack.prefix op r) joined = tt
 closed_at_after s t u (ParseStack.left a op r) joined = tt
@@ -59,7 +59,7 @@ closed_at_after s t u (ParseStack.arguments function done r) joined = record {
   category = joined.category;
 }
 
-pub closed_after : (s : ParseState) → Sound s → AfterIf s close (Machine.step_close s)
+pub closed_after : (s : ParseState) → Sound s → AfterIf s close (Machine.shift_close s)
 closed_after (ParseState.had s t) is_sound =
     let o = reduced s 1 t in
     closed_at_after s o.1 t o.0 (reduced_joins 1 s t is_sound.0 (is_sound.1 (hole s)) (is_sound.1 1) (le_refl _))

@@ -19,7 +19,7 @@ before_tokens a b done t =
     ∙ regroup a (b ++ spell_before done) (spell t) (comma ∷ [])
 
 separated_base_after : (s : ParseStack) (t u : PlainExpr) (b : Base) → Joins 1 s u (ParseStack.base b, t)
-    → AfterIf (ParseState.had s u) comma (Machine.step_comma_base b t)
+    → AfterIf (ParseState.had s u) comma (Machine.shift_comma_base b t)
 separated_base_after s t u (Base.expressions done) joined = record {
   sound = behind_fits done t joined.sound joined.fits;
   tokens = before_tokens [] [] done t ∙ ap (λ z. z ++ (comma ∷ [])) joined.tokens;
@@ -33,7 +33,7 @@ separated_base_after s t u (Base.call_arguments name done) joined = record {
 separated_base_after s t u b joined = tt
 
 separated_at_after : (s : ParseStack) (t u : PlainExpr) (r : ParseStack) → Joins 1 s u (r, t)
-    → AfterIf (ParseState.had s u) comma (Machine.step_comma_stack r t)
+    → AfterIf (ParseState.had s u) comma (Machine.shift_comma_stack r t)
 separated_at_after s t u (ParseStack.base b) joined = separated_base_after s t u b joined
 separated_at_after s t u (ParseStack.arguments function done r) joined = record {
   sound = (behind_fits done t joined.sound.0 joined.fits, joined.sound.1);
@@ -43,7 +43,7 @@ separated_at_after s t u (ParseStack.arguments function done r) joined = record 
 separated_at_after s t u r joined = tt
 
 separated_by_role_after : (role : Role) (name : List ℕ) → SoundRole role
-    → AfterIf (ParseState.name_had role name) comma (Machine.step_comma_role role name)
+    → AfterIf (ParseState.name_had role name) comma (Machine.shift_comma_role role name)
 separated_by_role_after (Role.variables done) name is_sound = record {
   sound = each_fits FitsReference done (PlainVarRef.simple name) is_sound tt;
   tokens = each_last spell_reference done (PlainVarRef.simple name)
@@ -63,7 +63,7 @@ separated_by_role_after (Role.names done) name is_sound = record {
 }
 separated_by_role_after role name is_sound = tt
 
-pub separated_after : (s : ParseState) → Sound s → AfterIf s comma (Machine.step_comma s)
+pub separated_after : (s : ParseState) → Sound s → AfterIf s comma (Machine.shift_comma s)
 separated_after (ParseState.had s t) is_sound =
     let o = reduced s 1 t in
     separated_at_after s o.1 t o.0 (reduced_joins 1 s t is_sound.0 (is_sound.1 (hole s)) (is_sound.1 1) (le_refl _))

@@ -28,13 +28,13 @@ named_open_after name (Some function) s t looked_up is_sound is_name = record {
   category = refl;
 }
 
-opened_behind_after : (s : ParseStack) (t : PlainExpr) → SoundStack s → AfterIf (ParseState.had s t) open_ (Machine.step_open_behind s t)
+opened_behind_after : (s : ParseStack) (t : PlainExpr) → SoundStack s → AfterIf (ParseState.had s t) open_ (Machine.shift_open_after s t)
 opened_behind_after s (PlainExpr.variable (PlainVarRef.simple name)) is_sound =
     named_open_after name (builtin_of name) s (PlainExpr.variable (PlainVarRef.simple name)) refl is_sound refl
 opened_behind_after s t is_sound = tt
 
 opened_by_role_after : (role : Role) (name : List ℕ) → SoundRole role
-    → AfterIf (ParseState.name_had role name) open_ (Machine.step_open_role role name)
+    → AfterIf (ParseState.name_had role name) open_ (Machine.shift_open_role role name)
 opened_by_role_after Role.target name is_sound = record { sound = tt; tokens = refl; category = refl }
 opened_by_role_after (Role.variables done) name is_sound = record {
   sound = is_sound;
@@ -49,7 +49,7 @@ opened_by_role_after (Role.items done) name is_sound = record {
 }
 opened_by_role_after role name is_sound = tt
 
-pub opened_after : (s : ParseState) → Sound s → AfterIf s open_ (Machine.step_open s)
+pub opened_after : (s : ParseState) → Sound s → AfterIf s open_ (Machine.shift_open s)
 opened_after (ParseState.wanted s) is_sound = record { sound = is_sound; tokens = refl; category = refl }
 opened_after (ParseState.had s t) is_sound = opened_behind_after s t is_sound.0
 opened_after (ParseState.name_had role name) is_sound = opened_by_role_after role name is_sound

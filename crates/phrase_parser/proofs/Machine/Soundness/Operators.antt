@@ -32,11 +32,11 @@ infix_after op s t is_sound =
     (reduced_joins (priority op) s t is_sound.0 (is_sound.1 (hole s)) (is_sound.1 (priority op)) (above_none op))
 
 assigned_by_role_after : (role : Role) (name : List ℕ) → SoundRole role
-    → AfterIf (ParseState.name_had role name) (Token.sign Sign.Equal) (Machine.step_equal_role role name)
+    → AfterIf (ParseState.name_had role name) (Token.sign Sign.Equal) (Machine.shift_equal_role role name)
 assigned_by_role_after Role.target name is_sound = record { sound = tt; tokens = refl; category = refl }
 assigned_by_role_after role name is_sound = tt
 
-pub equated_after : (s : ParseState) → Sound s → AfterIf s (Token.sign Sign.Equal) (Machine.step_equal s)
+pub equated_after : (s : ParseState) → Sound s → AfterIf s (Token.sign Sign.Equal) (Machine.shift_equal s)
 equated_after (ParseState.had s t) is_sound = infix_after between.Equal s t is_sound
 equated_after (ParseState.name_had role name) is_sound = assigned_by_role_after role name is_sound
 equated_after (ParseState.target_had reference) is_sound = record { sound = is_sound; tokens = refl; category = refl }
@@ -75,18 +75,18 @@ infix_is Sign.Divide = refl
 infix_is sign = tt
 
 with_prefix_after : (s : ParseStack) (sign : Sign) (found : Option PrefixOp) → PrefixIs sign found → SoundStack s
-    → AfterIf (ParseState.wanted s) (Token.sign sign) (Machine.step_prefix s found)
+    → AfterIf (ParseState.wanted s) (Token.sign sign) (Machine.shift_prefix s found)
 with_prefix_after s sign None is_sign is_sound = tt
 with_prefix_after s sign (Some op) is_sign is_sound =
     record { sound = is_sound; tokens = ap (λ x. flat_stack s ++ (Token.sign x ∷ [])) is_sign; category = refl }
 
 with_infix_after : (s : ParseStack) (t : PlainExpr) (sign : Sign) (found : Option InfixOp) → InfixIs sign found → Sound (ParseState.had s t)
-    → AfterIf (ParseState.had s t) (Token.sign sign) (Machine.step_infix s t found)
+    → AfterIf (ParseState.had s t) (Token.sign sign) (Machine.shift_infix s t found)
 with_infix_after s t sign None is_sign is_sound = tt
 with_infix_after s t sign (Some op) is_sign is_sound =
     subst (λ x. After (ParseState.had s t) (Token.sign x) (after_infix op (reduced s (priority op) t))) is_sign (infix_after op s t is_sound)
 
-pub operated_after : (s : ParseState) (sign : Sign) → Sound s → AfterIf s (Token.sign sign) (Machine.step_operator s sign)
+pub operated_after : (s : ParseState) (sign : Sign) → Sound s → AfterIf s (Token.sign sign) (Machine.shift_operator s sign)
 operated_after (ParseState.wanted s) sign is_sound = with_prefix_after s sign (prefix_of sign) (prefix_is sign) is_sound
 operated_after (ParseState.had s t) sign is_sound = with_infix_after s t sign (infix_of sign) (infix_is sign) is_sound
 operated_after s sign is_sound = tt

@@ -16,7 +16,7 @@ use Rattle.phrase_parser.proofs.Machine.Soundness.ClosedParentheses.{closed_afte
 use Rattle.phrase_parser.proofs.Machine.Soundness.Commas.{separated_after}
 use Rattle.phrase_parser.proofs.Machine.Soundness.Operators.{equated_after, operated_after}
 
-signed_after : (s : ParseState) (sign : Sign) → Sound s → AfterIf s (Token.sign sign) (Machine.step_sign s sign)
+signed_after : (s : ParseState) (sign : Sign) → Sound s → AfterIf s (Token.sign sign) (Machine.shift_sign s sign)
 signed_after s Sign.OpenParenthesis is_sound = opened_after s is_sound
 signed_after s Sign.CloseParenthesis is_sound = closed_after s is_sound
 signed_after s Sign.Comma is_sound = separated_after s is_sound

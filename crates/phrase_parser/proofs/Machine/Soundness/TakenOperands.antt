@@ -12,17 +12,17 @@ use Rattle.phrase_parser.proofs.Machine.ConsumedTokens.{spell_each, flat_stack, 
 use Rattle.phrase_parser.proofs.Machine.Soundness.TakenTokens.{open_, AfterIf}
 
 pub operand_after : (s : ParseState) (k : Token) (t : PlainExpr) → ((level : ℕ) → Fits t level) → spell t ≡ k ∷ [] → Sound s
-    → AfterIf s k (Machine.step_operand s t)
+    → AfterIf s k (Machine.shift_operand s t)
 operand_after (ParseState.wanted s) k t fits is_token is_sound =
     record { sound = (is_sound, fits); tokens = ap (λ z. flat_stack s ++ z) is_token; category = refl }
 operand_after s k t fits is_token is_sound = tt
 
-pub named_after : (s : ParseState) (name : List ℕ) → Sound s → AfterIf s (Token.name name) (Machine.step_name s name)
+pub named_after : (s : ParseState) (name : List ℕ) → Sound s → AfterIf s (Token.name name) (Machine.shift_name s name)
 named_after (ParseState.wanted s) name is_sound = record { sound = (is_sound, λ level. (tt, tt)); tokens = refl; category = refl }
 named_after (ParseState.name_wanted role) name is_sound = record { sound = is_sound; tokens = refl; category = refl }
 named_after s name is_sound = tt
 
-pub numbered_after : (s : ParseState) (n : ℕ) → Sound s → AfterIf s (Token.number n) (Machine.step_number s n)
+pub numbered_after : (s : ParseState) (n : ℕ) → Sound s → AfterIf s (Token.number n) (Machine.shift_number s n)
 numbered_after (ParseState.wanted s) n is_sound = record { sound = (is_sound, λ level. tt); tokens = refl; category = refl }
 numbered_after (ParseState.size_wanted done name) n is_sound =
     cond_both (leb 1 n) (Some (ParseState.size_had done name n)) None (AfterIf (ParseState.size_wanted done name) (Token.number n))

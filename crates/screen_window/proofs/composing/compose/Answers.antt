@@ -8,7 +8,7 @@ pub returns-clause-drawn : goal.returns-clause-drawn
 returns-clause-drawn g c =
     c.place_cursor.ensures
     ∙ screen_drawn (plain_view g.M.Marked.marks c.args.view.now) c.args.grid.now c.draw_rows-found.new.grid c.rows.result c.cols.result _ _
-    c.draw_rows-found.ensures.drawn c.rows.ensures.lines c.rows.ensures.value c.cols.ensures.value c.cursor_place-row.ensures.row c.cursor_place-row.ensures.col
+    c.draw_rows-found.ensures.drawn c.rows.ensures.lines c.rows.ensures.value c.cols.ensures.value c.cursor_position-row.ensures.row c.cursor_position-row.ensures.col
 
 -- the grid keeps its size
 pub returns-clause-rows : goal.returns-clause-rows

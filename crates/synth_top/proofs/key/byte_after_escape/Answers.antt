@@ -16,7 +16,7 @@ returns-clause-keys c =
     let other = ne_eqb _ _ c.if-byte-eq91.false in
     let alone = λ (behind : List Key). ap (λ (second : Option Key). (first ++ option_to_list second) ++ behind) c.first_byte.ensures.one
     ∙ ap (λ (l : List Key). l ++ behind) (append-nil first) in
-    rw c.behind_escape.ensures
+    rw c.after_escape.ensures
     (record {
       all = λ rest. keys_escape byte rest other ∙ ap (λ (l : List Key). Other ∷ l) (c.first_byte.ensures.keys.all rest ∙ alone (keys (now ++ rest)));
       complete = λ rest. completed_escape byte rest other

@@ -20,8 +20,8 @@ loop-part-preserved c =
     record {
       leaves =
           leaves_next (of_place (phrase_at slot part) place) (of_parts slot (part + 1) (drop (part + 1) parts)) (of_parts slot part (drop part parts))
-          (of_parts slot 0 parts) c.args.self.now c.loop-part.self c.note_place.new.self
-          (subst (λ p. AddsPart p place c.loop-part.self c.note_place.new.self) same c.in_ok-note_place.ensures)
+          (of_parts slot 0 parts) c.args.self.now c.loop-part.self c.note_mention.new.self
+          (subst (λ p. AddsPart p place c.loop-part.self c.note_mention.new.self) same c.in_ok-note_mention.ensures)
           (of_parts-next slot part (drop part parts) place (drop (part + 1) parts) (left_from parts part place there))
           c.loop-part.invariant.leaves;
       within = omega (arith, slice_get_within parts part place there);

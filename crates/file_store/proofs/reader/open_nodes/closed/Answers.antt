@@ -14,9 +14,9 @@ returns c =
     let inner = roomless (forest c.args.own.items.items) in
     let around = open_list_of c.args.frame.around in
     let kind = c.kind_with-kind.ensures inner (c.args.own.counted ∙ ap (λ n. min n (2 ^ 64 - 1)) (sym (roomless_length c.args.own.items.items))) in
-    subst (λ o. Gives open_list_of c.with_item.result o)
+    subst (λ o. Gives open_list_of c.with_node.result o)
     (ap (λ (node : PlainNode). Some (let list : machine.OpenList = record { items = join around.items (roomless (Forest.cons node.label node.inner Forest.nil)); filling = around.filling } in list))
     c.built-node.ensures.built
     ∙ ap (λ k. Some (let list : machine.OpenList = record { items = join around.items (Forest.cons (built_label k (map plain_phrase_place c.args.frame.parts.items) 0) inner Forest.nil); filling = around.filling } in list))
     kind)
-    c.with_item.ensures
+    c.with_node.ensures
