@@ -5,9 +5,9 @@
 mod decls;
 mod headings;
 mod items;
+mod mention_list;
 mod name_copy;
 mod node_parts;
-mod mention_list;
 mod scopes;
 mod uses;
 

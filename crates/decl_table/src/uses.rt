@@ -10,8 +10,8 @@ ghost use Rattle.template_tree.specs.Slots.{count};
 ghost use Rattle.decl_table.specs.PlainDecls.{mentions_of};
 ghost use Rattle.decl_table.specs.Private.UsesView.{AddsNames, AddsNodes, AddsPart, AddsParts, AreSettled};
 
-use crate::name_copy::name_copy;
 use crate::mention_list::MentionList;
+use crate::name_copy::name_copy;
 use indexmap::IndexMap;
 use plcs_base::{Name, OutOfMemory, PhraseAt};
 use plcs_grammar::{Expr, Item, Phrase, VarRef};

@@ -10,7 +10,7 @@ use Rattle.std.specs.declared.cmp.Ordering.{Ordering}
 use Rattle.std.specs.declared.cmp.Ordering.TheVariants.{Less, Equal, Greater}
 use Rattle.std.specs.FinMap.Entries.{below_all}
 use Rattle.std.proofs.lemmas.List.{append-nil, append_assoc, length-append}
-use Rattle.plcs_base.specs.Count.{raised}
+use Rattle.plcs_base.specs.PlainCounts.{ChecksAtMost, PlainCounts}
 use Rattle.plcs_base.specs.Mark.{phrase_cmp}
 use Rattle.plcs_base.specs.declared.mark.MarkKind.{MarkKind}
 use Rattle.plcs_base.specs.declared.place.PhraseAt.{PhraseAt}
@@ -287,6 +287,12 @@ module _ (program : Forest) (procedure node : PlainNode) where
       let inside = ap (λ (inner : Forest). length (node_verdicts program procedure inner)) (forest_nodes node.inner) in
       omega (arith, whole, inside, nodes_shorter program procedure k (nodes node.inner))
 
--- one more raised count
-pub raised_more : (count : ℕ) → raised count ≤ count + 1
-raised_more count = omega arith
+-- ---- bounds on checks
+
+-- where a bound is met, so is a greater one
+pub at_most : (few most : ℕ) (before now : PlainCounts) → few ≤ most → ChecksAtMost few before now → ChecksAtMost most before now
+at_most few most before now less met = record {
+  most = omega (arith, less, met.most);
+  later = met.later;
+  others = met.others;
+}

@@ -1,6 +1,7 @@
 //! The verdicts of all phrases of a program.
-ghost use Rattle.std.specs.Prelude.{◌≡◌, ◌∷◌, ◌+◌, ◌<◌, ◌≤◌, [], IfOk, OnOk, drop, length, option_map};
+ghost use Rattle.std.specs.Prelude.{◌≡◌, ◌∷◌, ◌<◌, [], IfOk, OnOk, drop, length, option_map};
 ghost use Rattle.std.specs.FinMap.{get, insert};
+ghost use Rattle.plcs_base.specs.PlainCounts.{ChecksAtMost};
 ghost use Rattle.decl_table.specs.Agreement.{IsDeclsOf};
 ghost use Rattle.template_tree.specs.Limit.{most_slots};
 ghost use Rattle.template_tree.specs.Marks.{Verdicts, node_verdicts, offences, part_verdicts, procedure_verdicts, surroundings};
@@ -14,7 +15,7 @@ use crate::procedures::procedure_item;
 use crate::verdict::{Verdict, checked};
 use decl_table::Decls;
 use indexmap::IndexMap;
-use plcs_base::{MarkKind, Marked, OutOfMemory, PhraseAt, Work};
+use plcs_base::{MarkKind, Marked, OutOfMemory, PhraseAt, Work, counts_add_up};
 use std::alloc::Global;
 use std::marker::Model;
 use template_tree::{Node, PhrasePlace, Tree};
@@ -69,12 +70,9 @@ impl<W: Work> Marks<W> {
         requires tree { IsTree tree.now }
         requires decls { IsDeclsOf decls.now tree.now.items }
         ensures verdicts { IfOk result (λ marks. marks ≡ Verdicts tree.now.items) }
-        ensures checked { W.checked work.new ≤ W.checked work.old + length (procedure_verdicts tree.now.items tree.now.items) }
-        ensures later { W.checked work.old ≤ W.checked work.new }
-        ensures emitted { W.emitted work.new ≡ W.emitted work.old }
-        ensures fetched { W.fetched work.new ≡ W.fetched work.old }
-        ensures laid { W.laid work.new ≡ W.laid work.old }
+        ensures counts { ChecksAtMost (length (procedure_verdicts tree.now.items tree.now.items)) (W.counts work.old) (W.counts work.new) }
     {
+        counts_add_up();
         let mut marks = Marks {
             verdicts: IndexMap::new(alloc),
         };
@@ -106,12 +104,9 @@ impl<W: Work> Marks<W> {
         requires subtree { IsSubtree node.now }
         requires few { count node.now.inner < most_slots }
         ensures noted { OnOk result (self.new ≡ with_all (node_verdicts tree.now.items procedure.now (forest (node.now ∷ []))) self.old) }
-        ensures checked { W.checked work.new ≤ W.checked work.old + length (node_verdicts tree.now.items procedure.now (forest (node.now ∷ []))) }
-        ensures later { W.checked work.old ≤ W.checked work.new }
-        ensures emitted { W.emitted work.new ≡ W.emitted work.old }
-        ensures fetched { W.fetched work.new ≡ W.fetched work.old }
-        ensures laid { W.laid work.new ≡ W.laid work.old }
+        ensures counts { ChecksAtMost (length (node_verdicts tree.now.items procedure.now (forest (node.now ∷ [])))) (W.counts work.old) (W.counts work.new) }
     {
+        counts_add_up();
         let mut k = node.children();
         while k > 0 {
             k -= 1;
@@ -139,12 +134,9 @@ impl<W: Work> Marks<W> {
         requires listed { AreListed procedure.now.inner node.now.label }
         requires few { length node.now.label.parts < 256 }
         ensures noted { OnOk result (self.new ≡ with_all (part_verdicts (surroundings tree.now.items procedure.now node.now.label.slot) node.now.label.slot part (drop part node.now.label.parts)) self.old) }
-        ensures checked { W.checked work.new ≤ W.checked work.old + length (part_verdicts (surroundings tree.now.items procedure.now node.now.label.slot) node.now.label.slot part (drop part node.now.label.parts)) }
-        ensures later { W.checked work.old ≤ W.checked work.new }
-        ensures emitted { W.emitted work.new ≡ W.emitted work.old }
-        ensures fetched { W.fetched work.new ≡ W.fetched work.old }
-        ensures laid { W.laid work.new ≡ W.laid work.old }
+        ensures counts { ChecksAtMost (length (part_verdicts (surroundings tree.now.items procedure.now node.now.label.slot) node.now.label.slot part (drop part node.now.label.parts))) (W.counts work.old) (W.counts work.new) }
     {
+        counts_add_up();
         let Some(place) = node.part(part) else {
             return Ok(());
         };

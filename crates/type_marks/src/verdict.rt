@@ -1,7 +1,7 @@
 //! Verdicts of single phrases, each of which is counted as a check.
 ghost use Rattle.std.specs.Prelude.{◌≡◌, ◌<◌, Some, true, is_some};
 ghost use Rattle.std.specs.FinMap.{get};
-ghost use Rattle.plcs_base.specs.Count.{raised};
+ghost use Rattle.plcs_base.specs.PlainCounts.{ChecksOne};
 ghost use Rattle.plcs_grammar.specs.PlainPhrase.{PlainPhrase, plain_phrase};
 ghost use Rattle.template_tree.specs.Environment.{procedure_at};
 ghost use Rattle.template_tree.specs.Limit.{most_slots};
@@ -67,10 +67,7 @@ pub fn check_phrase<W: Work>(tree: &Tree, decls: &Decls, at: PhraseAt, work: &mu
     requires filled { is_some (get (Verdicts tree.now.items) at) ≡ true }
     requires known { (procedure : PlainNode) (phrase : PlainPhrase) → Stands tree.now.items at procedure phrase → Knows decls.now tree.now.items procedure phrase }
     ensures verdict { get (Verdicts tree.now.items) at ≡ Some result }
-    ensures checked { W.checked work.new ≡ raised (W.checked work.old) }
-    ensures emitted { W.emitted work.new ≡ W.emitted work.old }
-    ensures fetched { W.fetched work.new ≡ W.fetched work.old }
-    ensures laid { W.laid work.new ≡ W.laid work.old }
+    ensures counts { ChecksOne (W.counts work.old) (W.counts work.new) }
 {
     let Some(path) = tree.path_of(at.slot) else {
         unreachable!()
@@ -103,10 +100,7 @@ pub(crate) fn checked<W: Work>(
     requires known { Knows decls.now tree.now.items procedure.now (plain_phrase phrase.now) }
     requires listed { IsListIn procedure.now.inner slot.0 (plain_phrase phrase.now) }
     ensures verdict { result ≡ verdict (surroundings tree.now.items procedure.now slot.0) (plain_phrase phrase.now) }
-    ensures checked { W.checked work.new ≡ raised (W.checked work.old) }
-    ensures emitted { W.emitted work.new ≡ W.emitted work.old }
-    ensures fetched { W.fetched work.new ≡ W.fetched work.old }
-    ensures laid { W.laid work.new ≡ W.laid work.old }
+    ensures counts { ChecksOne (W.counts work.old) (W.counts work.new) }
 {
     work.checked();
     let offence = phrase_offence(tree, decls, procedure, slot, phrase);

@@ -13,38 +13,38 @@ unreachable-requires-in_default-phrase_in g c =
     let path = c.in-Some.path.items in
     let node = c.in-Some-node.node.now in
     let found = sym c.in-Some-node.ensures.found in
-    not_empty c.args.tree.now c.args.at c.requires.tree c.requires.filled path node c.in-Some-item_on.procedure.now found
-    (slot_of_node items path node c.args.at.slot.0 found c.in-Some.ensures.path) (sym c.in-Some-item_on.ensures.item)
+    not_empty c.args.tree.now c.args.at c.requires.tree c.requires.filled path node c.in-Some-procedure_item_on.procedure.now found
+    (slot_of_node items path node c.args.at.slot.0 found c.in-Some.ensures.path) (sym c.in-Some-procedure_item_on.ensures.item)
     (sym c.in_default-phrase_in.ensures)
 
 pub checked-requires-clause-there : goal.checked-requires-clause-there
 checked-requires-clause-there g c =
     let place =
-    is_kept c.args.tree.now c.args.at c.in-Some.path.items c.in-Some-node.node.now c.in-Some-item_on.procedure.now (plain_phrase c.in-Some-phrase_in.phrase.now)
-    c.requires.tree c.requires.filled c.in-Some.ensures.path c.in-Some-node.ensures.found c.in-Some-node.ensures.subtree c.in-Some-item_on.ensures.item
-    c.in-Some-item_on.ensures.subtree c.in-Some-item_on.ensures.few c.in-Some-phrase_in.ensures in
+    is_kept c.args.tree.now c.args.at c.in-Some.path.items c.in-Some-node.node.now c.in-Some-procedure_item_on.procedure.now (plain_phrase c.in-Some-phrase_in.phrase.now)
+    c.requires.tree c.requires.filled c.in-Some.ensures.path c.in-Some-node.ensures.found c.in-Some-node.ensures.subtree c.in-Some-procedure_item_on.ensures.item
+    c.in-Some-procedure_item_on.ensures.subtree c.in-Some-procedure_item_on.ensures.few c.in-Some-phrase_in.ensures in
     place.found
 
 pub checked-requires-clause-known : goal.checked-requires-clause-known
 checked-requires-clause-known g c =
     let place =
-    is_kept c.args.tree.now c.args.at c.in-Some.path.items c.in-Some-node.node.now c.in-Some-item_on.procedure.now (plain_phrase c.in-Some-phrase_in.phrase.now)
-    c.requires.tree c.requires.filled c.in-Some.ensures.path c.in-Some-node.ensures.found c.in-Some-node.ensures.subtree c.in-Some-item_on.ensures.item
-    c.in-Some-item_on.ensures.subtree c.in-Some-item_on.ensures.few c.in-Some-phrase_in.ensures in
-    c.requires.known c.in-Some-item_on.procedure.now (plain_phrase c.in-Some-phrase_in.phrase.now) place.stands
+    is_kept c.args.tree.now c.args.at c.in-Some.path.items c.in-Some-node.node.now c.in-Some-procedure_item_on.procedure.now (plain_phrase c.in-Some-phrase_in.phrase.now)
+    c.requires.tree c.requires.filled c.in-Some.ensures.path c.in-Some-node.ensures.found c.in-Some-node.ensures.subtree c.in-Some-procedure_item_on.ensures.item
+    c.in-Some-procedure_item_on.ensures.subtree c.in-Some-procedure_item_on.ensures.few c.in-Some-phrase_in.ensures in
+    c.requires.known c.in-Some-procedure_item_on.procedure.now (plain_phrase c.in-Some-phrase_in.phrase.now) place.stands
 
 pub checked-requires-clause-listed : goal.checked-requires-clause-listed
 checked-requires-clause-listed g c =
     let place =
-    is_kept c.args.tree.now c.args.at c.in-Some.path.items c.in-Some-node.node.now c.in-Some-item_on.procedure.now (plain_phrase c.in-Some-phrase_in.phrase.now)
-    c.requires.tree c.requires.filled c.in-Some.ensures.path c.in-Some-node.ensures.found c.in-Some-node.ensures.subtree c.in-Some-item_on.ensures.item
-    c.in-Some-item_on.ensures.subtree c.in-Some-item_on.ensures.few c.in-Some-phrase_in.ensures in
+    is_kept c.args.tree.now c.args.at c.in-Some.path.items c.in-Some-node.node.now c.in-Some-procedure_item_on.procedure.now (plain_phrase c.in-Some-phrase_in.phrase.now)
+    c.requires.tree c.requires.filled c.in-Some.ensures.path c.in-Some-node.ensures.found c.in-Some-node.ensures.subtree c.in-Some-procedure_item_on.ensures.item
+    c.in-Some-procedure_item_on.ensures.subtree c.in-Some-procedure_item_on.ensures.few c.in-Some-phrase_in.ensures in
     place.listed
 
 pub returns-clause-verdict : goal.returns-clause-verdict
 returns-clause-verdict g c =
     let place =
-    is_kept c.args.tree.now c.args.at c.in-Some.path.items c.in-Some-node.node.now c.in-Some-item_on.procedure.now (plain_phrase c.in-Some-phrase_in.phrase.now)
-    c.requires.tree c.requires.filled c.in-Some.ensures.path c.in-Some-node.ensures.found c.in-Some-node.ensures.subtree c.in-Some-item_on.ensures.item
-    c.in-Some-item_on.ensures.subtree c.in-Some-item_on.ensures.few c.in-Some-phrase_in.ensures in
+    is_kept c.args.tree.now c.args.at c.in-Some.path.items c.in-Some-node.node.now c.in-Some-procedure_item_on.procedure.now (plain_phrase c.in-Some-phrase_in.phrase.now)
+    c.requires.tree c.requires.filled c.in-Some.ensures.path c.in-Some-node.ensures.found c.in-Some-node.ensures.subtree c.in-Some-procedure_item_on.ensures.item
+    c.in-Some-procedure_item_on.ensures.subtree c.in-Some-procedure_item_on.ensures.few c.in-Some-phrase_in.ensures in
     place.verdict_is ∙ ap (λ offence. Some offence) (sym c.checked.ensures.verdict)

@@ -1,7 +1,8 @@
-use Rattle.std.proofs.Common.{◌≡◌, ◌+◌, ◌-◌, Some, slice_get, sym, ◌∙◌, arith}
+use Rattle.std.proofs.Common.{◌≡◌, ◌+◌, ◌-◌, [], ◌∷◌, Some, drop, length, slice_get, sym, arith}
 use Rattle.decl_table.proofs.AddedUses.{then_ok}
 use Rattle.decl_table.proofs.NodeLists.{item_few, item_subtree, nodes_few, past_where_none}
-use Rattle.template_tree.specs.PlainTree.{nodes}
+use Rattle.template_tree.specs.Marks.{node_verdicts, part_verdicts, surroundings}
+use Rattle.template_tree.specs.PlainTree.{forest, nodes}
 use Rattle.type_marks.proofs.NotedVerdicts.{all_more, node_more, noted_all, noted_node}
 use Rattle.type_marks.proofs.Programs.{child_in, listed_in}
 use Rattle.type_marks.proofs.marks.Marks.+note_node.Goals as goal
@@ -49,16 +50,15 @@ loop-k-preserved-in-Continue-1 g t c =
           noted_node program procedure items k c.loop-k.k child there next c.args.self.now c.loop-k.self c.note_node.new.self c.loop-k.invariant.noted
           c.in_ok-note_node.ensures.noted;
       within = omega (arith, c.loop-k.invariant.within);
-      checked =
-          omega (arith, c.loop-k.invariant.checked, c.note_node.ensures.checked, node_more program procedure items k c.loop-k.k child there next);
-      later = omega (arith, c.loop-k.invariant.later, c.note_node.ensures.later);
-      emitted = c.note_node.ensures.emitted ∙ c.loop-k.invariant.emitted;
-      fetched = c.note_node.ensures.fetched ∙ c.loop-k.invariant.fetched;
-      laid = c.note_node.ensures.laid ∙ c.loop-k.invariant.laid;
+      counts =
+          c.counts_add_up.ensures.checks.joined (length (node_verdicts program procedure (forest (drop c.loop-k.k items))))
+          (length (node_verdicts program procedure (forest (child ∷ [])))) (length (node_verdicts program procedure (forest (drop k items))))
+          (g.W.Work.counts c.args.work.now) (g.W.Work.counts c.loop-k.work) (g.W.Work.counts c.note_node.new.work)
+          (omega (arith, node_more program procedure items k c.loop-k.k child there next)) c.loop-k.invariant.counts c.note_node.ensures.counts;
     }
 
-pub returns-in_err-note_node-clause-checked : goal.returns-in_err-note_node-clause-checked
-returns-in_err-note_node-clause-checked g t c =
+pub returns-in_err-note_node-clause-counts : goal.returns-in_err-note_node-clause-counts
+returns-in_err-note_node-clause-counts g t c =
     let program = c.args.tree.now.items in
     let procedure = c.args.procedure.now in
     let items = nodes c.args.node.now.inner in
@@ -66,13 +66,11 @@ returns-in_err-note_node-clause-checked g t c =
     let k = c.loop-k.k - 1 in
     let there : slice_get items k ≡ Some child = sym c.in-Some.ensures in
     let next : k + 1 ≡ c.loop-k.k = omega (arith, c.loop-k-test.true) in
-    omega (
-      arith,
-      c.loop-k.invariant.checked,
-      c.note_node.ensures.checked,
-      node_more program procedure items k c.loop-k.k child there next,
-      all_more program procedure c.args.node.now k,
-    )
+    c.counts_add_up.ensures.checks.joined (length (node_verdicts program procedure (forest (drop c.loop-k.k items))))
+    (length (node_verdicts program procedure (forest (child ∷ [])))) (length (node_verdicts program procedure (forest (c.args.node.now ∷ []))))
+    (g.W.Work.counts c.args.work.now) (g.W.Work.counts c.loop-k.work) (g.W.Work.counts c.note_node.new.work)
+    (omega (arith, node_more program procedure items k c.loop-k.k child there next, all_more program procedure c.args.node.now k))
+    c.loop-k.invariant.counts c.note_node.ensures.counts
 
 pub loop-k-preserved : goal.loop-k-preserved
 loop-k-preserved g t c =
@@ -91,11 +89,13 @@ returns-clause-noted g t c =
     c.loop-k.invariant.noted)
     c.note_parts.ensures.noted
 
-pub returns-clause-checked : goal.returns-clause-checked
-returns-clause-checked g t c =
-    omega (
-      arith,
-      c.loop-k.invariant.checked,
-      c.note_parts.ensures.checked,
-      all_more c.args.tree.now.items c.args.procedure.now c.args.node.now c.loop-k.k,
-    )
+pub returns-clause-counts : goal.returns-clause-counts
+returns-clause-counts g t c =
+    let program = c.args.tree.now.items in
+    let procedure = c.args.procedure.now in
+    let label = c.args.node.now.label in
+    c.counts_add_up.ensures.checks.joined (length (node_verdicts program procedure (forest (drop c.loop-k.k (nodes c.args.node.now.inner)))))
+    (length (part_verdicts (surroundings program procedure label.slot) label.slot 0 label.parts))
+    (length (node_verdicts program procedure (forest (c.args.node.now ∷ []))))
+    (g.W.Work.counts c.args.work.now) (g.W.Work.counts c.loop-k.work) (g.W.Work.counts c.note_parts.new.work)
+    (omega (arith, all_more program procedure c.args.node.now c.loop-k.k)) c.loop-k.invariant.counts c.note_parts.ensures.counts

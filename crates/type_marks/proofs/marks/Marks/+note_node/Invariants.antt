@@ -1,4 +1,5 @@
-use Rattle.std.proofs.Common.{◌≡◌, ◌+◌, ◌≤◌, drop, length}
+use Rattle.std.proofs.Common.{◌≡◌, ◌≤◌, drop, length}
+use Rattle.plcs_base.specs.PlainCounts.{ChecksAtMost}
 use Rattle.template_tree.specs.Marks.{node_verdicts}
 use Rattle.template_tree.specs.PlainTree.{forest, nodes}
 use Rattle.template_tree.specs.Slots.{count}
@@ -15,11 +16,7 @@ abbrev pub invariant-loop-k : goal.invariant-loop-k
 invariant-loop-k g l = record {
   noted : l.self ≡ with_all (node_verdicts l.tree.items l.procedure (forest (drop l.k (nodes l.node.inner)))) l.fn.self;
   within : l.k ≤ length (nodes l.node.inner);
-  checked :
-      g.W.Work.checked l.work
-      ≤ g.W.Work.checked l.fn.work + length (node_verdicts l.tree.items l.procedure (forest (drop l.k (nodes l.node.inner))));
-  later : g.W.Work.checked l.fn.work ≤ g.W.Work.checked l.work;
-  emitted : g.W.Work.emitted l.work ≡ g.W.Work.emitted l.fn.work;
-  fetched : g.W.Work.fetched l.work ≡ g.W.Work.fetched l.fn.work;
-  laid : g.W.Work.laid l.work ≡ g.W.Work.laid l.fn.work;
+  counts :
+      ChecksAtMost (length (node_verdicts l.tree.items l.procedure (forest (drop l.k (nodes l.node.inner))))) (g.W.Work.counts l.fn.work)
+      (g.W.Work.counts l.work);
 }

@@ -1,16 +1,16 @@
-use Rattle.std.proofs.Common.{◌≡◌, ℕ, Some, None, length, slice_get, sym, ap, subst, ◌∙◌, arith}
+use Rattle.std.proofs.Common.{◌≡◌, ℕ, ◌+◌, Some, None, drop, length, slice_get, refl, sym, ap, subst, ◌∙◌, arith}
 use Rattle.std.proofs.lemmas.Option.{slice_get_within}
 use Rattle.std.specs.Option.{option_flatten}
 use Rattle.plcs_base.specs.declared.place.PhraseAt.{PhraseAt}
 use Rattle.plcs_grammar.specs.PlainPhrase.{plain_phrase}
 use Rattle.decl_table.proofs.AddedUses.{then_ok}
-use Rattle.template_tree.specs.Marks.{VerdictList, surroundings}
+use Rattle.template_tree.specs.Marks.{VerdictList, part_verdicts, surroundings}
 use Rattle.template_tree.specs.Mention.{phrase_at}
 use Rattle.template_tree.specs.PlainPhrasePlace.{plain_phrase_place}
 use Rattle.template_tree.specs.Verdict.{verdict}
 use Rattle.type_marks.specs.Private.DeclaredItems.{IsListIn}
 use Rattle.type_marks.specs.Private.MarksView.{with_all}
-use Rattle.type_marks.proofs.NotedVerdicts.{noted_none, noted_part, part_empty, part_filled, parts_shorter, raised_more}
+use Rattle.type_marks.proofs.NotedVerdicts.{at_most, noted_none, noted_part, part_empty, part_filled, parts_shorter}
 use Rattle.type_marks.proofs.marks.Marks.+note_parts.Goals as goal
 
 pub returns-in_default-clause-noted : goal.returns-in_default-clause-noted
@@ -18,6 +18,13 @@ returns-in_default-clause-noted g t c =
     let slot = c.args.node.now.label.slot in
     noted_none (surroundings c.args.tree.now.items c.args.procedure.now slot) slot c.args.part c.args.node.now.label.parts c.args.self.now
     (sym c.in_default.ensures)
+
+pub returns-in_default-clause-counts : goal.returns-in_default-clause-counts
+returns-in_default-clause-counts g t c =
+    let slot = c.args.node.now.label.slot in
+    c.counts_add_up.ensures.checks.none
+    (length (part_verdicts (surroundings c.args.tree.now.items c.args.procedure.now slot) slot c.args.part (drop c.args.part c.args.node.now.label.parts)))
+    (g.W.Work.counts c.args.work.now) (g.W.Work.counts c.args.work.now) refl
 
 pub overflow_add-part : goal.overflow_add-part
 overflow_add-part g t c =
@@ -30,15 +37,15 @@ note_parts-requires g t c κs within =
       (within, (c.requires.tree, (c.requires.decls, (c.requires.item, (c.requires.listed, c.requires.few))))),
     )
 
-pub returns-in_err-note_parts-clause-checked : goal.returns-in_err-note_parts-clause-checked
-returns-in_err-note_parts-clause-checked g t c =
+pub returns-in_err-note_parts-clause-counts : goal.returns-in_err-note_parts-clause-counts
+returns-in_err-note_parts-clause-counts g t c =
     let slot = c.args.node.now.label.slot in
-    omega (
-      arith,
-      c.note_parts.ensures.checked,
-      parts_shorter (surroundings c.args.tree.now.items c.args.procedure.now slot) slot c.args.part c.args.node.now.label.parts
-          (plain_phrase_place c.in-Some.place.now) (sym c.in-Some.ensures),
-    )
+    let parts = c.args.node.now.label.parts in
+    let part = c.args.part in
+    let around = surroundings c.args.tree.now.items c.args.procedure.now slot in
+    at_most (length (part_verdicts around slot (part + 1) (drop (part + 1) parts))) (length (part_verdicts around slot part (drop part parts)))
+    (g.W.Work.counts c.args.work.now) (g.W.Work.counts c.note_parts.new.work)
+    (parts_shorter around slot part parts (plain_phrase_place c.in-Some.place.now) (sym c.in-Some.ensures)) c.note_parts.ensures.counts
 
 pub returns-in_default-place-clause-noted : goal.returns-in_default-place-clause-noted
 returns-in_default-place-clause-noted g t c =
@@ -49,15 +56,15 @@ returns-in_default-place-clause-noted g t c =
     ∙ ap (λ (verdicts : VerdictList). with_all verdicts c.args.self.now)
     (sym (part_empty (surroundings c.args.tree.now.items c.args.procedure.now slot) slot c.args.part parts there))
 
-pub returns-in_default-place-clause-checked : goal.returns-in_default-place-clause-checked
-returns-in_default-place-clause-checked g t c =
+pub returns-in_default-place-clause-counts : goal.returns-in_default-place-clause-counts
+returns-in_default-place-clause-counts g t c =
     let slot = c.args.node.now.label.slot in
-    omega (
-      arith,
-      c.note_parts.ensures.checked,
-      parts_shorter (surroundings c.args.tree.now.items c.args.procedure.now slot) slot c.args.part c.args.node.now.label.parts
-          (plain_phrase_place c.in-Some.place.now) (sym c.in-Some.ensures),
-    )
+    let parts = c.args.node.now.label.parts in
+    let part = c.args.part in
+    let around = surroundings c.args.tree.now.items c.args.procedure.now slot in
+    at_most (length (part_verdicts around slot (part + 1) (drop (part + 1) parts))) (length (part_verdicts around slot part (drop part parts)))
+    (g.W.Work.counts c.args.work.now) (g.W.Work.counts c.note_parts.new.work)
+    (parts_shorter around slot part parts (plain_phrase_place c.in-Some.place.now) (sym c.in-Some.ensures)) c.note_parts.ensures.counts
 
 pub checked-verdict-requires-clause-listed : goal.checked-verdict-requires-clause-listed
 checked-verdict-requires-clause-listed g t c =
@@ -85,17 +92,18 @@ returns-clause-noted g t c =
     c.in_ok-note_parts.ensures.noted)
     c.note.ensures
 
-pub returns-clause-checked : goal.returns-clause-checked
-returns-clause-checked g t c =
+pub returns-clause-counts : goal.returns-clause-counts
+returns-clause-counts g t c =
     let slot = c.args.node.now.label.slot in
     let parts = c.args.node.now.label.parts in
+    let part = c.args.part in
     let phrase = plain_phrase c.in-Filled.phrase in
-    let there : slice_get parts c.args.part ≡ Some (Some phrase) = sym c.in-Some.ensures ∙ ap (λ p. Some (plain_phrase_place p)) c.in-Filled.is in
-    let more = part_filled (surroundings c.args.tree.now.items c.args.procedure.now slot) slot c.args.part parts phrase there in
-    omega (
-      arith,
-      c.checked-verdict.ensures.checked,
-      raised_more (g.W.Work.checked c.note_parts.new.work),
-      c.note_parts.ensures.checked,
-      ap (λ (verdicts : VerdictList). length verdicts) more,
-    )
+    let there : slice_get parts part ≡ Some (Some phrase) = sym c.in-Some.ensures ∙ ap (λ p. Some (plain_phrase_place p)) c.in-Filled.is in
+    let around = surroundings c.args.tree.now.items c.args.procedure.now slot in
+    let more = part_filled around slot part parts phrase there in
+    let between = g.W.Work.counts c.note_parts.new.work in
+    let now = g.W.Work.counts c.checked-verdict.new.work in
+    c.counts_add_up.ensures.checks.joined (length (part_verdicts around slot (part + 1) (drop (part + 1) parts))) 1
+    (length (part_verdicts around slot part (drop part parts))) (g.W.Work.counts c.args.work.now) between now
+    (omega (arith, ap (λ (verdicts : VerdictList). length verdicts) more)) c.note_parts.ensures.counts
+    (c.counts_add_up.ensures.checks.one 1 between now (omega arith) c.checked-verdict.ensures.counts)

@@ -1,9 +1,9 @@
-use Rattle.std.proofs.Common.{◌≡◌, ℕ, ◌+◌, ◌-◌, Some, drop, length, slice_get, sym, ap, ◌∙◌, arith}
+use Rattle.std.proofs.Common.{◌≡◌, ℕ, ◌+◌, ◌-◌, [], ◌∷◌, Some, drop, length, slice_get, sym, ap, ◌∙◌, arith}
 use Rattle.std.specs.FinMap.{from_entries}
 use Rattle.decl_table.proofs.NodeLists.{nodes_few, past_where_none}
-use Rattle.template_tree.specs.Marks.{VerdictMap, procedure_verdicts}
+use Rattle.template_tree.specs.Marks.{VerdictMap, node_verdicts, procedure_verdicts}
 use Rattle.template_tree.specs.PlainTree.{Forest, forest, forest_nodes, nodes}
-use Rattle.type_marks.proofs.NotedVerdicts.{noted_procedure, procedure_more, procedures_shorter}
+use Rattle.type_marks.proofs.NotedVerdicts.{at_most, noted_procedure, procedure_more, procedures_shorter}
 use Rattle.type_marks.proofs.Programs.{is_item}
 use Rattle.type_marks.proofs.marks.Marks.new.Goals as goal
 
@@ -26,29 +26,31 @@ loop-k-preserved-in-Continue-1 g c =
     record {
       noted = noted_procedure program items k c.loop-k.k procedure there next c.loop-k.marks c.note_node.new.self c.loop-k.invariant.noted c.in_ok-note_node.ensures.noted;
       within = omega (arith, c.loop-k.invariant.within);
-      checked = omega (arith, c.loop-k.invariant.checked, c.note_node.ensures.checked, procedure_more program items k c.loop-k.k procedure there next);
-      later = omega (arith, c.loop-k.invariant.later, c.note_node.ensures.later);
-      emitted = c.note_node.ensures.emitted ∙ c.loop-k.invariant.emitted;
-      fetched = c.note_node.ensures.fetched ∙ c.loop-k.invariant.fetched;
-      laid = c.note_node.ensures.laid ∙ c.loop-k.invariant.laid;
+      counts =
+          c.counts_add_up.ensures.checks.joined (length (procedure_verdicts program (forest (drop c.loop-k.k items))))
+          (length (node_verdicts program procedure (forest (procedure ∷ [])))) (length (procedure_verdicts program (forest (drop k items))))
+          (g.W.Work.counts c.args.work.now) (g.W.Work.counts c.loop-k.work) (g.W.Work.counts c.note_node.new.work)
+          (omega (arith, procedure_more program items k c.loop-k.k procedure there next)) c.loop-k.invariant.counts c.note_node.ensures.counts;
     }
 
-pub returns-in_err-note_node-clause-checked : goal.returns-in_err-note_node-clause-checked
-returns-in_err-note_node-clause-checked g c =
+pub returns-in_err-note_node-clause-counts : goal.returns-in_err-note_node-clause-counts
+returns-in_err-note_node-clause-counts g c =
     let program = c.args.tree.now.items in
     let items = nodes program in
     let procedure = c.in-Some.procedure.now in
     let k = c.loop-k.k - 1 in
     let there : slice_get items k ≡ Some procedure = sym c.in-Some.ensures.item in
     let next : k + 1 ≡ c.loop-k.k = omega (arith, c.loop-k-test.true) in
-    omega (
+    c.counts_add_up.ensures.checks.joined (length (procedure_verdicts program (forest (drop c.loop-k.k items))))
+    (length (node_verdicts program procedure (forest (procedure ∷ [])))) (length (procedure_verdicts program program))
+    (g.W.Work.counts c.args.work.now) (g.W.Work.counts c.loop-k.work) (g.W.Work.counts c.note_node.new.work)
+    (omega (
       arith,
-      c.loop-k.invariant.checked,
-      c.note_node.ensures.checked,
       procedure_more program items k c.loop-k.k procedure there next,
       procedures_shorter program k items,
       ap (λ (all : Forest). length (procedure_verdicts program all)) (forest_nodes program),
-    )
+    ))
+    c.loop-k.invariant.counts c.note_node.ensures.counts
 
 pub loop-k-preserved : goal.loop-k-preserved
 loop-k-preserved g c =
@@ -64,12 +66,14 @@ returns-clause-verdicts g c =
     ∙ ap (λ (k : ℕ). let m : VerdictMap = from_entries (procedure_verdicts program (forest (drop k (nodes program)))) in m) none
     ∙ ap (λ (all : Forest). let m : VerdictMap = from_entries (procedure_verdicts program all) in m) (forest_nodes program)
 
-pub returns-clause-checked : goal.returns-clause-checked
-returns-clause-checked g c =
+pub returns-clause-counts : goal.returns-clause-counts
+returns-clause-counts g c =
     let program = c.args.tree.now.items in
-    omega (
+    at_most (length (procedure_verdicts program (forest (drop c.loop-k.k (nodes program))))) (length (procedure_verdicts program program))
+    (g.W.Work.counts c.args.work.now) (g.W.Work.counts c.loop-k.work)
+    (omega (
       arith,
-      c.loop-k.invariant.checked,
       procedures_shorter program c.loop-k.k (nodes program),
       ap (λ (all : Forest). length (procedure_verdicts program all)) (forest_nodes program),
-    )
+    ))
+    c.loop-k.invariant.counts
