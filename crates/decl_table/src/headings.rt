@@ -4,12 +4,11 @@ ghost use Rattle.decl_table.specs.PlainDecls.{slot_of};
 ghost use Rattle.decl_table.specs.Private.DeclsView.{TakesHeading};
 
 use crate::name_copy::name_copy;
-use crate::node_parts::{heading_name, may_be_called};
 use indexmap::IndexMap;
 use plcs_base::{Name, OutOfMemory, Slot};
 use std::alloc::Global;
 use std::marker::Model;
-use template_tree::Node;
+use template_tree::{Node, heading_name, may_be_called};
 
 /// The slots of effective headings under their names, which contracts see as a list of pairs.
 #[derive(Drop)]

@@ -7,13 +7,12 @@ ghost use Rattle.template_tree.specs.Limit.{most_slots};
 ghost use Rattle.template_tree.specs.Slots.{count};
 
 use crate::name_copy::name_copy;
-use crate::node_parts::{list_items, type_given};
 use indexmap::IndexMap;
 use plcs_base::{Declared, ItemType, MarkKind, Name, OutOfMemory};
 use plcs_grammar::{Builtin, Item};
 use std::alloc::Global;
 use std::marker::Model;
-use template_tree::{MOST_CELLS, Node};
+use template_tree::{MOST_CELLS, Node, cells_of, list_items, type_given};
 
 /// What is kept of an effective item beside its name: its type, and its number of cells as an array, or
 /// 0 for a scalar.
@@ -147,7 +146,7 @@ impl Shape {
     fn cells(self) -> u32
         ensures { result ≡ cells_of (shaped [] self) }
     {
-        if self.size == 0 { 1 } else { self.size }
+        cells_of(self.size)
     }
 }
 

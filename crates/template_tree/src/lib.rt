@@ -1,5 +1,8 @@
 //! The tree of templates: programs, their listing, and how they are read.
 //!
+//! `declarations` and `headings` read what these say from the parts of their nodes, and tell which names may be
+//! called; `filled_part` finds the phrase in a part.
+//!
 //! One file an edit: `fill`, `fill_assign`, `set_phrase`, `take`, `insert`, `list_edit` (`add_hole`,
 //! `drop_hole`), `elide`. They stand on `exchange` (a node in place of another; also the procedure that a change
 //! names), `list_change` (into a list or out of it), `put_part` (a part set to what it takes) and `descent` (a
@@ -17,11 +20,14 @@ mod build;
 mod change;
 mod check_laws;
 mod copy;
+mod declarations;
 mod descent;
 mod elide;
 mod exchange;
 mod fill;
 mod fill_assign;
+mod filled_part;
+mod headings;
 mod hole;
 mod insert;
 mod limit;
@@ -56,6 +62,9 @@ pub use beside::{added_path, path_before};
 pub use build::BuildLimit;
 pub use change::{Change, What};
 pub use check_laws::checks_ignore_room_and_elision;
+pub use declarations::{cells_of, list_items, type_given};
+pub use filled_part::phrase_in;
+pub use headings::{heading_name, may_be_called, parameters_given};
 pub use hole::hole_left;
 pub use limit::{DEEPEST_PATH, LONGEST_PHRASE, MOST_CELLS, MOST_DRAWN_SLOTS, MOST_SLOTS};
 pub use listing::listing_splits_in_lines;

@@ -9,10 +9,10 @@ ghost use Rattle.template_tree.specs.Verdict.{declared_offence};
 ghost use Rattle.type_marks.specs.Private.DeclaredItems.{AreDeclaredIn, KnowsListed, has_such, is_such, judged_item};
 
 use crate::procedures::stands_in;
-use decl_table::{Decls, list_items, type_given};
+use decl_table::Decls;
 use plcs_base::{Declared, ItemType, MarkKind, Name, Slot};
 use plcs_grammar::{Builtin, Item};
-use template_tree::Node;
+use template_tree::{Node, cells_of, list_items, type_given};
 
 /// The first offence of a declared list, that of the declaration in the slot, if the procedure has one
 /// there.
@@ -139,11 +139,4 @@ fn cells_of_item(item: &Item) -> u32
         Some(size) => cells_of(size),
         None => 1,
     }
-}
-
-/// How many cells an effective item of this size has: one where it is 0, which stands for a scalar.
-fn cells_of(size: u32) -> u32
-    ensures { result ≡ cells_of record { name = []; ty = ItemType.Fixed; size = size } }
-{
-    if size == 0 { 1 } else { size }
 }

@@ -11,10 +11,11 @@ ghost use Rattle.type_marks.specs.Agreement.{heading_parameters};
 ghost use Rattle.type_marks.specs.Private.LongHeading.{has_parameters, takes_parameters};
 ghost use Rattle.type_marks.specs.Private.MarksView.{procedure_item_on};
 
-use decl_table::{heading_name, may_be_called, parameters_given};
 use plcs_base::{Name, Slot};
 use plcs_grammar::{NodeKind, Template};
-use template_tree::{Node, Path, Tree, path_of_item};
+use template_tree::{
+    Node, Path, Tree, heading_name, may_be_called, parameters_given, path_of_item,
+};
 
 /// Main or the procedure in the slot, or `None` where none of them has it.
 pub(crate) fn procedure_in(tree: &Tree, slot: Slot) -> Option<&Node>

@@ -21,11 +21,11 @@ use crate::procedures::procedure_item_on;
 use crate::statements::{
     assignment_offence, counter_offence, expr_offence, parameters_offence, references_offence,
 };
-use decl_table::{Decls, phrase_in};
+use decl_table::Decls;
 use plcs_base::{Kind, MarkKind, PhraseAt, Slot, Work};
 use plcs_grammar::Phrase;
 use std::marker::{Model, PhantomData};
-use template_tree::{Node, Tree};
+use template_tree::{Node, Tree, phrase_in};
 
 /// The verdict of a phrase: its first offence, if it has one. Contracts see it as that.
 ///
