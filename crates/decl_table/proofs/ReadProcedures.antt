@@ -11,7 +11,8 @@ use Rattle.template_tree.specs.Environment.{Items, Sig, Signature, items_inside,
 use Rattle.template_tree.specs.Mention.{mentions}
 use Rattle.template_tree.specs.PlainTree.{Forest, PlainNode, forest}
 use Rattle.decl_table.specs.Agreement.{IsDeclsOf}
-use Rattle.decl_table.specs.PlainDecls.{PlainDecls, items_in, mentions_of, slot_of}
+use Rattle.template_tree.specs.ProgramMaps.{items_in}
+use Rattle.decl_table.specs.PlainDecls.{PlainDecls, mentions_of, slot_of}
 use Rattle.decl_table.specs.Private.DeclsView.{TakesProcedure}
 use Rattle.decl_table.specs.Private.UsesView.{AreSettled, is_among}
 use Rattle.decl_table.proofs.AddedUses.{of_nodes, of_nodes-first, or_comm}

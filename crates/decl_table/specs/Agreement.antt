@@ -1,13 +1,14 @@
 -- Which table of declarations is that of which program.
 use Rattle.std.specs.Prelude.{◌≡◌, ℕ, List, option_map}
-use Rattle.template_tree.specs.Environment.{Items, Sig}
+use Rattle.template_tree.specs.Environment.{Sig}
 use Rattle.template_tree.specs.Mention.{AreUses}
 use Rattle.template_tree.specs.PlainTree.{Forest}
-use Rattle.decl_table.specs.PlainDecls.{PlainDecls, items_in, mentions_of, slot_of}
+use Rattle.template_tree.specs.ProgramMaps.{ScopeTells}
+use Rattle.decl_table.specs.PlainDecls.{PlainDecls, mentions_of, slot_of}
 
 -- the table of declarations is that of the program: each procedure's effective items, each name's effective
 -- heading, and each name's uses
 pub record IsDeclsOf (decls : PlainDecls) (program : Forest) : Type 0 where
-  pub items_are : (slot : ℕ) → items_in decls.items slot ≡ Items program slot
+  pub items_are : ScopeTells decls.items program
   pub headings_are : (name : List ℕ) → slot_of name decls.headings ≡ option_map (λ signature. signature.slot) (Sig program name)
   pub uses_are : (name : List ℕ) → AreUses name program (mentions_of name decls.uses)

@@ -1,9 +1,7 @@
 -- A table of declarations as plain data.
 use Rattle.std.specs.Prelude.{ℕ, List, [], Option, bytes_eq, unwrap_or}
-use Rattle.std.specs.FinMap.{get}
 use Rattle.std.specs.Map.{lookup}
 use Rattle.plcs_base.specs.Scope.{ItemMap}
-use Rattle.plcs_base.specs.declared.declared.Declared.{Declared}
 use Rattle.plcs_base.specs.declared.place.PhraseAt.{PhraseAt}
 
 -- the effective headings in a table: names with the slots of their headings
@@ -20,10 +18,6 @@ pub record PlainDecls : Type 0 where
   pub items : ItemMap
   pub headings : PlainHeadings
   pub uses : PlainUses
-
--- the items that a table has of the procedure in the slot
-abbrev pub items_in : ItemMap → ℕ → List Declared
-items_in items slot = unwrap_or (get items slot) []
 
 -- the slot of the heading that a table has under the name
 abbrev pub slot_of : List ℕ → PlainHeadings → Option ℕ

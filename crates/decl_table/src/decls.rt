@@ -1,12 +1,15 @@
 //! The table of declarations.
-ghost use Rattle.std.specs.Prelude.{◌≡◌, ◌<◌, IfOk, OnOk, option_map};
+ghost use Rattle.std.specs.Prelude.{◌≡◌, ◌<◌, IfOk, OnOk, bytes_eq, option_map};
+ghost use Rattle.std.specs.List.{list_any};
 ghost use Rattle.template_tree.specs.Environment.{item_named};
 ghost use Rattle.template_tree.specs.Limit.{most_slots};
+ghost use Rattle.template_tree.specs.ParameterItem.{parameter_item, scalar_item};
 ghost use Rattle.template_tree.specs.Program.{IsSubtree};
 ghost use Rattle.template_tree.specs.Slots.{count};
 ghost use Rattle.template_tree.specs.Tree.{IsTree};
 ghost use Rattle.decl_table.specs.Agreement.{IsDeclsOf};
-ghost use Rattle.decl_table.specs.PlainDecls.{items_in, mentions_of, slot_of};
+ghost use Rattle.template_tree.specs.ProgramMaps.{items_in};
+ghost use Rattle.decl_table.specs.PlainDecls.{mentions_of, slot_of};
 ghost use Rattle.decl_table.specs.Private.DeclsView.{TakesProcedure};
 
 use crate::headings::Headings;
@@ -78,6 +81,21 @@ impl Decls {
         self.headings.named(name)
     }
 
+    /// What the table says of a parameter of a procedure, behind earlier ones: the effective item that the
+    /// procedure has of its name, or `None` exactly where that is no scalar, it has none, or an earlier
+    /// parameter has the name. It takes no memory.
+    pub fn parameter_item(&self, procedure: Slot, earlier: &[Name], name: &Name) -> Option<Declared>
+        ensures { result ≡ parameter_item (items_in self.now.items procedure.0) earlier.now name.now }
+    {
+        if is_among(name, earlier) {
+            return None;
+        }
+        match self.type_of(procedure, name) {
+            Some(item) => scalar_item(item),
+            None => None,
+        }
+    }
+
     /// What the table says of where a name is mentioned: the places of the phrases that mention it, in
     /// order of slot and part. It takes no memory.
     pub fn uses(&self, name: &Name) -> &[PhraseAt]
@@ -106,4 +124,18 @@ impl Scope for Decls {
     fn declared(&self, procedure: Slot, k: u32) -> Option<Declared> {
         self.scopes.numbered(procedure, k as usize)
     }
+}
+
+/// Whether a parameter's name stands among those of earlier ones.
+fn is_among(name: &Name, names: &[Name]) -> bool
+    ensures { result ≡ list_any (bytes_eq name.now) names.now }
+{
+    names.iter().any(|other| name == other)
+}
+
+/// The effective item that a table has of a name, if it is a scalar.
+fn scalar_item(item: Declared) -> Option<Declared>
+    ensures { result ≡ scalar_item item }
+{
+    if item.size == 0 { Some(item) } else { None }
 }

@@ -3,7 +3,7 @@ ghost use Rattle.std.specs.Prelude.{◌≡◌, OnOk};
 ghost use Rattle.std.specs.FinMap.{empty, insert};
 ghost use Rattle.plcs_base.specs.Scope.{item_at};
 ghost use Rattle.template_tree.specs.Environment.{item_named};
-ghost use Rattle.decl_table.specs.PlainDecls.{items_in};
+ghost use Rattle.template_tree.specs.ProgramMaps.{items_in};
 
 use crate::items::Items;
 use indexmap::IndexMap;

@@ -36,7 +36,7 @@ pub enum Case {
 }
 
 /// The cases with their names.
-static CASES: [(&[u8], Case); 17] = [
+static CASES: [(&[u8], Case); 18] = [
     (b"program", Case::Program),
     (b"take", Case::Take),
     (b"elide", Case::Elide),
@@ -45,6 +45,7 @@ static CASES: [(&[u8], Case); 17] = [
     (b"declared", Case::About(Question::Declared)),
     (b"type_of", Case::About(Question::TypeOf)),
     (b"signature", Case::About(Question::Signature)),
+    (b"parameter", Case::About(Question::Parameter)),
     (b"uses", Case::About(Question::Uses)),
     (b"marks", Case::Marks),
     (b"lines", Case::Lines),

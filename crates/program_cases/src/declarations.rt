@@ -17,6 +17,8 @@ pub enum Question {
     TypeOf,
     /// The effective heading of a name.
     Signature,
+    /// The item of a parameter.
+    Parameter,
     /// The phrases that mention a name.
     Uses,
 }
@@ -37,6 +39,7 @@ pub fn declarations(
         Question::Declared => print_items(rt, &decls, words),
         Question::TypeOf => print_type(rt, &decls, words),
         Question::Signature => print_signature(rt, &decls, words),
+        Question::Parameter => print_parameter(rt, &decls, words),
         Question::Uses => print_uses(rt, &decls, words),
     }
 }
@@ -83,6 +86,25 @@ fn print_signature(rt: &HostRuntime, decls: &Decls, words: &[Vec<u8>]) -> io::Re
         return Ok(false);
     };
     println!(rt; "= {:?}", decls.signature(&name))?;
+    Ok(true)
+}
+
+/// Prints the item of a parameter of the procedure in the slot, behind the earlier ones that are named.
+fn print_parameter(rt: &HostRuntime, decls: &Decls, words: &[Vec<u8>]) -> io::Result<bool> {
+    let (Some(slot), Some(name)) = (number_at(words, 0), Name::read(word_at(words, 1))) else {
+        return Ok(false);
+    };
+    let mut earlier = Vec::new(rt.alloc());
+    for k in 2..words.len() {
+        let Some(other) = Name::read(word_at(words, k)) else {
+            return Ok(false);
+        };
+        earlier.push(other)?;
+    }
+    print_item(
+        rt,
+        decls.parameter_item(Slot(slot), earlier.as_slice(), &name),
+    )?;
     Ok(true)
 }
 

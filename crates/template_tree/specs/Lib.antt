@@ -25,10 +25,12 @@ pub mod EditAnswer
 pub mod Copy
 -- ---- declarations, headings and marks
 pub mod Environment
+pub mod ParameterItem
 pub mod Mention
 pub mod KindTable
 pub mod Verdict
 pub mod Marks
+pub mod ProgramMaps
 -- ---- places of a run
 pub mod Place
 -- ---- the laws

@@ -5,7 +5,8 @@ use Rattle.plcs_base.specs.declared.declared.Declared.{Declared}
 use Rattle.plcs_base.specs.declared.mark.MarkKind.{MarkKind}
 use Rattle.plcs_grammar.specs.declared.expr.Expr.{Expr}
 use Rattle.plcs_grammar.specs.PlainPhrase.{plain_exprs}
-use Rattle.decl_table.specs.PlainDecls.{PlainDecls, items_in, slot_of}
+use Rattle.template_tree.specs.ProgramMaps.{items_in}
+use Rattle.decl_table.specs.PlainDecls.{PlainDecls, slot_of}
 use Rattle.template_tree.specs.Environment.{Sig, Signature, items_inside, parameter_kinds, procedure_at}
 use Rattle.template_tree.specs.PlainTree.{Forest, PlainNode}
 use Rattle.template_tree.specs.Slots.{times}

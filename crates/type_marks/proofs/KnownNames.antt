@@ -11,7 +11,8 @@ use Rattle.plcs_base.specs.declared.mark.MarkKind.{MarkKind}
 use Rattle.plcs_base.specs.declared.value.Kind.{Kind}
 use Rattle.plcs_grammar.specs.Builtin.{is_builtin_name}
 use Rattle.plcs_grammar.specs.PlainPhrase.{PlainExpr, PlainExprs, PlainPhrase, PlainVarRef}
-use Rattle.decl_table.specs.PlainDecls.{PlainDecls, items_in}
+use Rattle.template_tree.specs.ProgramMaps.{items_in}
+use Rattle.decl_table.specs.PlainDecls.{PlainDecls}
 use Rattle.template_tree.specs.Environment.{items_inside, item_named, parameter_kind, parameter_kinds, procedure_at, scalar_kind}
 use Rattle.template_tree.specs.KindTable.{prefix_kind}
 use Rattle.template_tree.specs.Marks.{surroundings}

@@ -8,7 +8,8 @@ use Rattle.template_tree.specs.Environment.{Items, Sig, Signature, heading_of, i
 use Rattle.template_tree.specs.Mention.{mentioned}
 use Rattle.template_tree.specs.Path.{below}
 use Rattle.template_tree.specs.PlainTree.{Forest, PlainNode, nodes}
-use Rattle.decl_table.specs.PlainDecls.{PlainDecls, items_in, slot_of}
+use Rattle.template_tree.specs.ProgramMaps.{items_in}
+use Rattle.decl_table.specs.PlainDecls.{PlainDecls, slot_of}
 
 -- ---- where a phrase stands
 

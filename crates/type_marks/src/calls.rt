@@ -1,8 +1,7 @@
 //! Offences of calls, whose arguments are held against parameters, and of the names of procedures.
-ghost use Rattle.std.specs.Prelude.{◌≡◌, [], None, bytes_eq, length};
-ghost use Rattle.std.specs.List.{list_any};
+ghost use Rattle.std.specs.Prelude.{◌≡◌, [], None, length};
 ghost use Rattle.plcs_grammar.specs.PlainPhrase.{plain_exprs};
-ghost use Rattle.decl_table.specs.PlainDecls.{items_in};
+ghost use Rattle.template_tree.specs.ProgramMaps.{items_in};
 ghost use Rattle.template_tree.specs.Environment.{Sig, parameter_kind, parameter_kinds};
 ghost use Rattle.template_tree.specs.Marks.{procedures_before};
 ghost use Rattle.template_tree.specs.Tree.{IsTree};
@@ -12,7 +11,7 @@ ghost use Rattle.type_marks.specs.Private.CallArguments.{arguments_judged, is_ta
 
 use crate::kind_table::same_kind;
 use crate::kinds::{exprs_offence, kind_of};
-use crate::names::scalar_named;
+use crate::names::kind_of_type;
 use crate::procedures::{heading_parameters, is_named_before, procedure_in};
 use decl_table::Decls;
 use plcs_base::{Kind, MarkKind, Name, Slot};
@@ -75,17 +74,10 @@ fn arguments_offence(
 fn parameter_kind(name: &Name, earlier: &[Name], called: Slot, decls: &Decls) -> Option<Kind>
     ensures { result ≡ parameter_kind (items_in decls.now.items called.0) earlier.now name.now }
 {
-    if is_among(name, earlier) {
-        return None;
+    match decls.parameter_item(called, earlier, name) {
+        Some(item) => Some(kind_of_type(item.ty)),
+        None => None,
     }
-    scalar_named(name, decls, called)
-}
-
-/// Whether a parameter's name stands among those of earlier ones.
-fn is_among(name: &Name, names: &[Name]) -> bool
-    ensures { result ≡ list_any (bytes_eq name.now) names.now }
-{
-    names.iter().any(|other| name == other)
 }
 
 /// Whether what is found in an argument of a call is the kind that its parameter takes.

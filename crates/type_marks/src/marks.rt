@@ -7,6 +7,7 @@ ghost use Rattle.template_tree.specs.Limit.{most_slots};
 ghost use Rattle.template_tree.specs.Marks.{Verdicts, node_verdicts, offences, part_verdicts, procedure_verdicts, surroundings};
 ghost use Rattle.template_tree.specs.PlainTree.{forest};
 ghost use Rattle.template_tree.specs.Program.{IsSubtree};
+ghost use Rattle.template_tree.specs.ProgramMaps.{MarksTell};
 ghost use Rattle.template_tree.specs.Slots.{count};
 ghost use Rattle.template_tree.specs.Tree.{IsTree};
 ghost use Rattle.type_marks.specs.Private.MarksView.{AreListed, IsIn, IsProcedureItem, with_all};
@@ -70,6 +71,7 @@ impl<W: Work> Marks<W> {
         requires tree { IsTree tree.now }
         requires decls { IsDeclsOf decls.now tree.now.items }
         ensures verdicts { IfOk result (λ marks. marks ≡ Verdicts tree.now.items) }
+        ensures marks { IfOk result (λ marks. MarksTell (offences marks) tree.now.items) }
         ensures counts { ChecksAtMost (length (procedure_verdicts tree.now.items tree.now.items)) (W.counts work.old) (W.counts work.new) }
     {
         counts_add_up();

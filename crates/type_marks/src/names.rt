@@ -1,6 +1,6 @@
 //! The kinds of names where variables are used, as scalars and as arrays.
 ghost use Rattle.std.specs.Prelude.{◌≡◌, option_and_then};
-ghost use Rattle.decl_table.specs.PlainDecls.{items_in};
+ghost use Rattle.template_tree.specs.ProgramMaps.{items_in};
 ghost use Rattle.template_tree.specs.Environment.{item_named, kind_of_type, scalar_kind};
 ghost use Rattle.template_tree.specs.Verdict.{array_kind, cell_found, item_found, name_kind, scalar_found};
 

@@ -9,7 +9,8 @@ use Rattle.plcs_grammar.specs.PlainPhrase.{PlainPhrase}
 use Rattle.template_tree.specs.Environment.{all_declared, cells_of, item_named, items_inside, with_type}
 use Rattle.template_tree.specs.Marks.{declared_before, type_in}
 use Rattle.template_tree.specs.PlainTree.{Forest, PlainNode}
-use Rattle.decl_table.specs.PlainDecls.{PlainDecls, items_in}
+use Rattle.template_tree.specs.ProgramMaps.{items_in}
+use Rattle.decl_table.specs.PlainDecls.{PlainDecls}
 
 -- whether the item has the name and takes so many cells
 abbrev pub is_such : (name : List ℕ) (cells : ℕ) → Declared → Bool

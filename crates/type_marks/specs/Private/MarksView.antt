@@ -5,7 +5,8 @@ use Rattle.std.specs.FinMap.{code, insert}
 use Rattle.plcs_base.specs.declared.mark.MarkKind.{MarkKind}
 use Rattle.plcs_base.specs.contracts.mark.MarkKind as mark_row
 use Rattle.plcs_base.specs.contracts.place.PhraseAt as place_row
-use Rattle.decl_table.specs.PlainDecls.{PlainDecls, items_in}
+use Rattle.template_tree.specs.ProgramMaps.{items_in}
+use Rattle.decl_table.specs.PlainDecls.{PlainDecls}
 use Rattle.template_tree.specs.Marks.{VerdictList, VerdictMap, surroundings}
 use Rattle.template_tree.specs.Part.{part_at}
 use Rattle.template_tree.specs.Environment.{procedure_at}

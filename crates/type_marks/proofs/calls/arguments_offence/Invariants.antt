@@ -1,6 +1,6 @@
 use Rattle.std.proofs.Common.{◌≡◌, [], drop, take, None}
 use Rattle.plcs_grammar.specs.PlainPhrase.{plain_exprs}
-use Rattle.decl_table.specs.PlainDecls.{items_in}
+use Rattle.template_tree.specs.ProgramMaps.{items_in}
 use Rattle.template_tree.specs.Environment.{parameter_kinds}
 use Rattle.template_tree.specs.Verdict.{kinds_of, offence_in}
 use Rattle.type_marks.specs.Private.CallArguments.{arguments_judged}

@@ -1,6 +1,6 @@
 use Rattle.std.proofs.Common.{rules, ◌≡◌, ◌∙◌, ◌+◌, [], ◌∷◌, suc, add-one, drop, drop-cons, sym, ap, false}
 use Rattle.std.specs.Option.{is_none}
-use Rattle.decl_table.specs.PlainDecls.{items_in}
+use Rattle.template_tree.specs.ProgramMaps.{items_in}
 use Rattle.template_tree.specs.Environment.{declared_as, effective, item_named, with_type}
 use Rattle.template_tree.specs.Marks.{declared_before, type_in}
 use Rattle.template_tree.specs.Verdict.{declared_offence}

@@ -2,7 +2,7 @@ use Rattle.std.proofs.Common.{◌≡◌, ◌∙◌, ◌+◌, ◌∷◌, suc, add
 use Rattle.std.specs.Prelude.{◌&&◌}
 use Rattle.std.proofs.Math.ListN.{drop_of_length-le}
 use Rattle.plcs_grammar.specs.PlainPhrase.{plain_expr, plain_exprs}
-use Rattle.decl_table.specs.PlainDecls.{items_in}
+use Rattle.template_tree.specs.ProgramMaps.{items_in}
 use Rattle.template_tree.specs.Verdict.{kind_of, kinds_of}
 use Rattle.type_marks.specs.Private.Arguments.{fit_found, judged, takes_kind, taken_of}
 use Rattle.type_marks.specs.Private.Chain.{chain_end}

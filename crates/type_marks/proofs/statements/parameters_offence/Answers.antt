@@ -1,6 +1,6 @@
 use Rattle.std.proofs.Common.{◌≡◌, ◌∙◌, ◌+◌, ◌∷◌, suc, add-one, drop, drop-cons, sym, ap}
 use Rattle.std.specs.Option.{option_or}
-use Rattle.decl_table.specs.PlainDecls.{items_in}
+use Rattle.template_tree.specs.ProgramMaps.{items_in}
 use Rattle.template_tree.specs.Verdict.{parameters_offence}
 use Rattle.type_marks.proofs.statements.parameters_offence.Goals as goal
 

@@ -1,5 +1,5 @@
 use Rattle.std.proofs.Common.{◌≡◌, drop}
-use Rattle.decl_table.specs.PlainDecls.{items_in}
+use Rattle.template_tree.specs.ProgramMaps.{items_in}
 use Rattle.template_tree.specs.Verdict.{parameters_offence}
 use Rattle.type_marks.proofs.statements.parameters_offence.Given as goal
 

@@ -1,6 +1,6 @@
 use Rattle.std.proofs.Common.{◌≡◌, drop, map}
 use Rattle.plcs_grammar.specs.PlainPhrase.{plain_var_ref}
-use Rattle.decl_table.specs.PlainDecls.{items_in}
+use Rattle.template_tree.specs.ProgramMaps.{items_in}
 use Rattle.template_tree.specs.Verdict.{references_offence}
 use Rattle.type_marks.proofs.statements.references_offence.Given as goal
 

@@ -1,7 +1,7 @@
 use Rattle.std.proofs.Common.{◌≡◌, ℕ, ◌+◌, ◌-◌, [], ◌∷◌, Some, drop, length, slice_get, sym, ap, ◌∙◌, arith}
 use Rattle.std.specs.FinMap.{from_entries}
 use Rattle.decl_table.proofs.NodeLists.{nodes_few, past_where_none}
-use Rattle.template_tree.specs.Marks.{VerdictMap, node_verdicts, procedure_verdicts}
+use Rattle.template_tree.specs.Marks.{VerdictMap, node_verdicts, offences, procedure_verdicts}
 use Rattle.template_tree.specs.PlainTree.{Forest, forest, forest_nodes, nodes}
 use Rattle.type_marks.proofs.NotedVerdicts.{at_most, noted_procedure, procedure_more, procedures_shorter}
 use Rattle.type_marks.proofs.Programs.{is_item}
@@ -65,6 +65,9 @@ returns-clause-verdicts g c =
     c.loop-k.invariant.noted
     ∙ ap (λ (k : ℕ). let m : VerdictMap = from_entries (procedure_verdicts program (forest (drop k (nodes program)))) in m) none
     ∙ ap (λ (all : Forest). let m : VerdictMap = from_entries (procedure_verdicts program all) in m) (forest_nodes program)
+
+pub returns-clause-marks : goal.returns-clause-marks
+returns-clause-marks g c = ap offences (returns-clause-verdicts g c)
 
 pub returns-clause-counts : goal.returns-clause-counts
 returns-clause-counts g c =
