@@ -19,7 +19,7 @@ use crate::uses::Uses;
 use plcs_base::{Declared, Name, OutOfMemory, PhraseAt, Scope, Slot};
 use std::alloc::Global;
 use std::marker::Model;
-use template_tree::{Node, Tree, path_of_item};
+use template_tree::{Node, Tree, items_are_nodes, path_of_item};
 
 /// The table of declarations: the effective items of each procedure, the effective headings, and the
 /// phrases that mention each name. Contracts see the items as a finite map, and the others as pairs.
@@ -48,6 +48,7 @@ impl Decls {
         requires tree { IsTree tree.now }
         ensures { IfOk result (λ decls. IsDeclsOf decls tree.now.items) }
     {
+        items_are_nodes();
         let mut decls = Decls {
             scopes: Scopes::new(alloc),
             headings: Headings::new(alloc),
@@ -57,9 +58,10 @@ impl Decls {
         // From the last on, so that the first heading of a name takes the place of later ones.
         while k > 0 {
             k -= 1;
-            if let Some(procedure) = tree.node(&path_of_item(k)) {
-                decls.take(alloc, procedure)?;
-            }
+            let Some(procedure) = tree.node(&path_of_item(k)) else {
+                unreachable!()
+            };
+            decls.take(alloc, procedure)?;
         }
         decls.uses.settle();
         Ok(decls)

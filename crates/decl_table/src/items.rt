@@ -12,7 +12,7 @@ use plcs_base::{Declared, ItemType, MarkKind, Name, OutOfMemory};
 use plcs_grammar::{Builtin, Item};
 use std::alloc::Global;
 use std::marker::Model;
-use template_tree::{MOST_CELLS, Node, cells_of, list_items, type_given};
+use template_tree::{MOST_CELLS, Node, cells_of, items_are_nodes, list_items, type_given};
 
 /// What is kept of an effective item beside its name: its type, and its number of cells as an array, or
 /// 0 for a scalar.
@@ -59,6 +59,7 @@ impl Items {
         requires few { count procedure.now.inner < most_slots }
         ensures { IfOk result (λ items. items ≡ items_inside procedure.now.inner) }
     {
+        items_are_nodes();
         let mut items = Items::new(alloc);
         let mut k = 0;
         while let Some(node) = procedure.child(k) {

@@ -17,7 +17,7 @@ use plcs_base::{Name, OutOfMemory, PhraseAt};
 use plcs_grammar::{Expr, Item, Phrase, VarRef};
 use std::alloc::Global;
 use std::marker::Model;
-use template_tree::{Node, PhrasePlace};
+use template_tree::{Node, PhrasePlace, items_are_nodes};
 
 /// For each name the places of the phrases that mention it, which contracts see as a list of pairs.
 #[derive(Drop)]
@@ -75,6 +75,7 @@ impl Uses {
         requires few { count node.now.inner < most_slots }
         ensures { OnOk result (AddsNodes (forest (node.now ∷ [])) self.old self.new) }
     {
+        items_are_nodes();
         self.note_parts(alloc, node)?;
         let mut k = 0;
         while let Some(child) = node.child(k) {
@@ -204,7 +205,8 @@ impl Uses {
         variables: &[VarRef],
         at: PhraseAt,
     ) -> Result<(), OutOfMemory>
-        ensures { OnOk result (AddsNames (flat_map reference_names (map plain_var_ref variables.now)) at self.old self.new) }
+        ensures { OnOk result (AddsNames
+            (flat_map reference_names (map plain_var_ref variables.now)) at self.old self.new) }
     {
         for variable in variables {
             self.note_variable(alloc, variable, at)?;

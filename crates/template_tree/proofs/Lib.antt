@@ -17,5 +17,7 @@ pub mod Lists
 pub mod Room
 -- `checks_ignore_room_and_elision`
 mod CheckedContents
+-- `items_are_nodes`
+mod NodeItems
 -- `put_listing`, `listing_splits_in_lines`: lines, and the bytes of a listing
 pub mod Listings

@@ -34,6 +34,7 @@ pub mod ProgramMaps
 -- ---- places of a run
 pub mod Place
 -- ---- the laws
+pub mod NodeLaws
 pub mod TreeLaws
 pub mod RoomLaws
 pub mod CheckLaws

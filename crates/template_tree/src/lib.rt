@@ -1,7 +1,7 @@
 //! The tree of templates: programs, their listing, and how they are read.
 //!
 //! `declarations` and `headings` read what these say from the parts of their nodes, and tell which names may be
-//! called; `filled_part` finds the phrase in a part.
+//! called; `filled_part` finds the phrase in a part. `node_laws` states what is known of nodes in order.
 //!
 //! One file an edit: `fill`, `fill_assign`, `set_phrase`, `take`, `insert`, `list_edit` (`add_hole`,
 //! `drop_hole`), `elide`. They stand on `exchange` (a node in place of another; also the procedure that a change
@@ -38,6 +38,7 @@ mod list_item;
 mod listing;
 mod node;
 mod node_at;
+mod node_laws;
 mod path;
 mod path_of;
 mod phrase_place;
@@ -69,6 +70,7 @@ pub use hole::hole_left;
 pub use limit::{DEEPEST_PATH, LONGEST_PHRASE, MOST_CELLS, MOST_DRAWN_SLOTS, MOST_SLOTS};
 pub use listing::listing_splits_in_lines;
 pub use node::{Node, Nodes};
+pub use node_laws::items_are_nodes;
 pub use path::{Path, copy_path, path_of_item};
 pub use phrase_place::PhrasePlace;
 pub use put_part::part_category;

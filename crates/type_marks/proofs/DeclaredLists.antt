@@ -19,7 +19,7 @@ use Rattle.template_tree.specs.Path.{below, node_at}
 use Rattle.template_tree.specs.PlainTree.{Forest, PlainNode, forest}
 use Rattle.template_tree.specs.Program.{AreParts, IsPart, parts_of}
 use Rattle.template_tree.specs.Slots.{times}
-use Rattle.template_tree.proofs.Trees.SlotPaths.{slot_present}
+use Rattle.type_marks.proofs.LiveSlots.{slot_present}
 use Rattle.type_marks.specs.Private.DeclaredItems.{AreDeclaredIn}
 use Rattle.type_marks.specs.Private.MarksView.{AreListed}
 use Rattle.type_marks.proofs.CalledProcedures.{one_if, slot_lives}

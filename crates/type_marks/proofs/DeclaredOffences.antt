@@ -11,7 +11,7 @@ use Rattle.plcs_base.specs.declared.mark.MarkKind.{MarkKind}
 use Rattle.plcs_grammar.specs.declared.item.Item.{Item}
 use Rattle.template_tree.specs.ProgramMaps.{items_in}
 use Rattle.decl_table.specs.PlainDecls.{PlainDecls}
-use Rattle.decl_table.proofs.ItemLists.{effective_append}
+use Rattle.type_marks.proofs.EffectiveItems.{effective_append}
 use Rattle.template_tree.specs.Environment.{all_declared, declared_as, effective, item_named, item_offence, with_declared, with_type}
 use Rattle.template_tree.specs.Marks.{declared_before, type_in}
 use Rattle.template_tree.specs.PlainTree.{PlainNode}

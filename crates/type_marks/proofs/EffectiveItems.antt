@@ -12,8 +12,13 @@ use Rattle.plcs_grammar.specs.declared.builtin.Builtin.{Builtin}
 use Rattle.plcs_grammar.specs.Builtin.{builtin_of, is_builtin_name}
 use Rattle.template_tree.specs.Environment.{cells, cells_of, effective, item_named, item_offence, with_declared}
 use Rattle.template_tree.specs.Limit.{most_cells}
-use Rattle.decl_table.proofs.ItemLists.{effective_append}
 use Rattle.type_marks.specs.Private.DeclaredItems.{has_such, is_such, judged_as, judged_item}
+
+-- ---- item after item
+
+pub effective_append : (before first rest : List Declared) → effective before (first ++ rest) ≡ effective (effective before first) rest
+effective_append before [] rest = refl
+effective_append before (item ∷ first) rest = effective_append (with_declared before item) first rest
 
 -- ---- tests
 

@@ -1,32 +1,38 @@
+-- what is left of a list: each loop over nodes or parts
+mod ListsLeft
+-- the order of places: `Marks::verdict`, `Marks::note`, `check_phrase`
+mod PlaceOrder
+-- a slot to which a path leads is live: `check_phrase`
+mod LiveSlots
 -- what is found in chains of operators: `Chain::before`
-pub mod FoundChains
+mod FoundChains
 -- what is found in arguments: `fit_arguments`, `exprs_offence`
-pub mod FoundArguments
+mod FoundArguments
 -- which item is the effective one of its name: `item_offence`
-pub mod EffectiveItems
+mod EffectiveItems
 -- a phrase has one verdict where tables agree on its names: `checked`
-pub mod KnownNames
+mod KnownNames
 -- the procedure that a name calls: `call_offence`
-pub mod CalledProcedures
+mod CalledProcedures
 -- where declared lists stand: `check_phrase`, `Marks::note_node`
-pub mod DeclaredLists
+mod DeclaredLists
 -- the verdict that is kept at a place: `check_phrase`
-pub mod PlacedVerdicts
+mod PlacedVerdicts
 -- verdicts noted one after the other: `Marks::new`
-pub mod NotedVerdicts
+mod NotedVerdicts
 -- main and the procedures in order: `procedure_in`, `is_named_before`
-pub mod ProcedureLists
+mod ProcedureLists
 -- the nodes of a procedure in order: `type_in`, `has_such_before`
-pub mod ChildLists
+mod ChildLists
 -- arguments beside parameters: `arguments_offence`
-pub mod CallArguments
+mod CallArguments
 -- what headings have: `may_be_called_by`, `heading_parameters`
-pub mod Headings
+mod Headings
 -- main and the procedures of a program: `check_phrase`, `Marks::new`
-pub mod Programs
+mod Programs
 -- where a phrase stands: `check_phrase`
-pub mod CheckedPlaces
+mod CheckedPlaces
 -- what a call comes to: `call_offence`
-pub mod CallOffences
+mod CallOffences
 -- the items of a declared list: `declared_offence`
-pub mod DeclaredOffences
+mod DeclaredOffences

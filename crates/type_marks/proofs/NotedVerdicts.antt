@@ -1,6 +1,6 @@
 -- Verdicts noted one after the other, and the marks among them.
 use Rattle.std.proofs.Common.{◌≡◌, ℕ, ◌+◌, ◌≤◌, zero, suc, Bool, true, false, cond, List, [], ◌∷◌, ◌++◌, drop, length, Option, Some, None, slice_get, refl, sym, ap, subst, ◌∙◌, arith}
-use Rattle.std.specs.Prelude.{◌&&◌, T, nat_eq}
+use Rattle.std.specs.Prelude.{◌&&◌, T, nat_eq, Result, Ok, Err, OnOk}
 use Rattle.std.specs.FinMap.{empty, entries, entries_sorted, find, from_entries, get, get-entries, get-from_entries, get-insert, insert, is_sorted, same_map}
 use Rattle.std.specs.List.{filter_map}
 use Rattle.std.specs.Map.{lookup}
@@ -14,14 +14,19 @@ use Rattle.plcs_base.specs.PlainCounts.{ChecksAtMost, PlainCounts}
 use Rattle.plcs_base.specs.Mark.{phrase_cmp}
 use Rattle.plcs_base.specs.declared.mark.MarkKind.{MarkKind}
 use Rattle.plcs_base.specs.declared.place.PhraseAt.{PhraseAt}
-use Rattle.decl_table.proofs.NodeLists.{left_from, none_left}
-use Rattle.decl_table.proofs.PlaceOrder.{place_test_equiv, place_ties, places_total, same_place}
+use Rattle.type_marks.proofs.ListsLeft.{left_from, none_left}
+use Rattle.type_marks.proofs.PlaceOrder.{place_test_equiv, place_ties, places_total, same_place}
 use Rattle.template_tree.specs.Marks.{VerdictList, VerdictMap, node_verdicts, offence_at, offences, part_verdicts, procedure_verdicts, surroundings}
 use Rattle.template_tree.specs.Mention.{phrase_at}
 use Rattle.template_tree.specs.PlainTree.{Forest, PlainNode, forest, forest_nodes, nodes}
 use Rattle.template_tree.specs.Verdict.{Surroundings, verdict}
 use Rattle.plcs_grammar.specs.PlainPhrase.{PlainPhrase}
 use Rattle.type_marks.specs.Private.MarksView.{with_all}
+
+-- what follows where it is Ok
+pub then_ok : {T E : Type 0} (r : Result T E) {P Q : Type 0} → (P → Q) → OnOk r P → OnOk r Q
+then_ok (Ok x) follows holds = follows holds
+then_ok (Err e) follows holds = holds
 
 -- ---- lists of verdicts before what a map has
 

@@ -9,7 +9,7 @@ use Rattle.plcs_base.specs.Mark.{phrase_cmp}
 use Rattle.plcs_base.specs.declared.mark.MarkKind.{MarkKind}
 use Rattle.plcs_base.specs.declared.place.PhraseAt.{PhraseAt}
 use Rattle.plcs_grammar.specs.PlainPhrase.{PlainPhrase}
-use Rattle.decl_table.proofs.PlaceOrder.{place_ties, places_total}
+use Rattle.type_marks.proofs.PlaceOrder.{place_ties, places_total}
 use Rattle.template_tree.specs.Part.{part_at}
 use Rattle.template_tree.specs.Marks.{VerdictList, Verdicts, node_verdicts, part_verdicts, procedure_verdicts, surroundings}
 use Rattle.template_tree.specs.Mention.{phrase_at}
@@ -17,7 +17,7 @@ use Rattle.template_tree.specs.Path.{below, node_at}
 use Rattle.template_tree.specs.PlainTree.{Forest, PlainNode, nodes}
 use Rattle.template_tree.specs.Slots.{times}
 use Rattle.template_tree.specs.Verdict.{Surroundings, verdict}
-use Rattle.template_tree.proofs.Trees.SlotPaths.{slot_present}
+use Rattle.type_marks.proofs.LiveSlots.{slot_present}
 use Rattle.type_marks.proofs.CalledProcedures.{one_if}
 
 -- ---- lists of verdicts

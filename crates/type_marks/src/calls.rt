@@ -29,7 +29,8 @@ pub(crate) fn call_offence(
     requires tree { IsTree tree.now }
     requires heading { KnowsHeading decls.now tree.now.items name.now }
     requires parameters { KnowsParameters decls.now tree.now.items name.now }
-    ensures { result ≡ call_offence (Sig tree.now.items name.now) (kinds_of (items_in decls.now.items procedure.0) (plain_exprs arguments.now)) }
+    ensures { result ≡ call_offence (Sig tree.now.items name.now)
+        (kinds_of (items_in decls.now.items procedure.0) (plain_exprs arguments.now)) }
 {
     if let Some(offence) = exprs_offence(arguments, decls, procedure) {
         return Some(offence);
@@ -38,7 +39,7 @@ pub(crate) fn call_offence(
         return Some(MarkKind::UnknownProcedure);
     };
     let Some(called) = procedure_in(tree, slot) else {
-        return Some(MarkKind::UnknownProcedure);
+        unreachable!()
     };
     let parameters = heading_parameters(called);
     if arguments.len() != parameters.len() {
@@ -58,7 +59,8 @@ fn arguments_offence(
 ) -> Option<MarkKind>
     requires as_many { length arguments.now ≡ length parameters.now }
     requires fine { offence_in (kinds_of (items_in decls.now.items procedure.0) (plain_exprs arguments.now)) ≡ None }
-    ensures { result ≡ arguments_judged (parameter_kinds (items_in decls.now.items called.0) [] parameters.now) (kinds_of (items_in decls.now.items procedure.0) (plain_exprs arguments.now)) }
+    ensures { result ≡ arguments_judged (parameter_kinds (items_in decls.now.items called.0) [] parameters.now)
+        (kinds_of (items_in decls.now.items procedure.0) (plain_exprs arguments.now)) }
 {
     for i in 0..arguments.len() {
         let taken = parameter_kind(&parameters[i], &parameters[..i], called, decls);

@@ -12,7 +12,7 @@ use crate::procedures::stands_in;
 use decl_table::Decls;
 use plcs_base::{Declared, ItemType, MarkKind, Name, Slot};
 use plcs_grammar::{Builtin, Item};
-use template_tree::{Node, cells_of, list_items, type_given};
+use template_tree::{Node, cells_of, items_are_nodes, list_items, type_given};
 
 /// The first offence of a declared list, that of the declaration in the slot, if the procedure has one
 /// there.
@@ -25,7 +25,8 @@ pub(crate) fn declared_offence(
     requires few { count procedure.now.inner < most_slots }
     requires listed { AreDeclaredIn procedure.now.inner slot.0 items.now }
     requires known { KnowsListed decls.now procedure.now items.now }
-    ensures { result ≡ declared_offence (effective [] (declared_before procedure.now.inner slot.0)) (with_type (type_in procedure.now.inner slot.0) items.now) }
+    ensures { result ≡ declared_offence (effective [] (declared_before procedure.now.inner slot.0))
+        (with_type (type_in procedure.now.inner slot.0) items.now) }
 {
     if type_in(procedure, slot).is_none() {
         return None;
@@ -45,6 +46,7 @@ fn type_in(procedure: &Node, slot: Slot) -> Option<ItemType>
     requires few { count procedure.now.inner < most_slots }
     ensures { result ≡ type_in procedure.now.inner slot.0 }
 {
+    items_are_nodes();
     let mut k = 0;
     while let Some(node) = procedure.child(k) {
         if stands_in(node, slot) {
@@ -69,7 +71,9 @@ fn item_offence(
     slot: Slot,
 ) -> Option<MarkKind>
     requires few { count procedure.now.inner < most_slots }
-    ensures { (ty : ItemType) → result ≡ judged_item (declared_before procedure.now.inner slot.0 ++ map (declared_as ty) earlier.now) (declared_as ty item.now) effective }
+    ensures { (ty : ItemType) → result ≡ judged_item
+        (declared_before procedure.now.inner slot.0 ++ map (declared_as ty) earlier.now)
+        (declared_as ty item.now) effective }
 {
     if Builtin::read(item.name.as_bytes()).is_some() {
         return Some(MarkKind::Reserved);
@@ -94,6 +98,7 @@ fn has_such_before(procedure: &Node, slot: Slot, name: &Name, cells: u32) -> boo
     requires few { count procedure.now.inner < most_slots }
     ensures { result ≡ has_such name.now cells (declared_before procedure.now.inner slot.0) }
 {
+    items_are_nodes();
     let mut k = 0;
     while let Some(node) = procedure.child(k) {
         if stands_in(node, slot) {

@@ -19,7 +19,7 @@ use indexmap::IndexMap;
 use plcs_base::{MarkKind, Marked, OutOfMemory, PhraseAt, Work, counts_add_up};
 use std::alloc::Global;
 use std::marker::Model;
-use template_tree::{Node, PhrasePlace, Tree};
+use template_tree::{Node, PhrasePlace, Tree, items_are_nodes};
 
 /// The verdicts of a program's phrases by their places, which contracts see as a finite map.
 #[derive(Drop)]
@@ -72,9 +72,11 @@ impl<W: Work> Marks<W> {
         requires decls { IsDeclsOf decls.now tree.now.items }
         ensures verdicts { IfOk result (λ marks. marks ≡ Verdicts tree.now.items) }
         ensures marks { IfOk result (λ marks. MarksTell (offences marks) tree.now.items) }
-        ensures counts { ChecksAtMost (length (procedure_verdicts tree.now.items tree.now.items)) (W.counts work.old) (W.counts work.new) }
+        ensures counts { ChecksAtMost (length (procedure_verdicts tree.now.items tree.now.items)) (W.counts work.old)
+            (W.counts work.new) }
     {
         counts_add_up();
+        items_are_nodes();
         let mut marks = Marks {
             verdicts: IndexMap::new(alloc),
         };
@@ -82,9 +84,10 @@ impl<W: Work> Marks<W> {
         // From the last phrase on, as in the table of declarations.
         while k > 0 {
             k -= 1;
-            if let Some(procedure) = procedure_item(tree, k) {
-                marks.note_node(tree, decls, procedure, procedure, work)?;
-            }
+            let Some(procedure) = procedure_item(tree, k) else {
+                unreachable!()
+            };
+            marks.note_node(tree, decls, procedure, procedure, work)?;
         }
         Ok(marks)
     }
@@ -105,16 +108,20 @@ impl<W: Work> Marks<W> {
         requires inside { IsIn procedure.now node.now }
         requires subtree { IsSubtree node.now }
         requires few { count node.now.inner < most_slots }
-        ensures noted { OnOk result (self.new ≡ with_all (node_verdicts tree.now.items procedure.now (forest (node.now ∷ []))) self.old) }
-        ensures counts { ChecksAtMost (length (node_verdicts tree.now.items procedure.now (forest (node.now ∷ [])))) (W.counts work.old) (W.counts work.new) }
+        ensures noted { OnOk result (self.new ≡ with_all
+            (node_verdicts tree.now.items procedure.now (forest (node.now ∷ []))) self.old) }
+        ensures counts { ChecksAtMost (length (node_verdicts tree.now.items procedure.now (forest (node.now ∷ []))))
+            (W.counts work.old) (W.counts work.new) }
     {
         counts_add_up();
+        items_are_nodes();
         let mut k = node.children();
         while k > 0 {
             k -= 1;
-            if let Some(child) = node.child(k) {
-                self.note_node(tree, decls, procedure, child, work)?;
-            }
+            let Some(child) = node.child(k) else {
+                unreachable!()
+            };
+            self.note_node(tree, decls, procedure, child, work)?;
         }
         self.note_parts(tree, decls, procedure, node, 0, work)
     }
@@ -135,8 +142,12 @@ impl<W: Work> Marks<W> {
         requires item { IsProcedureItem tree.now.items procedure.now }
         requires listed { AreListed procedure.now.inner node.now.label }
         requires few { length node.now.label.parts < 256 }
-        ensures noted { OnOk result (self.new ≡ with_all (part_verdicts (surroundings tree.now.items procedure.now node.now.label.slot) node.now.label.slot part (drop part node.now.label.parts)) self.old) }
-        ensures counts { ChecksAtMost (length (part_verdicts (surroundings tree.now.items procedure.now node.now.label.slot) node.now.label.slot part (drop part node.now.label.parts))) (W.counts work.old) (W.counts work.new) }
+        ensures noted { OnOk result (self.new ≡ with_all
+            (part_verdicts (surroundings tree.now.items procedure.now node.now.label.slot) node.now.label.slot part
+            (drop part node.now.label.parts)) self.old) }
+        ensures counts { ChecksAtMost (length
+            (part_verdicts (surroundings tree.now.items procedure.now node.now.label.slot) node.now.label.slot part
+            (drop part node.now.label.parts))) (W.counts work.old) (W.counts work.new) }
     {
         counts_add_up();
         let Some(place) = node.part(part) else {

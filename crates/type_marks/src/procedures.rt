@@ -14,7 +14,7 @@ ghost use Rattle.type_marks.specs.Private.MarksView.{procedure_item_on};
 use plcs_base::{Name, Slot};
 use plcs_grammar::{NodeKind, Template};
 use template_tree::{
-    Node, Path, Tree, heading_name, may_be_called, parameters_given, path_of_item,
+    Node, Path, Tree, heading_name, items_are_nodes, may_be_called, parameters_given, path_of_item,
 };
 
 /// Main or the procedure in the slot, or `None` where none of them has it.
@@ -22,6 +22,7 @@ pub(crate) fn procedure_in(tree: &Tree, slot: Slot) -> Option<&Node>
     requires tree { IsTree tree.now }
     ensures { option_map (λ node. node.now) result ≡ procedure_at tree.now.items slot.0 }
 {
+    items_are_nodes();
     let mut k = 0;
     while let Some(node) = procedure_item(tree, k) {
         if stands_in(node, slot) {
@@ -38,6 +39,7 @@ pub(crate) fn is_named_before(tree: &Tree, slot: Slot, name: &Name) -> bool
     requires tree { IsTree tree.now }
     ensures { result ≡ is_some (Sig (procedures_before tree.now.items slot.0) name.now) }
 {
+    items_are_nodes();
     let mut k = 0;
     while let Some(node) = procedure_item(tree, k) {
         if stands_in(node, slot) {
@@ -112,6 +114,7 @@ pub(crate) fn procedure_item(tree: &Tree, k: u32) -> Option<&Node>
     ensures subtree { IfSome result (λ node. IsSubtree node.now) }
     ensures few { IfSome result (λ node. count node.now.inner + 1 ≤ most_slots) }
 {
+    items_are_nodes();
     tree.node(&path_of_item(k))
 }
 

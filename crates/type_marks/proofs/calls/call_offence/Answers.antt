@@ -7,11 +7,10 @@ use Rattle.type_marks.specs.Private.CallArguments.{arguments_judged}
 use Rattle.type_marks.proofs.CallOffences.{another_count, not_missing, same_count}
 use Rattle.type_marks.proofs.calls.call_offence.Goals as goal
 
-pub returns-in_default-procedure_in : goal.returns-in_default-procedure_in
-returns-in_default-procedure_in c =
-    absurd
-    (not_missing c.args.decls.now c.args.tree.now.items c.args.name.now c.in-Some-signature.slot.0 c.in-Some-signature.ensures c.requires.heading
-    c.requires.tree.once c.in_default-procedure_in.ensures)
+pub unreachable-requires : goal.unreachable-requires
+unreachable-requires c =
+    not_missing c.args.decls.now c.args.tree.now.items c.args.name.now c.in-Some-signature.slot.0 c.in-Some-signature.ensures c.requires.heading
+    c.requires.tree.once c.in_default-procedure_in.ensures
 
 pub returns-then-arguments-parameters : goal.returns-then-arguments-parameters
 returns-then-arguments-parameters c =

@@ -1,7 +1,7 @@
 use Rattle.std.proofs.Common.{◌≡◌, ◌∙◌, ◌+◌, drop, sym, ap, arith}
 use Rattle.std.proofs.lemmas.Option.{slice_get_within}
 use Rattle.template_tree.specs.PlainTree.{Forest, forest, forest_nodes, nodes}
-use Rattle.decl_table.proofs.NodeLists.{left_from, nodes_few, none_left}
+use Rattle.type_marks.proofs.ListsLeft.{left_from, none_left}
 use Rattle.template_tree.specs.Marks.{declared_before}
 use Rattle.type_marks.specs.Private.DeclaredItems.{has_such}
 use Rattle.type_marks.proofs.ChildLists.{such_behind, such_here, such_own}
@@ -16,7 +16,7 @@ loop-node-init c = record {
 pub overflow_add-k : goal.overflow_add-k
 overflow_add-k c =
     let within = slice_get_within (nodes c.args.procedure.now.inner) c.loop-node.k c.in-Some.node.now (sym c.in-Some.ensures) in
-    omega (arith, within, nodes_few c.args.procedure.now.inner, c.requires.few)
+    omega (arith, within, c.items_are_nodes.ensures.few c.args.procedure.now.inner, c.requires.few)
 
 pub loop-node-smaller : goal.loop-node-smaller
 loop-node-smaller c =

@@ -2,7 +2,7 @@ use Rattle.std.proofs.Common.{◌≡◌, ◌∙◌, ◌+◌, drop, sym, ap, arit
 use Rattle.std.proofs.lemmas.Option.{slice_get_within}
 use Rattle.std.specs.Prelude.{is_some}
 use Rattle.template_tree.specs.PlainTree.{Forest, forest, forest_nodes, nodes}
-use Rattle.decl_table.proofs.NodeLists.{left_from, nodes_few, none_left}
+use Rattle.type_marks.proofs.ListsLeft.{left_from, none_left}
 use Rattle.template_tree.specs.Environment.{Sig}
 use Rattle.template_tree.specs.Marks.{procedures_before}
 use Rattle.type_marks.proofs.ProcedureLists.{named_behind, named_here, named_own}
@@ -17,7 +17,7 @@ loop-node-init c = record {
 pub overflow_add-k : goal.overflow_add-k
 overflow_add-k c =
     let within = slice_get_within (nodes c.args.tree.now.items) c.loop-node.k c.in-Some.node.now (sym c.in-Some.ensures.item) in
-    omega (arith, within, nodes_few c.args.tree.now.items, c.requires.tree.few)
+    omega (arith, within, c.items_are_nodes.ensures.few c.args.tree.now.items, c.requires.tree.few)
 
 pub loop-node-smaller : goal.loop-node-smaller
 loop-node-smaller c =

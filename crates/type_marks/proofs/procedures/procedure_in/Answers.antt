@@ -1,7 +1,7 @@
 use Rattle.std.proofs.Common.{◌≡◌, ◌∙◌, ◌+◌, drop, sym, ap, arith}
 use Rattle.std.proofs.lemmas.Option.{slice_get_within}
 use Rattle.template_tree.specs.PlainTree.{Forest, forest, forest_nodes, nodes}
-use Rattle.decl_table.proofs.NodeLists.{left_from, nodes_few, none_left}
+use Rattle.type_marks.proofs.ListsLeft.{left_from, none_left}
 use Rattle.template_tree.specs.Environment.{procedure_at}
 use Rattle.type_marks.proofs.ProcedureLists.{found_behind, found_here}
 use Rattle.type_marks.proofs.procedures.procedure_in.Goals as goal
@@ -15,7 +15,7 @@ loop-node-init c = record {
 pub overflow_add-k : goal.overflow_add-k
 overflow_add-k c =
     let within = slice_get_within (nodes c.args.tree.now.items) c.loop-node.k c.in-Some.node.now (sym c.in-Some.ensures.item) in
-    omega (arith, within, nodes_few c.args.tree.now.items, c.requires.tree.few)
+    omega (arith, within, c.items_are_nodes.ensures.few c.args.tree.now.items, c.requires.tree.few)
 
 pub loop-node-smaller : goal.loop-node-smaller
 loop-node-smaller c =

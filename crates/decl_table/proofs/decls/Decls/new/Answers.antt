@@ -1,14 +1,15 @@
 use Rattle.std.proofs.Common.{◌≡◌, ◌∙◌, ◌+◌, ◌-◌, ◌≤◌, Some, None, drop, length, slice_get, refl, sym, ap, subst, arith}
 use Rattle.std.proofs.Math.ListN.{drop_of_length-le}
+use Rattle.template_tree.specs.Path.{node_at}
 use Rattle.template_tree.specs.PlainTree.{Forest, forest, forest_nodes, nodes}
 use Rattle.decl_table.specs.PlainDecls.{PlainDecls}
-use Rattle.decl_table.proofs.NodeLists.{at_one, left_from, nodes_few, past_where_none}
+use Rattle.decl_table.proofs.ListsLeft.{left_from, past_where_none}
 use Rattle.decl_table.proofs.ReadProcedures.{IsRead, read_all, read_next, read_none}
 use Rattle.decl_table.proofs.decls.Decls.new.Goals as goal
 
 pub overflow_add-k : goal.overflow_add-k
 overflow_add-k c =
-    omega (arith, c.procedures-k.ensures, nodes_few c.args.tree.now.items, c.requires.tree.few)
+    omega (arith, c.procedures-k.ensures, c.items_are_nodes.ensures.few c.args.tree.now.items, c.requires.tree.few)
 
 pub loop-k-init : goal.loop-k-init
 loop-k-init c =
@@ -21,14 +22,14 @@ loop-k-init c =
       within = omega (arith, c.procedures-k.ensures);
     }
 
-pub loop-k-preserved-in-Continue-1 : goal.loop-k-preserved-in-Continue-1
-loop-k-preserved-in-Continue-1 c =
+pub loop-k-preserved : goal.loop-k-preserved
+loop-k-preserved c =
     let items = c.args.tree.now.items in
     let all = nodes items in
     let k = c.loop-k.k in
     let node = c.in-Some.procedure.now in
     let there : slice_get all (k - 1) ≡ Some node =
-    sym (at_one items c.path_of_item.result.items (k - 1) c.path_of_item.ensures) ∙ sym c.in-Some.ensures.found in
+    sym (ap (node_at items) c.path_of_item.ensures ∙ c.items_are_nodes.ensures.found items (k - 1)) ∙ sym c.in-Some.ensures.found in
     let next : k - 1 + 1 ≡ k = omega (arith, c.loop-k-test.true) in
     record {
       read =
@@ -38,12 +39,12 @@ loop-k-preserved-in-Continue-1 c =
       within = omega (arith, c.loop-k.invariant.within);
     }
 
-pub loop-k-preserved : goal.loop-k-preserved
-loop-k-preserved c =
+pub unreachable-requires : goal.unreachable-requires
+unreachable-requires c =
     let items = c.args.tree.now.items in
     let none : slice_get (nodes items) (c.loop-k.k - 1) ≡ None =
-    sym (at_one items c.path_of_item.result.items (c.loop-k.k - 1) c.path_of_item.ensures) ∙ sym c.in_default.ensures.found in
-    absurd (omega (arith, past_where_none (nodes items) (c.loop-k.k - 1) none, c.loop-k-test.true, c.loop-k.invariant.within))
+    sym (ap (node_at items) c.path_of_item.ensures ∙ c.items_are_nodes.ensures.found items (c.loop-k.k - 1)) ∙ sym c.in_default.ensures.found in
+    omega (arith, past_where_none (nodes items) (c.loop-k.k - 1) none, c.loop-k-test.true, c.loop-k.invariant.within)
 
 pub returns : goal.returns
 returns c =

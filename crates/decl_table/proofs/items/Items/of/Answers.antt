@@ -3,7 +3,7 @@ use Rattle.std.proofs.lemmas.Option.{slice_get_within}
 use Rattle.template_tree.specs.Environment.{all_declared, declares, effective}
 use Rattle.template_tree.specs.PlainTree.{forest, forest_nodes, nodes}
 use Rattle.decl_table.proofs.ItemLists.{effective_append}
-use Rattle.decl_table.proofs.NodeLists.{left_from, nodes_few, none_left}
+use Rattle.decl_table.proofs.ListsLeft.{left_from, none_left}
 use Rattle.decl_table.proofs.items.Items.of.Goals as goal
 
 pub loop-node-init : goal.loop-node-init
@@ -15,7 +15,7 @@ loop-node-init c = record {
 pub overflow_add-k : goal.overflow_add-k
 overflow_add-k c =
     let within = slice_get_within (nodes c.args.procedure.now.inner) c.loop-node.k c.in-Some.node.now (sym c.in-Some.ensures) in
-    omega (arith, within, nodes_few c.args.procedure.now.inner, c.requires.few)
+    omega (arith, within, c.items_are_nodes.ensures.few c.args.procedure.now.inner, c.requires.few)
 
 pub loop-node-smaller : goal.loop-node-smaller
 loop-node-smaller c =

@@ -2,7 +2,7 @@ use Rattle.std.proofs.Common.{◌≡◌, ◌+◌, ◌∷◌, Some, [], drop, sli
 use Rattle.std.proofs.lemmas.Option.{slice_get_within}
 use Rattle.template_tree.specs.PlainTree.{forest, forest_nodes, nodes}
 use Rattle.decl_table.proofs.AddedUses.{Leaves, leaves_all, leaves_next, leaves_none, of_node, of_nodes, of_nodes-first, of_parts}
-use Rattle.decl_table.proofs.NodeLists.{item_few, item_subtree, left_from, nodes_few, none_left}
+use Rattle.decl_table.proofs.ListsLeft.{left_from, none_left}
 use Rattle.decl_table.proofs.uses.Uses.+note_node.Goals as goal
 
 pub loop-child-init : goal.loop-child-init
@@ -22,15 +22,15 @@ note_node-requires t c =
     let inner = c.args.node.now.inner in
     let child = c.in-Some.child.now in
     let there : slice_get (nodes inner) c.loop-child.k ≡ Some child = sym c.in-Some.ensures in
-    let few = item_few inner c.loop-child.k child there in (
+    let few = c.items_are_nodes.ensures.fewer inner c.loop-child.k child there in (
       omega (arith, few),
-      (item_subtree inner c.loop-child.k child there c.requires.subtree.1, omega (arith, few, c.requires.few)),
+      (c.items_are_nodes.ensures.subtrees inner c.loop-child.k child there c.requires.subtree.1, omega (arith, few, c.requires.few)),
     )
 
 pub overflow_add-k : goal.overflow_add-k
 overflow_add-k t c =
     let within = slice_get_within (nodes c.args.node.now.inner) c.loop-child.k c.in-Some.child.now (sym c.in-Some.ensures) in
-    omega (arith, within, nodes_few c.args.node.now.inner, c.requires.few)
+    omega (arith, within, c.items_are_nodes.ensures.few c.args.node.now.inner, c.requires.few)
 
 pub loop-child-smaller : goal.loop-child-smaller
 loop-child-smaller t c =

@@ -1,14 +1,13 @@
 use Rattle.std.proofs.Common.{◌≡◌, ◌+◌, ◌-◌, [], ◌∷◌, Some, drop, length, slice_get, sym, arith}
-use Rattle.decl_table.proofs.AddedUses.{then_ok}
-use Rattle.decl_table.proofs.NodeLists.{item_few, item_subtree, nodes_few, past_where_none}
+use Rattle.type_marks.proofs.ListsLeft.{past_where_none}
 use Rattle.template_tree.specs.Marks.{node_verdicts, part_verdicts, surroundings}
 use Rattle.template_tree.specs.PlainTree.{forest, nodes}
-use Rattle.type_marks.proofs.NotedVerdicts.{all_more, node_more, noted_all, noted_node}
+use Rattle.type_marks.proofs.NotedVerdicts.{all_more, node_more, noted_all, noted_node, then_ok}
 use Rattle.type_marks.proofs.Programs.{child_in, listed_in}
 use Rattle.type_marks.proofs.marks.Marks.+note_node.Goals as goal
 
 pub children-k-requires : goal.children-k-requires
-children-k-requires g t c = omega (arith, nodes_few c.args.node.now.inner, c.requires.few)
+children-k-requires g t c = omega (arith, c.items_are_nodes.ensures.few c.args.node.now.inner, c.requires.few)
 
 pub note_node-requires : goal.note_node-requires
 note_node-requires g t c κs within =
@@ -16,7 +15,7 @@ note_node-requires g t c κs within =
     let child = c.in-Some.child.now in
     let k = c.loop-k.k - 1 in
     let there : slice_get (nodes inner) k ≡ Some child = sym c.in-Some.ensures in
-    let few = item_few inner k child there in (
+    let few = c.items_are_nodes.ensures.fewer inner k child there in (
       omega (arith, few),
       (
         within,
@@ -28,7 +27,7 @@ note_node-requires g t c κs within =
               c.requires.item,
               (
                 child_in c.args.procedure.now c.args.node.now k child c.requires.inside there,
-                (item_subtree inner k child there c.requires.subtree.1, omega (arith, few, c.requires.few)),
+                (c.items_are_nodes.ensures.subtrees inner k child there c.requires.subtree.1, omega (arith, few, c.requires.few)),
               ),
             ),
           ),
@@ -36,8 +35,8 @@ note_node-requires g t c κs within =
       ),
     )
 
-pub loop-k-preserved-in-Continue-1 : goal.loop-k-preserved-in-Continue-1
-loop-k-preserved-in-Continue-1 g t c =
+pub loop-k-preserved : goal.loop-k-preserved
+loop-k-preserved g t c =
     let program = c.args.tree.now.items in
     let procedure = c.args.procedure.now in
     let items = nodes c.args.node.now.inner in
@@ -72,10 +71,10 @@ returns-in_err-note_node-clause-counts g t c =
     (omega (arith, node_more program procedure items k c.loop-k.k child there next, all_more program procedure c.args.node.now k))
     c.loop-k.invariant.counts c.note_node.ensures.counts
 
-pub loop-k-preserved : goal.loop-k-preserved
-loop-k-preserved g t c =
+pub unreachable-requires : goal.unreachable-requires
+unreachable-requires g t c =
     let items = nodes c.args.node.now.inner in
-    absurd (omega (arith, past_where_none items (c.loop-k.k - 1) (sym c.in_default.ensures), c.loop-k-test.true, c.loop-k.invariant.within))
+    omega (arith, past_where_none items (c.loop-k.k - 1) (sym c.in_default.ensures), c.loop-k-test.true, c.loop-k.invariant.within)
 
 pub note_parts-requires-clause-listed : goal.note_parts-requires-clause-listed
 note_parts-requires-clause-listed g t c =

@@ -1,6 +1,6 @@
 use Rattle.std.proofs.Common.{◌≡◌, ℕ, ◌+◌, ◌-◌, [], ◌∷◌, Some, drop, length, slice_get, sym, ap, ◌∙◌, arith}
 use Rattle.std.specs.FinMap.{from_entries}
-use Rattle.decl_table.proofs.NodeLists.{nodes_few, past_where_none}
+use Rattle.type_marks.proofs.ListsLeft.{past_where_none}
 use Rattle.template_tree.specs.Marks.{VerdictMap, node_verdicts, offences, procedure_verdicts}
 use Rattle.template_tree.specs.PlainTree.{Forest, forest, forest_nodes, nodes}
 use Rattle.type_marks.proofs.NotedVerdicts.{at_most, noted_procedure, procedure_more, procedures_shorter}
@@ -8,15 +8,15 @@ use Rattle.type_marks.proofs.Programs.{is_item}
 use Rattle.type_marks.proofs.marks.Marks.new.Goals as goal
 
 pub overflow_add-k : goal.overflow_add-k
-overflow_add-k g c = omega (arith, c.procedures-k.ensures, nodes_few c.args.tree.now.items, c.requires.tree.few)
+overflow_add-k g c = omega (arith, c.procedures-k.ensures, c.items_are_nodes.ensures.few c.args.tree.now.items, c.requires.tree.few)
 
 pub note_node-requires-clause-item : goal.note_node-requires-clause-item
 note_node-requires-clause-item g c =
     is_item c.args.tree.now (c.loop-k.k - 1) c.in-Some.procedure.now c.requires.tree (sym c.in-Some.ensures.item) c.in-Some.ensures.subtree
     c.in-Some.ensures.few
 
-pub loop-k-preserved-in-Continue-1 : goal.loop-k-preserved-in-Continue-1
-loop-k-preserved-in-Continue-1 g c =
+pub loop-k-preserved : goal.loop-k-preserved
+loop-k-preserved g c =
     let program = c.args.tree.now.items in
     let items = nodes program in
     let procedure = c.in-Some.procedure.now in
@@ -52,11 +52,9 @@ returns-in_err-note_node-clause-counts g c =
     ))
     c.loop-k.invariant.counts c.note_node.ensures.counts
 
-pub loop-k-preserved : goal.loop-k-preserved
-loop-k-preserved g c =
-    absurd
-    (omega
-    (arith, past_where_none (nodes c.args.tree.now.items) (c.loop-k.k - 1) (sym c.in_default.ensures.item), c.loop-k-test.true, c.loop-k.invariant.within))
+pub unreachable-requires : goal.unreachable-requires
+unreachable-requires g c =
+    omega (arith, past_where_none (nodes c.args.tree.now.items) (c.loop-k.k - 1) (sym c.in_default.ensures.item), c.loop-k-test.true, c.loop-k.invariant.within)
 
 pub returns-clause-verdicts : goal.returns-clause-verdicts
 returns-clause-verdicts g c =
