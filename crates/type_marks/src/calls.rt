@@ -10,9 +10,10 @@ ghost use Rattle.type_marks.specs.Agreement.{KnowsHeading, KnowsParameters};
 ghost use Rattle.type_marks.specs.Private.CallArguments.{arguments_judged, is_taken};
 
 use crate::kind_table::same_kind;
-use crate::kinds::{exprs_offence, kind_of};
+use crate::kinds::kind_of;
 use crate::names::kind_of_type;
 use crate::procedures::{heading_parameters, is_named_before, procedure_in};
+use crate::statements::exprs_offence;
 use decl_table::Decls;
 use plcs_base::{Kind, MarkKind, Name, Slot};
 use plcs_grammar::{Builtin, Expr};

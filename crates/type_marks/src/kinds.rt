@@ -2,7 +2,7 @@
 ghost use Rattle.std.specs.Prelude.{◌≡◌, Ok, length, option_to_list, ◌++◌};
 ghost use Rattle.plcs_grammar.specs.PlainPhrase.{plain_expr, plain_exprs, plain_var_ref};
 ghost use Rattle.template_tree.specs.ProgramMaps.{items_in};
-ghost use Rattle.template_tree.specs.Verdict.{kind_of, kinds_of, offence_in, reference_kind, then_found, of_kind};
+ghost use Rattle.template_tree.specs.Verdict.{kind_of, kinds_of, reference_kind, then_found, of_kind};
 ghost use Rattle.type_marks.specs.Private.Arguments.{fit_found, judged, takes_kind, taken_of};
 
 use crate::chain::Chain;
@@ -81,7 +81,8 @@ fn fit_arguments(
     decls: &Decls,
     procedure: Slot,
 ) -> Result<bool, MarkKind>
-    ensures { result ≡ fit_found (taken_of row) (kinds_of (items_in decls.now.items procedure.0) (plain_exprs arguments.now)) }
+    ensures { result ≡ fit_found (taken_of row)
+        (kinds_of (items_in decls.now.items procedure.0) (plain_exprs arguments.now)) }
 {
     let mut fits = true;
     for i in 0..arguments.len() {
@@ -91,18 +92,6 @@ fn fit_arguments(
         }
     }
     Ok(fits)
-}
-
-/// The first offence in a list of expressions, whose kinds are found one after the other.
-pub(crate) fn exprs_offence(exprs: &[Expr], decls: &Decls, procedure: Slot) -> Option<MarkKind>
-    ensures { result ≡ offence_in (kinds_of (items_in decls.now.items procedure.0) (plain_exprs exprs.now)) }
-{
-    for expr in exprs {
-        if let Err(offence) = kind_of(expr, decls, procedure) {
-            return Some(offence);
-        }
-    }
-    None
 }
 
 /// What is found in an expression where this kind is wanted: the kind, or else the offence.

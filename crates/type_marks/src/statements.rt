@@ -1,9 +1,9 @@
 //! Offences of phrases in statements, but for calls, and of lists of parameters.
 ghost use Rattle.std.specs.Prelude.{◌≡◌, count_by, map, bytes_eq};
 ghost use Rattle.plcs_base.specs.declared.value.Kind.{Kind};
-ghost use Rattle.plcs_grammar.specs.PlainPhrase.{plain_expr, plain_var_ref};
+ghost use Rattle.plcs_grammar.specs.PlainPhrase.{plain_expr, plain_exprs, plain_var_ref};
 ghost use Rattle.template_tree.specs.ProgramMaps.{items_in};
-ghost use Rattle.template_tree.specs.Verdict.{both_found, kind_of, name_kind, offence_in, parameter_offence, parameters_offence, reference_kind, references_offence, then_found, of_kind};
+ghost use Rattle.template_tree.specs.Verdict.{both_found, kind_of, kinds_of, name_kind, offence_in, parameter_offence, parameters_offence, reference_kind, references_offence, then_found, of_kind};
 
 use crate::kinds::{found_wanted, kind_of, reference_kind};
 use crate::names::{name_kind, scalar_named};
@@ -18,7 +18,9 @@ pub(crate) fn assignment_offence(
     decls: &Decls,
     procedure: Slot,
 ) -> Option<MarkKind>
-    ensures { result ≡ offence_in (both_found (reference_kind (items_in decls.now.items procedure.0) (plain_var_ref target.now)) (kind_of (items_in decls.now.items procedure.0) (plain_expr value.now)) of_kind) }
+    ensures { result ≡ offence_in (both_found
+        (reference_kind (items_in decls.now.items procedure.0) (plain_var_ref target.now))
+        (kind_of (items_in decls.now.items procedure.0) (plain_expr value.now)) of_kind) }
 {
     match reference_kind(target, decls, procedure) {
         Ok(kind) => offence_in(found_wanted(kind, kind_of(value, decls, procedure))),
@@ -33,14 +35,28 @@ pub(crate) fn expr_offence(
     decls: &Decls,
     procedure: Slot,
 ) -> Option<MarkKind>
-    ensures { result ≡ offence_in (then_found (kind_of (items_in decls.now.items procedure.0) (plain_expr expr.now)) (of_kind kind)) }
+    ensures { result ≡ offence_in (then_found (kind_of (items_in decls.now.items procedure.0) (plain_expr expr.now))
+        (of_kind kind)) }
 {
     offence_in(found_wanted(kind, kind_of(expr, decls, procedure)))
 }
 
+/// The first offence in a list of expressions, whose kinds are found one after the other.
+pub(crate) fn exprs_offence(exprs: &[Expr], decls: &Decls, procedure: Slot) -> Option<MarkKind>
+    ensures { result ≡ offence_in (kinds_of (items_in decls.now.items procedure.0) (plain_exprs exprs.now)) }
+{
+    for expr in exprs {
+        if let Err(offence) = kind_of(expr, decls, procedure) {
+            return Some(offence);
+        }
+    }
+    None
+}
+
 /// The first offence of a name that a loop statement counts with.
 pub(crate) fn counter_offence(name: &Name, decls: &Decls, procedure: Slot) -> Option<MarkKind>
-    ensures { result ≡ offence_in (then_found (name_kind (items_in decls.now.items procedure.0) name.now) (of_kind Kind.Fixed)) }
+    ensures { result ≡ offence_in (then_found (name_kind (items_in decls.now.items procedure.0) name.now)
+        (of_kind Kind.Fixed)) }
 {
     offence_in(found_wanted(Kind::Fixed, name_kind(decls, procedure, name)))
 }

@@ -16,10 +16,10 @@ ghost use Rattle.type_marks.specs.Private.MarksView.{known_surroundings};
 
 use crate::calls::{call_offence, procedure_offence};
 use crate::declared_items::declared_offence;
-use crate::kinds::exprs_offence;
 use crate::procedures::procedure_item_on;
 use crate::statements::{
-    assignment_offence, counter_offence, expr_offence, parameters_offence, references_offence,
+    assignment_offence, counter_offence, expr_offence, exprs_offence, parameters_offence,
+    references_offence,
 };
 use decl_table::Decls;
 use plcs_base::{Kind, MarkKind, PhraseAt, Slot, Work};
@@ -65,7 +65,8 @@ impl<W> Verdict<W> {
 pub fn check_phrase<W: Work>(tree: &Tree, decls: &Decls, at: PhraseAt, work: &mut W) -> Verdict<W>
     requires tree { IsTree tree.now }
     requires filled { is_some (get (Verdicts tree.now.items) at) ≡ true }
-    requires known { (procedure : PlainNode) (phrase : PlainPhrase) → Stands tree.now.items at procedure phrase → Knows decls.now tree.now.items procedure phrase }
+    requires known { (procedure : PlainNode) (phrase : PlainPhrase) → Stands tree.now.items at procedure phrase
+        → Knows decls.now tree.now.items procedure phrase }
     ensures verdict { get (Verdicts tree.now.items) at ≡ Some result }
     ensures counts { ChecksOne (W.counts work.old) (W.counts work.new) }
 {
@@ -124,7 +125,8 @@ fn phrase_offence(
     requires few { count procedure.now.inner < most_slots }
     requires known { Knows decls.now tree.now.items procedure.now (plain_phrase phrase.now) }
     requires listed { IsListIn procedure.now.inner slot.0 (plain_phrase phrase.now) }
-    ensures { result ≡ verdict (known_surroundings decls.now tree.now.items procedure.now slot.0) (plain_phrase phrase.now) }
+    ensures { result ≡ verdict (known_surroundings decls.now tree.now.items procedure.now slot.0)
+        (plain_phrase phrase.now) }
 {
     let own = procedure.slot();
     match phrase {
