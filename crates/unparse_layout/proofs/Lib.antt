@@ -1,3 +1,5 @@
+-- the value of the limit of a line
+mod Limits
 -- bounds that each push, sum and cast asks for: how many lines nodes have, and how many nodes there are
 pub mod Heights
 -- `lines_inside`, `height` and `plan`: the heights that a node of a layout in memory keeps

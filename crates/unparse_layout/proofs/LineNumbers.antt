@@ -90,11 +90,11 @@ one_stretch stretch = flat_map-cons (λ (s : Stretch). s.bytes) stretch [] ∙ a
 pub bare_table : (slot : ℕ) (kind : LineKind) (level : ℕ) (line : Option (List ℕ)) → map bare_line (table_line slot kind level line) ≡ fixed_line level line
 bare_table slot kind level None = refl
 bare_table slot kind level (Some bytes) =
-    ap (λ text. let l : Line = record { level = level; text = text } in l ∷ []) (one_stretch record { part = None; bytes = bytes })
+    ap (λ text. let l : Line = record { level = level; text = text } in l ∷ []) (one_stretch record { part = None; filled = false; bytes = bytes })
 
 pub bare_elision : (slot level : ℕ) → map bare_line (partless_line slot LineKind.Elision level (codes "...") ∷ []) ≡ elision_line level ∷ []
 bare_elision slot level =
-    ap (λ text. let l : Line = record { level = level; text = text } in l ∷ []) (one_stretch record { part = None; bytes = codes "..." })
+    ap (λ text. let l : Line = record { level = level; text = text } in l ∷ []) (one_stretch record { part = None; filled = false; bytes = codes "..." })
 
 -- the part of this number is the first of those from it on
 pub first_part : (category : Category) (parts : List (Option PlainPhrase)) (n : ℕ)
@@ -116,10 +116,10 @@ pub stretch_text : (n : ℕ) (segments : List PlainSegment) (parts : List (Optio
     → flat_map (λ (s : Stretch). s.bytes) (stretches_of n segments parts) ≡ segments_text segments (drop n parts)
 stretch_text n [] parts = refl
 stretch_text n (PlainSegment.words bytes ∷ segments) parts =
-    flat_map-cons (λ (s : Stretch). s.bytes) record { part = None; bytes = bytes } (stretches_of n segments parts)
+    flat_map-cons (λ (s : Stretch). s.bytes) record { part = None; filled = false; bytes = bytes } (stretches_of n segments parts)
     ∙ ap (λ z. bytes ++ z) (stretch_text n segments parts)
 stretch_text n (PlainSegment.part category ∷ segments) parts =
-    flat_map-cons (λ (s : Stretch). s.bytes) record { part = Some n; bytes = part_text category (part_at parts n) } (stretches_of (n + 1) segments parts)
+    flat_map-cons (λ (s : Stretch). s.bytes) record { part = Some n; filled = is_some (part_at parts n); bytes = part_text category (part_at parts n) } (stretches_of (n + 1) segments parts)
     ∙ ap (λ z. part_text category (part_at parts n) ++ z)
     (stretch_text (n + 1) segments parts ∙ ap (λ k. segments_text segments (drop k parts)) (add-one n))
     ∙ ap (λ z. z ++ segments_text segments (drop (suc n) parts)) (sym (first_part category parts n))

@@ -1,5 +1,5 @@
 -- The line on which a stop is listed: each listed stop stands on the line before which the lines of its path stand.
-use Rattle.std.specs.Prelude.{◌≡◌, refl, ℕ, suc, ◌+◌, ◌<◌, Bool, true, false, ◌&&◌, nat_eq, if◌then◌else◌, List, [], ◌∷◌, ◌++◌, length, map, flat_map, All, Option, Some, None, is_some}
+use Rattle.std.specs.Prelude.{◌≡◌, refl, ℕ, suc, ◌+◌, ◌<◌, Bool, true, false, ◌&&◌, nat_eq, if◌then◌else◌, List, [], ◌∷◌, ◌++◌, length, map, flat_map, All, Option, Some, None, IsSomeAnd, is_some}
 use Rattle.std.specs.List.{range_with_len}
 use Rattle.std.specs.Option.{option_eq, option_map_or}
 use Rattle.std.specs.Str.{bytes_eq}
@@ -13,7 +13,7 @@ use Rattle.template_tree.specs.PlainTree.{Forest, Label, PlainNode}
 use Rattle.template_tree.specs.Program.{sort_of}
 use Rattle.template_tree.specs.Section.{left_for, left_after, next_lead}
 use Rattle.template_tree.specs.Line.{fixed_line, lines}
-use Rattle.template_tree.specs.Stop.{IsStop, PlainStop, VisibleNode, VisibleStop, inside, line_at, listed_stop, part_stops, same_stop, stops_of, visible_nodes}
+use Rattle.template_tree.specs.Stop.{IsStop, MayStand, PlainStop, VisibleNode, VisibleStop, inside, line_at, listed_stop, part_stops, same_stop, stops_of, visible_at, visible_nodes}
 use Rattle.unparse_layout.specs.Bones.{Bone, PlainLayout, bones_of}
 use Rattle.unparse_layout.specs.Private.PlainNodeLayout.{node_layout_of}
 use Rattle.unparse_layout.specs.Private.Height.{height, heights}
@@ -190,6 +190,14 @@ found_line (listed ∷ before) behind stop line h =
 pub record IsLineOf (items : Forest) (stop : PlainStop) (line : ℕ) : Type 0 where
   pub is : line ≡ line_at items stop
   pub within : line < heights (bones_of program_sections items)
+
+-- a stop has a path
+pub path_of_stop : (items : Forest) (stop : PlainStop) → length stop.path ≡ 0 → IsStop items stop → ⊥
+path_of_stop items stop = by_path stop.path
+  where
+    by_path : (path : List ℕ) → length path ≡ 0 → IsSomeAnd (visible_at items path) (λ node. MayStand stop.part node.label.kind) → ⊥
+    by_path [] empty is = is
+    by_path (k ∷ rest) empty is = absurd (omega (arith, empty))
 
 pub line_of_stop : (items : Forest) (stop : PlainStop) (k : ℕ) (rest : List ℕ) → stop.path ≡ k ∷ rest → IsStop items stop
     → IsLineOf items stop (lines_before (bones_of program_sections items) k rest)

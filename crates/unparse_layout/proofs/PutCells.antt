@@ -201,8 +201,8 @@ pub fixed_cells : (marks : MarkMap) (slot : ℕ) (kind : LineKind) (level : ℕ)
     → laid_line marks (partless_line slot kind level bytes)
     ≡ laid_of slot kind (take longest_line (replicate (2 * level) 32 ++ bytes))
 fixed_cells marks slot kind level bytes =
-    let e : flat_map (stretch_cells marks slot) (record { part = None; bytes = bytes } ∷ []) ≡ bytes =
-    flat_map-cons (stretch_cells marks slot) record { part = None; bytes = bytes } [] ∙ append-nil (map (screen_cell false) bytes) ∙ plain_cells bytes in
+    let e : flat_map (stretch_cells marks slot) (record { part = None; filled = false; bytes = bytes } ∷ []) ≡ bytes =
+    flat_map-cons (stretch_cells marks slot) record { part = None; filled = false; bytes = bytes } [] ∙ append-nil (map (screen_cell false) bytes) ∙ plain_cells bytes in
     λ i. laid_of slot kind (take longest_line (replicate (2 * level) 32 ++ e i))
 
 -- the line is the same where its cells are

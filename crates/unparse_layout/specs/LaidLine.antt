@@ -1,5 +1,5 @@
 -- Lines of the screen as cells.
-use Rattle.std.specs.Prelude.{ℕ, ◌+◌, ◌*◌, Bool, true, false, List, ◌++◌, map, flat_map, take, replicate, Option, Some, None, is_some}
+use Rattle.std.specs.Prelude.{ℕ, ◌+◌, ◌*◌, Bool, true, false, ◌&&◌, List, ◌++◌, map, flat_map, take, replicate, Option, Some, None, is_some}
 use Rattle.std.specs.FinMap.{get}
 use Rattle.plcs_base.specs.Mark.{MarkMap}
 use Rattle.template_tree.specs.PlainTree.{Forest}
@@ -11,19 +11,23 @@ use Rattle.unparse_layout.specs.OwnedLine.{Stretch, OwnedLine, OwnedLines}
 abbrev pub longest_line : ℕ
 longest_line = LONGEST_LINE
 
--- the cell of a byte in a line that is laid, in negative image or not
+-- a byte as a cell of the screen: in negative image 256 more than the byte
 abbrev pub screen_cell : Bool → ℕ → ℕ
 screen_cell false byte = byte
 screen_cell true byte = byte + 256
 
--- whether a stretch is marked, of a line that belongs to the slot: it stands in a part that has a mark
-abbrev pub is_marked : MarkMap → ℕ → Option ℕ → Bool
-is_marked marks slot None = false
-is_marked marks slot (Some part) = is_some (get marks record { slot = record { 0 = slot }; part = part })
+-- whether the part of the node in a slot, if it is one, has a mark
+abbrev pub has_mark : MarkMap → ℕ → Option ℕ → Bool
+has_mark marks slot None = false
+has_mark marks slot (Some part) = is_some (get marks record { slot = record { 0 = slot }; part = part })
+
+-- whether a stretch is marked, of a line that belongs to the slot: it is a phrase, in a part that has a mark
+abbrev pub is_marked : MarkMap → ℕ → Stretch → Bool
+is_marked marks slot stretch = stretch.filled && has_mark marks slot stretch.part
 
 -- the cells of a stretch of a line that belongs to the slot
 abbrev pub stretch_cells : MarkMap → ℕ → Stretch → List ℕ
-stretch_cells marks slot stretch = map (screen_cell (is_marked marks slot stretch.part)) stretch.bytes
+stretch_cells marks slot stretch = map (screen_cell (is_marked marks slot stretch)) stretch.bytes
 
 -- the cells of a line, as many as a line may have: two blanks for each level, and what is written
 abbrev pub line_cells : MarkMap → OwnedLine → List ℕ

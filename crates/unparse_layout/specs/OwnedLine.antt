@@ -1,5 +1,5 @@
 -- The lines of the screen, each with the node to which it belongs.
-use Rattle.std.specs.Prelude.{◌≡◌, ℕ, ◌+◌, ◌-◌, if◌then◌else◌, List, [], ◌∷◌, ◌++◌, map, flat_map, codes, Option, Some, None}
+use Rattle.std.specs.Prelude.{◌≡◌, ℕ, ◌+◌, ◌-◌, Bool, false, if◌then◌else◌, List, [], ◌∷◌, ◌++◌, map, flat_map, codes, Option, Some, None, is_some}
 use Rattle.plcs_grammar.specs.PlainPhrase.{PlainPhrase}
 use Rattle.plcs_grammar.specs.Template.{PlainSegment, PlainSection, row_of, program_sections}
 use Rattle.template_tree.specs.Part.{part_at}
@@ -9,9 +9,11 @@ use Rattle.template_tree.specs.Section.{left_for, left_after, next_lead}
 use Rattle.template_tree.specs.Line.{Line, Lines, part_text}
 use Rattle.unparse_layout.specs.declared.line.LineKind.{LineKind}
 
--- a stretch of a line of the screen: some bytes, and in which part of the node they stand, if in one
+-- a stretch of a line of the screen: some bytes, in which part of the node they stand, if in one, and whether they are
+-- those of a phrase
 pub record Stretch : Type 0 where
   pub part : Option ℕ
+  pub filled : Bool
   pub bytes : List ℕ
 
 -- a line of the screen: the slot of the node to which it belongs, which of the node's lines it is, its level, and what
@@ -24,8 +26,9 @@ pub record OwnedLine : Type 0 where
 
 -- the stretch of a line that is written for a segment of it, where the next part has this number
 abbrev pub stretch_of : (next : ℕ) → PlainSegment → List (Option PlainPhrase) → Stretch
-stretch_of next (PlainSegment.words bytes) parts = record { part = None; bytes = bytes }
-stretch_of next (PlainSegment.part category) parts = record { part = Some next; bytes = part_text category (part_at parts next) }
+stretch_of next (PlainSegment.words bytes) parts = record { part = None; filled = false; bytes = bytes }
+stretch_of next (PlainSegment.part category) parts =
+    record { part = Some next; filled = is_some (part_at parts next); bytes = part_text category (part_at parts next) }
 
 -- the number of the next part behind the stretch of a segment
 abbrev pub next_after : ℕ → PlainSegment → ℕ
@@ -40,7 +43,7 @@ stretches_of next (segment ∷ segments) parts = stretch_of next segment parts �
 -- a line of the screen that belongs to a node, and in which no part stands
 abbrev pub partless_line : ℕ → LineKind → ℕ → List ℕ → OwnedLine
 partless_line slot kind level bytes =
-    record { slot = slot; kind = kind; level = level; stretches = record { part = None; bytes = bytes } ∷ [] }
+    record { slot = slot; kind = kind; level = level; stretches = record { part = None; filled = false; bytes = bytes } ∷ [] }
 
 -- a line of the screen that belongs to a node, and that the table of templates has as it stands, or none where it has
 -- none

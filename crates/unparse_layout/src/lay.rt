@@ -1,25 +1,20 @@
 //! Lines laid as cells.
-ghost use Rattle.std.specs.Prelude.{◌≡◌, ◌+◌, ◌*◌, ◌≤◌, ◌<◌, [], false, flat_map, length, map, option_and_then, option_map, replicate, take, ◌++◌};
-ghost use Rattle.plcs_base.specs.Put.{PutsAll};
-ghost use Rattle.plcs_grammar.specs.Template.{plain_segment, row_of};
+ghost use Rattle.std.specs.Prelude.{◌≡◌, ◌*◌, ◌≤◌, ◌<◌, false, flat_map, length, option_map, replicate, take, ◌++◌};
+ghost use Rattle.plcs_grammar.specs.PlainPhrase.{plain_phrase};
+ghost use Rattle.plcs_grammar.specs.Template.{PlainSegment, plain_segment, row_of};
 ghost use Rattle.template_tree.specs.Limit.{deepest_path};
-ghost use Rattle.template_tree.specs.Line.{part_text};
-ghost use Rattle.template_tree.specs.PlainPhrasePlace.{plain_phrase_place};
-ghost use Rattle.unparse_layout.specs.LaidLine.{screen_cell, laid_line, longest_line, stretch_cells};
+ghost use Rattle.unparse_layout.specs.LaidLine.{laid_line, longest_line, stretch_cells};
 ghost use Rattle.template_tree.specs.Part.{part_at};
 ghost use Rattle.unparse_layout.specs.OwnedLine.{first_line, next_after, stretch_of, stretches_of};
 ghost use Rattle.unparse_layout.specs.Private.Cells.{PutsAside};
 ghost use Rattle.unparse_layout.specs.Private.PlainPlan.{planned};
 
-use crate::line::{LONGEST_LINE, Line, LineKind};
+use crate::line::{LONGEST_LINE, Line, LineKind, screen_cell};
 use crate::plan::Plan;
 use arrayvec::ArrayVec;
 use plcs_base::{ByteOut, Marked, PhraseAt, Slot, put_bytes};
-use plcs_grammar::{Category, Segment, show};
+use plcs_grammar::{Category, Phrase, Segment, show};
 use template_tree::{Node, PhrasePlace};
-
-/// What is added to a byte in negative image.
-const NEGATIVE: u16 = 256;
 
 /// Lays as cells a line that was found, under these marks.
 pub(crate) fn lay<W, M: Marked>(plan: &Plan, marks: &M) -> Line<W>
@@ -33,7 +28,8 @@ pub(crate) fn lay<W, M: Marked>(plan: &Plan, marks: &M) -> Line<W>
 
 /// Lays as cells a line in which no part stands.
 fn lay_fixed<W>(slot: Slot, kind: LineKind, level: u32, bytes: &[u8]) -> Line<W>
-    ensures { result ≡ record { slot = slot.0; kind = kind; cells = take longest_line (replicate (2 * level) 32 ++ bytes.now) } }
+    ensures { result
+        ≡ record { slot = slot.0; kind = kind; cells = take longest_line (replicate (2 * level) 32 ++ bytes.now) } }
 {
     let mut out = CellsOut {
         cells: ArrayVec::new(),
@@ -72,7 +68,10 @@ fn put_blanks(level: u32, out: &mut CellsOut)
 fn put_first<M: Marked>(node: &Node, marks: &M, out: &mut CellsOut)
     requires plain { out.old.negative ≡ false }
     requires short { length out.old.cells.items ≤ longest_line }
-    ensures { PutsAside out.old (flat_map (stretch_cells (M.marks marks.now) node.now.label.slot) (stretches_of 0 (row_of node.now.label.kind).line node.now.label.parts)) out.new }
+    ensures { PutsAside out.old
+        (flat_map (stretch_cells (M.marks marks.now) node.now.label.slot)
+        (stretches_of 0 (row_of node.now.label.kind).line node.now.label.parts))
+        out.new }
 {
     let mut part = 0;
     for segment in node.kind().row().line {
@@ -92,7 +91,10 @@ fn put_segment<M: Marked>(
     requires few { part < 255 }
     requires plain { out.old.negative ≡ false }
     requires short { length out.old.cells.items ≤ longest_line }
-    ensures put { PutsAside out.old (stretch_cells (M.marks marks.now) node.now.label.slot (stretch_of part (plain_segment segment) node.now.label.parts)) out.new }
+    ensures put { PutsAside out.old
+        (stretch_cells (M.marks marks.now) node.now.label.slot
+        (stretch_of part (plain_segment segment) node.now.label.parts))
+        out.new }
     ensures next { result ≡ next_after part (plain_segment segment) }
 {
     match segment {
@@ -107,39 +109,37 @@ fn put_segment<M: Marked>(
     }
 }
 
-/// Puts the cells of what stands in a part, in negative image where it is marked.
+/// Puts the cells of what stands in a part: its phrase, in negative image where it is marked, or the
+/// placeholder of the category.
 fn put_part<M: Marked>(category: Category, node: &Node, part: u8, marks: &M, out: &mut CellsOut)
+    requires plain { out.old.negative ≡ false }
     requires short { length out.old.cells.items ≤ longest_line }
-    ensures { PutsAside out.old (stretch_cells (M.marks marks.now) node.now.label.slot (record { part = Some part; bytes = part_text category (part_at node.now.label.parts part) })) out.new }
+    ensures { PutsAside out.old
+        (stretch_cells (M.marks marks.now) node.now.label.slot
+        (stretch_of part (PlainSegment.part category) node.now.label.parts))
+        out.new }
 {
+    let Some(phrase) = phrase_in(node, part) else {
+        put_bytes(category.placeholder(), out);
+        return;
+    };
     let at = PhraseAt {
         slot: node.slot(),
         part,
     };
     out.negative = marks.mark(at).is_some();
-    put_phrase_place(category, node.part(part), out);
+    show(phrase, out);
     out.negative = false;
 }
 
-/// Puts the phrase that stands in a part of the line that is laid, or the placeholder of its category,
-/// also where the node has no such part.
-fn put_phrase_place<O: ByteOut>(category: Category, place: Option<&PhrasePlace>, out: &mut O)
-    ensures { PutsAll O.puts out.old (part_text category (option_and_then (λ phrase. phrase) (option_map (λ place. plain_phrase_place place.now) place.entry))) out.new }
+/// The phrase that a line shows of the part of this number of a node, or `None` where that is empty or
+/// the node has no such part.
+fn phrase_in(node: &Node, part: u8) -> Option<&Phrase>
+    ensures { option_map (λ phrase. plain_phrase phrase.now) result ≡ part_at node.now.label.parts part }
 {
-    match place {
-        Some(place) => put_filled(category, place, out),
-        None => put_bytes(category.placeholder(), out),
-    }
-}
-
-/// Puts the phrase that stands in this place in the line that is laid, or the placeholder of the category
-/// where the place is empty.
-fn put_filled<O: ByteOut>(category: Category, place: &PhrasePlace, out: &mut O)
-    ensures { PutsAll O.puts out.old (part_text category (plain_phrase_place place.now)) out.new }
-{
-    match place {
-        PhrasePlace::Filled(phrase) => show(phrase, out),
-        PhrasePlace::Empty => put_bytes(category.placeholder(), out),
+    match node.part(part) {
+        Some(PhrasePlace::Filled(phrase)) => Some(phrase),
+        _ => None,
     }
 }
 
@@ -159,14 +159,4 @@ impl ByteOut for CellsOut {
         let cell = screen_cell(self.negative, byte);
         if let Err(_) = self.cells.try_push(cell) {}
     }
-}
-
-/// The cell of a byte in a line that is laid, in negative image or not.
-fn screen_cell(negative: bool, byte: u8) -> u16
-    ensures { result ≡ screen_cell negative byte }
-{
-    if negative {
-        return u16::from(byte) + NEGATIVE;
-    }
-    u16::from(byte)
 }

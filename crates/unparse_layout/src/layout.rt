@@ -1,6 +1,6 @@
 //! Layouts of trees.
 ghost use Rattle.std.specs.Prelude.{◌≡◌, ◌≤◌, ◌*◌, length, slice_get};
-ghost use Rattle.plcs_base.specs.Count.{raised};
+ghost use Rattle.plcs_base.specs.PlainCounts.{LaysOne};
 ghost use Rattle.template_tree.specs.Limit.{most_slots};
 ghost use Rattle.template_tree.specs.Line.{Lines};
 ghost use Rattle.template_tree.specs.PlainTree.{PlainTree, roomless_tree};
@@ -51,10 +51,7 @@ impl<W: Work> Layout<W> {
         requires tree { IsTree tree.now }
         requires agrees { IsLayoutOf self.now tree.now }
         ensures line { result ≡ slice_get (LaidLines (M.marks marks.now) (roomless_tree tree.now).items) k }
-        ensures laid { W.laid work.new ≡ raised (W.laid work.old) }
-        ensures emitted { W.emitted work.new ≡ W.emitted work.old }
-        ensures checked { W.checked work.new ≡ W.checked work.old }
-        ensures fetched { W.fetched work.new ≡ W.fetched work.old }
+        ensures counts { LaysOne (W.counts work.old) (W.counts work.new) }
     {
         work.laid();
         let Some(plan) = self.root.plan_of(tree, k) else {

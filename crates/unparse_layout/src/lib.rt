@@ -12,5 +12,5 @@ mod node_layout;
 mod plan;
 
 pub use layout::Layout;
-pub use line::{LONGEST_LINE, Line, LineKind};
+pub use line::{LONGEST_LINE, Line, LineKind, screen_cell};
 pub use line_laws::{layouts_ignore_room, owned_lines_are_lines};

@@ -1,6 +1,6 @@
 //! Lines of the screen.
 ghost use Rattle.std.specs.Prelude.{◌≡◌, ◌≤◌, length};
-ghost use Rattle.unparse_layout.specs.LaidLine.{longest_line};
+ghost use Rattle.unparse_layout.specs.LaidLine.{longest_line, screen_cell};
 
 use arrayvec::ArrayVec;
 use plcs_base::Slot;
@@ -8,6 +8,9 @@ use std::marker::{Model, PhantomData};
 
 /// How many cells a line may have: what goes beyond is cut.
 pub const LONGEST_LINE: usize = 158;
+
+/// What is added to a byte in negative image.
+const NEGATIVE: u16 = 256;
 
 /// Which of a node's lines a line of the screen is.
 #[derive(Clone, Copy, Debug, PartialEq, Eq)]
@@ -76,4 +79,14 @@ impl<W> Line<W> {
     {
         self.kind
     }
+}
+
+/// A byte as a cell of the screen, in negative image or not.
+pub fn screen_cell(negative: bool, byte: u8) -> u16
+    ensures { result ≡ screen_cell negative byte }
+{
+    if negative {
+        return u16::from(byte) + NEGATIVE;
+    }
+    u16::from(byte)
 }

@@ -25,7 +25,7 @@ impl<W: Work> Layout<W> {
         ensures few { result < 4 * most_slots }
     {
         let Some((k, rest)) = stop.path.split_first() else {
-            return 0;
+            unreachable!()
         };
         self.root.lines_before(*k as usize, rest)
     }

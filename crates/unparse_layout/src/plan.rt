@@ -82,7 +82,11 @@ impl NodeLayout {
     /// Finds the line of this number behind the first one, in a node whose refinement is elided.
     fn elided_plan<'a>(&self, level: u32, below: u32) -> Option<Plan<'a>>
         requires { level < deepest_path }
-        ensures { option_map planned result ≡ slice_get (partless_line self.now.bone.slot LineKind.Elision (level + 1) (codes "...") ∷ table_line self.now.bone.slot LineKind.Last level (row_of self.now.bone.kind).last) below }
+        ensures { option_map planned result
+            ≡ slice_get
+            (partless_line self.now.bone.slot LineKind.Elision (level + 1) (codes "...")
+            ∷ table_line self.now.bone.slot LineKind.Last level (row_of self.now.bone.kind).last)
+            below }
     {
         if below == 0 {
             return fixed(self.slot, LineKind::Elision, level + 1, Some(b"..."));
@@ -92,7 +96,8 @@ impl NodeLayout {
 
     /// Finds the line of this number behind what stands inside the node.
     fn last_plan<'a>(&self, level: u32, behind: u32) -> Option<Plan<'a>>
-        ensures { option_map planned result ≡ slice_get (table_line self.now.bone.slot LineKind.Last level (row_of self.now.bone.kind).last) behind }
+        ensures { option_map planned result
+            ≡ slice_get (table_line self.now.bone.slot LineKind.Last level (row_of self.now.bone.kind).last) behind }
     {
         if behind > 0 {
             return None;
@@ -103,7 +108,8 @@ impl NodeLayout {
 
 /// A line of the table of templates as one that is found but not laid, if the table has it.
 fn fixed<'a>(slot: Slot, kind: LineKind, level: u32, line: Option<&'a [u8]>) -> Option<Plan<'a>>
-    ensures { option_map planned result ≡ slice_get (table_line slot.0 kind level (option_map (λ bytes. bytes.now) line.entry)) 0 }
+    ensures { option_map planned result
+        ≡ slice_get (table_line slot.0 kind level (option_map (λ bytes. bytes.now) line.entry)) 0 }
 {
     let Some(bytes) = line else {
         return None;

@@ -1,4 +1,4 @@
-use Rattle.std.specs.Prelude.{◌≡◌}
+use Rattle.std.specs.Prelude.{◌≡◌, length}
 use Rattle.std.proofs.Common.{arith, ap, sym, ◌∙◌}
 use Rattle.plcs_grammar.specs.Template.{program_sections}
 use Rattle.template_tree.specs.PlainTree.{roomless}
@@ -7,10 +7,15 @@ use Rattle.unparse_layout.specs.Bones.{PlainLayout, bones_of}
 use Rattle.unparse_layout.specs.Private.Height.{bone_count}
 use Rattle.unparse_layout.specs.Private.ItemLines.{lines_before}
 use Rattle.unparse_layout.proofs.Heights.{count_bones, heights_le}
-use Rattle.unparse_layout.proofs.ListedLines.{line_of_stop}
+use Rattle.unparse_layout.proofs.ListedLines.{line_of_stop, path_of_stop}
 use Rattle.unparse_layout.proofs.RoomlessLines.{bones_roomless}
 use Rattle.unparse_layout.proofs.StopLines.{shown_length}
 use Rattle.unparse_layout.proofs.layout.Layout.line_of.Goals as goal
+
+-- a stop has a path
+pub unreachable-requires : goal.unreachable-requires
+unreachable-requires g c =
+    path_of_stop (roomless c.args.tree.now.items) (plain_stop c.args.stop.now) (ap length (sym c.deref.ensures.0) ∙ c.in_default.ensures.cases) c.requires.stop
 
 pub lines_before-requires : goal.lines_before-requires
 lines_before-requires g c =

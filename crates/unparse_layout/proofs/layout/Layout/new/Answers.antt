@@ -1,3 +1,5 @@
+-- After each item the nodes made so far, with those that are still to be made for the items left, are the layout of the
+-- whole program; where there is no item left they are all of it.
 use Rattle.std.specs.Prelude.{◌≡◌, Some, None, is_some, slice_get}
 use Rattle.std.proofs.Common.{arith, ap, sym, ◌∙◌}
 use Rattle.std.proofs.lemmas.Option.{slice_get_within}
