@@ -29,8 +29,10 @@ pub record IsApplied (outcome : Edited) (before after : PlainTree) (applied : Ap
 abbrev pub takes_memory : PlainEdit → PlainStop → Bool
 takes_memory (PlainEdit.fill template) stop = true
 takes_memory (PlainEdit.enter phrase) stop = is_none stop.part
+takes_memory (PlainEdit.insert fragment) stop = false
+takes_memory PlainEdit.delete stop = false
+takes_memory PlainEdit.take stop = false
 takes_memory (PlainEdit.beside side) stop = true
-takes_memory other stop = false
 
 -- whether an edit is made, and not refused
 abbrev pub is_made : Edited → Bool

@@ -17,9 +17,12 @@ use Rattle.template_tree.specs.Stop.{PlainStop}
 
 -- whether an assignment is typed at nodes of the kind
 abbrev pub is_typed : NodeKind → Bool
+is_typed NodeKind.DeclarationHole = false
 is_typed NodeKind.StatementHole = true
+is_typed NodeKind.ProcedureHole = false
+is_typed NodeKind.Main = false
 is_typed NodeKind.Assign = true
-is_typed other = false
+is_typed (NodeKind.Filled template) = false
 
 -- the category that phrase text has at a part of a node of the kind, or at the node itself: there it is an assignment
 abbrev pub category_in : Option ℕ → NodeKind → Option Category

@@ -29,6 +29,9 @@ plain_edit (Edit.Beside side) = PlainEdit.beside side
 
 -- the phrase or fragment that an edit brings may stand in a program
 abbrev pub BringsWhatMayStand : Edit → Type 0
+BringsWhatMayStand (Edit.Fill template) = Unit {0}
 BringsWhatMayStand (Edit.Enter phrase) = IsPhrasePlace (Some (plain_phrase phrase))
 BringsWhatMayStand (Edit.Insert fragment) = IsFragment (plain_fragment fragment)
-BringsWhatMayStand other = Unit {0}
+BringsWhatMayStand Edit.Delete = Unit {0}
+BringsWhatMayStand Edit.Take = Unit {0}
+BringsWhatMayStand (Edit.Beside side) = Unit {0}

@@ -61,7 +61,9 @@ abbrev pub is_hole : NodeKind → Bool
 is_hole NodeKind.DeclarationHole = true
 is_hole NodeKind.StatementHole = true
 is_hole NodeKind.ProcedureHole = true
-is_hole other = false
+is_hole NodeKind.Main = false
+is_hole NodeKind.Assign = false
+is_hole (NodeKind.Filled template) = false
 
 -- the kind of the hole that stays where a node of the kind is taken out; main isn't taken out, and neither is a hole
 abbrev pub hole_left : NodeKind → Option NodeKind

@@ -2,19 +2,36 @@
 use Rattle.std.specs.Prelude.{ℕ, Bool, true, false, not, if◌then◌else◌, List, [], ◌∷◌, Option, Some, None}
 use Rattle.plcs_grammar.specs.declared.node_kind.NodeKind.{NodeKind}
 use Rattle.plcs_grammar.specs.declared.template.Template.{Template}
-use Rattle.plcs_grammar.specs.declared.template.Template.TheVariants.{Comment}
 use Rattle.template_tree.specs.PlainTree.{PlainNode, PlainTree}
 use Rattle.template_tree.specs.Edit.{edit_at}
 
 -- whether the template is a comment, so that its refinement can be hidden
 abbrev pub is_comment_template : Template → Bool
-is_comment_template Comment = true
-is_comment_template other = false
+is_comment_template Template.Fixed = false
+is_comment_template Template.Bit = false
+is_comment_template Template.Char = false
+is_comment_template Template.If = false
+is_comment_template Template.IfElse = false
+is_comment_template Template.While = false
+is_comment_template Template.For = false
+is_comment_template Template.Group = false
+is_comment_template Template.Get = false
+is_comment_template Template.Put = false
+is_comment_template Template.PutSkip = false
+is_comment_template Template.Call = false
+is_comment_template Template.Return = false
+is_comment_template Template.Comment = true
+is_comment_template Template.Proc = false
+is_comment_template Template.ProcP = false
 
 -- whether nodes of the kind are comments, so that their refinements can be hidden
 abbrev pub is_comment : NodeKind → Bool
+is_comment NodeKind.DeclarationHole = false
+is_comment NodeKind.StatementHole = false
+is_comment NodeKind.ProcedureHole = false
+is_comment NodeKind.Main = false
+is_comment NodeKind.Assign = false
 is_comment (NodeKind.Filled template) = is_comment_template template
-is_comment other = false
 
 -- whether a comment is hidden once it is turned; nothing else can be turned
 abbrev pub hidden_after_toggle : PlainNode → Option Bool

@@ -42,12 +42,28 @@ abbrev pub template_type : Template → List (Option PlainPhrase) → Option Ite
 template_type Template.Fixed parts = Some ItemType.Fixed
 template_type Template.Bit parts = Some ItemType.Bit
 template_type Template.Char parts = option_map ItemType.Text (length_given parts)
-template_type other parts = None
+template_type Template.If parts = None
+template_type Template.IfElse parts = None
+template_type Template.While parts = None
+template_type Template.For parts = None
+template_type Template.Group parts = None
+template_type Template.Get parts = None
+template_type Template.Put parts = None
+template_type Template.PutSkip parts = None
+template_type Template.Call parts = None
+template_type Template.Return parts = None
+template_type Template.Comment parts = None
+template_type Template.Proc parts = None
+template_type Template.ProcP parts = None
 
 -- the type that a node of the kind gives to the names that it declares, if it gives one: what is no declaration gives none
 abbrev pub type_given : NodeKind → List (Option PlainPhrase) → Option ItemType
+type_given NodeKind.DeclarationHole parts = None
+type_given NodeKind.StatementHole parts = None
+type_given NodeKind.ProcedureHole parts = None
+type_given NodeKind.Main parts = None
+type_given NodeKind.Assign parts = None
 type_given (NodeKind.Filled template) parts = template_type template parts
-type_given other parts = None
 
 -- an item with the type that its declaration gives; a scalar has the size 0
 abbrev pub declared_as : ItemType → Item → Declared
@@ -145,14 +161,31 @@ heading_with (Some name) (Some parameters) = Some record { name = name; paramete
 
 -- the heading of a procedure by the template, if all its parts are filled
 abbrev pub template_heading : Template → List (Option PlainPhrase) → Option Heading
+template_heading Template.Fixed parts = None
+template_heading Template.Bit parts = None
+template_heading Template.Char parts = None
+template_heading Template.If parts = None
+template_heading Template.IfElse parts = None
+template_heading Template.While parts = None
+template_heading Template.For parts = None
+template_heading Template.Group parts = None
+template_heading Template.Get parts = None
+template_heading Template.Put parts = None
+template_heading Template.PutSkip parts = None
+template_heading Template.Call parts = None
+template_heading Template.Return parts = None
+template_heading Template.Comment parts = None
 template_heading Template.Proc parts = heading_with (name_given parts) (Some [])
 template_heading Template.ProcP parts = heading_with (name_given parts) (parameters_given parts)
-template_heading other parts = None
 
 -- the heading of a node of the kind, if it is a procedure's and all its parts are filled
 abbrev pub heading_of : NodeKind → List (Option PlainPhrase) → Option Heading
+heading_of NodeKind.DeclarationHole parts = None
+heading_of NodeKind.StatementHole parts = None
+heading_of NodeKind.ProcedureHole parts = None
+heading_of NodeKind.Main parts = None
+heading_of NodeKind.Assign parts = None
 heading_of (NodeKind.Filled template) parts = template_heading template parts
-heading_of other parts = None
 
 -- whether a procedure of the name may be called: the name is neither reserved nor that of main
 abbrev pub may_be_called : List ℕ → Bool

@@ -3,9 +3,7 @@ use Rattle.std.specs.Prelude.{ℕ, Bool, true, false, not, ◌&&◌, ◌||◌, n
 use Rattle.std.specs.Option.{option_or}
 use Rattle.plcs_grammar.specs.declared.node_kind.NodeKind.{NodeKind}
 use Rattle.plcs_grammar.specs.declared.node_kind.Sort.{Sort}
-use Rattle.plcs_grammar.specs.declared.node_kind.Sort.TheVariants.{Statement}
 use Rattle.plcs_grammar.specs.declared.template.Template.{Template}
-use Rattle.plcs_grammar.specs.declared.template.Template.TheVariants.{While, For, Group, Get, Call, Comment, Proc, ProcP}
 use Rattle.plcs_grammar.specs.PlainPhrase.{PlainPhrase}
 use Rattle.plcs_grammar.specs.Template.{PlainSection, row_of}
 use Rattle.template_tree.specs.ListItem.{is_list}
@@ -24,17 +22,31 @@ place_at slot point = record { slot = slot; point = point }
 -- where a run goes on once what stands inside a template is done, if not where it goes on behind the template itself:
 -- a While tests again, a For takes its next turn, and a procedure is left
 abbrev pub template_end : Template → Option ℕ
-template_end While = Some 0
-template_end For = Some 1
-template_end Proc = Some 1
-template_end ProcP = Some 1
-template_end other = None
+template_end Template.Fixed = None
+template_end Template.Bit = None
+template_end Template.Char = None
+template_end Template.If = None
+template_end Template.IfElse = None
+template_end Template.While = Some 0
+template_end Template.For = Some 1
+template_end Template.Group = None
+template_end Template.Get = None
+template_end Template.Put = None
+template_end Template.PutSkip = None
+template_end Template.Call = None
+template_end Template.Return = None
+template_end Template.Comment = None
+template_end Template.Proc = Some 1
+template_end Template.ProcP = Some 1
 
 -- where a run goes on once what stands inside a node of the kind is done, if not where it goes on behind the node itself
 abbrev pub inner_end : NodeKind → Option ℕ
+inner_end NodeKind.DeclarationHole = None
+inner_end NodeKind.StatementHole = None
+inner_end NodeKind.ProcedureHole = None
 inner_end NodeKind.Main = Some 1
+inner_end NodeKind.Assign = None
 inner_end (NodeKind.Filled template) = template_end template
-inner_end other = None
 
 -- the place where a run goes on once what stands inside the node in a slot is done: this point of it, or else behind it
 abbrev pub end_at : ℕ → Option ℕ → PlainPlace → PlainPlace
@@ -43,19 +55,38 @@ end_at slot (Some point) behind = place_at slot point
 
 -- whether a run that comes to the template goes to its first item at once: a group, or a comment
 abbrev pub passes_in_template : Template → Bool
-passes_in_template Group = true
-passes_in_template Comment = true
-passes_in_template other = false
+passes_in_template Template.Fixed = false
+passes_in_template Template.Bit = false
+passes_in_template Template.Char = false
+passes_in_template Template.If = false
+passes_in_template Template.IfElse = false
+passes_in_template Template.While = false
+passes_in_template Template.For = false
+passes_in_template Template.Group = true
+passes_in_template Template.Get = false
+passes_in_template Template.Put = false
+passes_in_template Template.PutSkip = false
+passes_in_template Template.Call = false
+passes_in_template Template.Return = false
+passes_in_template Template.Comment = true
+passes_in_template Template.Proc = false
+passes_in_template Template.ProcP = false
 
 -- whether a run that comes to a node of the kind goes to its first item at once
 abbrev pub passes_in : NodeKind → Bool
+passes_in NodeKind.DeclarationHole = false
+passes_in NodeKind.StatementHole = false
+passes_in NodeKind.ProcedureHole = false
+passes_in NodeKind.Main = false
+passes_in NodeKind.Assign = false
 passes_in (NodeKind.Filled template) = passes_in_template template
-passes_in other = false
 
 -- whether the sort is that of statements, at which a run may stand
 abbrev pub is_statement : Sort → Bool
-is_statement Statement = true
-is_statement other = false
+is_statement Sort.Main = false
+is_statement Sort.Procedure = false
+is_statement Sort.Declaration = false
+is_statement Sort.Statement = true
 
 -- whether a run does what stands in these sections one after the other, and not one of it alone
 abbrev pub in_turn : List PlainSection → Bool
@@ -111,19 +142,32 @@ item_count other = 0
 -- whether a run has a place at the point of a node of the template, apart from the start of a statement; a GET whose
 -- phrase is marked has none
 abbrev pub has_template_point : Bool → Label → Template → ℕ → Bool
-has_template_point marked label For point = point == 1
-has_template_point marked label Call point = point == 1
-has_template_point marked label Get point = not marked && nat_lt point (item_count label.parts)
-has_template_point marked label Proc point = point == 1
-has_template_point marked label ProcP point = point == 1
-has_template_point marked label other point = false
+has_template_point marked label Template.Fixed point = false
+has_template_point marked label Template.Bit point = false
+has_template_point marked label Template.Char point = false
+has_template_point marked label Template.If point = false
+has_template_point marked label Template.IfElse point = false
+has_template_point marked label Template.While point = false
+has_template_point marked label Template.For point = point == 1
+has_template_point marked label Template.Group point = false
+has_template_point marked label Template.Get point = not marked && nat_lt point (item_count label.parts)
+has_template_point marked label Template.Put point = false
+has_template_point marked label Template.PutSkip point = false
+has_template_point marked label Template.Call point = point == 1
+has_template_point marked label Template.Return point = false
+has_template_point marked label Template.Comment point = false
+has_template_point marked label Template.Proc point = point == 1
+has_template_point marked label Template.ProcP point = point == 1
 
 -- whether a run has a place at the point of a node of the kind, apart from the start of a statement; a GET whose phrase
 -- is marked has none
 abbrev pub has_point : Bool → Label → NodeKind → ℕ → Bool
+has_point marked label NodeKind.DeclarationHole point = false
+has_point marked label NodeKind.StatementHole point = false
+has_point marked label NodeKind.ProcedureHole point = false
 has_point marked label NodeKind.Main point = point == 1
+has_point marked label NodeKind.Assign point = false
 has_point marked label (NodeKind.Filled template) point = has_template_point marked label template point
-has_point marked label other point = false
 
 -- whether the place exists at the site of its slot, if the slot is live
 abbrev pub place_exists_at : Bool → Option Site → ℕ → Bool

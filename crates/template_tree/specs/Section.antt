@@ -7,10 +7,21 @@ use Rattle.plcs_grammar.specs.Template.{PlainSection}
 -- whether the sort of a section and that of an item are the same
 abbrev pub same_sort : Sort → Sort → Bool
 same_sort Sort.Main Sort.Main = true
+same_sort Sort.Main Sort.Procedure = false
+same_sort Sort.Main Sort.Declaration = false
+same_sort Sort.Main Sort.Statement = false
+same_sort Sort.Procedure Sort.Main = false
 same_sort Sort.Procedure Sort.Procedure = true
+same_sort Sort.Procedure Sort.Declaration = false
+same_sort Sort.Procedure Sort.Statement = false
+same_sort Sort.Declaration Sort.Main = false
+same_sort Sort.Declaration Sort.Procedure = false
 same_sort Sort.Declaration Sort.Declaration = true
+same_sort Sort.Declaration Sort.Statement = false
+same_sort Sort.Statement Sort.Main = false
+same_sort Sort.Statement Sort.Procedure = false
+same_sort Sort.Statement Sort.Declaration = false
 same_sort Sort.Statement Sort.Statement = true
-same_sort one other = false
 
 -- the sections that are left for an item of the sort and those after it: a list ends where another sort comes
 abbrev pub left_for : Sort → List PlainSection → List PlainSection
