@@ -13,3 +13,5 @@ pub mod PutCommands
 pub mod PartCommands
 pub mod DropCommands
 pub mod BesideCommands
+-- ---- what comes of an edit is a step: `edits_at_stops_are_steps`
+pub mod EditSteps

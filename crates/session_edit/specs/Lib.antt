@@ -8,5 +8,7 @@ pub mod ShownStop
 -- ---- what an edit does, and what is answered
 pub mod Edited
 pub mod AppliedEdit
+-- ---- the law of steps
+pub mod StepLaw
 -- ---- what private contracts alone cite
 pub mod Private
