@@ -5,14 +5,13 @@ use Rattle.std.proofs.lemmas.List.{append-nil}
 use Rattle.plcs_grammar.specs.Template.{PlainSection, row_of, program_sections}
 use Rattle.template_tree.specs.Build.{built_tree}
 use Rattle.template_tree.specs.Edit.{whole}
-use Rattle.template_tree.specs.Listing.{Listing}
+use Rattle.template_tree.specs.Listing.{Bare, Listing}
 use Rattle.template_tree.specs.Limit.{deepest_path, most_slots}
 use Rattle.template_tree.specs.PlainTree.{Label, Forest, PlainNodes, PlainTree, forest, roomless}
 use Rattle.template_tree.specs.Program.{AreNodes, Fill, IsProgram, sorts, sort_of}
 use Rattle.template_tree.specs.Section.{left_for, left_after}
 use Rattle.template_tree.specs.Slots.{count, depth, with_slots_from}
 use Rattle.template_tree.specs.Tree.{IsTree}
-use Rattle.template_tree.specs.Bare.{Bare}
 use Rattle.file_store.specs.Loaded.{IsListingOf}
 use Rattle.file_store.specs.Private.Reader.{program_of, lines_taken, sayings, unread}
 use Rattle.file_store.specs.Private.Reading.{Come}

@@ -6,7 +6,7 @@ use Rattle.synth_outside.specs.Cause.{HasCause}
 use Rattle.synth_outside.specs.Files.{FileMap, NewContent, Lacks}
 use Rattle.template_tree.specs.PlainTree.{Forest, PlainTree}
 use Rattle.file_store.specs.declared.refusal.FileRefusal.{FileRefusal}
-use Rattle.template_tree.specs.Bare.{Bare}
+use Rattle.template_tree.specs.Listing.{Bare}
 use Rattle.file_store.specs.Loaded.{IsListingOf, Refused}
 use Rattle.file_store.specs.Want.{MayRiseWith}
 

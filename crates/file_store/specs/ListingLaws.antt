@@ -2,12 +2,11 @@
 use Rattle.std.specs.Prelude.{◌≡◌, ℕ, ◌≤◌, List, length, map}
 use Rattle.template_tree.specs.Limit.{deepest_path, most_slots}
 use Rattle.template_tree.specs.Line.{listing_lines}
-use Rattle.template_tree.specs.Listing.{Listing, Spells}
+use Rattle.template_tree.specs.Listing.{Bare, Listing, Spells}
 use Rattle.template_tree.specs.PlainTree.{Forest}
 use Rattle.template_tree.specs.Program.{IsProgram}
 use Rattle.template_tree.specs.Slots.{count, depth}
 use Rattle.file_store.specs.declared.refusal.FileRefusal.{FileRefusal}
-use Rattle.template_tree.specs.Bare.{Bare}
 use Rattle.file_store.specs.Limit.{longest_listing}
 use Rattle.file_store.specs.ListedLine.{listed_program}
 use Rattle.file_store.specs.Loaded.{Refused, opened}

@@ -3,13 +3,12 @@ use Rattle.std.specs.Prelude.{◌≡◌, ◌⊎◌, ℕ, ◌+◌, ◌<◌, ◌�
 use Rattle.template_tree.specs.Edit.{whole}
 use Rattle.template_tree.specs.Limit.{deepest_path, most_slots}
 use Rattle.template_tree.specs.Line.{line_bytes}
-use Rattle.template_tree.specs.Listing.{Spells}
+use Rattle.template_tree.specs.Listing.{Bare, Spells}
 use Rattle.template_tree.specs.PlainTree.{Forest, PlainTree}
 use Rattle.template_tree.specs.Program.{IsProgram}
 use Rattle.template_tree.specs.Slots.{count, with_slots_from}
 use Rattle.template_tree.specs.Tree.{IsTree}
 use Rattle.file_store.specs.declared.refusal.FileRefusal.{FileRefusal}
-use Rattle.template_tree.specs.Bare.{Bare}
 use Rattle.file_store.specs.Limit.{longest_listing}
 use Rattle.file_store.specs.ListedLine.{ListedLine, listed_program, text_of_lines}
 

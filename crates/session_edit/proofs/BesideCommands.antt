@@ -12,7 +12,8 @@ use Rattle.plcs_grammar.specs.Template.{PlainSection, row_of, program_sections}
 use Rattle.template_tree.specs.declared.side.Side.{Side}
 use Rattle.template_tree.specs.declared.stop.Stop.{Stop}
 use Rattle.template_tree.specs.declared.tree_fault.TreeFault.{TreeFault}
-use Rattle.template_tree.specs.Edit.{hole_list, hole_of, lone, with_hole}
+use Rattle.template_tree.specs.Edit.{with_hole}
+use Rattle.template_tree.specs.Hole.{hole_list, hole_of, lone}
 use Rattle.template_tree.specs.EditAnswer.{Edits, IsEdit, IsListItem, Refuses}
 use Rattle.template_tree.specs.ListItem.{is_listed, sections_at}
 use Rattle.template_tree.specs.Path.{added_path, last_child_number, node_at, with_last}

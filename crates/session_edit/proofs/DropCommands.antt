@@ -8,7 +8,7 @@ use Rattle.std.proofs.lemmas.Option.{none-some, same_Some}
 use Rattle.plcs_grammar.specs.declared.node_kind.Sort.{Sort}
 use Rattle.plcs_grammar.specs.Template.{PlainSection, row_of, program_sections}
 use Rattle.template_tree.specs.declared.stop.Stop.{Stop}
-use Rattle.template_tree.specs.Edit.{is_hole}
+use Rattle.template_tree.specs.Hole.{is_hole}
 use Rattle.template_tree.specs.EditAnswer.{Edits, IsEdit, IsListItem, IsSpareHole}
 use Rattle.template_tree.specs.ListItem.{how_many, is_listed, sections_at, siblings_at}
 use Rattle.template_tree.specs.Path.{below, node_at, with_last}

@@ -11,7 +11,7 @@ use Rattle.plcs_grammar.specs.declared.template.Template.{Template}
 use Rattle.plcs_grammar.specs.PlainPhrase.{PlainPhrase}
 use Rattle.template_tree.specs.declared.side.Side.{Side}
 use Rattle.template_tree.specs.declared.tree_fault.TreeFault.{TreeFault}
-use Rattle.template_tree.specs.Edit.{hole_left, hole_of, is_hole, lone}
+use Rattle.template_tree.specs.Hole.{hole_left, hole_of, is_hole, lone}
 use Rattle.template_tree.specs.FreshNode.{assignment_node, fresh_node}
 use Rattle.template_tree.specs.Path.{added_path, node_at}
 use Rattle.template_tree.specs.PlainTree.{PlainNode, PlainTree, roomless, roomless_node, roomless_tree}

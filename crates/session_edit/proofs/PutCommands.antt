@@ -8,7 +8,8 @@ use Rattle.plcs_grammar.specs.declared.template.Template.{Template}
 use Rattle.plcs_grammar.specs.PlainPhrase.{PlainPhrase}
 use Rattle.template_tree.specs.declared.stop.Stop.{Stop}
 use Rattle.template_tree.specs.declared.tree_fault.TreeFault.{TreeFault}
-use Rattle.template_tree.specs.Edit.{hole_left, lone, node_in_slot}
+use Rattle.template_tree.specs.Edit.{node_in_slot}
+use Rattle.template_tree.specs.Hole.{hole_left, lone}
 use Rattle.template_tree.specs.EditAnswer.{Edits, IsEdit, IsHoleFor, MayTake, Refuses, TakesAssignment, TakesOut, slot_in}
 use Rattle.template_tree.specs.FreshNode.{assignment_node, fresh_node}
 use Rattle.template_tree.specs.Path.{node_at}

@@ -11,7 +11,7 @@ use Rattle.plcs_grammar.specs.declared.template.Template.{Template}
 use Rattle.plcs_grammar.specs.PlainPhrase.{PlainPhrase, category_of}
 use Rattle.plcs_grammar.specs.Template.{row_of}
 use Rattle.plcs_grammar.specs.Category.{category_number, same_category}
-use Rattle.template_tree.specs.Edit.{hole_of, is_hole}
+use Rattle.template_tree.specs.Hole.{hole_of, is_hole}
 use Rattle.template_tree.specs.EditAnswer.{IsHoleFor, TakesAssignment}
 use Rattle.template_tree.specs.Part.{Takes, part_category}
 use Rattle.template_tree.specs.PlainTree.{PlainNode}

@@ -7,7 +7,7 @@ use Rattle.plcs_grammar.specs.PlainPhrase.{PlainPhrase}
 use Rattle.template_tree.specs.declared.side.Side.{Side}
 use Rattle.template_tree.specs.declared.change.What.{What}
 use Rattle.template_tree.specs.declared.tree_fault.TreeFault.{TreeFault}
-use Rattle.template_tree.specs.Edit.{hole_left, lone}
+use Rattle.template_tree.specs.Hole.{hole_left, lone}
 use Rattle.template_tree.specs.FreshNode.{assignment_node, fresh_node}
 use Rattle.template_tree.specs.Limit.{deepest_path, most_slots, most_drawn_slots}
 use Rattle.template_tree.specs.Path.{added_path, node_at}

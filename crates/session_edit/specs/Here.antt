@@ -6,7 +6,7 @@ use Rattle.plcs_grammar.specs.declared.category.Category.{Category}
 use Rattle.plcs_grammar.specs.declared.node_kind.NodeKind.{NodeKind}
 use Rattle.plcs_grammar.specs.PlainPhrase.{PlainPhrase, category_of}
 use Rattle.plcs_grammar.specs.Category.{same_category}
-use Rattle.template_tree.specs.Edit.{hole_left, is_hole}
+use Rattle.template_tree.specs.Hole.{hole_left, is_hole}
 use Rattle.template_tree.specs.ListItem.{how_many, is_listed, sections_at, siblings_at}
 use Rattle.template_tree.specs.Part.{part_at, part_category}
 use Rattle.template_tree.specs.Path.{node_at}

@@ -3,7 +3,7 @@ use Rattle.std.proofs.Common.{◌≡◌, ℕ, Option, Some, None}
 use Rattle.plcs_grammar.specs.declared.node_kind.NodeKind.{NodeKind}
 use Rattle.template_tree.specs.declared.tree_fault.TreeFault.{TreeFault}
 use Rattle.template_tree.specs.declared.change.What.{What}
-use Rattle.template_tree.specs.Edit.{hole_left}
+use Rattle.template_tree.specs.Hole.{hole_left}
 use Rattle.template_tree.specs.Path.{node_at}
 use Rattle.template_tree.specs.PlainTree.{PlainNode, PlainTree}
 use Rattle.template_tree.specs.Stop.{PlainStop}

@@ -1,7 +1,5 @@
--- Edits of a tree, each at a slot, and the holes that they bring in or leave.
-use Rattle.std.specs.Prelude.{◌≡◌, ℕ, zero, suc, ◌+◌, Bool, true, false, if◌then◌else◌, ◌==◌, nat_lt, List, [], ◌∷◌, ◌++◌, find, Option, Some, None, option_map}
-use Rattle.plcs_grammar.specs.declared.node_kind.NodeKind.{NodeKind}
-use Rattle.plcs_grammar.specs.declared.node_kind.Sort.{Sort}
+-- Edits of a tree, each at a slot.
+use Rattle.std.specs.Prelude.{◌≡◌, ℕ, zero, suc, ◌+◌, false, if◌then◌else◌, ◌==◌, nat_lt, List, [], ◌∷◌, ◌++◌, find, Option, Some, option_map}
 use Rattle.plcs_grammar.specs.PlainPhrase.{PlainPhrase}
 use Rattle.template_tree.specs.declared.side.Side.{Side}
 use Rattle.template_tree.specs.declared.change.Change.{Change}
@@ -9,6 +7,7 @@ use Rattle.template_tree.specs.declared.change.What.{What}
 use Rattle.template_tree.specs.PlainTree.{Forest, PlainNode, PlainTree, nodes, forest, join, roomless}
 use Rattle.template_tree.specs.Program.{sort_of}
 use Rattle.template_tree.specs.Part.{with_part}
+use Rattle.template_tree.specs.Hole.{hole_list, hole_of}
 use Rattle.template_tree.specs.Slots.{count, times, with_slots_from}
 
 -- the item of this number gives way to a list of items
@@ -48,36 +47,6 @@ whole (Forest.cons label inner rest) = Forest.cons (record label { elided = fals
 abbrev pub node_in_slot : ℕ → ℕ → PlainNode → PlainNode
 node_in_slot slot next node =
     record { label = record node.label { slot = slot; elided = false }; inner = with_slots_from next (whole node.inner) }
-
--- the kind of the hole that stands where nodes of the sort stand; main has none
-abbrev pub hole_of : Sort → Option NodeKind
-hole_of Sort.Main = None
-hole_of Sort.Procedure = Some NodeKind.ProcedureHole
-hole_of Sort.Declaration = Some NodeKind.DeclarationHole
-hole_of Sort.Statement = Some NodeKind.StatementHole
-
--- whether nodes of the kind are holes
-abbrev pub is_hole : NodeKind → Bool
-is_hole NodeKind.DeclarationHole = true
-is_hole NodeKind.StatementHole = true
-is_hole NodeKind.ProcedureHole = true
-is_hole NodeKind.Main = false
-is_hole NodeKind.Assign = false
-is_hole (NodeKind.Filled template) = false
-
--- the kind of the hole that stays where a node of the kind is taken out; main isn't taken out, and neither is a hole
-abbrev pub hole_left : NodeKind → Option NodeKind
-hole_left kind = if is_hole kind then None else hole_of (sort_of kind)
-
--- a hole as an edit brings it in: a node of the kind with no parts and nothing inside
-abbrev pub lone : ℕ → NodeKind → PlainNode
-lone slot kind =
-    record { label = record { slot = slot; kind = kind; parts = []; elided = false; spare = 0 }; inner = Forest.nil }
-
--- the hole of the kind in the slot as a list of items, which is empty where there is no kind
-abbrev pub hole_list : ℕ → Option NodeKind → List PlainNode
-hole_list slot None = []
-hole_list slot (Some kind) = lone slot kind ∷ []
 
 -- what an item gives way to where a hole is added: the item, with a hole of its sort, in the slot, on this side of it
 abbrev pub with_hole : ℕ → Side → PlainNode → List PlainNode

@@ -13,7 +13,8 @@ use Rattle.template_tree.specs.Program.{sort_of, sorts}
 use Rattle.template_tree.specs.ListItem.{is_listed, sections_at, siblings_at, how_many}
 use Rattle.template_tree.specs.Part.{Takes, part_category}
 use Rattle.template_tree.specs.Stop.{part_stops}
-use Rattle.template_tree.specs.Edit.{Differs, hole_of, hole_left, is_hole, lone}
+use Rattle.template_tree.specs.Edit.{Differs}
+use Rattle.template_tree.specs.Hole.{hole_of, hole_left, is_hole, lone}
 use Rattle.template_tree.specs.TreeEdit.{TreeEdit, tree_after, what_of, changed_slot}
 use Rattle.template_tree.specs.Receipt.{PlainReceipt, undone, CanUndo}
 

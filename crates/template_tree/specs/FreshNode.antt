@@ -5,7 +5,7 @@ use Rattle.plcs_grammar.specs.PlainPhrase.{PlainPhrase}
 use Rattle.plcs_grammar.specs.Template.{PlainSection, row_of}
 use Rattle.template_tree.specs.PlainTree.{Forest, PlainNode, forest, join}
 use Rattle.template_tree.specs.Program.{parts_of}
-use Rattle.template_tree.specs.Edit.{hole_list, hole_of}
+use Rattle.template_tree.specs.Hole.{hole_list, hole_of}
 
 -- the holes inside a fresh node: one in each of the sections
 abbrev pub section_holes : List PlainSection → Forest

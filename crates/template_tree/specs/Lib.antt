@@ -11,10 +11,9 @@ pub mod NewTree
 pub mod Build
 -- ---- edits
 pub mod Path
+pub mod Hole
 pub mod Edit
 pub mod Lend
-pub mod Descent
-pub mod TreeLend
 pub mod Elision
 pub mod FreshNode
 pub mod TreeEdit
@@ -43,7 +42,6 @@ pub mod Section
 pub mod PlainSectionsLeft
 pub mod Line
 pub mod Listing
-pub mod Bare
 pub mod Stop
 -- ---- what private contracts alone cite
 pub mod Private

@@ -1,5 +1,5 @@
--- The listing of a program.
-use Rattle.std.specs.Prelude.{◌≡◌, ℕ, List, [], ◌∷◌, ◌++◌, if◌then◌else◌, ◌==◌, map}
+-- The listing of a program, and programs without what it doesn't show.
+use Rattle.std.specs.Prelude.{◌≡◌, ℕ, false, List, [], ◌∷◌, ◌++◌, if◌then◌else◌, ◌==◌, map}
 use Rattle.template_tree.specs.Line.{Line, line_bytes, listing_lines}
 use Rattle.template_tree.specs.PlainTree.{Forest}
 use Rattle.template_tree.specs.Program.{IsProgram}
@@ -12,6 +12,12 @@ bytes_of_lines (line ∷ lines) = line_bytes line ++ (10 ∷ bytes_of_lines line
 -- the listing of a program; slots and elision play no part
 abbrev pub Listing : Forest → List ℕ
 Listing items = bytes_of_lines (listing_lines items)
+
+-- nodes without what a listing doesn't show: their slots, their elision and the room of their lists
+abbrev pub Bare : Forest → Forest
+Bare Forest.nil = Forest.nil
+Bare (Forest.cons label inner rest) =
+    Forest.cons (record label { slot = 0; elided = false; spare = 0 }) (Bare inner) (Bare rest)
 
 -- the nodes are a program, and the text is its listing
 pub record Spells (items : Forest) (x : List ℕ) : Type 0 where

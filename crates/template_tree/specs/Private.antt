@@ -12,4 +12,3 @@ pub mod Exchange
 pub mod Restored
 -- ---- lists of items
 pub mod Apart
-pub mod Beside

@@ -9,7 +9,7 @@ use Rattle.template_tree.specs.PlainTree.{Forest, PlainNode, PlainTree, roomless
 use Rattle.template_tree.specs.Part.{IsPhrasePlace, Takes, part_category, with_part}
 use Rattle.template_tree.specs.Slots.{count, depth, times}
 use Rattle.template_tree.specs.Tree.{IsTree}
-use Rattle.template_tree.specs.TreeLend.{with_node}
+use Rattle.template_tree.specs.Lend.{with_node}
 use Rattle.template_tree.specs.Path.{node_at}
 use Rattle.template_tree.specs.Receipt.{PlainReceipt, CanUndo, HasRoomBack, list_room}
 use Rattle.template_tree.specs.Edit.{Add, Drop, Part, Put, edit_at, edit_slot}

@@ -1,6 +1,7 @@
-//! Nodes and trees built from their leaves, and the slots that are drawn for nodes.
+//! Nodes and trees built from their leaves, nodes that come into a tree, and the slots that are drawn for them.
 ghost use Rattle.std.specs.Prelude.{◌≡◌, ◌+◌, ◌≤◌, IfErr, IfOk, map};
 ghost use Rattle.template_tree.specs.Build.{IsOverBuildLimit, built_label, built_tree};
+ghost use Rattle.template_tree.specs.Edit.{node_in_slot, whole};
 ghost use Rattle.template_tree.specs.Limit.{deepest_path, most_slots};
 ghost use Rattle.template_tree.specs.PlainPhrasePlace.{plain_phrase_place};
 ghost use Rattle.template_tree.specs.PlainTree.{nodes, forest};
@@ -68,6 +69,21 @@ impl Tree {
     }
 }
 
+impl Node {
+    /// Makes the node one that comes into the slot: the nodes inside take the slots from this number on,
+    /// and nothing in it is elided. Says which number is next.
+    pub(crate) fn settle(&mut self, slot: Slot, first: u32) -> u32
+        requires few { first + count self.old.inner ≤ 4294967295 }
+        ensures settled { self.new ≡ node_in_slot slot.0 first self.old }
+        ensures next { result ≡ first + count self.old.inner }
+    {
+        self.slot = slot;
+        self.elided = false;
+        reveal(&mut self.inner);
+        draw_slots(&mut self.inner, first)
+    }
+}
+
 /// Draws the slots of the nodes, from this number on in listing order, and says which number is next.
 pub(crate) fn draw_slots(list: &mut Nodes, first: u32) -> u32
     requires few { first + count (forest list.old.items) ≤ 4294967295 }
@@ -77,10 +93,23 @@ pub(crate) fn draw_slots(list: &mut Nodes, first: u32) -> u32
     let mut next = first;
     for k in 0..list.len() {
         let Some(node) = list.get_mut(k) else {
-            return next;
+            unreachable!()
         };
         node.slot = Slot(next);
         next = draw_slots(&mut node.inner, next + 1);
     }
     next
+}
+
+/// Shows each refinement again in nodes that come in place of others.
+fn reveal(list: &mut Nodes)
+    ensures { list.new ≡ record list.old { items = nodes (whole (forest list.old.items)) } }
+{
+    for k in 0..list.len() {
+        let Some(node) = list.get_mut(k) else {
+            unreachable!()
+        };
+        node.elided = false;
+        reveal(&mut node.inner);
+    }
 }

@@ -67,7 +67,10 @@ impl Node {
 }
 
 /// Copies of what stands in the parts of a node.
-fn copy_phrase_places(alloc: Global, places: &[PhrasePlace]) -> Result<Vec<PhrasePlace>, OutOfMemory>
+fn copy_phrase_places(
+    alloc: Global,
+    places: &[PhrasePlace],
+) -> Result<Vec<PhrasePlace>, OutOfMemory>
     ensures { IfOk result (λ copies. map plain_phrase_place copies.items ≡ map plain_phrase_place places.now) }
 {
     let mut copies = Vec::new(alloc);

@@ -3,13 +3,14 @@
 //! The contract of a lent node can't be told by a recursion. So the descents double: each goes twice as
 //! far as the one below it, and one step between.
 ghost use Rattle.std.specs.Borrow.{LendsIf, sem};
-ghost use Rattle.std.specs.Prelude.{◌≡◌, ℕ, ◌+◌, ◌≤◌, ◌++◌, ◌∷◌, [], length, option_and_then, option_map, slice_get, IfSome, IfNone, MatchOption};
+ghost use Rattle.std.specs.Prelude.{◌≡◌, ℕ, ◌+◌, ◌≤◌, length, option_and_then, option_map, slice_get};
 ghost use Rattle.template_tree.specs.contracts.node.Node as node_row;
 ghost use Rattle.template_tree.specs.contracts.node.Nodes as list_row;
-ghost use Rattle.template_tree.specs.Descent.{put_in};
+ghost use Rattle.template_tree.specs.Lend.{put_in};
 ghost use Rattle.template_tree.specs.Path.{below};
 
 use crate::node::{Node, Nodes};
+use crate::path::halves;
 use std::marker::PhantomData;
 
 /// A descent: lends the node at a path below an item of a list.
@@ -51,16 +52,4 @@ impl<D: Descent> Descent for Twice<D> {
         };
         D::down(&mut node.inner, middle as usize, back)
     }
-}
-
-/// A path in halves: the numbers before the middle one, that one, and the others; `None` where there are
-/// none.
-fn halves(path: &[u32]) -> Option<(&[u32], u32, &[u32])>
-    ensures parts { IfSome result (λ p. path.now ≡ p.0.now ++ (p.1 ∷ p.2.now)) }
-    ensures short { IfSome result (λ p. (length p.0.now + length p.0.now ≤ length path.now) × (length p.2.now + length p.2.now + 1 ≤ length path.now)) }
-    ensures none { IfNone result (path.now ≡ []) }
-{
-    let (front, rest) = path.split_at(path.len() / 2);
-    let (middle, back) = rest.split_first()?;
-    Some((front, *middle, back))
 }

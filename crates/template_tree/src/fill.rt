@@ -2,7 +2,7 @@
 ghost use Rattle.std.specs.Prelude.{◌≡◌, ◌+◌, IfErr, IfOk, None, OnOk, length, map, min};
 ghost use Rattle.plcs_grammar.specs.Template.{plain_section, plain_segment};
 ghost use Rattle.plcs_grammar.specs.declared.node_kind.NodeKind.{NodeKind};
-ghost use Rattle.template_tree.specs.Edit.{hole_list, hole_of};
+ghost use Rattle.template_tree.specs.Hole.{hole_list, hole_of};
 ghost use Rattle.template_tree.specs.EditAnswer.{Edits, IsHoleFor, Refuses};
 ghost use Rattle.template_tree.specs.FreshNode.{fresh_node, section_holes};
 ghost use Rattle.template_tree.specs.Path.{node_at};

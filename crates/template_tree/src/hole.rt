@@ -1,7 +1,7 @@
 //! Kinds of nodes that are holes or assignments, and which hole stands for which kind.
 ghost use Rattle.std.specs.Prelude.{◌≡◌, ◌↔◌, IsTrue, Some};
 ghost use Rattle.plcs_grammar.specs.declared.node_kind.NodeKind.{NodeKind};
-ghost use Rattle.template_tree.specs.Edit.{hole_left, hole_of, is_hole};
+ghost use Rattle.template_tree.specs.Hole.{hole_left, hole_of, is_hole};
 ghost use Rattle.template_tree.specs.Program.{sort_of};
 
 use plcs_grammar::{NodeKind, Sort};

@@ -10,8 +10,8 @@
 //! their values are in `limit`. Found by a path: `node_at` a node, `around_path` its sections and neighbours,
 //! `beside` the next path in a list, the path before, and on which side of an item another lies, `list_item`
 //! whether it is in a list, and whether two of its sort are; by a slot: `path_of` its path. `hole` is which hole
-//! stands for which kind. `build` makes nodes and trees from their leaves, and draws the slots of nodes. `undo`
-//! calls `undo_node`, `undo_part`, `undo_item`. `change` says what an edit changed, `receipt` what undoes it.
+//! stands for which kind. `build` makes nodes and trees from their leaves, and draws the slots of nodes, also
+//! of those that come into a slot. `change` says what an edit changed, `receipt` what undoes it, and `undo` does.
 #![tactic(auto)]
 
 mod around_path;
@@ -55,9 +55,6 @@ mod tree;
 mod tree_fault;
 mod tree_laws;
 mod undo;
-mod undo_item;
-mod undo_node;
-mod undo_part;
 
 pub use beside::{added_path, path_before};
 pub use build::BuildLimit;

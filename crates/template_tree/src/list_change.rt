@@ -1,5 +1,5 @@
 //! Lists changed by an item, at the end of a path through the nodes.
-ghost use Rattle.std.specs.Prelude.{◌≡◌, ◌<◌, ◌∷◌, [], IfErr, IfNone, IfOk, IfSome, slice_get};
+ghost use Rattle.std.specs.Prelude.{◌≡◌, ◌<◌, ◌∷◌, [], IfErr, IfNone, IfOk, IfSome, IsSome, slice_get};
 ghost use Rattle.template_tree.specs.Edit.{edit_at};
 ghost use Rattle.template_tree.specs.Lend.{with_node_removed};
 ghost use Rattle.template_tree.specs.Path.{node_at};
@@ -30,7 +30,7 @@ impl Nodes {
     }
 
     /// Puts a node beside the one at a path, into room of its list: `k` is the first number of the path,
-    /// and `path` are the others. Nothing is put in where no node is there.
+    /// and `path` are the others. Nothing is put in where the list has no node there.
     pub(crate) fn insert_at(&mut self, k: usize, path: &[u32], side: Side, node: Node)
         requires room { 0 < list_room self.old.spare (forest self.old.items) (k ∷ path.now) }
         ensures { roomless (forest self.new.items) ≡ edit_at (with_beside side (roomless_node node)) (k ∷ path.now) (roomless (forest self.old.items)) }
@@ -40,7 +40,7 @@ impl Nodes {
             return;
         };
         let Some(there) = self.get_mut(k) else {
-            return;
+            unreachable!()
         };
         there.inner.insert_at(*next as usize, rest, side, node);
     }
@@ -54,6 +54,7 @@ impl Nodes {
         side: Side,
         node: Node,
     ) -> Result<(), OutOfMemory>
+        requires there { IsSome (node_at (forest self.old.items) (k ∷ path.now)) }
         ensures added { IfOk result (λ _. roomless (forest self.new.items) ≡ edit_at (with_beside side (roomless_node node)) (k ∷ path.now) (roomless (forest self.old.items))) }
         ensures refused { IfErr result (λ _. self.new ≡ self.old) }
     {
@@ -63,7 +64,7 @@ impl Nodes {
             return Ok(());
         };
         let Some(there) = self.get_mut(k) else {
-            return Ok(());
+            unreachable!()
         };
         there.inner.add_at(*next as usize, rest, side, node)
     }

@@ -1,5 +1,5 @@
 //! Holes added to lists and dropped from them.
-ghost use Rattle.std.specs.Prelude.{◌≡◌, ◌↔◌, ◌<◌, [], IfErr, IfNone, IfOk, IfSome, IsSomeAnd, IsTrue};
+ghost use Rattle.std.specs.Prelude.{◌≡◌, ◌↔◌, ◌<◌, [], IfErr, IfNone, IfOk, IfSome, IsSome, IsSomeAnd, IsTrue};
 ghost use Rattle.template_tree.specs.EditAnswer.{Edits, IsListItem, IsSpareHole, Refuses};
 ghost use Rattle.template_tree.specs.Path.{node_at};
 ghost use Rattle.template_tree.specs.PlainTree.{roomless_node, roomless_tree};
@@ -125,11 +125,12 @@ impl Tree {
     /// Puts the hole that is added beside the item at the path, and takes memory for it; the tree's
     /// counts stay.
     fn add_beside(&mut self, path: &Path, side: Side, node: Node) -> Result<(), OutOfMemory>
+        requires there { IsSome (node_at self.old.items path.now.items) }
         ensures added { IfOk result (λ _. roomless_tree self.new ≡ with_edit (with_beside side (roomless_node node)) path.now.items (roomless_tree self.old)) }
         ensures refused { IfErr result (λ _. self.new ≡ self.old) }
     {
         let Some((k, rest)) = path.split_first() else {
-            return Ok(());
+            unreachable!()
         };
         self.items.add_at(*k as usize, rest, side, node)
     }

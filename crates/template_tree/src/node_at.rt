@@ -3,7 +3,7 @@ ghost use Rattle.std.specs.Prelude.{◌≡◌, ◌+◌, ◌<◌, ◌≤◌, IfSo
 ghost use Rattle.std.specs.Borrow.{LendsIf, sem};
 ghost use Rattle.template_tree.specs.contracts.node.Node as node_row;
 ghost use Rattle.template_tree.specs.contracts.tree.Tree as tree_row;
-ghost use Rattle.template_tree.specs.TreeLend.{with_node};
+ghost use Rattle.template_tree.specs.Lend.{with_node};
 ghost use Rattle.template_tree.specs.Limit.{most_slots};
 ghost use Rattle.template_tree.specs.Path.{below, node_at};
 ghost use Rattle.template_tree.specs.PlainTree.{nodes};

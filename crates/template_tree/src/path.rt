@@ -1,5 +1,5 @@
-//! Paths to nodes, their copies, and the path of an item of the program.
-ghost use Rattle.std.specs.Prelude.{◌≡◌, ◌∷◌, []};
+//! Paths to nodes, their copies and halves, and the path of an item of the program.
+ghost use Rattle.std.specs.Prelude.{◌≡◌, ◌+◌, ◌≤◌, ◌++◌, ◌∷◌, [], IfNone, IfSome, length};
 
 use crate::limit::DEEPEST_PATH;
 use arrayvec::ArrayVec;
@@ -24,4 +24,16 @@ pub fn copy_path(path: &Path) -> Path
     let mut copy = Path::new();
     if let Err(_) = copy.try_extend_from_slice(path.as_slice()) {}
     copy
+}
+
+/// A path in halves: the numbers before the middle one, that one, and the others; `None` where there are
+/// none.
+pub(crate) fn halves(path: &[u32]) -> Option<(&[u32], u32, &[u32])>
+    ensures parts { IfSome result (λ p. path.now ≡ p.0.now ++ (p.1 ∷ p.2.now)) }
+    ensures short { IfSome result (λ p. (length p.0.now + length p.0.now ≤ length path.now) × (length p.2.now + length p.2.now + 1 ≤ length path.now)) }
+    ensures none { IfNone result (path.now ≡ []) }
+{
+    let (front, rest) = path.split_at(path.len() / 2);
+    let (middle, back) = rest.split_first()?;
+    Some((front, *middle, back))
 }

@@ -36,12 +36,15 @@ impl Tree {
         ensures unchanged { IfErr result (λ back. (back.1 ≡ place) × (self.new ≡ self.old)) }
     {
         let (drawn, live) = (self.drawn, self.live);
-        let procedure = self.procedure_at(&stop.path);
         let Some(part) = stop.part else {
             return Err((TreeFault::NotHere, place));
         };
-        let Some(node) = self.node_mut(&stop.path) else {
+        let Some(_) = self.node(&stop.path) else {
             return Err((TreeFault::NotHere, place));
+        };
+        let procedure = self.procedure_at(&stop.path);
+        let Some(node) = self.node_mut(&stop.path) else {
+            unreachable!()
         };
         if is_assignment(node.kind) {
             return Err((TreeFault::NotHere, place));

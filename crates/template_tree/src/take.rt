@@ -1,6 +1,6 @@
 //! Nodes taken out of a tree.
 ghost use Rattle.std.specs.Prelude.{◌≡◌, IfErr, IfOk, IsSomeAnd, Some};
-ghost use Rattle.template_tree.specs.Edit.{hole_left};
+ghost use Rattle.template_tree.specs.Hole.{hole_left};
 ghost use Rattle.template_tree.specs.EditAnswer.{MayTake, TakesOut};
 ghost use Rattle.template_tree.specs.Path.{node_at};
 ghost use Rattle.template_tree.specs.Program.{IsSubtree};

@@ -1,15 +1,20 @@
 //! Edits undone.
-ghost use Rattle.std.specs.Prelude.{◌≡◌};
+ghost use Rattle.std.specs.Prelude.{◌≡◌, ◌<◌, ◌∷◌, []};
+ghost use Rattle.template_tree.specs.Part.{with_part};
+ghost use Rattle.template_tree.specs.PlainPhrasePlace.{plain_phrase_place};
+ghost use Rattle.template_tree.specs.PlainTree.{roomless_node, roomless_tree};
 ghost use Rattle.template_tree.specs.Private.ReceiptView.{plain_undoing};
 ghost use Rattle.template_tree.specs.Private.Restored.{with_edit};
-ghost use Rattle.template_tree.specs.PlainTree.{roomless_tree};
-ghost use Rattle.template_tree.specs.Receipt.{CanUndo, HasRoomBack, items_before, list_room, undone};
+ghost use Rattle.template_tree.specs.Receipt.{CanUndo, HasRoomBack, items_before, list_room, node_back, undone, with_beside};
 ghost use Rattle.template_tree.specs.Tree.{IsTree};
 
 use crate::node::Node;
 use crate::path::Path;
+use crate::phrase_place::PhrasePlace;
 use crate::receipt::{Receipt, Undoing};
+use crate::side::Side;
 use crate::tree::Tree;
+use std::mem;
 
 impl Tree {
     /// Gives back the tree before the edit of the receipt, with the number of slots that were drawn then;
@@ -45,5 +50,67 @@ impl Tree {
             Undoing::TakeOut => self.remove_added(path),
             Undoing::PutIn(side, hole) => self.restore_dropped(path, side, hole),
         }
+    }
+}
+
+impl Tree {
+    /// Puts a node again in place of the one at the path, if there is one to come back.
+    fn restore_node(&mut self, path: &Path, back: Option<Node>)
+        requires tree { IsTree self.old }
+        ensures { roomless_tree self.new ≡ with_edit (λ item. node_back back item ∷ []) path.now.items (roomless_tree self.old) }
+    {
+        let Some(node) = back else {
+            return;
+        };
+        let Some(there) = self.node_mut(path) else {
+            return;
+        };
+        mem::replace(there, node);
+    }
+
+    /// Sets a part of the node at the path again to what it held.
+    fn restore_part(&mut self, path: &Path, part: u8, place: PhrasePlace)
+        requires tree { IsTree self.old }
+        ensures { roomless_tree self.new ≡ with_edit (λ item. with_part part (plain_phrase_place place) item ∷ []) path.now.items (roomless_tree self.old) }
+    {
+        let Some(node) = self.node_mut(path) else {
+            return;
+        };
+        node.restore_part(part, place);
+    }
+
+    /// Takes the item at the path, which an edit added, out of its list.
+    fn remove_added(&mut self, path: &Path)
+        requires tree { IsTree self.old }
+        ensures { roomless_tree self.new ≡ with_edit (λ _. []) path.now.items (roomless_tree self.old) }
+    {
+        let Some((k, rest)) = path.split_first() else {
+            return;
+        };
+        self.items.remove_at(*k as usize, rest);
+    }
+
+    /// Puts the hole, which an edit dropped, back into its list beside the item at the path.
+    fn restore_dropped(&mut self, path: &Path, side: Side, hole: Node)
+        requires tree { IsTree self.old }
+        requires room { 0 < list_room self.old.spare self.old.items path.now.items }
+        ensures { roomless_tree self.new ≡ with_edit (with_beside side (roomless_node hole)) path.now.items (roomless_tree self.old) }
+    {
+        let Some((k, rest)) = path.split_first() else {
+            unreachable!()
+        };
+        self.items.insert_at(*k as usize, rest, side, hole);
+    }
+}
+
+impl Node {
+    /// Sets a part of this node again to what it held.
+    fn restore_part(&mut self, part: u8, place: PhrasePlace)
+        ensures { self.new ≡ with_part part (plain_phrase_place place) self.old }
+    {
+        let Some(there) = self.parts.get_mut(part as usize) else {
+            return;
+        };
+        mem::replace(there, place);
     }
 }

@@ -7,7 +7,8 @@ use Rattle.plcs_grammar.specs.declared.node_kind.NodeKind.{NodeKind}
 use Rattle.plcs_grammar.specs.declared.node_kind.Sort.{Sort}
 use Rattle.plcs_grammar.specs.PlainPhrase.{PlainPhrase}
 use Rattle.template_tree.specs.declared.side.Side.{Side}
-use Rattle.template_tree.specs.Edit.{edit_slot, hole_list, hole_of, node_in_slot, whole, with_hole}
+use Rattle.template_tree.specs.Edit.{edit_slot, node_in_slot, whole, with_hole}
+use Rattle.template_tree.specs.Hole.{hole_list, hole_of}
 use Rattle.template_tree.specs.Part.{with_part}
 use Rattle.template_tree.specs.PlainTree.{Forest, Label, PlainNode, forest, join}
 use Rattle.template_tree.specs.Program.{sort_of}

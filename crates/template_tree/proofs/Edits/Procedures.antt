@@ -1,5 +1,5 @@
 -- The procedure in which a slot stands is the first item on the way to it.
-use Rattle.std.specs.Prelude.{◌≡◌, refl, ℕ, zero, suc, ◌≤◌, nat_lt, Bool, true, false, List, [], ◌∷◌, find, Option, Some, None, IfSome, option_map}
+use Rattle.std.specs.Prelude.{◌≡◌, refl, ℕ, zero, suc, ◌≤◌, nat_lt, Bool, true, false, List, [], ◌∷◌, find, Option, Some, None, IfSome, IsSome, IsSomeAnd, is_some, option_map}
 use Rattle.std.proofs.Common.{ap, sym, ◌∙◌, subst, arith}
 use Rattle.std.proofs.lemmas.Bool.{lt-ltb, le-ltb}
 use Rattle.std.proofs.lemmas.Option.{none-some}
@@ -57,6 +57,15 @@ way_there items [] node e = absurd (none-some node e)
 way_there Forest.nil (k ∷ path) node e = absurd (none-some node e)
 way_there (Forest.cons label inner rest) (zero ∷ path) node e = (record { label = label; inner = inner }, refl)
 way_there (Forest.cons label inner rest) (suc k ∷ path) node e = way_there rest (k ∷ path) node e
+
+pub on_the_way : (items : Forest) (path : List ℕ) (node : PlainNode) → node_at items path ≡ Some node → IsSome (first_item items path)
+on_the_way items path node e = ap is_some (way_there items path node e).1
+
+-- the same for a node of which something holds
+pub way_where : (found : Option PlainNode) (Holds : PlainNode → Type 0) (items : Forest) (path : List ℕ) → node_at items path ≡ found
+    → IsSomeAnd found Holds → IsSome (first_item items path)
+way_where None Holds items path e h = absurd h
+way_where (Some node) Holds items path e h = on_the_way items path node e
 
 -- the procedure of a slot at whose path a node came
 pub procedure_after : (items : Forest) (path : List ℕ) (old new : PlainNode) (procedure : ℕ) → node_at items path ≡ Some old

@@ -13,7 +13,7 @@ use Rattle.template_tree.specs.Program.{sorts, sort_of}
 use Rattle.template_tree.specs.Section.{same_sort}
 use Rattle.template_tree.specs.ListItem.{sections_at, siblings_at, how_many}
 use Rattle.template_tree.specs.Path.{last_child_number, with_last}
-use Rattle.template_tree.specs.Private.Beside.{side_of}
+use Rattle.template_tree.specs.Private.Restored.{side_of}
 use Rattle.template_tree.specs.declared.side.Side.{Side}
 
 last_front : (front : List ℕ) (k : ℕ) → last_child_number (front ++ (k ∷ [])) ≡ k

@@ -8,7 +8,7 @@ use Rattle.plcs_grammar.specs.declared.row.Amount.{Amount}
 use Rattle.plcs_grammar.specs.Template.{PlainSection}
 use Rattle.template_tree.specs.Section.{same_sort}
 use Rattle.template_tree.specs.Program.{AreItems, Fill}
-use Rattle.template_tree.specs.Edit.{hole_of}
+use Rattle.template_tree.specs.Hole.{hole_of}
 use Rattle.template_tree.specs.ListItem.{is_list, is_listed, how_many}
 use Rattle.template_tree.specs.Private.Apart.{sections_have_sort, IsApart, AreApart}
 

@@ -1,13 +1,14 @@
 -- Lists changed by an item at the end of a path, level by level.
-use Rattle.std.specs.Prelude.{◌≡◌, refl, ℕ, zero, suc, ◌<◌, ◌≤◌, List, [], ◌∷◌, length, Option, Some, None, IfSome, IfNone, Result, Ok, Err, IfOk, IfErr, option_and_then, slice_get, slice_set}
+use Rattle.std.specs.Prelude.{◌≡◌, refl, ℕ, zero, suc, ◌<◌, ◌≤◌, List, [], ◌∷◌, length, Option, Some, None, IfSome, IfNone, IsSome, is_some, Result, Ok, Err, IfOk, IfErr, option_and_then, slice_get, slice_set}
 use Rattle.std.specs.List.{remove, insert}
 use Rattle.std.specs.Option.{option_map_or}
-use Rattle.std.proofs.Common.{ap, sym, ◌∙◌, arith}
+use Rattle.std.proofs.Common.{ap, sym, ◌∙◌, subst, arith}
+use Rattle.std.proofs.Math.Bool.{false≢true}
 use Rattle.std.proofs.lemmas.Option.{none-some}
 use Rattle.template_tree.specs.declared.side.Side.{Side}
-use Rattle.template_tree.specs.PlainTree.{Label, Forest, PlainNode, PlainNodes, forest, nodes_forest, roomless, roomless_node}
+use Rattle.template_tree.specs.PlainTree.{Label, Forest, PlainNode, PlainNodes, forest, nodes, nodes_forest, roomless, roomless_node}
 use Rattle.template_tree.specs.Lend.{with_node_set, with_node_removed}
-use Rattle.template_tree.specs.Path.{node_at}
+use Rattle.template_tree.specs.Path.{below, node_at}
 use Rattle.template_tree.specs.Edit.{edit_at}
 use Rattle.template_tree.specs.Receipt.{list_room, with_beside}
 use Rattle.template_tree.proofs.Edits.SameEdits.{taken}
@@ -37,6 +38,28 @@ no_item change [] k path e = refl
 no_item change (item ∷ items) zero path e = absurd (none-some item (sym e))
 no_item change (item ∷ items) (suc k) path e =
     ap (Forest.cons (record item.label { spare = 0 }) (roomless item.inner)) (no_item change items k path e)
+
+-- a node below an item stands in the list of the item
+pub stands_below : (items : List PlainNode) (k j : ℕ) (path rest : List ℕ) (node : PlainNode) → path ≡ j ∷ rest → slice_get items k ≡ Some node
+    → IsSome (node_at (forest items) (k ∷ path)) → IsSome (node_at node.inner (j ∷ rest))
+stands_below items k j path rest node way e there =
+    subst IsSome
+    (ap (λ p. option_and_then (λ item. below item p) (slice_get (nodes (forest items)) k)) way
+    ∙ ap (option_and_then (λ item. below item (j ∷ rest))) (ap (λ xs. slice_get xs k) (nodes_forest items) ∙ e))
+    there
+
+-- it has an item on the way
+pub stands_in_item : (items : List PlainNode) (k : ℕ) (path : List ℕ) → slice_get items k ≡ None → IsSome (node_at (forest items) (k ∷ path)) → ⊥
+stands_in_item items k path e there =
+    false≢true
+    (ap is_some (sym (ap (option_and_then (λ item. below item path)) (ap (λ xs. slice_get xs k) (nodes_forest items) ∙ e))) ∙ there)
+
+-- without the item there is no room on the way
+pub no_room : (spare : ℕ) (items : List PlainNode) (k j : ℕ) (path rest : List ℕ) → path ≡ j ∷ rest → slice_get items k ≡ None
+    → list_room spare (forest items) (k ∷ path) ≡ 0
+no_room spare items k j path rest way e =
+    ap (λ p. list_room spare (forest items) (k ∷ p)) way
+    ∙ ap (λ o. option_map_or (λ n. list_room n.label.spare n.inner (j ∷ rest)) o 0) (ap (λ xs. slice_get xs k) (nodes_forest items) ∙ e)
 
 -- the room of the list at a path below an item
 pub room_below : (spare : ℕ) (items : List PlainNode) (k j : ℕ) (path : List ℕ) (node : PlainNode) → slice_get items k ≡ Some node

@@ -1,5 +1,5 @@
 -- A hole that came beside an item, or left its list, is an edit of the tree, whose receipt undoes it.
-use Rattle.std.specs.Prelude.{◌≡◌, refl, ℕ, zero, suc, pred, ◌+◌, ◌-◌, ◌<◌, ◌≤◌, true, List, [], ◌∷◌, length, Option, Some, None, IfSome, option_map, slice_get}
+use Rattle.std.specs.Prelude.{◌≡◌, refl, ℕ, zero, suc, pred, ◌+◌, ◌-◌, ◌<◌, ◌≤◌, true, List, [], ◌∷◌, length, Option, Some, None, IfSome, IsSome, option_map, slice_get}
 use Rattle.std.specs.Option.{option_map_or}
 use Rattle.std.proofs.Common.{ap, sym, ◌∙◌, subst, arith}
 use Rattle.std.proofs.Math.Bool.{false≢true}
@@ -16,20 +16,21 @@ use Rattle.template_tree.specs.Path.{added_path, last_child_number, node_at, wit
 use Rattle.template_tree.specs.Slots.{count, depth, times}
 use Rattle.template_tree.specs.Limit.{most_slots, most_drawn_slots}
 use Rattle.template_tree.specs.Tree.{IsTree}
-use Rattle.template_tree.specs.Edit.{Add, Drop, Differs, DifferBy, changed_in, edit_at, edit_below, edit_slot, give_way, hole_of, lone, procedure_of}
+use Rattle.template_tree.specs.Edit.{Add, Drop, Differs, DifferBy, changed_in, edit_at, edit_below, edit_slot, give_way, procedure_of}
+use Rattle.template_tree.specs.Hole.{hole_of, lone}
 use Rattle.template_tree.specs.TreeEdit.{TreeEdit}
 use Rattle.template_tree.specs.Receipt.{PlainUndoing, PlainReceipt, list_room, undone, with_beside}
 use Rattle.template_tree.specs.EditAnswer.{IsEdit, IsListItem, IsOverTreeLimit, IsSpareHole, IsWithin}
 use Rattle.template_tree.specs.ListItem.{siblings_at}
 use Rattle.template_tree.specs.Private.Exchange.{MeetsLimit, first_item}
-use Rattle.template_tree.specs.Private.Beside.{side_of}
+use Rattle.template_tree.specs.Private.Restored.{side_of}
 use Rattle.template_tree.proofs.Edits.SameEdits.{taken}
 use Rattle.template_tree.proofs.Edits.SlotEdits.{present, slot_edit_is_path_edit}
 use Rattle.template_tree.proofs.Trees.Counts.{sorts_length}
 use Rattle.template_tree.proofs.Room.Rooms.{times_roomless}
 use Rattle.template_tree.proofs.Room.RoomlessEdits.{roomless_edit, roomless_edit_slot}
 use Rattle.template_tree.proofs.Room.RoomlessTrees.{tree_with_room, tree_without_room}
-use Rattle.template_tree.proofs.Edits.Procedures.{procedure_there}
+use Rattle.template_tree.proofs.Edits.Procedures.{on_the_way, procedure_there}
 use Rattle.template_tree.proofs.Puts.PutTrees.{none_above}
 use Rattle.template_tree.proofs.Lists.FilledLists.{many_few}
 use Rattle.template_tree.proofs.Lists.ListChanges.{beside_same}
@@ -148,6 +149,17 @@ with_room : (o : Option PlainNode) (hole : PlainNode) → option_map roomless_no
     → (node : PlainNode) × (o ≡ Some node) × (roomless_node node ≡ hole)
 with_room None hole e = absurd (none-some hole e)
 with_room (Some node) hole e = (node, refl, ap (taken hole) e)
+
+-- a first item stands on the way to a hole that was added
+pub added_way : (side : Side) (hole node : PlainNode) (before after : Forest) (path : List ℕ) → node_at before path ≡ Some node
+    → roomless after ≡ edit_at (with_beside side hole) path (roomless before) → IsSome (first_item after (added_path side path))
+added_way side hole node before after path there others =
+    let added = added_path side path in
+    let was : node_at (roomless before) path ≡ Some (roomless_node node) = there_roomless before path ∙ ap (option_map roomless_node) there in
+    let is : node_at (roomless after) added ≡ Some hole =
+    ap (λ f. node_at f added) others ∙ hole_there side hole (roomless before) path (roomless_node node) was in
+    let found = with_room (node_at after added) hole (sym (there_roomless after added) ∙ is) in
+    on_the_way after added found.0 found.1
 
 -- the first item on the way has the slot that is told of it
 first_there : (items : Forest) (path : List ℕ) (node : PlainNode) (slot : ℕ) → node_at items path ≡ Some node

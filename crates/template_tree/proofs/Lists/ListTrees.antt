@@ -14,7 +14,8 @@ use Rattle.template_tree.specs.Slots.{count, depth, times, AllBelow}
 use Rattle.template_tree.specs.Path.{below, last_child_number, node_at}
 use Rattle.template_tree.specs.Limit.{most_slots, most_drawn_slots}
 use Rattle.template_tree.specs.Tree.{IsTree}
-use Rattle.template_tree.specs.Edit.{Add, Drop, is_hole, edit_at, give_way, hole_list, hole_of, lone, with_hole}
+use Rattle.template_tree.specs.Edit.{Add, Drop, edit_at, give_way, with_hole}
+use Rattle.template_tree.specs.Hole.{is_hole, hole_list, hole_of, lone}
 use Rattle.template_tree.specs.ListItem.{is_listed, sections_at, siblings_at, how_many}
 use Rattle.template_tree.specs.EditAnswer.{IsListItem, IsSpareHole}
 use Rattle.template_tree.specs.Receipt.{with_beside}

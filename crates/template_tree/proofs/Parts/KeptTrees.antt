@@ -16,7 +16,7 @@ use Rattle.template_tree.specs.Slots.{count, depth, times, AllBelow}
 use Rattle.template_tree.specs.Path.{node_at}
 use Rattle.template_tree.specs.Tree.{IsTree}
 use Rattle.template_tree.specs.Edit.{edit_at, Part, edit_slot, with_items}
-use Rattle.template_tree.specs.TreeLend.{with_node}
+use Rattle.template_tree.specs.Lend.{with_node}
 use Rattle.template_tree.specs.Elision.{is_comment, toggled}
 use Rattle.template_tree.proofs.Edits.SameEdits.{taken, edits_alike}
 use Rattle.template_tree.proofs.Edits.SlotEdits.{slot_edit_is_path_edit}

@@ -14,7 +14,7 @@ use Rattle.template_tree.specs.Stop.{part_stops}
 use Rattle.template_tree.specs.Path.{node_at}
 use Rattle.template_tree.specs.Slots.{times}
 use Rattle.template_tree.specs.Tree.{IsTree}
-use Rattle.template_tree.specs.TreeLend.{with_node}
+use Rattle.template_tree.specs.Lend.{with_node}
 use Rattle.template_tree.specs.Edit.{Part, DifferBy, edit_at, edit_slot, procedure_of}
 use Rattle.template_tree.specs.TreeEdit.{TreeEdit}
 use Rattle.template_tree.specs.Receipt.{PlainUndoing, PlainReceipt, undone}

@@ -15,7 +15,7 @@ use Rattle.template_tree.specs.PlainTree.{Forest, PlainNode, forest, join, rooml
 use Rattle.template_tree.specs.Slots.{count, depth}
 use Rattle.template_tree.specs.Limit.{deepest_path}
 use Rattle.template_tree.specs.Program.{parts_of, sorts, may_be_empty, AreItems, AreNodes, AreParts, Fill, IsSubtree}
-use Rattle.template_tree.specs.Edit.{hole_list, hole_of, lone}
+use Rattle.template_tree.specs.Hole.{hole_list, hole_of, lone}
 use Rattle.template_tree.specs.FreshNode.{fresh_node, section_holes}
 use Rattle.template_tree.proofs.Puts.Holes.{hole_subtree}
 use Rattle.template_tree.proofs.Puts.Refusals.{Asked}

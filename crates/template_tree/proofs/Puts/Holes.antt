@@ -12,7 +12,7 @@ use Rattle.template_tree.specs.Path.{node_at}
 use Rattle.template_tree.specs.Program.{Fill, IsSubtree, sorts, sort_of}
 use Rattle.template_tree.specs.Slots.{count, depth}
 use Rattle.template_tree.specs.Tree.{IsTree}
-use Rattle.template_tree.specs.Edit.{hole_left, hole_of, is_hole, lone}
+use Rattle.template_tree.specs.Hole.{hole_left, hole_of, is_hole, lone}
 use Rattle.template_tree.specs.TreeEdit.{TreeEdit}
 use Rattle.template_tree.specs.Receipt.{PlainReceipt}
 use Rattle.template_tree.specs.EditAnswer.{IsEdit, TakesOut}

@@ -8,7 +8,7 @@ use Rattle.template_tree.specs.PlainTree.{Forest, PlainNode, PlainTree, roomless
 use Rattle.template_tree.specs.Path.{node_at}
 use Rattle.template_tree.specs.Slots.{count, times}
 use Rattle.template_tree.specs.Tree.{IsTree}
-use Rattle.template_tree.specs.TreeLend.{with_node}
+use Rattle.template_tree.specs.Lend.{with_node}
 use Rattle.template_tree.specs.Edit.{Put, Differs, DifferBy, changed_in, edit_at, node_in_slot, procedure_of}
 use Rattle.template_tree.specs.TreeEdit.{TreeEdit}
 use Rattle.template_tree.specs.Receipt.{PlainUndoing, PlainReceipt, HasRoomBack, items_before, undone}

@@ -10,7 +10,8 @@ use Rattle.template_tree.specs.Part.{with_part}
 use Rattle.template_tree.specs.Program.{sort_of}
 use Rattle.template_tree.specs.Slots.{count, times}
 use Rattle.template_tree.specs.TreeEdit.{TreeEdit, changed_slot, roomless_tree_edit, tree_after, what_of}
-use Rattle.template_tree.specs.Edit.{DifferBy, Differs, changed_in, procedure_of, edit_slot, hole_list, hole_of, node_in_slot, with_hole, with_items}
+use Rattle.template_tree.specs.Edit.{DifferBy, Differs, changed_in, procedure_of, edit_slot, node_in_slot, with_hole, with_items}
+use Rattle.template_tree.specs.Hole.{hole_list, hole_of}
 use Rattle.template_tree.specs.RoomLaws.{IsSameAfter}
 use Rattle.template_tree.proofs.Room.Rooms.{count_roomless, times_roomless}
 use Rattle.template_tree.proofs.Room.RoomlessEdits.{SameWithoutRoom, as_many, roomless_edit_slot, roomless_placed, roomless_twice}

@@ -1,5 +1,5 @@
 -- Slots drawn in listing order.
-use Rattle.std.specs.Prelude.{◌≡◌, refl, ℕ, zero, suc, ◌+◌, ◌<◌, ◌≤◌, List, [], ◌∷◌, length, drop, slice_get, slice_set, Some, ◌-◌, if◌then◌else◌, ◌==◌, Bool, true, false}
+use Rattle.std.specs.Prelude.{◌≡◌, refl, ℕ, zero, suc, ◌+◌, ◌<◌, ◌≤◌, List, [], ◌∷◌, length, drop, slice_get, slice_set, Some, None, ◌-◌, if◌then◌else◌, ◌==◌, Bool, true, false}
 use Rattle.std.proofs.Common.{ap, sym, ◌∙◌, arith, add-one, subst, ◌⊎◌, inl, inr}
 use Rattle.std.proofs.lemmas.Bool.{ne_eqb, cases_lt}
 use Rattle.std.proofs.lemmas.Option.{none-some}
@@ -36,6 +36,12 @@ all_done zero next [] past = refl
 all_done zero next (item ∷ items) past = absurd (omega arith)
 all_done (suc k) next [] past = refl
 all_done (suc k) next (item ∷ items) past = ap (λ rest. item ∷ rest) (all_done k next items (omega (arith, past)))
+
+-- no item is left where none is found
+pub past_none : (items : List PlainNode) (k : ℕ) → slice_get items k ≡ None → length items ≤ k
+past_none [] k e = omega arith
+past_none (item ∷ items) zero e = absurd (none-some item (sym e))
+past_none (item ∷ items) (suc k) e = omega (arith, past_none items k e)
 
 -- those left are fewer by the item and by those inside it
 pub left_fewer : (k : ℕ) (items : List PlainNode) (node new : PlainNode) → slice_get items k ≡ Some node

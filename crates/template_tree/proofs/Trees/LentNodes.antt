@@ -5,8 +5,7 @@ use Rattle.std.proofs.lemmas.List.{set-get_or}
 use Rattle.std.proofs.lemmas.Option.{none-some, get_or_from_slice_get}
 use Rattle.template_tree.specs.PlainTree.{Label, PlainNode, PlainNodes, nodes, forest, forest_nodes, nodes_forest}
 use Rattle.template_tree.specs.Path.{below}
-use Rattle.template_tree.specs.Lend.{with_node_set}
-use Rattle.template_tree.specs.Descent.{put_below, put_in}
+use Rattle.template_tree.specs.Lend.{put_below, put_in, with_node_set}
 
 -- what is there, or else the node
 abbrev taken : PlainNode → Option PlainNode → PlainNode

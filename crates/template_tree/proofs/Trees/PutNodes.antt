@@ -4,8 +4,7 @@ use Rattle.std.proofs.Common.{ap, sym, ◌∙◌}
 use Rattle.template_tree.specs.PlainTree.{Forest, PlainNode, PlainNodes, PlainTree, nodes, forest, forest_nodes, nodes_forest}
 use Rattle.template_tree.specs.Path.{below, node_at}
 use Rattle.template_tree.specs.Edit.{give_way, edit_below, edit_at}
-use Rattle.template_tree.specs.Descent.{put_below, put_in}
-use Rattle.template_tree.specs.TreeLend.{with_node}
+use Rattle.template_tree.specs.Lend.{put_below, put_in, with_node}
 
 -- an item is set where it gives way to one item
 pub set_is_give_way : (change : PlainNode → List PlainNode) (put : PlainNode → PlainNode)

@@ -5,7 +5,7 @@ use borrow.Follows.Closed.{read_of}
 use Rattle.std.specs.Option.{ghost_name_of}
 use Rattle.template_tree.specs.contracts.node.Node as node_row
 use Rattle.template_tree.specs.PlainTree.{PlainNode}
-use Rattle.template_tree.specs.Descent.{put_in}
+use Rattle.template_tree.specs.Lend.{put_in}
 use Rattle.template_tree.specs.Path.{below}
 use Rattle.template_tree.proofs.Trees.LentNodes.{lost_below, lost_in, with_below, lent_twice, lent_back, found_twice, both}
 use Rattle.template_tree.proofs.descent.TwiceDescent.down.Goals as goal

@@ -4,7 +4,7 @@ use Rattle.template_tree.specs.contracts.node.Node.{the_view}
 use Rattle.template_tree.specs.PlainTree.{forest, roomless_node}
 use Rattle.template_tree.specs.Edit.{edit_at}
 use Rattle.template_tree.specs.Receipt.{with_beside}
-use Rattle.template_tree.proofs.Lists.ListChanges.{beside_here, level_ok, err_same, no_item}
+use Rattle.template_tree.proofs.Lists.ListChanges.{beside_here, level_ok, err_same, stands_below, stands_in_item}
 use Rattle.template_tree.proofs.node.Nodes.+add_at.Goals as goal
 
 pub returns-in_default-clause-added : goal.returns-in_default-clause-added
@@ -14,16 +14,18 @@ returns-in_default-clause-added t c =
     (c.insert_beside.ensures
     ∙ ap (λ items. edit_at (with_beside c.args.side c.args.node) (c.args.k ∷ []) (forest items)) c.reserve_one.ensures.items)
 
-pub returns-in_default-get_mut-clause-added : goal.returns-in_default-get_mut-clause-added
-returns-in_default-get_mut-clause-added t c =
-    no_item (with_beside c.args.side (roomless_node c.args.node)) c.args.self.now.items c.args.k c.args.path.now
-    (sym c.in_default-get_mut.ensures.found)
+pub unreachable-requires : goal.unreachable-requires
+unreachable-requires t c = stands_in_item c.args.self.now.items c.args.k c.args.path.now (sym c.in_default-get_mut.ensures.found) c.requires.there
 
 pub add_at-requires : goal.add_at-requires
 add_at-requires t c =
     let way : c.args.path.now ≡ c.in-Some.next.now ∷ c.in-Some.rest.now = c.in-Some.ensures.cases.0 in
     let shorter : length c.args.path.now ≡ suc (length c.in-Some.rest.now) = ap length way in
-    (omega (arith, shorter, c.decreases), tt)
+    let there : slice_get c.args.self.now.items c.args.k ≡ Some (the_view c.there.inside) =
+    sym c.in-Some-get_mut.ensures.found ∙ ap Some (sym c.there.view_is) in (
+      omega (arith, shorter, c.decreases),
+      stands_below c.args.self.now.items c.args.k c.in-Some.next.now c.args.path.now c.in-Some.rest.now (the_view c.there.inside) way there c.requires.there,
+    )
 
 pub returns-clause-added : goal.returns-clause-added
 returns-clause-added t c =

@@ -3,7 +3,7 @@ use Rattle.std.proofs.Common.{arith, ap, sym, ◌∙◌}
 use Rattle.template_tree.specs.contracts.node.Node.{the_view}
 use Rattle.template_tree.specs.PlainTree.{forest, roomless_node}
 use Rattle.template_tree.specs.Receipt.{list_room, with_beside}
-use Rattle.template_tree.proofs.Lists.ListChanges.{beside_here, level_of, room_of, room_at_end, no_item}
+use Rattle.template_tree.proofs.Lists.ListChanges.{beside_here, level_of, room_of, room_at_end, no_room}
 use Rattle.template_tree.proofs.node.Nodes.+insert_at.Goals as goal
 
 pub insert_beside-requires : goal.insert_beside-requires
@@ -15,10 +15,15 @@ returns-in_default t c =
     beside_here c.args.side c.args.node (forest c.insert_beside.new.self.items) (forest c.args.self.now.items) c.args.k c.args.path.now
     c.in_default.ensures.cases c.insert_beside.ensures
 
-pub returns-in_default-get_mut : goal.returns-in_default-get_mut
-returns-in_default-get_mut t c =
-    no_item (with_beside c.args.side (roomless_node c.args.node)) c.args.self.now.items c.args.k c.args.path.now
-    (sym c.in_default-get_mut.ensures.found)
+pub unreachable-requires : goal.unreachable-requires
+unreachable-requires t c =
+    absurd
+    (omega (
+      arith,
+      c.requires.room,
+      no_room c.args.self.now.spare c.args.self.now.items c.args.k c.in-Some.next.now c.args.path.now c.in-Some.rest.now
+          c.in-Some.ensures.cases.0 (sym c.in_default-get_mut.ensures.found),
+    ))
 
 pub insert_at-requires : goal.insert_at-requires
 insert_at-requires t c =

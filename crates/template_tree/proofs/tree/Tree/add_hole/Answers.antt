@@ -1,4 +1,4 @@
-use Rattle.std.specs.Prelude.{◌≡◌, refl, ◌+◌, ◌≤◌, Some, None, IfSome}
+use Rattle.std.specs.Prelude.{◌≡◌, refl, ◌+◌, ◌≤◌, Some, None, IfSome, IsSome}
 use Rattle.std.proofs.Common.{arith, ap, sym, ◌∙◌, subst}
 use Rattle.std.proofs.lemmas.Option.{none-some}
 use Rattle.plcs_grammar.specs.declared.node_kind.NodeKind.{NodeKind}
@@ -10,7 +10,8 @@ use Rattle.template_tree.specs.PlainTree.{PlainTree, roomless, roomless_node}
 use Rattle.template_tree.specs.Path.{node_at}
 use Rattle.template_tree.specs.Program.{sort_of}
 use Rattle.template_tree.specs.Slots.{count}
-use Rattle.template_tree.specs.Edit.{edit_at, hole_of, lone}
+use Rattle.template_tree.specs.Edit.{edit_at}
+use Rattle.template_tree.specs.Hole.{hole_of, lone}
 use Rattle.template_tree.specs.EditAnswer.{IsEdit, IsListItem}
 use Rattle.template_tree.specs.ListItem.{is_listed}
 use Rattle.template_tree.specs.Private.Exchange.{first_item}
@@ -21,7 +22,7 @@ use Rattle.template_tree.proofs.Puts.Holes.{bare_is}
 use Rattle.template_tree.proofs.Puts.PutEdits.{at_there, edits_at}
 use Rattle.template_tree.proofs.Puts.Refusals.{refused_by}
 use Rattle.template_tree.proofs.Lists.ListTrees.{hole_kind}
-use Rattle.template_tree.proofs.Lists.ListEdits.{add_edit, add_over, add_within, last_small}
+use Rattle.template_tree.proofs.Lists.ListEdits.{add_edit, add_over, add_within, added_way, last_small}
 use Rattle.template_tree.proofs.tree.Tree.add_hole.Goals as goal
 
 pub returns-in_default-hole_of-clause-refused : goal.returns-in_default-hole_of-clause-refused
@@ -75,6 +76,13 @@ pub added_path-added-requires : goal.added_path-added-requires
 added_path-added-requires c =
     let few : count c.args.self.now.items ≤ 20000 = c.requires.tree.few in
     record { small = omega (arith, few, last_small c.args.self.now.items c.args.path.now.items c.in-Some.there.now (sym c.in-Some.ensures.found)) }
+
+pub procedure_at-procedure-requires : goal.procedure_at-procedure-requires
+procedure_at-procedure-requires c =
+    let way =
+    added_way c.args.side (roomless_node c.bare-node.result) c.in-Some.there.now c.args.self.now.items c.add_beside.new.self.items
+    c.args.path.now.items (sym c.in-Some.ensures.found) (ap (λ (t : PlainTree). t.items) c.in_default-add_beside.ensures.added) in
+    subst (λ p. IsSome (first_item c.add_beside.new.self.items p)) (sym c.added_path-added.ensures) way
 
 pub returns-clause-edited : goal.returns-clause-edited
 returns-clause-edited c =

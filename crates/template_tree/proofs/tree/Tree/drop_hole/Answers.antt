@@ -9,10 +9,16 @@ use Rattle.template_tree.specs.Edit.{edit_at}
 use Rattle.template_tree.specs.EditAnswer.{IsEdit, IsSpareHole}
 use Rattle.template_tree.specs.Receipt.{PlainReceipt, PlainUndoing, list_room}
 use Rattle.template_tree.specs.TreeEdit.{TreeEdit}
+use Rattle.template_tree.proofs.Edits.Procedures.{way_where}
 use Rattle.template_tree.proofs.Trees.Counts.{counted_below}
 use Rattle.template_tree.proofs.Puts.PutEdits.{edits_at, of_there}
 use Rattle.template_tree.proofs.Lists.ListEdits.{drop_edit}
 use Rattle.template_tree.proofs.tree.Tree.drop_hole.Goals as goal
+
+pub procedure_at-procedure-requires : goal.procedure_at-procedure-requires
+procedure_at-procedure-requires c =
+    way_where (node_at c.args.self.now.items c.args.path.now.items) (IsSpareHole c.args.self.now.items c.args.path.now.items)
+    c.args.self.now.items c.args.path.now.items refl (c.is_spare_hole.ensures.0 c.if-not-is_spare_hole.false)
 
 pub overflow_sub-self : goal.overflow_sub-self
 overflow_sub-self c =

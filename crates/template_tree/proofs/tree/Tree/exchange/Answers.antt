@@ -1,4 +1,4 @@
-use Rattle.std.specs.Prelude.{◌≡◌, ◌+◌, ◌-◌, ◌≤◌, Some}
+use Rattle.std.specs.Prelude.{◌≡◌, refl, ◌+◌, ◌-◌, ◌≤◌, Some}
 use Rattle.std.proofs.Common.{arith, sym, ap, ◌∙◌}
 use Rattle.template_tree.specs.contracts.tree.Tree.{the_view}
 use Rattle.template_tree.specs.PlainTree.{PlainNode, PlainTree}
@@ -6,28 +6,34 @@ use Rattle.template_tree.specs.Path.{node_at}
 use Rattle.template_tree.specs.Slots.{count}
 use Rattle.template_tree.specs.Edit.{node_in_slot}
 use Rattle.template_tree.specs.Private.Exchange.{MayReplace}
+use Rattle.template_tree.proofs.Edits.Procedures.{way_where}
 use Rattle.template_tree.proofs.Trees.Counts.{counted_below}
 use Rattle.template_tree.proofs.Puts.PutEdits.{come, exchanged_is, put_change, of_there}
 use Rattle.template_tree.proofs.tree.Tree.exchange.Goals as goal
 
 -- the old node stands at the path
-there : (c : goal.After-of_node-2) → node_at c.args.self.now.items c.args.path.now.items ≡ Some c.replace-old.result
+there : (c : goal.After-of_node) → node_at c.args.self.now.items c.args.path.now.items ≡ Some c.replace-old.result
 there c = sym c.in-Some.ensures.found ∙ ap Some (sym c.replace-old.ensures.value)
 
 -- how many slots it has
-slots_are : (c : goal.After-of_node-2) → c.slots.result ≡ count c.replace-old.result.inner + 1
+slots_are : (c : goal.After-of_node) → c.slots.result ≡ count c.replace-old.result.inner + 1
 slots_are c = c.slots.ensures
 
 -- the new node is there
-came_is : (c : goal.After-of_node-2) → c.replace-old.new.dest ≡ come c.args.self.now c.replace-old.result c.args.node
+came_is : (c : goal.After-of_node) → c.replace-old.new.dest ≡ come c.args.self.now c.replace-old.result c.args.node
 came_is c =
     c.replace-old.ensures.after
     ∙ (c.settle-next.ensures.settled
     ∙ λ i. node_in_slot ((ap (λ (n : PlainNode). n.label.slot) (c.there.view_is ∙ sym c.replace-old.ensures.value)) i)
     ((ap (λ (t : PlainTree). t.drawn) c.self.view_is) i) c.args.node)
 
-few : (c : goal.After-of_node-2) → c.slots.result ≤ c.args.self.now.live
+few : (c : goal.After-of_node) → c.slots.result ≤ c.args.self.now.live
 few c = omega (arith, slots_are c, counted_below c.args.self.now.items c.args.path.now.items c.replace-old.result (there c), c.requires.tree.live)
+
+pub procedure_at-procedure-requires : goal.procedure_at-procedure-requires
+procedure_at-procedure-requires c =
+    way_where (node_at c.args.self.now.items c.args.path.now.items) (MayReplace c.args.self.now c.args.node) c.args.self.now.items
+    c.args.path.now.items refl c.requires.fits
 
 pub overflow_sub-self : goal.overflow_sub-self
 overflow_sub-self c =
@@ -53,7 +59,7 @@ returns-clause-put c =
 pub returns-clause-change : goal.returns-clause-change
 returns-clause-change c =
     put_change c.args.self.now c.args.path.now.items c.replace-old.result c.args.node _ c.there.inside.slot c.procedure_at-procedure.result
-    c.of_node-2.result c.requires.tree (there c)
+    c.of_node.result c.requires.tree (there c)
     (of_there (node_at c.args.self.now.items c.args.path.now.items) (MayReplace c.args.self.now c.args.node) c.replace-old.result (there c) c.requires.fits)
     (returns-clause-put c) (ap (λ (n : PlainNode). n.label.slot) (c.there.view_is ∙ sym c.replace-old.ensures.value)) c.procedure_at-procedure.ensures
-    c.of_node-2.ensures
+    c.of_node.ensures

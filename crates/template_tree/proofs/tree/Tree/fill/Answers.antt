@@ -7,7 +7,8 @@ use Rattle.template_tree.specs.Path.{node_at}
 use Rattle.template_tree.specs.Program.{IsSubtree, sort_of}
 use Rattle.template_tree.specs.Slots.{count}
 use Rattle.template_tree.specs.FreshNode.{fresh_node, section_holes}
-use Rattle.template_tree.specs.Edit.{hole_of, Put}
+use Rattle.template_tree.specs.Edit.{Put}
+use Rattle.template_tree.specs.Hole.{hole_of}
 use Rattle.template_tree.specs.EditAnswer.{IsHoleFor, IsWithin, slot_in}
 use Rattle.template_tree.proofs.Puts.PutEdits.{at_there, edit_like}
 use Rattle.template_tree.proofs.Room.RoomlessEdits.{same_roomless}

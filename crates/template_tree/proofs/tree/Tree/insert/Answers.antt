@@ -4,7 +4,7 @@ use Rattle.template_tree.specs.Limit.{most_slots}
 use Rattle.template_tree.specs.PlainTree.{PlainNode, forest}
 use Rattle.template_tree.specs.Program.{sort_of}
 use Rattle.template_tree.specs.Slots.{count}
-use Rattle.template_tree.specs.Edit.{hole_of}
+use Rattle.template_tree.specs.Hole.{hole_of}
 use Rattle.template_tree.specs.EditAnswer.{IsHoleFor}
 use Rattle.template_tree.specs.Path.{node_at}
 use Rattle.template_tree.proofs.Puts.PutEdits.{at_there}

@@ -9,11 +9,15 @@ use Rattle.template_tree.specs.Receipt.{PlainUndoing}
 use Rattle.template_tree.specs.Tree.{IsTree}
 use Rattle.template_tree.specs.TreeEdit.{TreeEdit}
 use Rattle.template_tree.specs.EditAnswer.{TakesAtStop}
-use Rattle.template_tree.specs.TreeLend.{with_node}
+use Rattle.template_tree.specs.Lend.{with_node}
+use Rattle.template_tree.proofs.Edits.Procedures.{on_the_way}
 use Rattle.template_tree.proofs.Puts.PutEdits.{edits_at}
 use Rattle.template_tree.proofs.Parts.KeptTrees.{part_keeps_tree}
 use Rattle.template_tree.proofs.Parts.PartEdits.{with_node_same, part_edit, part_is, part_stop}
 use Rattle.template_tree.proofs.tree.Tree.set_phrase.Goals as goal
+
+pub procedure_at-procedure-requires : goal.procedure_at-procedure-requires
+procedure_at-procedure-requires c = on_the_way c.args.self.now.items c.args.stop.now.path.items _ (sym c.in-Some-node.ensures.found)
 
 pub returns-then-is_assignment-clause-unchanged : goal.returns-then-is_assignment-clause-unchanged
 returns-then-is_assignment-clause-unchanged c =
@@ -31,7 +35,7 @@ returns-clause-edited c =
     let node = c.in-Some-node_mut.node.now in
     let there = sym c.in-Some-node_mut.ensures.found in
     let takes = c.in-Ok.ensures.fits.0 refl in
-    let kind = ap (λ (n : PlainNode). n.label.kind) c.node.view_is in
+    let kind = ap (λ (n : PlainNode). n.label.kind) c.node-2.view_is in
     let drawn = ap (λ (t : PlainTree). t.drawn) c.self.view_is in
     let live = ap (λ (t : PlainTree). t.live) c.self.view_is in
     rw c.in-Some.is
@@ -39,11 +43,11 @@ returns-clause-edited c =
     (TakesAtStop c.in-Some.part (plain_phrase_place c.args.place)) _ _ _ node there
     (part_stop node.label.kind c.in-Some.part (plain_phrase_place c.args.place) (λ is. false≢true (sym c.if-is_assignment.false ∙ c.is_assignment.ensures.1 (kind ∙ is))) takes, takes)
     (part_edit c.args.self.now c.args.stop.now.path.items node c.in-Some.part (plain_phrase_place c.args.place) (plain_phrase_place c.in-Ok.old) _
-    c.node.inside.slot c.procedure_at-procedure.result _ c.requires.tree there takes c.requires.phrase c.in-Ok.ensures.set.0
-    (ap (with_node c.args.self.now c.args.stop.now.path.items) c.in-Ok.ensures.set.1) (ap (λ (n : PlainNode). n.label.slot) c.node.view_is)
+    c.node-2.inside.slot c.procedure_at-procedure.result _ c.requires.tree there takes c.requires.phrase c.in-Ok.ensures.set.0
+    (ap (with_node c.args.self.now c.args.stop.now.path.items) c.in-Ok.ensures.set.1) (ap (λ (n : PlainNode). n.label.slot) c.node-2.view_is)
     c.procedure_at-procedure.ensures
     (λ i. record {
-      change = record { slot = c.node.inside.slot; procedure = c.procedure_at-procedure.result; what = What.Part c.in-Some.part };
+      change = record { slot = c.node-2.inside.slot; procedure = c.procedure_at-procedure.result; what = What.Part c.in-Some.part };
       path = c.copy_path.ensures i;
       undoing = PlainUndoing.set_part c.in-Some.part (plain_phrase_place c.in-Ok.old);
       drawn = drawn i;

@@ -1,7 +1,7 @@
 use Rattle.std.specs.Prelude.{◌≡◌, refl, Some}
 use Rattle.std.proofs.Common.{ap, sym, ◌∙◌, subst}
 use Rattle.template_tree.specs.Path.{node_at}
-use Rattle.template_tree.specs.Edit.{hole_left, lone}
+use Rattle.template_tree.specs.Hole.{hole_left, lone}
 use Rattle.template_tree.specs.PlainTree.{PlainNode, PlainTree}
 use Rattle.template_tree.specs.EditAnswer.{IsEdit}
 use Rattle.template_tree.specs.TreeEdit.{TreeEdit}

@@ -3,7 +3,7 @@ use Rattle.template_tree.specs.PlainTree.{nodes, forest}
 use Rattle.template_tree.specs.Edit.{whole}
 use Rattle.template_tree.specs.Slots.{count}
 use Rattle.template_tree.proofs.Edits.RevealedNodes.{whole_after}
-use Rattle.template_tree.proofs.exchange.+reveal.Given as goal
+use Rattle.template_tree.proofs.build.+reveal.Given as goal
 
 abbrev pub decreases-reveal : goal.decreases-reveal
 decreases-reveal l = count (forest l.list.now.items)

@@ -4,7 +4,7 @@ use Rattle.std.proofs.lemmas.List.{length-set}
 use Rattle.template_tree.specs.contracts.node.Node.{the_view}
 use Rattle.template_tree.proofs.Trees.DrawnSlots.{fewer, list_is}
 use Rattle.template_tree.proofs.Edits.RevealedNodes.{step, written, all_done}
-use Rattle.template_tree.proofs.exchange.+reveal.Goals as goal
+use Rattle.template_tree.proofs.build.+reveal.Goals as goal
 
 pub reveal-requires : goal.reveal-requires
 reveal-requires t c =
