@@ -19,6 +19,10 @@ pub few_slots : (name : List ℕ) (slots : ℕ) (pairs : List Pair) → is_full 
     → slots_held (without_name name pairs) + slots ≤ most_clip_slots
 few_slots name slots pairs fits = grind (arith, nat_tests)
 
+-- more slots than all may have are too many under any name
+pub too_many : (name : List ℕ) (slots : ℕ) (pairs : List Pair) → most_clip_slots < slots → is_full name slots pairs ≡ true
+too_many name slots pairs over = grind (arith, nat_tests)
+
 -- what would hold as many slots as were counted isn't full
 pub fits : (name : List ℕ) (slots counted : ℕ) (pairs : List Pair) (held : Bool)
     → held ≡ not (is_full name counted pairs) → held ≡ true → counted ≡ slots → is_full name slots pairs ≡ false

@@ -6,6 +6,6 @@ pub mod PutPairs
 pub mod ClipLimits
 -- the map's entries as pairs
 pub mod MapPairs
--- `room_is_not_clipped`, and what a copy is without room
+-- `room_is_not_clipped`, `clips_are_kept_whole`, and what a copy is without room
 pub mod RoomlessFragments
-pub mod RoomlessPairs
+pub mod MappedPairs

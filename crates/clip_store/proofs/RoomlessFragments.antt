@@ -5,7 +5,8 @@ use Rattle.template_tree.specs.Copy.{IsCopy, whole_node}
 use Rattle.template_tree.specs.Edit.{whole}
 use Rattle.template_tree.specs.PlainTree.{Forest, PlainNode, roomless, roomless_node}
 use Rattle.template_tree.specs.RoomLaws.{CountsIgnoreRoom, RoomGoesOnce}
-use Rattle.clip_store.specs.PlainFragment.{PlainFragment, roomless_fragment, slots_of, whole_fragment}
+use Rattle.template_tree.specs.Slots.{count}
+use Rattle.clip_store.specs.PlainFragment.{PlainFragment, kept_fragment, roomless_fragment, slots_of, whole_fragment}
 
 whole_roomless : (items : Forest) → whole (roomless items) ≡ roomless (whole items)
 whole_roomless Forest.nil = refl
@@ -41,6 +42,27 @@ module _ (once : RoomGoesOnce) where
 pub slots_roomless : CountsIgnoreRoom → (fragment : PlainFragment) → slots_of (roomless_fragment fragment) ≡ slots_of fragment
 slots_roomless counts (PlainFragment.node n) = ap (λ number. number + 1) (counts n.inner)
 slots_roomless counts (PlainFragment.phrase p) = refl
+
+-- what is elided plays no part in the number of slots
+count_whole : (items : Forest) → count (whole items) ≡ count items
+count_whole Forest.nil = refl
+count_whole (Forest.cons label inner rest) = λ i. count_whole inner i + count_whole rest i + 1
+
+pub slots_kept : CountsIgnoreRoom → (fragment : PlainFragment) → slots_of (kept_fragment fragment) ≡ slots_of fragment
+slots_kept counts (PlainFragment.node n) = ap (λ number. number + 1) (count_whole (roomless n.inner) ∙ counts n.inner)
+slots_kept counts (PlainFragment.phrase p) = refl
+
+-- a whole node is whole already
+whole_twice : (items : Forest) → whole (whole items) ≡ whole items
+whole_twice Forest.nil = refl
+whole_twice (Forest.cons label inner rest) = λ i. Forest.cons (record label { elided = false }) (whole_twice inner i) (whole_twice rest i)
+
+abbrev elided_nowhere : PlainNode → Forest → PlainNode
+elided_nowhere node inner = record { label = record node.label { elided = false }; inner = inner }
+
+pub whole_goes_once : (fragment : PlainFragment) → whole_fragment (whole_fragment fragment) ≡ whole_fragment fragment
+whole_goes_once (PlainFragment.node n) = ap (λ (inner : Forest). PlainFragment.node (elided_nowhere n inner)) (whole_twice n.inner)
+whole_goes_once (PlainFragment.phrase p) = refl
 
 -- a copy of the node is the whole node, both without room
 pub copy_roomless : (node copy : PlainNode) → IsCopy node copy → roomless_node copy ≡ whole_node (roomless_node node)

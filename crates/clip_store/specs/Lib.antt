@@ -5,5 +5,6 @@ pub mod PlainClips
 pub mod ClipLimit
 -- ---- the laws
 pub mod ClipRoomLaws
+pub mod KeptClipLaws
 -- ---- what private contracts alone cite
 pub mod Private

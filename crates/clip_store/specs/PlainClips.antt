@@ -3,7 +3,7 @@ use Rattle.std.specs.Prelude.{ℕ, if◌then◌else◌, List, [], ◌∷◌, map
 use Rattle.std.specs.List.{sum_by}
 use Rattle.std.specs.Map.{values_of, lookup, remove_entry}
 use Rattle.std.specs.Str.{bytes_eq}
-use Rattle.clip_store.specs.PlainFragment.{PlainFragment, roomless_fragment, slots_of}
+use Rattle.clip_store.specs.PlainFragment.{PlainFragment, kept_fragment, roomless_fragment, slots_of}
 
 -- a clip: a name and the fragment under it
 abbrev pub Pair : Type 0
@@ -35,3 +35,7 @@ slots_held pairs = sum_by slots_of (values_of pairs)
 -- the clips, each fragment without the room of its lists
 abbrev pub roomless_pairs : List Pair → List Pair
 roomless_pairs pairs = map (λ pair. (pair.0, roomless_fragment pair.1)) pairs
+
+-- the clips as they are kept, in their plain form: each fragment whole, and without the room of its lists
+abbrev pub kept_pairs : List Pair → List Pair
+kept_pairs pairs = map (λ pair. (pair.0, kept_fragment pair.1)) pairs

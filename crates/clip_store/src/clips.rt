@@ -55,7 +55,8 @@ impl Clips {
     }
 
     /// Puts the fragment under the name and gives back the one that was there. A new name comes last,
-    /// and one that is held keeps its place. What isn't taken is given back.
+    /// and one that is held keeps its place. What isn't taken is given back. The next `put` of a clip
+    /// that was reserved takes no memory; no other is promised that.
     ///
     /// `Full` where 64 other names are held, or where the fragments would have more than 20,000 slots,
     /// the one that is replaced not counted.
@@ -65,7 +66,6 @@ impl Clips {
         fragment: Fragment,
     ) -> Result<Option<Fragment>, (ClipFault, Fragment)>
         requires fragment { IsFragment (plain_fragment fragment) }
-        requires few { slots_of (plain_fragment fragment) ≤ 4294967295 }
         ensures put { OnOk result (self.new.pairs ≡ with_clip name (plain_fragment fragment) self.old.pairs) }
         ensures replaced { IfOk result (λ old. option_map plain_fragment old ≡ clip_named name self.old.pairs) }
         ensures clip { IfOk result (λ old. IfSome old (λ fragment. IsClip (plain_fragment fragment))) }
@@ -76,7 +76,9 @@ impl Clips {
         ensures room { self.old.spare ≤ self.new.spare + 1 }
         ensures room_stays { OnErr result (self.old.spare ≤ self.new.spare) }
     {
-        let slots = fragment.slots();
+        let Some(slots) = fragment.slots_within_limit() else {
+            return Err((ClipFault::Full, fragment));
+        };
         if !self.would_hold(&name, slots) {
             return Err((ClipFault::Full, fragment));
         }
@@ -112,7 +114,8 @@ impl Clips {
         self.other_names(name) < MOST_CLIPS && slots <= MOST_CLIP_SLOTS - self.other_slots(name)
     }
 
-    /// Makes room for a clip, so that the next `put` under the name takes no memory.
+    /// Makes room for a clip, so that the next `put` under the name, and no other, takes no memory. Room for
+    /// a new name is no name's own: a `put` under another new name takes it.
     pub fn reserve(&mut self, name: &Name) -> Result<(), OutOfMemory>
         ensures same { self.new.pairs ≡ self.old.pairs }
         ensures room { OnOk result (has_room name.now self.new ≡ true) }

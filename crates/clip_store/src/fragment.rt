@@ -1,7 +1,9 @@
 //! The fragment that a clip holds: a node or a phrase.
-ghost use Rattle.std.specs.Prelude.{◌≡◌, ◌≤◌, IfOk};
+ghost use Rattle.std.specs.Prelude.{◌≡◌, ◌<◌, ◌≤◌, IfNone, IfOk, IfSome};
+ghost use Rattle.clip_store.specs.ClipLimit.{most_clip_slots};
 ghost use Rattle.clip_store.specs.PlainFragment.{IsFragment, plain_fragment, roomless_fragment, slots_of, whole_fragment};
 
+use crate::limit::MOST_CLIP_SLOTS;
 use plcs_base::OutOfMemory;
 use plcs_grammar::{Phrase, copy_phrase};
 use std::alloc::Global;
@@ -38,6 +40,17 @@ impl Fragment {
         match self {
             Fragment::Node(node) => node.slots(),
             Fragment::Phrase(_) => 1,
+        }
+    }
+
+    /// How many slots a fragment counts as, or `None` where they are more than all clips may have.
+    pub(crate) fn slots_within_limit(&self) -> Option<u32>
+        ensures within { IfSome result (λ slots. slots ≡ slots_of (plain_fragment self.now)) }
+        ensures over { IfNone result (most_clip_slots < slots_of (plain_fragment self.now)) }
+    {
+        match self {
+            Fragment::Node(node) => node.slots_within(MOST_CLIP_SLOTS),
+            Fragment::Phrase(_) => Some(1),
         }
     }
 }

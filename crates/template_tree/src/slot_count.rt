@@ -1,9 +1,10 @@
 //! How many slots a node has, with those of the nodes inside it.
-ghost use Rattle.std.specs.Prelude.{◌≡◌, ◌+◌, ◌≤◌, option_map};
+ghost use Rattle.std.specs.Prelude.{◌≡◌, ◌+◌, ◌<◌, ◌≤◌, IfNone, IfSome, option_map};
 ghost use Rattle.template_tree.specs.Path.{node_at};
 ghost use Rattle.template_tree.specs.Slots.{count};
 ghost use Rattle.template_tree.specs.Tree.{IsTree};
 
+use crate::limit_reached::slots_left;
 use crate::node::Node;
 use crate::path::Path;
 use crate::tree::Tree;
@@ -33,5 +34,16 @@ impl Node {
             slots += node.slots();
         }
         slots
+    }
+
+    /// How many slots this node has, its own among them, or `None` where they are more than so many. It
+    /// counts no further than that.
+    pub fn slots_within(&self, most: u32) -> Option<u32>
+        ensures within { IfSome result (λ slots. (slots ≡ count self.now.inner + 1) × (slots ≤ most)) }
+        ensures over { IfNone result (most < count self.now.inner + 1) }
+    {
+        let others = most.checked_sub(1)?;
+        let left = slots_left(self.inner.as_slice(), others)?;
+        Some(most - left)
     }
 }

@@ -9,7 +9,7 @@ use Rattle.clip_store.specs.ClipLimit.{AreClips, IsClip, is_full, has_room}
 use Rattle.clip_store.specs.Private.ClipsView.{pairs_of, seen}
 use Rattle.clip_store.proofs.MapPairs.{clip_named-pairs, given_holds, keys_of-pairs, with_clip-pairs}
 use Rattle.clip_store.proofs.PutPairs.{slots_held-with_clip}
-use Rattle.clip_store.proofs.ClipLimits.{AreClips-with_clip, IsClip-named, fits, no_room}
+use Rattle.clip_store.proofs.ClipLimits.{AreClips-with_clip, IsClip-named, fits, no_room, too_many}
 use Rattle.clip_store.proofs.clips.Clips.put.Goals as goal
 
 pub invariant_of-self : goal.invariant_of-self
@@ -22,8 +22,8 @@ invariant_of-self c =
     let once : IsDistinct bytes_eq (keys_of (pairs_of entries)) = rw (keys_of-pairs entries) c.in-Ok.ensures.unique in
     let full : is_full c.args.name (slots_of fragment) pairs ≡ false =
     subst (λ clips. is_full c.args.name (slots_of fragment) clips.pairs ≡ false) (sym c.self.view_is)
-    (fits c.args.name (slots_of fragment) c.slots-slots.result c.args.self.now.pairs c.would_hold.result
-    c.would_hold.ensures c.if-not-would_hold.false c.slots-slots.ensures) in
+    (fits c.args.name (slots_of fragment) c.in-Some.slots c.args.self.now.pairs c.would_hold.result
+    c.would_hold.ensures c.if-not-would_hold.false c.in-Some.ensures.within) in
     let others : c.other_slots-others.result ≡ slots_held (without_name c.args.name pairs) =
     subst (λ clips. c.other_slots-others.result ≡ slots_held (without_name c.args.name clips.pairs)) (sym c.self.view_is)
     c.other_slots-others.ensures.sum in
@@ -33,9 +33,16 @@ invariant_of-self c =
           (AreClips-with_clip c.args.name fragment pairs c.self.invariant.clips c.requires.fragment full
           (subst (λ all. IsDistinct bytes_eq (keys_of all)) made once));
       slots =
-          subst (λ all. c.other_slots-others.result + c.slots-slots.result ≡ slots_held all) (sym made)
-          (omega (arith, slots_held-with_clip c.args.name fragment pairs, c.slots-slots.ensures));
+          subst (λ all. c.other_slots-others.result + c.in-Some.slots ≡ slots_held all) (sym made)
+          (omega (arith, slots_held-with_clip c.args.name fragment pairs, c.in-Some.ensures.within));
     }
+
+pub returns-in_default-clause-cause : goal.returns-in_default-clause-cause
+returns-in_default-clause-cause c =
+    too_many c.args.name (slots_of (plain_fragment c.args.fragment)) c.args.self.now.pairs c.in_default.ensures.over
+
+pub returns-in_default-clause-succeeds : goal.returns-in_default-clause-succeeds
+returns-in_default-clause-succeeds c = λ full room. sym full ∙ returns-in_default-clause-cause c
 
 pub returns-in-Ok-clause-put : goal.returns-in-Ok-clause-put
 returns-in-Ok-clause-put c =
@@ -59,8 +66,8 @@ returns-in-Err-clause-cause c =
     let fragment = plain_fragment c.args.fragment in
     let absent : clip_named c.args.name (pairs_of c.self.inside.fragments.entries) ≡ None =
     sym (clip_named-pairs c.args.name c.self.inside.fragments.entries) ∙ ap (option_map plain_fragment) c.in-Err.ensures.absent in (
-      fits c.args.name (slots_of fragment) c.slots-slots.result c.args.self.now.pairs c.would_hold.result
-          c.would_hold.ensures c.if-not-would_hold.false c.slots-slots.ensures,
+      fits c.args.name (slots_of fragment) c.in-Some.slots c.args.self.now.pairs c.would_hold.result
+          c.would_hold.ensures c.if-not-would_hold.false c.in-Some.ensures.within,
       subst (λ clips. has_room c.args.name clips ≡ false) c.self.view_is
           (no_room c.args.name (seen c.self.inside) absent c.in-Err.ensures.succeeds),
     )
