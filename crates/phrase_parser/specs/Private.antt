@@ -14,3 +14,4 @@ pub mod Reduction
 pub mod Recognizer
 pub mod Findings
 pub mod Shapes
+pub mod FindingViews

@@ -2,7 +2,8 @@
 ghost use Rattle.std.specs.Prelude.{◌≡◌, ◌<◌, ◌≤◌, length, map, All, IfOk, None};
 ghost use Rattle.phrase_parser.specs.Private.Findings.{findings};
 ghost use Rattle.phrase_parser.specs.Private.TokenIn.{LiesIn};
-ghost use Rattle.phrase_parser.specs.Private.Shapes.{shape_of, seen_in, as_found, Within};
+ghost use Rattle.phrase_parser.specs.Private.Shapes.{shape_of, seen_in, Within};
+ghost use Rattle.phrase_parser.specs.Private.FindingViews.{as_found};
 
 mod finding;
 mod ground;

@@ -9,7 +9,8 @@ ghost use Rattle.phrase_parser.specs.declared.fault.PhraseFault.TheVariants.{Syn
 ghost use Rattle.phrase_parser.specs.Private.Machine.{start_state, shift_all, phrase_of_if};
 ghost use Rattle.phrase_parser.specs.Private.Recognizer.{first_shape};
 ghost use Rattle.phrase_parser.specs.Private.TokenIn.{IsPlacedIn, token_in};
-ghost use Rattle.phrase_parser.specs.Private.Shapes.{shape_of, over_of, over_offset};
+ghost use Rattle.phrase_parser.specs.Private.Shapes.{shape_of};
+ghost use Rattle.phrase_parser.specs.Private.FindingViews.{over_of, over_offset};
 ghost use Rattle.phrase_parser.specs.Answers.{Answers, Only, OnlyFault, over_fault};
 
 use crate::builder::{BuildError, build};

@@ -9,7 +9,7 @@ use Rattle.template_tree.specs.Slots.{times}
 use Rattle.template_tree.specs.Path.{below, node_at, slot_at}
 use Rattle.template_tree.specs.Stop.{MayStand, visible_below, visible_at}
 use Rattle.session_edit.specs.ShownStop.{shown_path}
-use Rattle.session_edit.specs.Private.ShownNumbers.{shown_below, shown_numbers}
+use Rattle.session_edit.specs.Private.ShownPath.{shown_below, shown_numbers}
 
 -- a label with the slot counts
 counted : (a b : ℕ) (n : ℕ) → a ≡ b → 1 ≤ (if a == b then 1 else 0) + n

@@ -1,7 +1,5 @@
 -- Words that private contracts alone cite: nobody has to believe them.
--- ---- how far a path is shown
-pub mod ShownNumbers
--- ---- paths to visible nodes
+-- ---- how far a path is shown, and paths to visible nodes
 pub mod ShownPath
 -- ---- the room of lists
 pub mod RoomLaws

@@ -4,7 +4,7 @@ ghost use Rattle.template_tree.specs.Limit.{deepest_path};
 ghost use Rattle.template_tree.specs.PlainTree.{roomless_tree};
 ghost use Rattle.template_tree.specs.Stop.{IsStop, plain_stop};
 ghost use Rattle.template_tree.specs.Tree.{IsTree};
-ghost use Rattle.session_edit.specs.Private.ShownNumbers.{shown_below, shown_numbers};
+ghost use Rattle.session_edit.specs.Private.ShownPath.{shown_below, shown_numbers};
 ghost use Rattle.session_edit.specs.ShownStop.{shown_at};
 
 use crate::room_laws::room_laws;

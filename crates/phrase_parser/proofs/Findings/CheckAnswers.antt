@@ -14,7 +14,8 @@ use Rattle.phrase_parser.specs.Private.PlacedToken.{placed_of, AreTokens}
 use Rattle.phrase_parser.specs.Private.Machine.{shift_all, start_state, phrase_of_if}
 use Rattle.phrase_parser.specs.Private.Recognizer.{Shape, first_shape}
 use Rattle.phrase_parser.specs.Private.Findings.{seen_of, findings}
-use Rattle.phrase_parser.specs.Private.Shapes.{seen_in, as_found, over_of, over_offset}
+use Rattle.phrase_parser.specs.Private.Shapes.{seen_in}
+use Rattle.phrase_parser.specs.Private.FindingViews.{as_found, over_of, over_offset}
 use Rattle.phrase_parser.specs.Private.TokenIn.{token_in, IsPlacedIn, LiesIn}
 use Rattle.phrase_parser.specs.Answers.{FaultSays, over_fault}
 use Rattle.phrase_parser.proofs.Findings.PlacedTokens.{cut_seen, cut_lies, cut_few, cut_tokens, cut_placed}

@@ -8,7 +8,7 @@ use Rattle.plcs_grammar.specs.Limit.{greatest_nesting}
 use Rattle.plcs_grammar.specs.OverLimit.{OverLimit}
 use Rattle.phrase_parser.specs.Private.Recognizer.{Shape, next, may_end, level_of}
 use Rattle.phrase_parser.specs.Private.Findings.{Finding, finding_of, found_at, found_at_end, Seen, seen_of, is_large, seen_over, findings}
-use Rattle.phrase_parser.specs.Private.Shapes.{over_offset}
+use Rattle.phrase_parser.specs.Private.FindingViews.{over_offset}
 use Rattle.phrase_parser.proofs.Tokens.CutPieces.{InOrder, cut_in_order, stop_within}
 
 module _ (limit : ℕ) where

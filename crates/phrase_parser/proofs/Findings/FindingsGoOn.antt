@@ -9,7 +9,8 @@ use Rattle.phrase_parser.specs.declared.token.Placed.{Placed}
 use Rattle.phrase_parser.specs.declared.check.token_class.TokenClass.{TokenClass}
 use Rattle.phrase_parser.specs.Private.Recognizer.{Shape, next, level_of}
 use Rattle.phrase_parser.specs.Private.Findings.{Seen, found_at, seen_over, findings}
-use Rattle.phrase_parser.specs.Private.Shapes.{seen_in, over_if}
+use Rattle.phrase_parser.specs.Private.Shapes.{seen_in}
+use Rattle.phrase_parser.specs.Private.FindingViews.{over_if}
 
 pub or_as : (a b : Option Over) → over_if (option_or a b) ≡ option_or (over_if a) (over_if b)
 or_as None b = refl

@@ -1,8 +1,7 @@
--- What the check keeps and finds, as the recognizer and the model of its findings have it.
+-- What the check keeps and sees, as the recognizer and the model of its findings have it.
 use Rattle.std.specs.Prelude.{ℕ, ◌≤◌, List, reverse, Option, Some, None}
 use Rattle.std.specs.List.{AllByRecursion}
 use Rattle.plcs_grammar.specs.Builtin.{is_builtin_name}
-use Rattle.plcs_grammar.specs.OverLimit.{OverLimit}
 use Rattle.phrase_parser.specs.declared.check.token_class.TokenClass.{TokenClass}
 use Rattle.phrase_parser.specs.declared.check.ground.Ground.{Ground}
 use Rattle.phrase_parser.specs.declared.check.nesting.Bracket.{Bracket}
@@ -14,12 +13,6 @@ use Rattle.phrase_parser.specs.declared.token.TokenKind.TheVariants as token
 use Rattle.phrase_parser.specs.declared.token.Placed.{Placed}
 use Rattle.phrase_parser.specs.Private.TokenIn.{bytes_in}
 use Rattle.phrase_parser.specs.Private.Recognizer as model
-use Rattle.phrase_parser.specs.declared.check.finding.Over.{Over}
-use Rattle.phrase_parser.specs.declared.check.finding.Over.TheVariants.{NumberTooLarge, TooDeep}
-use Rattle.phrase_parser.specs.declared.check.finding.Finding.{Finding}
-use Rattle.phrase_parser.specs.declared.check.finding.Finding.TheVariants.{Fine, SyntaxAt}
-use Rattle.phrase_parser.specs.declared.check.finding.Finding.TheVariants as found
-use Rattle.phrase_parser.specs.Private.Findings as findings
 use Rattle.phrase_parser.specs.Private.Findings.{Seen}
 
 -- the shape of the recognizer that the check's shape stands for; the recognizer has the innermost parenthesis first
@@ -82,24 +75,3 @@ Within limit model.Shape.size_had = Unit {0}
 Within limit model.Shape.item_had = Unit {0}
 Within limit model.Shape.length_wanted = Unit {0}
 Within limit model.Shape.length_had = Unit {0}
-
--- what the check finds past a limit, as the definitions of the grammar have it
-abbrev pub over_of : Over → OverLimit
-over_of (NumberTooLarge place) = OverLimit.number_too_large place
-over_of (TooDeep place) = OverLimit.too_deep place
-
--- the place of what the check finds past a limit
-abbrev pub over_offset : OverLimit → ℕ
-over_offset (OverLimit.number_too_large place) = place
-over_offset (OverLimit.too_deep place) = place
-
--- what the check finds past a limit, if it finds anything, as the definitions of the grammar have it
-abbrev pub over_if : Option Over → Option OverLimit
-over_if None = None
-over_if (Some over) = Some (over_of over)
-
--- the finding of the model that the check's finding stands for
-abbrev pub as_found : Finding → findings.Finding
-as_found Fine = findings.Finding.fine
-as_found (SyntaxAt place) = findings.Finding.syntax_at place
-as_found (found.Over over) = findings.Finding.over (over_of over)

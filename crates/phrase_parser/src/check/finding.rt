@@ -2,7 +2,8 @@
 ghost use Rattle.std.specs.Prelude.{◌≡◌};
 ghost use Rattle.phrase_parser.specs.Private.Recognizer.{may_end};
 ghost use Rattle.phrase_parser.specs.Private.Findings.{seen_over, finding_of, found_at_end};
-ghost use Rattle.phrase_parser.specs.Private.Shapes.{shape_of, over_if, as_found};
+ghost use Rattle.phrase_parser.specs.Private.Shapes.{shape_of};
+ghost use Rattle.phrase_parser.specs.Private.FindingViews.{over_if, as_found};
 
 use crate::check::shape::{Shape, may_end};
 use crate::check::token_class::{TokenClass, is_large};

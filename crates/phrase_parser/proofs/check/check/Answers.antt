@@ -1,6 +1,7 @@
 use Rattle.std.proofs.Common.{◌∙◌, sym, ap, length}
 use Rattle.phrase_parser.specs.declared.token.TokenKind.TheVariants.{Name}
-use Rattle.phrase_parser.specs.Private.Shapes.{shape_of, shape_if, over_if}
+use Rattle.phrase_parser.specs.Private.Shapes.{shape_of, shape_if}
+use Rattle.phrase_parser.specs.Private.FindingViews.{over_if}
 use Rattle.phrase_parser.proofs.Findings.FindingsGoOn.{or_as, go_on}
 use Rattle.phrase_parser.proofs.Findings.ShapeLevels.{still_within}
 use Rattle.phrase_parser.proofs.check.check.Goals as goal

@@ -1,6 +1,7 @@
 use Rattle.std.proofs.Common.{◌≡◌, drop, map, length, None}
 use Rattle.phrase_parser.specs.Private.Findings.{findings}
-use Rattle.phrase_parser.specs.Private.Shapes.{shape_of, seen_in, over_if, Within}
+use Rattle.phrase_parser.specs.Private.Shapes.{shape_of, seen_in, Within}
+use Rattle.phrase_parser.specs.Private.FindingViews.{over_if}
 use Rattle.phrase_parser.proofs.check.check.Given as goal
 
 abbrev pub invariant-loop-token : goal.invariant-loop-token

@@ -4,7 +4,7 @@ use Rattle.template_tree.specs.Path.{node_at}
 use Rattle.template_tree.specs.PlainTree.{PlainTree, roomless_tree}
 use Rattle.template_tree.specs.Stop.{node_stop}
 use Rattle.session_edit.specs.ShownStop.{shown_at, shown_path}
-use Rattle.session_edit.specs.Private.ShownNumbers.{shown_numbers}
+use Rattle.session_edit.specs.Private.ShownPath.{shown_numbers}
 use Rattle.session_edit.proofs.Room.{stop_roomless}
 use Rattle.session_edit.proofs.ShownPaths.{no_path, shown_is, shown_roomless, seen_shown, there}
 use Rattle.session_edit.proofs.slot_stop.shown_stop.Goals as goal
