@@ -70,9 +70,11 @@ impl Clips {
         ensures replaced { IfOk result (λ old. option_map plain_fragment old ≡ clip_named name self.old.pairs) }
         ensures clip { IfOk result (λ old. IfSome old (λ fragment. IsClip (plain_fragment fragment))) }
         ensures fits { OnOk result (is_full name (slots_of (plain_fragment fragment)) self.old.pairs ≡ false) }
-        ensures cause { IfErr result (λ refusal. IsClipFault refusal.0 name (slots_of (plain_fragment fragment)) self.old) }
+        ensures cause { IfErr result (λ refusal. IsClipFault refusal.0 name (slots_of (plain_fragment fragment))
+            self.old) }
         ensures refused { IfErr result (λ refusal. (refusal.1 ≡ fragment) × (self.new.pairs ≡ self.old.pairs)) }
-        ensures succeeds { is_full name (slots_of (plain_fragment fragment)) self.old.pairs ≡ false → has_room name self.old ≡ true → IsOk result }
+        ensures succeeds { is_full name (slots_of (plain_fragment fragment)) self.old.pairs ≡ false
+            → has_room name self.old ≡ true → IsOk result }
         ensures room { self.old.spare ≤ self.new.spare + 1 }
         ensures room_stays { OnErr result (self.old.spare ≤ self.new.spare) }
     {
@@ -97,7 +99,8 @@ impl Clips {
 
     /// The fragment under the name, or `None` where the name isn't held. It takes no memory.
     pub fn get(&self, name: &Name) -> Option<&Fragment>
-        ensures found { option_map (λ fragment. plain_fragment fragment.now) result ≡ clip_named name.now self.now.pairs }
+        ensures found { option_map (λ fragment. plain_fragment fragment.now) result
+            ≡ clip_named name.now self.now.pairs }
         ensures clip { IfSome result (λ fragment. IsClip (plain_fragment fragment.now)) }
         ensures clips { AreClips self.now.pairs }
     {

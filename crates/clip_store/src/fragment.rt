@@ -21,7 +21,8 @@ pub enum Fragment {
 impl Fragment {
     /// An equal fragment, slots and all; nothing in it is elided.
     pub fn copy(&self, alloc: Global) -> Result<Fragment, OutOfMemory>
-        ensures copied { IfOk result (λ copy. roomless_fragment (plain_fragment copy) ≡ whole_fragment (roomless_fragment (plain_fragment self.now))) }
+        ensures copied { IfOk result (λ copy. roomless_fragment (plain_fragment copy)
+            ≡ whole_fragment (roomless_fragment (plain_fragment self.now))) }
         ensures sound { IfOk result (λ copy. IsFragment (plain_fragment self.now) → IsFragment (plain_fragment copy)) }
         ensures slots { IfOk result (λ copy. slots_of (plain_fragment copy) ≡ slots_of (plain_fragment self.now)) }
     {

@@ -15,7 +15,8 @@ use template_tree::{Path, Stop, Tree};
 pub(crate) fn last_of_node(tree: &Tree, path: Path) -> Stop
     requires tree { IsTree tree.now }
     requires there { IsSome (node_at tree.now.items path.items) }
-    ensures { IsSomeAnd (node_at tree.now.items path.items) (λ node. plain_stop result ≡ record { path = path.items; part = last_number (number_of_part_stops node.label.kind) }) }
+    ensures { IsSomeAnd (node_at tree.now.items path.items) (λ node. plain_stop result
+        ≡ record { path = path.items; part = last_number (number_of_part_stops node.label.kind) }) }
 {
     let Some(node) = tree.node(&path) else {
         return Stop { path, part: None };

@@ -37,7 +37,8 @@ pub(crate) fn previous_node(tree: &Tree, path: &Path) -> Option<Path>
 pub(crate) fn push_last(tree: &Tree, path: &mut Path)
     requires tree { IsTree tree.now }
     requires visible { IsSome (visible_at tree.now.items path.old.items) }
-    ensures { (way : List ℕ) × (path.new.items ≡ path.old.items ++ way) × IsSomeAnd (visible_at tree.now.items path.old.items) (λ node. IsLastBelow node way) }
+    ensures { (way : List ℕ) × (path.new.items ≡ path.old.items ++ way)
+        × IsSomeAnd (visible_at tree.now.items path.old.items) (λ node. IsLastBelow node way) }
 {
     if let Some(node) = tree.node(path) {
         push_last_below(node, path);

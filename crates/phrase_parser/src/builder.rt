@@ -16,7 +16,7 @@ mod state;
 mod token_value;
 
 pub use crate::builder::fault::BuildError;
-use crate::builder::state::{phrase_of, start_state, shift};
+use crate::builder::state::{phrase_of, shift, start_state};
 use crate::token::Placed;
 use plcs_grammar::{Category, Phrase};
 use std::alloc::Global;
@@ -31,7 +31,8 @@ pub fn build(
     tokens: &[Placed],
 ) -> Result<Phrase, BuildError>
     requires { All (IsPlacedIn text.now) tokens.now }
-    ensures { Gives plain_phrase result (phrase_of_if (shift_all (map (token_in text.now) tokens.now) (start_state category))) }
+    ensures { Gives plain_phrase result
+        (phrase_of_if (shift_all (map (token_in text.now) tokens.now) (start_state category))) }
 {
     let mut state = start_state(alloc, category)?;
     for token in tokens {

@@ -1,15 +1,11 @@
 -- The text of a comment, which is no tokens. Places count from the start of the whole text.
-use Rattle.std.specs.Prelude.{◌≢◌, ℕ, ◌+◌, ◌||◌, not, nat_eq, if◌then◌else◌, List, [], ◌∷◌, ◌++◌, reverse, length, codes, Option, Some, None, IsTrue}
+use Rattle.std.specs.Prelude.{◌≢◌, ℕ, ◌+◌, ◌||◌, not, nat_eq, if◌then◌else◌, List, [], ◌∷◌, ◌++◌, length, codes, Option, Some, None, IsTrue}
 use Rattle.std.specs.Str.{bytes_eq}
 use Rattle.std.specs.List.{list_all, starts_with}
 use Rattle.plcs_base.specs.Byte.{is_printable}
 use Rattle.plcs_grammar.specs.declared.category.Category.TheVariants.{CommentText}
 use Rattle.plcs_grammar.specs.Placeholder.{placeholder}
-use Rattle.plcs_grammar.specs.Cuts.{unblanked}
-
--- a text without the blanks at both its ends, as a comment's is read
-abbrev pub trimmed : List ℕ → List ℕ
-trimmed x = reverse (unblanked (reverse (unblanked x)))
+use Rattle.plcs_grammar.specs.Cuts.{trimmed}
 
 -- the bytes that would end the comment
 abbrev pub comment_end : List ℕ

@@ -1,8 +1,8 @@
-//! Numbers, and the constants of phrases, as they are written.
-ghost use Rattle.std.specs.Prelude.{if◌then◌else◌, [], ◌∷◌, decimal};
+//! Numbers, and the constants of phrases, as they are written; the value of a numeral.
+ghost use Rattle.std.specs.Prelude.{◌≡◌, ◌-◌, ◌^◌, if◌then◌else◌, [], ◌∷◌, decimal, min};
 ghost use Rattle.std.specs.Fmt.{signed_decimal};
 ghost use Rattle.plcs_base.specs.Put.{PutsAll};
-ghost use Rattle.plcs_grammar.specs.Token.{quoted, with_quotes_doubled, bit_bytes};
+ghost use Rattle.plcs_grammar.specs.Token.{bit_bytes, numeral_value, quoted, with_quotes_doubled};
 
 use plcs_base::{ByteOut, put_bytes};
 
@@ -64,4 +64,16 @@ pub fn put_bit<O: ByteOut>(bit: bool, out: &mut O)
     ensures { PutsAll O.puts out.old (bit_bytes bit) out.new }
 {
     put_bytes(if bit { b"'1'B" } else { b"'0'B" }, out);
+}
+
+/// The value of a numeral: the number that its digits write, or 18446744073709551615 where it is greater.
+pub fn numeral_value(digits: &[u8]) -> u64
+    ensures { result ≡ min (numeral_value digits.now) (2 ^ 64 - 1) }
+{
+    let mut value: u64 = 0;
+    for digit in digits {
+        let ones = u64::from(digit.saturating_sub(b'0'));
+        value = value.saturating_mul(10).saturating_add(ones);
+    }
+    value
 }

@@ -1,7 +1,6 @@
 //! Texts without the blanks at their ends.
 ghost use Rattle.std.specs.Prelude.{◌≡◌, ◌≤◌, length};
-ghost use Rattle.plcs_grammar.specs.Comment.{trimmed};
-ghost use Rattle.plcs_grammar.specs.Cuts.{blanks};
+ghost use Rattle.plcs_grammar.specs.Cuts.{blanks, trimmed};
 
 /// The text without the blanks at both its ends.
 pub fn trimmed(text: &[u8]) -> &[u8]

@@ -35,7 +35,8 @@ pub fn apply(alloc: Global, tree: &mut Tree, at: &Stop, edit: Edit) -> Result<Ap
     requires tree { IsTree tree.old }
     requires stop { IsStop (roomless_tree tree.old).items (plain_stop at.now) }
     requires edit { BringsWhatMayStand edit }
-    ensures { IsAnswer (takes_memory (plain_edit edit) (plain_stop at.now)) (edited (roomless_tree tree.old) (plain_stop at.now) (plain_edit edit)) tree.old tree.new result }
+    ensures { IsAnswer (takes_memory (plain_edit edit) (plain_stop at.now))
+        (edited (roomless_tree tree.old) (plain_stop at.now) (plain_edit edit)) tree.old tree.new result }
 {
     match edit {
         Edit::Fill(template) => fill(alloc, tree, at, template),

@@ -26,7 +26,8 @@ pub(crate) fn add_hole(
 ) -> Result<Applied, TreeFault>
     requires tree { IsTree tree.old }
     requires stop { IsStop (roomless_tree tree.old).items (plain_stop at.now) }
-    ensures { IsAnswer true (edited (roomless_tree tree.old) (plain_stop at.now) (PlainEdit.beside side)) tree.old tree.new result }
+    ensures { IsAnswer true (edited (roomless_tree tree.old) (plain_stop at.now) (PlainEdit.beside side)) tree.old
+        tree.new result }
 {
     room_laws();
     add_beside(alloc, tree, copy_path(&at.path), side)
@@ -37,7 +38,8 @@ pub(crate) fn add_hole(
 fn add_beside(alloc: Global, tree: &mut Tree, path: Path, side: Side) -> Result<Applied, TreeFault>
     requires tree { IsTree tree.old }
     requires seen { IsShown tree.old.items path.items }
-    ensures { IsAnswer true (outcome_of_hole_beside (roomless_tree tree.old) side (enclosing_item (roomless_tree tree.old).items path.items)) tree.old tree.new result }
+    ensures { IsAnswer true (outcome_of_hole_beside (roomless_tree tree.old) side
+        (enclosing_item (roomless_tree tree.old).items path.items)) tree.old tree.new result }
 {
     room_laws();
     slot_edit_is_path_edit();

@@ -25,7 +25,8 @@ pub(crate) fn fill(
 ) -> Result<Applied, TreeFault>
     requires tree { IsTree tree.old }
     requires stop { IsStop (roomless_tree tree.old).items (plain_stop at.now) }
-    ensures { IsAnswer true (edited (roomless_tree tree.old) (plain_stop at.now) (PlainEdit.fill template)) tree.old tree.new result }
+    ensures { IsAnswer true (edited (roomless_tree tree.old) (plain_stop at.now) (PlainEdit.fill template)) tree.old
+        tree.new result }
 {
     room_laws();
     if at.part.is_some() {
@@ -52,7 +53,9 @@ pub(crate) fn enter(
     requires tree { IsTree tree.old }
     requires stop { IsStop (roomless_tree tree.old).items (plain_stop at.now) }
     requires phrase { IsPhrasePlace (Some (plain_phrase phrase)) }
-    ensures { IsAnswer (takes_memory (PlainEdit.enter (plain_phrase phrase)) (plain_stop at.now)) (edited (roomless_tree tree.old) (plain_stop at.now) (PlainEdit.enter (plain_phrase phrase))) tree.old tree.new result }
+    ensures { IsAnswer (takes_memory (PlainEdit.enter (plain_phrase phrase)) (plain_stop at.now))
+        (edited (roomless_tree tree.old) (plain_stop at.now) (PlainEdit.enter (plain_phrase phrase))) tree.old tree.new
+        result }
 {
     match at.part {
         None => enter_assignment(alloc, tree, at, phrase),
@@ -71,7 +74,8 @@ fn enter_assignment(
     requires stop { IsStop (roomless_tree tree.old).items (plain_stop at.now) }
     requires phrase { IsPhrasePlace (Some (plain_phrase phrase)) }
     requires node { at.now.part ≡ None }
-    ensures { IsAnswer true (edited (roomless_tree tree.old) (plain_stop at.now) (PlainEdit.enter (plain_phrase phrase))) tree.old tree.new result }
+    ensures { IsAnswer true (edited (roomless_tree tree.old) (plain_stop at.now)
+        (PlainEdit.enter (plain_phrase phrase))) tree.old tree.new result }
 {
     room_laws();
     slot_edit_is_path_edit();
@@ -91,7 +95,8 @@ fn enter_in_part(tree: &mut Tree, at: &Stop, phrase: Phrase) -> Result<Applied, 
     requires stop { IsStop (roomless_tree tree.old).items (plain_stop at.now) }
     requires phrase { IsPhrasePlace (Some (plain_phrase phrase)) }
     requires part { IsSome at.now.part }
-    ensures { IsAnswer false (edited (roomless_tree tree.old) (plain_stop at.now) (PlainEdit.enter (plain_phrase phrase))) tree.old tree.new result }
+    ensures { IsAnswer false (edited (roomless_tree tree.old) (plain_stop at.now)
+        (PlainEdit.enter (plain_phrase phrase))) tree.old tree.new result }
 {
     room_laws();
     slot_edit_is_path_edit();

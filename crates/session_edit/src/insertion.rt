@@ -24,7 +24,8 @@ pub(crate) fn insert(tree: &mut Tree, at: &Stop, fragment: Fragment) -> Result<A
     requires tree { IsTree tree.old }
     requires stop { IsStop (roomless_tree tree.old).items (plain_stop at.now) }
     requires fragment { IsFragment (plain_fragment fragment) }
-    ensures { IsAnswer false (edited (roomless_tree tree.old) (plain_stop at.now) (PlainEdit.insert (roomless_fragment (plain_fragment fragment)))) tree.old tree.new result }
+    ensures { IsAnswer false (edited (roomless_tree tree.old) (plain_stop at.now)
+        (PlainEdit.insert (roomless_fragment (plain_fragment fragment)))) tree.old tree.new result }
 {
     match fragment {
         Fragment::Node(node) => insert_node(tree, at, node),
@@ -37,7 +38,8 @@ fn insert_node(tree: &mut Tree, at: &Stop, node: Node) -> Result<Applied, TreeFa
     requires tree { IsTree tree.old }
     requires stop { IsStop (roomless_tree tree.old).items (plain_stop at.now) }
     requires node { IsSubtree node }
-    ensures { IsAnswer false (edited (roomless_tree tree.old) (plain_stop at.now) (PlainEdit.insert (PlainFragment.node (roomless_node node)))) tree.old tree.new result }
+    ensures { IsAnswer false (edited (roomless_tree tree.old) (plain_stop at.now)
+        (PlainEdit.insert (PlainFragment.node (roomless_node node)))) tree.old tree.new result }
 {
     room_laws();
     if at.part.is_some() {
@@ -59,7 +61,8 @@ fn insert_phrase(tree: &mut Tree, at: &Stop, phrase: Phrase) -> Result<Applied, 
     requires tree { IsTree tree.old }
     requires stop { IsStop (roomless_tree tree.old).items (plain_stop at.now) }
     requires phrase { IsPhrasePlace (Some (plain_phrase phrase)) }
-    ensures { IsAnswer false (edited (roomless_tree tree.old) (plain_stop at.now) (PlainEdit.insert (PlainFragment.phrase (plain_phrase phrase)))) tree.old tree.new result }
+    ensures { IsAnswer false (edited (roomless_tree tree.old) (plain_stop at.now)
+        (PlainEdit.insert (PlainFragment.phrase (plain_phrase phrase)))) tree.old tree.new result }
 {
     room_laws();
     if takes(tree, at) {

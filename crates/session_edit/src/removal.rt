@@ -25,7 +25,8 @@ use template_tree::{
 pub(crate) fn delete(alloc: Global, tree: &mut Tree, at: &Stop) -> Result<Applied, TreeFault>
     requires tree { IsTree tree.old }
     requires stop { IsStop (roomless_tree tree.old).items (plain_stop at.now) }
-    ensures { IsAnswer false (edited (roomless_tree tree.old) (plain_stop at.now) PlainEdit.delete) tree.old tree.new result }
+    ensures { IsAnswer false (edited (roomless_tree tree.old) (plain_stop at.now) PlainEdit.delete) tree.old tree.new
+        result }
 {
     if let Some(applied) = drop_hole(tree, at) {
         return Ok(applied);
@@ -37,8 +38,10 @@ pub(crate) fn delete(alloc: Global, tree: &mut Tree, at: &Stop) -> Result<Applie
 fn drop_hole(tree: &mut Tree, at: &Stop) -> Option<Applied>
     requires tree { IsTree tree.old }
     requires stop { IsStop (roomless_tree tree.old).items (plain_stop at.now) }
-    ensures dropped { IfSome result (IsApplied (edited (roomless_tree tree.old) (plain_stop at.now) PlainEdit.delete) tree.old tree.new) }
-    ensures not_here { IfNone result (edited (roomless_tree tree.old) (plain_stop at.now) PlainEdit.delete ≡ edited (roomless_tree tree.old) (plain_stop at.now) PlainEdit.take) }
+    ensures dropped { IfSome result (IsApplied (edited (roomless_tree tree.old) (plain_stop at.now) PlainEdit.delete)
+        tree.old tree.new) }
+    ensures not_here { IfNone result (edited (roomless_tree tree.old) (plain_stop at.now) PlainEdit.delete
+        ≡ edited (roomless_tree tree.old) (plain_stop at.now) PlainEdit.take) }
     ensures unchanged { IfNone result (tree.new ≡ tree.old) }
 {
     room_laws();
@@ -88,7 +91,8 @@ fn path_after_drop(tree: &Tree, sort: Sort, path: &Path) -> Path
 pub(crate) fn take_out(alloc: Global, tree: &mut Tree, at: &Stop) -> Result<Applied, TreeFault>
     requires tree { IsTree tree.old }
     requires stop { IsStop (roomless_tree tree.old).items (plain_stop at.now) }
-    ensures { IsAnswer false (edited (roomless_tree tree.old) (plain_stop at.now) PlainEdit.take) tree.old tree.new result }
+    ensures { IsAnswer false (edited (roomless_tree tree.old) (plain_stop at.now) PlainEdit.take) tree.old tree.new
+        result }
 {
     room_laws();
     if at.part.is_some() {
@@ -110,7 +114,8 @@ fn empty_part(tree: &mut Tree, at: &Stop) -> Result<Applied, TreeFault>
     requires tree { IsTree tree.old }
     requires stop { IsStop (roomless_tree tree.old).items (plain_stop at.now) }
     requires part { IsSome at.now.part }
-    ensures { IsAnswer false (edited (roomless_tree tree.old) (plain_stop at.now) PlainEdit.take) tree.old tree.new result }
+    ensures { IsAnswer false (edited (roomless_tree tree.old) (plain_stop at.now) PlainEdit.take) tree.old tree.new
+        result }
 {
     room_laws();
     if !takes(tree, at) {

@@ -27,7 +27,8 @@ impl Tree {
 
 /// The sections among whose items the node at the path stands, from nodes with these sections on.
 fn sections_of(sections: &'static [Section], nodes: &Nodes, path: &[u32]) -> &'static [Section]
-    ensures { map plain_section result.now ≡ sections_at (map plain_section sections.now) (forest nodes.now.items) path.now }
+    ensures { map plain_section result.now
+        ≡ sections_at (map plain_section sections.now) (forest nodes.now.items) path.now }
 {
     let Some((k, rest)) = path.split_first() else {
         return &[];

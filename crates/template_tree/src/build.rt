@@ -30,8 +30,12 @@ impl Node {
     /// A node of the kind with these parts and with these nodes inside. Nothing is elided, and its slot
     /// is 0 until a tree is built with it. It takes no memory.
     pub fn built(kind: NodeKind, parts: Vec<PhrasePlace>, inner: Nodes) -> Node
-        ensures built { result ≡ record { label = built_label kind (map plain_phrase_place parts.items) inner.spare; inner = forest inner.items } }
-        ensures subtree { IsNode (built_label kind (map plain_phrase_place parts.items) inner.spare) (sorts (forest inner.items)) → AreNodes (forest inner.items) → IsSubtree result }
+        ensures built { result ≡ record {
+          label = built_label kind (map plain_phrase_place parts.items) inner.spare;
+          inner = forest inner.items;
+        } }
+        ensures subtree { IsNode (built_label kind (map plain_phrase_place parts.items) inner.spare)
+            (sorts (forest inner.items)) → AreNodes (forest inner.items) → IsSubtree result }
     {
         Node {
             slot: Slot(0),
@@ -49,7 +53,8 @@ impl Tree {
     pub fn built(items: Nodes) -> Result<Tree, BuildLimit>
         requires program { IsProgram (forest items.items) }
         ensures built { IfOk result (λ tree. tree ≡ built_tree items) }
-        ensures within { IfOk result (λ _. (depth (forest items.items) ≤ deepest_path) × (count (forest items.items) ≤ most_slots)) }
+        ensures within { IfOk result (λ _. (depth (forest items.items) ≤ deepest_path)
+            × (count (forest items.items) ≤ most_slots)) }
         ensures over { IfErr result (IsOverBuildLimit (forest items.items)) }
         ensures tree { IfOk result IsTree }
     {

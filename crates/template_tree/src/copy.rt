@@ -23,11 +23,13 @@ impl Tree {
     /// where no node stands there, and at main and at a hole; else `OutOfMemory` may come.
     pub fn copy_node(&self, alloc: Global, path: &Path) -> Result<Node, TreeFault>
         requires tree { IsTree self.now }
-        ensures copied { IfOk result (λ copy. IsSomeAnd (node_at self.now.items path.now.items) (λ node. IsCopy node copy)) }
+        ensures copied { IfOk result (λ copy. IsSomeAnd (node_at self.now.items path.now.items)
+            (λ node. IsCopy node copy)) }
         ensures may_take { IfOk result (λ copy. IsSomeAnd (node_at self.now.items path.now.items) MayTake) }
         ensures refused { IfErr result (CopyRefused (node_at self.now.items path.now.items)) }
         ensures subtree { IfOk result IsSubtree }
-        ensures slots { IfOk result (λ copy. IsSomeAnd (node_at self.now.items path.now.items) (λ node. count copy.inner ≡ count node.inner)) }
+        ensures slots { IfOk result (λ copy. IsSomeAnd (node_at self.now.items path.now.items)
+            (λ node. count copy.inner ≡ count node.inner)) }
     {
         let Some(node) = self.node(path) else {
             return Err(TreeFault::NotHere);

@@ -19,8 +19,10 @@ pub(crate) trait Descent {
 
     fn down<'a>(list: &'a mut Nodes, k: usize, path: &[u32]) -> Option<&'a mut Node>
         requires { length path.now ≤ limit }
-        ensures* writes_back { sem 𝓛 (LendsIf list_row.the_row node_row.the_row list.entry result (put_in list.old k path.now) list.old) }
-        ensures found { option_map (λ node. node.now) result ≡ option_and_then (λ item. below item path.now) (slice_get list.old.items k) };
+        ensures* writes_back { sem 𝓛 (LendsIf list_row.the_row node_row.the_row list.entry result
+            (put_in list.old k path.now) list.old) }
+        ensures found { option_map (λ node. node.now) result ≡ option_and_then (λ item. below item path.now)
+            (slice_get list.old.items k) };
 }
 
 /// The descent of no step: lends the item itself.

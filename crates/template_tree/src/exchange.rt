@@ -22,7 +22,8 @@ impl Tree {
     pub(crate) fn put(&mut self, path: &Path, node: Node) -> Receipt
         requires tree { IsTree self.old }
         requires fits { IsSomeAnd (node_at self.old.items path.now.items) (MayReplace self.old node) }
-        ensures edit { IsEdit (TreeEdit.put node) (slot_in (node_at self.old.items path.now.items)) self.old self.new result None }
+        ensures edit { IsEdit (TreeEdit.put node) (slot_in (node_at self.old.items path.now.items)) self.old self.new
+            result None }
         ensures no_room { NeedsNoRoom result }
     {
         let (drawn, live) = (self.drawn, self.live);

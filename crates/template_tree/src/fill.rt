@@ -36,9 +36,11 @@ impl Tree {
         template: Template,
     ) -> Result<Receipt, TreeFault>
         requires tree { IsTree self.old }
-        ensures edited { IfOk result (Edits (TreeEdit.put (fresh_node (NodeKind.Filled template))) (node_at self.old.items path.now.items) (IsHoleFor (NodeKind.Filled template)) self.old self.new) }
+        ensures edited { IfOk result (Edits (TreeEdit.put (fresh_node (NodeKind.Filled template)))
+            (node_at self.old.items path.now.items) (IsHoleFor (NodeKind.Filled template)) self.old self.new) }
         ensures no_room { IfOk result NeedsNoRoom }
-        ensures refused { IfErr result (Refuses (TreeEdit.put (fresh_node (NodeKind.Filled template))) (node_at self.old.items path.now.items) (IsHoleFor (NodeKind.Filled template)) self.old) }
+        ensures refused { IfErr result (Refuses (TreeEdit.put (fresh_node (NodeKind.Filled template)))
+            (node_at self.old.items path.now.items) (IsHoleFor (NodeKind.Filled template)) self.old) }
         ensures tree { IsTree self.new }
         ensures unchanged { IfErr result (λ _. self.new ≡ self.old) }
     {
@@ -79,7 +81,8 @@ impl Node {
 
 /// The parts of a fresh node: nothing in each part of its line.
 fn empty_parts(alloc: Global, line: &[Segment]) -> Result<Vec<PhrasePlace>, OutOfMemory>
-    ensures { IfOk result (λ parts. map plain_phrase_place parts.items ≡ map (λ _. None) (parts_of (map plain_segment line.now))) }
+    ensures { IfOk result (λ parts. map plain_phrase_place parts.items
+        ≡ map (λ _. None) (parts_of (map plain_segment line.now))) }
 {
     let mut parts = Vec::new(alloc);
     for segment in line {
@@ -103,7 +106,8 @@ fn holes(alloc: Global, sections: &[Section]) -> Result<Nodes, OutOfMemory>
 
 /// Puts a fresh node's hole for each of the sections at the end of its list.
 fn push_holes(list: &mut Nodes, alloc: Global, sections: &[Section]) -> Result<(), OutOfMemory>
-    ensures { OnOk result (roomless (forest list.new.items) ≡ join (roomless (forest list.old.items)) (section_holes (map plain_section sections.now))) }
+    ensures { OnOk result (roomless (forest list.new.items) ≡ join (roomless (forest list.old.items))
+        (section_holes (map plain_section sections.now))) }
 {
     let Some((section, others)) = sections.split_first() else {
         return Ok(());
@@ -114,7 +118,8 @@ fn push_holes(list: &mut Nodes, alloc: Global, sections: &[Section]) -> Result<(
 
 /// Puts a fresh node's hole of the section's sort, if there is one, at the end of its list.
 fn push_hole(list: &mut Nodes, alloc: Global, section: &Section) -> Result<(), OutOfMemory>
-    ensures { OnOk result (roomless (forest list.new.items) ≡ join (roomless (forest list.old.items)) (forest (hole_list 0 (hole_of section.now.sort)))) }
+    ensures { OnOk result (roomless (forest list.new.items) ≡ join (roomless (forest list.old.items))
+        (forest (hole_list 0 (hole_of section.now.sort)))) }
 {
     let Some(kind) = hole_of(section.sort) else {
         return Ok(());

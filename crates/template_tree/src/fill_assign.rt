@@ -34,9 +34,11 @@ impl Tree {
     ) -> Result<Receipt, (TreeFault, Phrase)>
         requires tree { IsTree self.old }
         requires phrase { IsPhrasePlace (Some (plain_phrase phrase)) }
-        ensures edited { IfOk result (Edits (TreeEdit.put (assignment_node (plain_phrase phrase))) (node_at self.old.items path.now.items) (TakesAssignment (plain_phrase phrase)) self.old self.new) }
+        ensures edited { IfOk result (Edits (TreeEdit.put (assignment_node (plain_phrase phrase)))
+            (node_at self.old.items path.now.items) (TakesAssignment (plain_phrase phrase)) self.old self.new) }
         ensures no_room { IfOk result NeedsNoRoom }
-        ensures refused { IfErr result (λ back. Refuses (TreeEdit.put (assignment_node (plain_phrase phrase))) (node_at self.old.items path.now.items) (TakesAssignment (plain_phrase phrase)) self.old back.0) }
+        ensures refused { IfErr result (λ back. Refuses (TreeEdit.put (assignment_node (plain_phrase phrase)))
+            (node_at self.old.items path.now.items) (TakesAssignment (plain_phrase phrase)) self.old back.0) }
         ensures tree { IsTree self.new }
         ensures unchanged { IfErr result (λ back. (back.1 ≡ phrase) × (self.new ≡ self.old)) }
     {

@@ -24,9 +24,11 @@ impl Tree {
     pub fn insert(&mut self, path: &Path, node: Node) -> Result<Receipt, (TreeFault, Node)>
         requires tree { IsTree self.old }
         requires node { IsSubtree node }
-        ensures edited { IfOk result (Edits (TreeEdit.put node) (node_at self.old.items path.now.items) (IsHoleFor node.label.kind) self.old self.new) }
+        ensures edited { IfOk result (Edits (TreeEdit.put node) (node_at self.old.items path.now.items)
+            (IsHoleFor node.label.kind) self.old self.new) }
         ensures no_room { IfOk result NeedsNoRoom }
-        ensures refused { IfErr result (λ back. Refuses (TreeEdit.put node) (node_at self.old.items path.now.items) (IsHoleFor node.label.kind) self.old back.0) }
+        ensures refused { IfErr result (λ back. Refuses (TreeEdit.put node) (node_at self.old.items path.now.items)
+            (IsHoleFor node.label.kind) self.old back.0) }
         ensures tree { IsTree self.new }
         ensures unchanged { IfErr result (λ back. (back.1 ≡ node) × (self.new ≡ self.old)) }
         ensures no_memory { IfErr result (λ back. back.0 ≡ TreeFault.OutOfMemory → ⊥) }

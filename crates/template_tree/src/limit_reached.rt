@@ -18,7 +18,8 @@ impl Tree {
     pub(crate) fn limit_reached(&self, is_shallow: bool, slots: u32) -> Option<TreeFault>
         requires tree { IsTree self.now }
         ensures over { IfSome result (MeetsLimit is_shallow (self.now.live + slots) (self.now.drawn + slots)) }
-        ensures within { IfNone result ((is_shallow ≡ true) × (self.now.live + slots ≤ most_slots) × (self.now.drawn + slots ≤ most_drawn_slots)) }
+        ensures within { IfNone result ((is_shallow ≡ true) × (self.now.live + slots ≤ most_slots)
+            × (self.now.drawn + slots ≤ most_drawn_slots)) }
     {
         if !is_shallow {
             return Some(TreeFault::TooDeep);

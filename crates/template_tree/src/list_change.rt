@@ -16,7 +16,8 @@ impl Nodes {
     #[tactic(auto, using(crate::specs::PlainTree::nodes_forest))]
     pub(crate) fn remove_at(&mut self, k: usize, path: &[u32]) -> Option<Node>
         ensures taken { result ≡ node_at (forest self.old.items) (k ∷ path.now) }
-        ensures others { roomless (forest self.new.items) ≡ edit_at (λ _. []) (k ∷ path.now) (roomless (forest self.old.items)) }
+        ensures others { roomless (forest self.new.items) ≡ edit_at (λ _. []) (k ∷ path.now)
+            (roomless (forest self.old.items)) }
         ensures room { IfNone result (self.new ≡ self.old) }
         ensures spare { IfSome result (λ _. 0 < list_room self.new.spare (forest self.new.items) (k ∷ path.now)) }
     {
@@ -33,7 +34,8 @@ impl Nodes {
     /// and `path` are the others. Nothing is put in where the list has no node there.
     pub(crate) fn insert_at(&mut self, k: usize, path: &[u32], side: Side, node: Node)
         requires room { 0 < list_room self.old.spare (forest self.old.items) (k ∷ path.now) }
-        ensures { roomless (forest self.new.items) ≡ edit_at (with_beside side (roomless_node node)) (k ∷ path.now) (roomless (forest self.old.items)) }
+        ensures { roomless (forest self.new.items) ≡ edit_at (with_beside side (roomless_node node)) (k ∷ path.now)
+            (roomless (forest self.old.items)) }
     {
         let Some((next, rest)) = path.split_first() else {
             self.insert_beside(k, side, node);
@@ -55,7 +57,8 @@ impl Nodes {
         node: Node,
     ) -> Result<(), OutOfMemory>
         requires there { IsSome (node_at (forest self.old.items) (k ∷ path.now)) }
-        ensures added { IfOk result (λ _. roomless (forest self.new.items) ≡ edit_at (with_beside side (roomless_node node)) (k ∷ path.now) (roomless (forest self.old.items))) }
+        ensures added { IfOk result (λ _. roomless (forest self.new.items)
+            ≡ edit_at (with_beside side (roomless_node node)) (k ∷ path.now) (roomless (forest self.old.items))) }
         ensures refused { IfErr result (λ _. self.new ≡ self.old) }
     {
         let Some((next, rest)) = path.split_first() else {

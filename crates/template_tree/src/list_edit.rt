@@ -27,9 +27,11 @@ impl Tree {
     /// list is there.
     pub fn add_hole(&mut self, alloc: Global, path: &Path, side: Side) -> Result<Receipt, TreeFault>
         requires tree { IsTree self.old }
-        ensures edited { IfOk result (Edits (TreeEdit.add side) (node_at self.old.items path.now.items) (IsListItem self.old.items path.now.items) self.old self.new) }
+        ensures edited { IfOk result (Edits (TreeEdit.add side) (node_at self.old.items path.now.items)
+            (IsListItem self.old.items path.now.items) self.old self.new) }
         ensures no_room { IfOk result NeedsNoRoom }
-        ensures refused { IfErr result (Refuses (TreeEdit.add side) (node_at self.old.items path.now.items) (IsListItem self.old.items path.now.items) self.old) }
+        ensures refused { IfErr result (Refuses (TreeEdit.add side) (node_at self.old.items path.now.items)
+            (IsListItem self.old.items path.now.items) self.old) }
         ensures tree { IsTree self.new }
         ensures unchanged { IfErr result (λ _. self.new ≡ self.old) }
     {
@@ -73,9 +75,11 @@ impl Tree {
     /// no hole in a list of two or more is there. It takes no memory.
     pub fn drop_hole(&mut self, path: &Path) -> Result<Receipt, TreeFault>
         requires tree { IsTree self.old }
-        ensures edited { IfOk result (Edits TreeEdit.drop (node_at self.old.items path.now.items) (IsSpareHole self.old.items path.now.items) self.old self.new) }
+        ensures edited { IfOk result (Edits TreeEdit.drop (node_at self.old.items path.now.items)
+            (IsSpareHole self.old.items path.now.items) self.old self.new) }
         ensures room { IfOk result (λ _. 0 < list_room self.new.spare self.new.items path.now.items) }
-        ensures refused { IfErr result (λ fault. (fault ≡ TreeFault.NotHere) × (IsSomeAnd (node_at self.old.items path.now.items) (IsSpareHole self.old.items path.now.items) → ⊥)) }
+        ensures refused { IfErr result (λ fault. (fault ≡ TreeFault.NotHere)
+            × (IsSomeAnd (node_at self.old.items path.now.items) (IsSpareHole self.old.items path.now.items) → ⊥)) }
         ensures tree { IsTree self.new }
         ensures unchanged { IfErr result (λ _. self.new ≡ self.old) }
     {
@@ -107,7 +111,8 @@ impl Tree {
     /// Whether the node at the path may be dropped: it is a hole in a list of two or more.
     fn is_spare_hole(&self, path: &Path) -> bool
         requires tree { IsTree self.now }
-        ensures { IsTrue result ↔ IsSomeAnd (node_at self.now.items path.now.items) (IsSpareHole self.now.items path.now.items) }
+        ensures { IsTrue result
+            ↔ IsSomeAnd (node_at self.now.items path.now.items) (IsSpareHole self.now.items path.now.items) }
     {
         let Some(there) = self.node(path) else {
             return false;
@@ -126,7 +131,8 @@ impl Tree {
     /// counts stay.
     fn add_beside(&mut self, path: &Path, side: Side, node: Node) -> Result<(), OutOfMemory>
         requires there { IsSome (node_at self.old.items path.now.items) }
-        ensures added { IfOk result (λ _. roomless_tree self.new ≡ with_edit (with_beside side (roomless_node node)) path.now.items (roomless_tree self.old)) }
+        ensures added { IfOk result (λ _. roomless_tree self.new ≡ with_edit (with_beside side (roomless_node node))
+            path.now.items (roomless_tree self.old)) }
         ensures refused { IfErr result (λ _. self.new ≡ self.old) }
     {
         let Some((k, rest)) = path.split_first() else {

@@ -37,7 +37,8 @@ impl Tree {
 #[cycle(lines)]
 fn put_nodes<O: ByteOut>(nodes: &[Node], level: u32, sections: SectionsLeft, out: &mut O)
     requires shallow { level + depth (forest nodes.now) ≤ deepest_path }
-    ensures { PutsAll O.puts out.old (bytes_of_lines (lines false level (plain_sections_left sections) (forest nodes.now))) out.new }
+    ensures { PutsAll O.puts out.old (bytes_of_lines (lines false level (plain_sections_left sections)
+        (forest nodes.now))) out.new }
 {
     let mut left = sections;
     for node in nodes {
@@ -65,7 +66,8 @@ fn put_node<O: ByteOut>(node: &Node, level: u32, out: &mut O)
 
 /// Puts the fixed line of the listing that the table of templates has as it stands, if there is one.
 fn put_fixed_line<O: ByteOut>(text: Option<&[u8]>, level: u32, out: &mut O)
-    ensures { PutsAll O.puts out.old (bytes_of_lines (fixed_line level (option_map (λ bytes. bytes.now) text.entry))) out.new }
+    ensures { PutsAll O.puts out.old (bytes_of_lines (fixed_line level (option_map (λ bytes. bytes.now) text.entry)))
+        out.new }
 {
     if let Some(text) = text {
         put_blanks(level, out);
@@ -85,7 +87,8 @@ fn put_blanks<O: ByteOut>(level: u32, out: &mut O)
 
 /// Puts the segments of a line of the listing, with these parts in them.
 fn put_segments<O: ByteOut>(segments: &[Segment], parts: &[PhrasePlace], out: &mut O)
-    ensures { PutsAll O.puts out.old (segments_text (map plain_segment segments.now) (map plain_phrase_place parts.now)) out.new }
+    ensures { PutsAll O.puts out.old (segments_text (map plain_segment segments.now)
+        (map plain_phrase_place parts.now)) out.new }
 {
     let mut left = parts;
     for segment in segments {
@@ -99,8 +102,10 @@ fn put_segment<'a, O: ByteOut>(
     parts: &'a [PhrasePlace],
     out: &mut O,
 ) -> &'a [PhrasePlace]
-    ensures text { PutsAll O.puts out.old (segment_text (plain_segment segment) (map plain_phrase_place parts.now)) out.new }
-    ensures left { map plain_phrase_place result.now ≡ parts_after (plain_segment segment) (map plain_phrase_place parts.now) }
+    ensures text { PutsAll O.puts out.old (segment_text (plain_segment segment) (map plain_phrase_place parts.now))
+        out.new }
+    ensures left { map plain_phrase_place result.now
+        ≡ parts_after (plain_segment segment) (map plain_phrase_place parts.now) }
 {
     let category = match segment {
         Segment::Words(bytes) => {

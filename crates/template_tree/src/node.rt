@@ -169,7 +169,8 @@ impl Nodes {
 impl Nodes {
     /// Lends the node of this number in the list for writing, or `None` where there is none.
     pub(crate) fn get_mut(&mut self, k: usize) -> Option<&mut Node>
-        ensures* writes_back { sem 𝓛 (LendsIf list_row.the_row node_row.the_row self.entry result (with_node_set self.old k) self.old) }
+        ensures* writes_back { sem 𝓛 (LendsIf list_row.the_row node_row.the_row self.entry result
+            (with_node_set self.old k) self.old) }
         ensures found { option_map (λ node. node.now) result ≡ slice_get self.old.items k }
     {
         self.list.get_mut(k)

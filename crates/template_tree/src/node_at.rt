@@ -41,7 +41,8 @@ impl Tree {
     /// call that writes to a node is `Node::put_part`.
     pub fn node_mut(&mut self, path: &Path) -> Option<&mut Node>
         requires tree { IsTree self.old }
-        ensures* writes_back { sem 𝓛 (LendsIf tree_row.the_row node_row.the_row self.entry result (with_node self.old path.now.items) self.old) }
+        ensures* writes_back { sem 𝓛 (LendsIf tree_row.the_row node_row.the_row self.entry result
+            (with_node self.old path.now.items) self.old) }
         ensures found { option_map (λ node. node.now) result ≡ node_at self.old.items path.now.items }
         ensures subtree { IfSome result (λ node. IsSubtree node.now) }
         ensures few { IfSome result (λ node. count node.now.inner + 1 ≤ most_slots) }

@@ -30,7 +30,8 @@ pub fn copy_path(path: &Path) -> Path
 /// none.
 pub(crate) fn halves(path: &[u32]) -> Option<(&[u32], u32, &[u32])>
     ensures parts { IfSome result (λ p. path.now ≡ p.0.now ++ (p.1 ∷ p.2.now)) }
-    ensures short { IfSome result (λ p. (length p.0.now + length p.0.now ≤ length path.now) × (length p.2.now + length p.2.now + 1 ≤ length path.now)) }
+    ensures short { IfSome result (λ p. (length p.0.now + length p.0.now ≤ length path.now)
+        × (length p.2.now + length p.2.now + 1 ≤ length path.now)) }
     ensures none { IfNone result (path.now ≡ []) }
 {
     let (front, rest) = path.split_at(path.len() / 2);

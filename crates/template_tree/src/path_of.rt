@@ -48,7 +48,8 @@ fn path_below(node: &Node, slot: Slot) -> Option<Path>
     requires shallow { depth node.now.inner < deepest_path }
     requires few { count node.now.inner ≤ most_slots }
     ensures none { IfNone result (times slot.0 (forest (node.now ∷ [])) ≡ 0) }
-    ensures path { IfSome result (λ path. option_map (λ there. there.label.slot) (below node.now path.items) ≡ Some slot.0) }
+    ensures path { IfSome result (λ path. option_map (λ there. there.label.slot) (below node.now path.items)
+        ≡ Some slot.0) }
     ensures short { IfSome result (λ path. length path.items ≤ depth node.now.inner) }
 {
     if node.slot().0 == slot.0 {

@@ -18,7 +18,8 @@ impl Node {
         requires node { IsSubtree self.old }
         requires phrase { IsPhrasePlace (plain_phrase_place place) }
         ensures fits { IsOk result ↔ (Takes (part_category self.old.label.kind part) (plain_phrase_place place)) }
-        ensures set { IfOk result (λ old. (slice_get self.old.label.parts part ≡ Some (plain_phrase_place old)) × (self.new ≡ with_part part (plain_phrase_place place) self.old)) }
+        ensures set { IfOk result (λ old. (slice_get self.old.label.parts part ≡ Some (plain_phrase_place old))
+            × (self.new ≡ with_part part (plain_phrase_place place) self.old)) }
         ensures refused { IfErr result (λ back. (back ≡ place) × (self.new ≡ self.old)) }
     {
         if !takes(self.kind, part, &place) {

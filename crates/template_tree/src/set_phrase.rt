@@ -29,9 +29,14 @@ impl Tree {
     ) -> Result<Receipt, (TreeFault, PhrasePlace)>
         requires tree { IsTree self.old }
         requires phrase { IsPhrasePlace (plain_phrase_place place) }
-        ensures edited { IfOk result (λ receipt. IsSomeAnd stop.now.part (λ part. Edits (TreeEdit.set_part part (plain_phrase_place place)) (node_at self.old.items stop.now.path.items) (TakesAtStop part (plain_phrase_place place)) self.old self.new receipt)) }
+        ensures edited { IfOk result (λ receipt. IsSomeAnd stop.now.part
+            (λ part. Edits (TreeEdit.set_part part (plain_phrase_place place))
+            (node_at self.old.items stop.now.path.items) (TakesAtStop part (plain_phrase_place place))
+            self.old self.new receipt)) }
         ensures no_room { IfOk result NeedsNoRoom }
-        ensures refused { IfErr result (λ back. (back.0 ≡ TreeFault.NotHere) × (IsSomeAnd stop.now.part (λ part. IsSomeAnd (node_at self.old.items stop.now.path.items) (TakesAtStop part (plain_phrase_place place))) → ⊥)) }
+        ensures refused { IfErr result (λ back. (back.0 ≡ TreeFault.NotHere)
+            × (IsSomeAnd stop.now.part (λ part. IsSomeAnd (node_at self.old.items stop.now.path.items)
+            (TakesAtStop part (plain_phrase_place place))) → ⊥)) }
         ensures tree { IsTree self.new }
         ensures unchanged { IfErr result (λ back. (back.1 ≡ place) × (self.new ≡ self.old)) }
     {

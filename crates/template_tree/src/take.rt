@@ -26,7 +26,8 @@ impl Tree {
         ensures edited { IfOk result (λ r. TakesOut r.0 self.old self.new r.1) }
         ensures subtree { IfOk result (λ r. IsSubtree r.0) }
         ensures no_room { IfOk result (λ r. NeedsNoRoom r.1) }
-        ensures refused { IfErr result (λ fault. (fault ≡ TreeFault.NotHere) × (IsSomeAnd (node_at self.old.items path.now.items) MayTake → ⊥)) }
+        ensures refused { IfErr result (λ fault. (fault ≡ TreeFault.NotHere)
+            × (IsSomeAnd (node_at self.old.items path.now.items) MayTake → ⊥)) }
         ensures tree { IsTree self.new }
         ensures unchanged { IfErr result (λ _. self.new ≡ self.old) }
     {

@@ -41,7 +41,8 @@ impl Tree {
     fn restore(&mut self, path: &Path, undoing: Undoing, back: Option<Node>)
         requires tree { IsTree self.old }
         requires room { HasRoomBack (plain_undoing undoing) (list_room self.old.spare self.old.items path.now.items) }
-        ensures { roomless_tree self.new ≡ with_edit (items_before (plain_undoing undoing) back) path.now.items (roomless_tree self.old) }
+        ensures { roomless_tree self.new ≡ with_edit (items_before (plain_undoing undoing) back) path.now.items
+            (roomless_tree self.old) }
     {
         match undoing {
             Undoing::Put(node) => self.restore_node(path, Some(node)),
@@ -57,7 +58,8 @@ impl Tree {
     /// Puts a node again in place of the one at the path, if there is one to come back.
     fn restore_node(&mut self, path: &Path, back: Option<Node>)
         requires tree { IsTree self.old }
-        ensures { roomless_tree self.new ≡ with_edit (λ item. node_back back item ∷ []) path.now.items (roomless_tree self.old) }
+        ensures { roomless_tree self.new ≡ with_edit (λ item. node_back back item ∷ []) path.now.items
+            (roomless_tree self.old) }
     {
         let Some(node) = back else {
             return;
@@ -71,7 +73,8 @@ impl Tree {
     /// Sets a part of the node at the path again to what it held.
     fn restore_part(&mut self, path: &Path, part: u8, place: PhrasePlace)
         requires tree { IsTree self.old }
-        ensures { roomless_tree self.new ≡ with_edit (λ item. with_part part (plain_phrase_place place) item ∷ []) path.now.items (roomless_tree self.old) }
+        ensures { roomless_tree self.new ≡ with_edit (λ item. with_part part (plain_phrase_place place) item ∷ [])
+            path.now.items (roomless_tree self.old) }
     {
         let Some(node) = self.node_mut(path) else {
             return;
@@ -94,7 +97,8 @@ impl Tree {
     fn restore_dropped(&mut self, path: &Path, side: Side, hole: Node)
         requires tree { IsTree self.old }
         requires room { 0 < list_room self.old.spare self.old.items path.now.items }
-        ensures { roomless_tree self.new ≡ with_edit (with_beside side (roomless_node hole)) path.now.items (roomless_tree self.old) }
+        ensures { roomless_tree self.new ≡ with_edit (with_beside side (roomless_node hole)) path.now.items
+            (roomless_tree self.old) }
     {
         let Some((k, rest)) = path.split_first() else {
             unreachable!()

@@ -6,7 +6,7 @@ use Rattle.std.proofs.lemmas.Bool.{not-false, and_parts, and_from, or_right, or_
 use Rattle.std.proofs.lemmas.Bool.Decides.{Decides-eqb}
 use Rattle.std.proofs.lemmas.Slice.Eq.{bytes_eq-Decides, starts_is}
 use Rattle.plcs_base.specs.Byte.{is_printable}
-use Rattle.plcs_grammar.specs.Cuts.{tokens_of}
+use Rattle.plcs_grammar.specs.Cuts.{tokens_of, trimmed}
 use Rattle.std.proofs.lemmas.List.Elements.{All-from_recursion}
 use Rattle.plcs_grammar.specs.declared.category.Category.TheVariants.{CommentText}
 use Rattle.plcs_grammar.specs.PlainPhrase.{PlainPhrase}
@@ -15,7 +15,7 @@ use Rattle.phrase_parser.specs.declared.fault.PhraseFault.TheVariants.{Syntax}
 use Rattle.phrase_parser.specs.Answers.{FaultSays}
 use Rattle.phrase_parser.proofs.Comments.TrimmedTexts.{trimmed_keeps, surrounded}
 use Rattle.phrase_parser.proofs.Readings.OneAnswer.{comment_no_form}
-use Rattle.plcs_grammar.specs.Comment.{trimmed, comment_end, comment_placeholder, comment_offence, comment_syntax, IsCommentText}
+use Rattle.plcs_grammar.specs.Comment.{comment_end, comment_placeholder, comment_offence, comment_syntax, IsCommentText}
 
 absurd_true : (b : Bool) → b ≡ false → b ≡ true → ⊥
 absurd_true b e h = absurd (cc)

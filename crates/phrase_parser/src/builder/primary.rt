@@ -46,7 +46,8 @@ pub fn constant(alloc: Global, value: TextValue) -> Result<Primary, AllocError>
 
 /// The variable with the subscript as a primary.
 pub fn element(alloc: Global, name: Name, index: Expr) -> Result<Primary, AllocError>
-    ensures { IfOk result (λ made. primary_of made ≡ PlainExpr.variable (PlainVarRef.subscripted name (plain_expr index))) }
+    ensures { IfOk result (λ made. primary_of made
+        ≡ PlainExpr.variable (PlainVarRef.subscripted name (plain_expr index))) }
 {
     Ok(Primary::Subscripted(name, Box::new(alloc, index)?))
 }

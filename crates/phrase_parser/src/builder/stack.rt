@@ -44,7 +44,11 @@ pub enum ParseFrame {
 }
 
 /// The state that a stack becomes after a parenthesis that is opened after an operand, which only a name takes.
-pub fn shift_open_after(alloc: Global, stack: ParseStack, primary: Primary) -> Result<ParseState, BuildError>
+pub fn shift_open_after(
+    alloc: Global,
+    stack: ParseStack,
+    primary: Primary,
+) -> Result<ParseState, BuildError>
     ensures { Gives state_of result (shift_open_after (stack_of stack) (primary_of primary)) }
 {
     let Primary::Name(name) = primary else {
@@ -67,7 +71,11 @@ fn open_frame(alloc: Global, name: Name, function: Option<Builtin>) -> ParseFram
 
 /// The state that a stack becomes after the closing parenthesis of the innermost that is open on it.
 #[tactic(auto, using(crate::proofs::Frames::FrameStacks::stack_on_push))]
-pub fn shift_close_stack(alloc: Global, stack: ParseStack, expr: Expr) -> Result<ParseState, BuildError>
+pub fn shift_close_stack(
+    alloc: Global,
+    stack: ParseStack,
+    expr: Expr,
+) -> Result<ParseState, BuildError>
     ensures { Gives state_of result (shift_close_stack (stack_of stack) (plain_expr expr)) }
 {
     let ParseStack { base, mut frames } = stack;
@@ -85,7 +93,11 @@ pub fn shift_close_stack(alloc: Global, stack: ParseStack, expr: Expr) -> Result
 
 /// The state that a stack becomes after a comma in the innermost parenthesis that is open on it.
 #[tactic(auto, using(crate::proofs::Frames::FrameStacks::stack_on_push))]
-pub fn shift_comma_stack(alloc: Global, stack: ParseStack, expr: Expr) -> Result<ParseState, BuildError>
+pub fn shift_comma_stack(
+    alloc: Global,
+    stack: ParseStack,
+    expr: Expr,
+) -> Result<ParseState, BuildError>
     ensures { Gives state_of result (shift_comma_stack (stack_of stack) (plain_expr expr)) }
 {
     let ParseStack { base, mut frames } = stack;
@@ -93,12 +105,18 @@ pub fn shift_comma_stack(alloc: Global, stack: ParseStack, expr: Expr) -> Result
         None => shift_comma_base(alloc, base, expr),
         Some(ParseFrame::Arguments(function, done)) => {
             let done = with_expr(done, expr)?;
-            let stack = with_frame(ParseStack { base, frames }, ParseFrame::Arguments(function, done))?;
+            let stack = with_frame(
+                ParseStack { base, frames },
+                ParseFrame::Arguments(function, done),
+            )?;
             Ok(ParseState::Wanted(stack))
         }
-        Some(ParseFrame::Prefix(_) | ParseFrame::Left(_, _) | ParseFrame::Parenthesis | ParseFrame::Subscript(_)) => {
-            Err(BuildError::Refused)
-        }
+        Some(
+            ParseFrame::Prefix(_)
+            | ParseFrame::Left(_, _)
+            | ParseFrame::Parenthesis
+            | ParseFrame::Subscript(_),
+        ) => { Err(BuildError::Refused) }
     }
 }
 

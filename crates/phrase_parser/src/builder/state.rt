@@ -76,7 +76,12 @@ pub fn start_state(alloc: Global, category: Category) -> Result<ParseState, Buil
 }
 
 /// The builder's state after one more token, if it can stand there.
-pub fn shift(alloc: Global, state: ParseState, text: &[u8], token: Placed) -> Result<ParseState, BuildError>
+pub fn shift(
+    alloc: Global,
+    state: ParseState,
+    text: &[u8],
+    token: Placed,
+) -> Result<ParseState, BuildError>
     requires { IsPlacedIn text.now token }
     ensures { Gives state_of result (shift (state_of state) (token_in text.now token)) }
 {
@@ -145,7 +150,10 @@ pub fn shift_open(alloc: Global, state: ParseState) -> Result<ParseState, BuildE
     ensures { Gives state_of result (shift_open (state_of state)) }
 {
     match state {
-        ParseState::Wanted(stack) => Ok(ParseState::Wanted(with_frame(stack, ParseFrame::Parenthesis)?)),
+        ParseState::Wanted(stack) => Ok(ParseState::Wanted(with_frame(
+            stack,
+            ParseFrame::Parenthesis,
+        )?)),
         ParseState::Had(stack, primary) => shift_open_after(alloc, stack, primary),
         ParseState::NameHad(role, name) => shift_open_role(alloc, role, name),
         _ => Err(BuildError::Refused),

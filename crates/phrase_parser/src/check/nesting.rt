@@ -42,7 +42,8 @@ impl Nesting {
 #[tactic(auto, using(crate::proofs::Findings::OpenBrackets::brackets_push))]
 pub fn bracketed(nesting: Nesting, takes_commas: bool, level: u32) -> Result<Shape, AllocError>
     requires { level ≤ deepest_level }
-    ensures { IfOk result (λ s. shape_of s ≡ bracketed takes_commas nesting.place (reverse nesting.brackets.items) level) }
+    ensures { IfOk result (λ s. shape_of s
+        ≡ bracketed takes_commas nesting.place (reverse nesting.brackets.items) level) }
 {
     let Nesting {
         place,
