@@ -20,13 +20,13 @@ use Rattle.template_tree.specs.Path.{added_path, last_child_number, node_at, wit
 use Rattle.template_tree.specs.PlainTree.{Forest, PlainNode, PlainTree, nodes, roomless, roomless_node, roomless_tree}
 use Rattle.template_tree.specs.Program.{sort_of}
 use Rattle.template_tree.specs.Receipt.{PlainReceipt}
+use Rattle.template_tree.specs.Slots.{count}
 use Rattle.template_tree.specs.Stop.{IsStop, PlainStop, plain_stop, visible_at, visible_below, node_stop}
 use Rattle.template_tree.specs.Tree.{IsTree}
 use Rattle.template_tree.specs.TreeEdit.{TreeEdit}
 use Rattle.template_tree.specs.TreeLaws.{SlotEditIsPathEdit}
 use Rattle.session_edit.specs.declared.applied.Applied.{Applied}
 use Rattle.session_edit.specs.AppliedEdit.{IsAnswer, IsApplied, IsRefused}
-use Rattle.template_tree.proofs.Lists.ListEdits.{last_small}
 use Rattle.session_edit.specs.Edited.{Edited, at_node, comes, edited, outcome_of_hole_beside, not_here}
 use Rattle.session_edit.specs.Here.{enclosing_item, is_list_item, nearest_item}
 use Rattle.session_edit.specs.PlainEdit.{PlainEdit}
@@ -37,6 +37,15 @@ use Rattle.session_edit.proofs.PutCommands.{edit_there}
 use Rattle.session_edit.specs.Private.RoomLaws.{RoomLaws}
 use Rattle.session_edit.proofs.StopTests.{is_false}
 use Rattle.session_edit.proofs.VisibleEdits.{first_comes, last_number, second_comes, seen_beside, seen_here, shelf_of, visible_node}
+
+-- the last number of a path to a node is below the number of nodes
+last_small : (items : Forest) (path : List ℕ) (node : PlainNode) → node_at items path ≡ Some node → last_child_number path < count items
+last_small items [] node e = absurd (none-some node e)
+last_small Forest.nil (k ∷ path) node e = absurd (none-some node e)
+last_small (Forest.cons label inner rest) (zero ∷ []) node e = omega arith
+last_small (Forest.cons label inner rest) (zero ∷ (j ∷ path)) node e = omega (arith, last_small inner (j ∷ path) node e)
+last_small (Forest.cons label inner rest) (suc k ∷ []) node e = omega (arith, last_small rest (k ∷ []) node e)
+last_small (Forest.cons label inner rest) (suc k ∷ (j ∷ path)) node e = omega (arith, last_small rest (k ∷ (j ∷ path)) node e)
 
 -- the nearest item of a list round a node, by the numbers of its path
 take_all : (path : List ℕ) → take (length path) path ≡ path
