@@ -9,7 +9,7 @@ use Rattle.screen_window.specs.PlainView.{PlainView}
 use Rattle.screen_window.specs.Screen.{Screen, screen_row}
 use Rattle.screen_window.specs.ShownRow.{shown_row}
 use Rattle.screen_window.specs.Private.Drawing.{IsDrawn}
-use Rattle.screen_window.specs.Private.WithRow.{with_row}
+use Rattle.screen_window.specs.Private.RowCells.{with_row}
 
 -- one row more is drawn
 pub more_drawn : (view : PlainView) (old g new : PlainGrid) (row : ℕ) → IsDrawn (λ r. shown_row old.cols (screen_row old.rows old.cols view r)) row old g

@@ -7,7 +7,7 @@ use Rattle.screen_window.specs.ScreenCell.{is_screen_cell}
 use Rattle.screen_window.specs.Limit.{IsSize}
 use Rattle.screen_window.specs.PlainGrid.{PlainGrid, IsGrid, IsRow}
 use Rattle.screen_window.specs.ShownRow.{cell_in, shown_cell, shown_row}
-use Rattle.screen_window.specs.Private.WithRow.{with_row}
+use Rattle.screen_window.specs.Private.RowCells.{with_row}
 use Rattle.screen_window.proofs.ShownRows.{length-shown_row, get_or-shown_row}
 
 -- what is shown in a cell is one

@@ -2,7 +2,9 @@
 use Rattle.std.proofs.Common.{◌≡◌, ◌<◌, ◌≤◌, ℕ, ◌+◌, ◌-◌, min, suc, zero, ◌⊎◌, inl, inr, Bool, true, false, cond, nat_lt, length, Option, Some, None, refl, ap, sym, ◌∙◌, arith}
 use Rattle.std.specs.Prelude.{find, option_map}
 use Rattle.std.specs.List.{range_with_len}
-use Rattle.std.proofs.lemmas.Bool.{cases_lt, lt-ltb}
+use Rattle.std.proofs.lemmas.Bool.{cases_lt}
+use Rattle.plcs_base.specs.CountLaws.{LaysAddUp}
+use Rattle.plcs_base.specs.PlainCounts.{CountsNothing, LaysAtMost, LaysOne, PlainCounts}
 use Rattle.template_tree.specs.Path.{node_at, slot_at}
 use Rattle.template_tree.specs.PlainTree.{PlainNode}
 use Rattle.screen_window.specs.Cursor.{cursor_position, node_row, position_in_row, stop_position}
@@ -102,15 +104,18 @@ pub cursor_row : (rows cols : ℕ) (view : PlainView) (node : PlainNode) (row : 
     → Some row ≡ row_from view (slot_at view.items view.stop.path) 0 (rows - 6) → row + 1 ≡ (cursor_position rows cols view).row
 cursor_row rows cols view node row empty there found = rw empty (at_stop rows cols view node row (node_at view.items view.stop.path) there found)
 
-is_not : (row window : ℕ) → window ≤ row → nat_lt row window ≡ false
-is_not row window behind = grind (arith, behind)
-
 -- a line of the window is laid, and no other
-pub laid_more : (row window : ℕ) → cond (nat_lt row window) 1 0 + min row window ≤ min (row + 1) window
-laid_more row window = by_place (cases_lt row window)
+pub laid_more : (row window : ℕ) (first before now : PlainCounts) → LaysAddUp → LaysAtMost (min row window) first before
+    → (row < window → LaysOne before now) → (window ≤ row → CountsNothing before now) → LaysAtMost (min (row + 1) window) first now
+laid_more row window first before now laws so_far lays still = by_place (cases_lt row window)
   where
-    by_place : (row < window) ⊎ (window ≤ row) → cond (nat_lt row window) 1 0 + min row window ≤ min (row + 1) window
+    by_place : (row < window) ⊎ (window ≤ row) → LaysAtMost (min (row + 1) window) first now
     by_place (inl below) =
-        let one = ap {B = ℕ} (λ b. cond b 1 0) (lt-ltb row window below) in omega (arith, one, below)
+        laws.joined (min row window) 1 (min (row + 1) window) first before now (omega (arith, below)) so_far (laws.one 1 before now (omega arith) (lays below))
     by_place (inr behind) =
-        let none = ap {B = ℕ} (λ b. cond b 1 0) (is_not row window behind) in omega (arith, none, behind)
+        laws.joined (min row window) 0 (min (row + 1) window) first before now (omega (arith, behind)) so_far (laws.none 0 before now (still behind))
+
+-- at last, no more lines than the window has rows
+pub laid_all : (row window : ℕ) (first now : PlainCounts) → LaysAddUp → LaysAtMost (min row window) first now → LaysAtMost window first now
+laid_all row window first now laws so_far =
+    laws.joined (min row window) 0 window first now now (omega arith) so_far (laws.none 0 now now refl)

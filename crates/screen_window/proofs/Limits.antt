@@ -1,6 +1,7 @@
 -- The value of each limit.
 use Rattle.std.specs.Prelude.{◌≡◌, refl}
-use Rattle.screen_window.specs.declared.limit.TheConstants.{FEWEST_ROWS, MOST_ROWS, FEWEST_COLS, MOST_COLS}
+use Rattle.screen_window.specs.declared.limit.TheConstants.{FEWEST_ROWS, MOST_ROWS, FEWEST_COLS, MOST_COLS, OTHER_ROWS}
+use Rattle.screen_window.specs.declared.lower_rows.TheConstants.{OUTPUT_ROWS}
 
 fewest_rows_is : FEWEST_ROWS ≡ 12
 fewest_rows_is = refl
@@ -13,3 +14,10 @@ fewest_cols_is = refl
 
 most_cols_is : MOST_COLS ≡ 160
 most_cols_is = refl
+
+-- the dashes, three rows of output, the message and the input
+other_rows_is : OTHER_ROWS ≡ 6
+other_rows_is = refl
+
+output_rows_is : OUTPUT_ROWS ≡ 3
+output_rows_is = refl

@@ -5,7 +5,7 @@ use Rattle.std.proofs.lemmas.Bool.{cases_lt}
 use Rattle.std.proofs.lemmas.List.{get_or_append_left}
 use Rattle.std.proofs.lemmas.List.FromFn.{fill_by_all, get_or-map-range_with_len, length-map-range_with_len}
 use Rattle.screen_window.specs.ShownRow.{cell_in, shown_cell, shown_row}
-use Rattle.screen_window.specs.Private.Behind.{cell_behind}
+use Rattle.screen_window.specs.Private.RowCells.{cell_behind}
 
 -- a row shown is as wide as the screen
 pub length-shown_row : (cols : ℕ) (cells : List ℕ) → length (shown_row cols cells) ≡ cols

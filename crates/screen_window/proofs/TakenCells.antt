@@ -8,7 +8,8 @@ use Rattle.std.proofs.lemmas.List.{length-append}
 use Rattle.std.proofs.Math.Seq.{get_or-append_seam, set-append_seam}
 use Rattle.plcs_base.specs.Byte.{is_printable}
 use Rattle.screen_window.specs.declared.sequence.Sequence.TheVariants.{Absent}
-use Rattle.screen_window.specs.ScreenCell.{screen_cell, is_screen_cell, is_negative}
+use Rattle.unparse_layout.specs.LaidLine.{screen_cell}
+use Rattle.screen_window.specs.ScreenCell.{is_screen_cell, is_negative}
 use Rattle.screen_window.specs.Paint.{image_change, spelled}
 use Rattle.screen_window.specs.PlainTerminal.{PlainTerminal}
 use Rattle.screen_window.specs.Terminal.{Term, terminal_after, typed}

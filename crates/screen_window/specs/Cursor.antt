@@ -7,6 +7,7 @@ use Rattle.template_tree.specs.PlainTree.{PlainNode}
 use Rattle.unparse_layout.specs.declared.line.LineKind.TheVariants.{First}
 use Rattle.unparse_layout.specs.LaidLine.{PlainLine}
 use Rattle.unparse_layout.specs.OwnedLine.{Stretch, stretches_of}
+use Rattle.screen_window.specs.declared.limit.TheConstants.{OTHER_ROWS}
 use Rattle.screen_window.specs.NodeLine.{is_line}
 use Rattle.screen_window.specs.LowerRows.{input_row}
 use Rattle.screen_window.specs.PlainView.{PlainView}
@@ -70,7 +71,7 @@ position_in_row cols col (Some row) = record { row = row + 1; col = cut_col cols
 abbrev pub stop_position : (rows cols : ℕ) → PlainView → Option PlainNode → CursorPosition
 stop_position rows cols view None = record { row = 1; col = 1 }
 stop_position rows cols view (Some node) =
-    position_in_row cols (stop_col view.stop.path view.stop.part node) (node_row (rows - 6) view node.label.slot)
+    position_in_row cols (stop_col view.stop.path view.stop.part node) (node_row (rows - OTHER_ROWS) view node.label.slot)
 
 -- ---- the cursor
 

@@ -1,11 +1,12 @@
 -- The rows below the window: the output, the message or mark, the prompt and the typed line.
-use Rattle.std.specs.Prelude.{ℕ, ◌-◌, List, [], ◌∷◌, ◌++◌, length, drop, slice_index_or, Option, Some, None, codes}
+use Rattle.std.specs.Prelude.{ℕ, ◌-◌, List, [], ◌∷◌, ◌++◌, length, drop, slice_index_or, Option, Some, None, is_some, if◌then◌else◌, codes}
 use Rattle.std.specs.FinMap.{get}
 use Rattle.plcs_base.specs.declared.mark.MarkKind.{MarkKind}
 use Rattle.plcs_base.specs.declared.mark.MarkKind.TheVariants.{Undeclared, TypeMismatch, NotArray, NeedsSubscript, Duplicate, UnknownProcedure, WrongCount, ArgumentType, ParameterUndeclared, TooManyCells, Reserved}
 use Rattle.plcs_base.specs.Mark.{MarkMap}
 use Rattle.plcs_grammar.specs.declared.node_kind.NodeKind.{NodeKind}
 use Rattle.template_tree.specs.Listing.{split_at_ends}
+use Rattle.template_tree.specs.Part.{part_at}
 use Rattle.template_tree.specs.Path.{node_at}
 use Rattle.template_tree.specs.PlainTree.{PlainNode}
 use Rattle.screen_window.specs.declared.lower_rows.TheConstants.{OUTPUT_ROWS}
@@ -62,15 +63,16 @@ cursor_part NodeKind.ProcedureHole None = None
 cursor_part NodeKind.Main None = None
 cursor_part (NodeKind.Filled template) None = None
 
--- the mark of a part of the node at the cursor, if it has one
-abbrev pub part_mark : MarkMap → ℕ → Option ℕ → Option MarkKind
-part_mark marks slot None = None
-part_mark marks slot (Some part) = get marks record { slot = record { 0 = slot }; part = part }
+-- the mark of the phrase in a part of the node at the cursor, if a phrase stands there and has one
+abbrev pub part_mark : MarkMap → PlainNode → Option ℕ → Option MarkKind
+part_mark marks node None = None
+part_mark marks node (Some part) =
+    if is_some (part_at node.label.parts part) then get marks record { slot = record { 0 = node.label.slot }; part = part } else None
 
 -- the mark of the phrase or the assignment at the cursor, if it has one
 abbrev pub cursor_mark : MarkMap → Option ℕ → Option PlainNode → Option MarkKind
 cursor_mark marks part None = None
-cursor_mark marks part (Some node) = part_mark marks node.label.slot (cursor_part node.label.kind part)
+cursor_mark marks part (Some node) = part_mark marks node (cursor_part node.label.kind part)
 
 -- the message, or where it is empty the text of the mark at the cursor
 abbrev pub message_or : List ℕ → List ℕ → List ℕ

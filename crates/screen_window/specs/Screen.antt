@@ -1,6 +1,7 @@
 -- The grid on which a view is shown, row by row, and how many of its rows the window has.
 use Rattle.std.specs.Prelude.{ℕ, ◌+◌, ◌-◌, ◌==◌, nat_lt, if◌then◌else◌, List, map, replicate}
 use Rattle.std.specs.List.{range_with_len}
+use Rattle.screen_window.specs.declared.limit.TheConstants.{OTHER_ROWS}
 use Rattle.screen_window.specs.Cursor.{cursor_position}
 use Rattle.screen_window.specs.LowerRows.{input_row, message_row, output_row}
 use Rattle.screen_window.specs.PlainGrid.{PlainGrid}
@@ -10,9 +11,9 @@ use Rattle.screen_window.specs.Window.{window_row}
 
 -- ---- the rows
 
--- how many of a screen's rows are the window's: all but the six below it
+-- how many of a screen's rows are the window's: all but those below it
 abbrev pub window_rows : ℕ → ℕ
-window_rows rows = rows - 6
+window_rows rows = rows - OTHER_ROWS
 
 -- what stands in each row of the screen, which counts from 0: the window, a row of dashes, three rows of output, the
 -- message, and the prompt with the typed line

@@ -1,14 +1,10 @@
--- Cells of a screen: a byte in default image, or in negative image.
-use Rattle.std.specs.Prelude.{ℕ, ◌+◌, ◌-◌, Bool, nat_le, ◌||◌, if◌then◌else◌}
+-- Cells of a screen: a byte in default image, or in negative image, as `screen_cell` of the lines says.
+use Rattle.std.specs.Prelude.{ℕ, ◌-◌, Bool, nat_le, ◌||◌}
 use Rattle.plcs_base.specs.Byte.{is_printable}
 
 -- the cell of a blank in default image
 abbrev pub blank : ℕ
 blank = 32
-
--- a byte as a cell of the screen: in negative image 256 more than the byte
-abbrev pub screen_cell : Bool → ℕ → ℕ
-screen_cell negative byte = if negative then byte + 256 else byte
 
 -- whether a cell is in negative image
 abbrev pub is_negative : ℕ → Bool

@@ -5,7 +5,8 @@ use Rattle.screen_window.specs.declared.sequence.Sequence.{Sequence}
 use Rattle.screen_window.specs.declared.sequence.Sequence.TheVariants.{Absent, Escape, Behind}
 use Rattle.screen_window.specs.declared.sequence.Gathered.{Gathered}
 use Rattle.screen_window.specs.declared.sequence.Gathered.TheVariants.{Nothing, Digit, Number, Row, Position, Other}
-use Rattle.screen_window.specs.ScreenCell.{blank, screen_cell}
+use Rattle.unparse_layout.specs.LaidLine.{screen_cell}
+use Rattle.screen_window.specs.ScreenCell.{blank}
 use Rattle.screen_window.specs.PlainGrid.{blank_lines}
 use Rattle.screen_window.specs.PlainTerminal.{PlainTerminal}
 

@@ -1,34 +1,33 @@
 //! Views drawn on grids.
 
 ghost use Rattle.std.specs.Prelude.{◌≡◌, ℕ, ◌+◌, ◌-◌, ◌≤◌, ◌<◌, [], Some, map, length, slice_index_or, option_map, nat_lt, if◌then◌else◌, ◌^◌, ◌++◌};
+ghost use Rattle.plcs_base.specs.PlainCounts.{CountsNothing, LaysAtMost, LaysOne};
 ghost use Rattle.template_tree.specs.Path.{slot_at};
 ghost use Rattle.template_tree.specs.PlainTree.{roomless};
 ghost use Rattle.template_tree.specs.Tree.{IsTree};
 ghost use Rattle.unparse_layout.specs.Agreement.{IsLayoutOf};
+ghost use Rattle.screen_window.specs.declared.limit.TheConstants.{FEWEST_COLS, FEWEST_ROWS, MOST_COLS, MOST_ROWS};
+ghost use Rattle.screen_window.specs.Limit.{IsSize};
 ghost use Rattle.screen_window.specs.NodeLine.{is_line};
 ghost use Rattle.screen_window.specs.Screen.{Screen, screen_row, window_rows};
 ghost use Rattle.screen_window.specs.ShownRow.{shown_row};
 ghost use Rattle.screen_window.specs.View.{plain_view};
 ghost use Rattle.screen_window.specs.Window.{is_run_line, line_row, run_line};
-ghost use Rattle.screen_window.specs.Private.RowText.{text_cells};
+ghost use Rattle.screen_window.specs.Private.RowCells.{text_cells, with_row};
 ghost use Rattle.screen_window.specs.Cursor.{begins_node, cursor_position, cut_col};
 ghost use Rattle.screen_window.specs.LowerRows.{last_ones};
 ghost use Rattle.screen_window.specs.Private.Drawing.{IsDrawn, begins_stop, found_or, row_from, row_line};
-ghost use Rattle.screen_window.specs.Private.WithRow.{with_row};
 
-use crate::cursor::stop_col;
+use crate::cursor::{stop_col, stop_node};
 use crate::grid::Grid;
+use crate::limit::{FEWEST_COLS, FEWEST_ROWS, MOST_COLS, MOST_ROWS, OTHER_ROWS};
 use crate::lower_rows::{last_ones, message_row, output_row};
 use crate::node_line::{NodeLine, is_line, place_line};
 use crate::row_text::RowText;
-use crate::stop_node::stop_node;
 use crate::view::View;
-use plcs_base::{Marked, Place, Work};
+use plcs_base::{Marked, Place, Work, counts_add_up};
 use template_tree::{Stop, Tree};
 use unparse_layout::{Line, LineKind};
-
-/// The rows that aren't the window's: dashes, three rows of output, the message and the input.
-const OTHER_ROWS: u16 = 6;
 
 /// Draws a view on a grid. It takes no memory, and lays no more lines than the window has rows.
 pub fn compose<W: Work, M: Marked>(grid: &mut Grid, view: &View<'_, W, M>, work: &mut W)
@@ -38,11 +37,7 @@ pub fn compose<W: Work, M: Marked>(grid: &mut Grid, view: &View<'_, W, M>, work:
     ensures drawn { grid.new ≡ Screen grid.old.rows grid.old.cols (plain_view M.marks view.now) }
     ensures rows { grid.new.rows ≡ grid.old.rows }
     ensures cols { grid.new.cols ≡ grid.old.cols }
-    ensures laid { W.laid work.new ≤ W.laid work.old + window_rows grid.old.rows }
-    ensures lays { W.laid work.old ≤ W.laid work.new }
-    ensures emitted { W.emitted work.new ≡ W.emitted work.old }
-    ensures checked { W.checked work.new ≡ W.checked work.old }
-    ensures fetched { W.fetched work.new ≡ W.fetched work.old }
+    ensures counts { LaysAtMost (window_rows grid.old.rows) (W.counts work.old) (W.counts work.new) }
 {
     let found = draw_rows(grid, view, work);
     let (row, col) = cursor_position(grid.rows(), grid.cols(), view, found);
@@ -59,15 +54,15 @@ fn draw_rows<W: Work, M: Marked>(
     requires tree { IsTree view.now.tree.now }
     requires layout { IsLayoutOf view.now.layout.now view.now.tree.now }
     requires top { view.now.top + grid.old.rows < 2 ^ 32 }
-    ensures drawn { IsDrawn (λ row. shown_row grid.old.cols (screen_row grid.old.rows grid.old.cols (plain_view M.marks view.now) row))
+    ensures drawn { IsDrawn
+        (λ row. shown_row grid.old.cols (screen_row grid.old.rows grid.old.cols (plain_view M.marks view.now) row))
         grid.old.rows grid.old grid.new }
-    ensures found { result ≡ row_from (plain_view M.marks view.now) (slot_at (roomless view.now.tree.now.items) view.now.stop.now.path.items) 0 (window_rows grid.old.rows) }
-    ensures laid { W.laid work.new ≤ W.laid work.old + window_rows grid.old.rows }
-    ensures lays { W.laid work.old ≤ W.laid work.new }
-    ensures emitted { W.emitted work.new ≡ W.emitted work.old }
-    ensures checked { W.checked work.new ≡ W.checked work.old }
-    ensures fetched { W.fetched work.new ≡ W.fetched work.old }
+    ensures found { result
+        ≡ row_from (plain_view M.marks view.now)
+        (slot_at (roomless view.now.tree.now.items) view.now.stop.now.path.items) 0 (window_rows grid.old.rows) }
+    ensures counts { LaysAtMost (window_rows grid.old.rows) (W.counts work.old) (W.counts work.new) }
 {
+    counts_add_up();
     let run = run_line(view.tree, view.run_place);
     let stop = stop_slot(view.tree, view.stop);
     let rows = grid.rows();
@@ -92,11 +87,8 @@ fn laid_line<W: Work, M: Marked>(
     requires layout { IsLayoutOf view.now.layout.now view.now.tree.now }
     requires top { view.now.top + row < 2 ^ 32 }
     ensures line { result ≡ row_line window (plain_view M.marks view.now) row }
-    ensures laid { W.laid work.new ≤ W.laid work.old + (if nat_lt row window then 1 else 0) }
-    ensures lays { W.laid work.old ≤ W.laid work.new }
-    ensures emitted { W.emitted work.new ≡ W.emitted work.old }
-    ensures checked { W.checked work.new ≡ W.checked work.old }
-    ensures fetched { W.fetched work.new ≡ W.fetched work.old }
+    ensures lays { row < window → LaysOne (W.counts work.old) (W.counts work.new) }
+    ensures still { window ≤ row → CountsNothing (W.counts work.old) (W.counts work.new) }
 {
     if row < window {
         view.layout
@@ -163,11 +155,10 @@ fn cursor_position<W: Work, M: Marked>(
     found: Option<u16>,
 ) -> (u16, u16)
     requires tree { IsTree view.now.tree.now }
-    requires least_rows { 12 ≤ rows }
-    requires most_rows { rows ≤ 100 }
-    requires least_cols { 40 ≤ cols }
-    requires most_cols { cols ≤ 160 }
-    requires found { found ≡ row_from (plain_view M.marks view.now) (slot_at (roomless view.now.tree.now.items) view.now.stop.now.path.items) 0 (window_rows rows) }
+    requires size { IsSize rows cols }
+    requires found { found
+        ≡ row_from (plain_view M.marks view.now)
+        (slot_at (roomless view.now.tree.now.items) view.now.stop.now.path.items) 0 (window_rows rows) }
     ensures within { result.0 ≤ rows }
     ensures row { result.0 ≡ (cursor_position rows cols (plain_view M.marks view.now)).row }
     ensures col { result.1 ≡ (cursor_position rows cols (plain_view M.marks view.now)).col }
@@ -184,8 +175,8 @@ fn cursor_position<W: Work, M: Marked>(
 /// The column of the cursor of a view with a typed line: behind the prompt and the line's end, or the
 /// last but one where it lies beyond.
 fn typed_col(cols: u16, prompt: &[u8], typed: &[u8]) -> u16
-    requires least { 40 ≤ cols }
-    requires most { cols ≤ 160 }
+    requires least { FEWEST_COLS ≤ cols }
+    requires most { cols ≤ MOST_COLS }
     ensures { result ≡ cut_col cols (length (prompt.now ++ last_ones (cols - 2 - length prompt.now) typed.now) + 1) }
 {
     let room = usize::from(cols - 2).saturating_sub(prompt.len());
@@ -209,7 +200,9 @@ fn draw_row<W: Work, M: Marked>(
     requires row { row < grid.old.rows }
     requires run { run ≡ run_line (roomless view.now.tree.now.items) view.now.run_place }
     requires line { option_map (λ line. line.now) laid ≡ row_line (window_rows grid.old.rows) (plain_view M.marks view.now) row }
-    ensures { grid.new ≡ with_row grid.old row (shown_row grid.old.cols (screen_row grid.old.rows grid.old.cols (plain_view M.marks view.now) row)) }
+    ensures { grid.new
+        ≡ with_row grid.old row
+        (shown_row grid.old.cols (screen_row grid.old.rows grid.old.cols (plain_view M.marks view.now) row)) }
 {
     let rows = grid.rows();
     let cols = grid.cols();
@@ -232,8 +225,8 @@ fn lower_text<'a, W: Work, M: Marked>(
     row: u16,
 ) -> RowText<'a>
     requires tree { IsTree view.now.tree.now }
-    requires rows { 12 ≤ rows }
-    requires few { rows ≤ 100 }
+    requires rows { FEWEST_ROWS ≤ rows }
+    requires few { rows ≤ MOST_ROWS }
     requires below { window_rows rows ≤ row }
     ensures { text_cells cols result ≡ screen_row rows cols (plain_view M.marks view.now) row }
 {

@@ -1,15 +1,27 @@
-//! Where the cursor stands in the line of its stop.
+//! The node at which the cursor stands, and where it stands in the line of its stop.
 
-ghost use Rattle.std.specs.Prelude.{◌≡◌, ◌+◌, ◌≤◌, length, map};
+ghost use Rattle.std.specs.Prelude.{◌≡◌, ◌+◌, ◌≤◌, length, map, option_map};
 ghost use Rattle.plcs_grammar.specs.Template.{plain_segment, row_of};
 ghost use Rattle.template_tree.specs.Line.{part_text};
 ghost use Rattle.template_tree.specs.Part.{part_at};
+ghost use Rattle.template_tree.specs.Path.{node_at};
+ghost use Rattle.template_tree.specs.PlainTree.{roomless, roomless_node};
+ghost use Rattle.template_tree.specs.Tree.{IsTree};
 ghost use Rattle.unparse_layout.specs.OwnedLine.{stretches_of};
 ghost use Rattle.screen_window.specs.Cursor.{bytes_before, cut_col, stop_col, stop_offset};
-ghost use Rattle.screen_window.specs.Private.Capped.{capped};
+ghost use Rattle.screen_window.specs.Private.Drawing.{capped};
 
 use plcs_grammar::{Category, Segment, shown_len};
-use template_tree::{Node, PhrasePlace, Stop};
+use template_tree::{Node, PhrasePlace, Stop, Tree, room_is_not_shown};
+
+/// The node at which the cursor stands, or in one of whose parts it stands, if there is one.
+pub fn stop_node<'a>(tree: &'a Tree, stop: &Stop) -> Option<&'a Node>
+    requires { IsTree tree.now }
+    ensures { option_map (λ node. roomless_node node.now) result ≡ node_at (roomless tree.now.items) stop.now.path.items }
+{
+    room_is_not_shown();
+    tree.node(&stop.path)
+}
 
 /// The column of the cursor at a stop in the node, which counts from 1, or the last but one where it lies
 /// beyond.

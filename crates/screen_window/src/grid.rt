@@ -4,8 +4,7 @@ ghost use Rattle.std.specs.Prelude.{◌≡◌, ◌-◌, ◌≤◌, ◌<◌, [], 
 ghost use Rattle.screen_window.specs.declared.limit.TheConstants.{FEWEST_ROWS, MOST_ROWS, FEWEST_COLS, MOST_COLS};
 ghost use Rattle.screen_window.specs.PlainGrid.{blank_grid, IsGrid};
 ghost use Rattle.screen_window.specs.ShownRow.{shown_row};
-ghost use Rattle.screen_window.specs.Private.RowText.{text_cells};
-ghost use Rattle.screen_window.specs.Private.WithRow.{with_row};
+ghost use Rattle.screen_window.specs.Private.RowCells.{text_cells, with_row};
 
 use crate::limit::{FEWEST_COLS, FEWEST_ROWS, MOST_COLS, MOST_ROWS};
 use crate::lines::blank_lines;

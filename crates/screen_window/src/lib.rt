@@ -13,14 +13,12 @@ mod painted_terminal;
 mod painting;
 mod row_text;
 mod sequence;
-mod stop_node;
 mod terminal;
-mod text;
 mod view;
 
 pub use composing::compose;
 pub use grid::Grid;
-pub use limit::{FEWEST_COLS, FEWEST_ROWS, MOST_COLS, MOST_ROWS};
+pub use limit::{FEWEST_COLS, FEWEST_ROWS, MOST_COLS, MOST_ROWS, OTHER_ROWS};
 pub use lower_rows::cursor_part;
 pub use painted_terminal::painted_terminal_shows;
 pub use painting::{paint, write_piece};

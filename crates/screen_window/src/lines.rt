@@ -42,7 +42,8 @@ fn blank_line(alloc: Global, cols: u16) -> Result<Vec<u16>, AllocError>
 pub fn set_cell(lines: &mut Vec<Vec<u16>>, row: usize, col: usize, cell: u16)
     requires row { row < length (plain_lines lines.old) }
     requires col { col < length (slice_index_or (plain_lines lines.old) row []) }
-    ensures { plain_lines lines.new ≡ slice_set (plain_lines lines.old) row (slice_set (slice_index_or (plain_lines lines.old) row []) col cell) }
+    ensures { plain_lines lines.new
+        ≡ slice_set (plain_lines lines.old) row (slice_set (slice_index_or (plain_lines lines.old) row []) col cell) }
 {
     lines[row][col] = cell;
 }
@@ -51,7 +52,9 @@ pub fn set_cell(lines: &mut Vec<Vec<u16>>, row: usize, col: usize, cell: u16)
 pub fn set_tail(lines: &mut Vec<Vec<u16>>, row: usize, col: usize)
     requires row { row < length (plain_lines lines.old) }
     requires col { col ≤ length (slice_index_or (plain_lines lines.old) row []) }
-    ensures { plain_lines lines.new ≡ slice_set (plain_lines lines.old) row (take col (slice_index_or (plain_lines lines.old) row [])
+    ensures { plain_lines lines.new
+        ≡ slice_set (plain_lines lines.old) row
+        (take col (slice_index_or (plain_lines lines.old) row [])
         ++ replicate (length (slice_index_or (plain_lines lines.old) row []) - col) blank) }
 {
     blank_tail(&mut lines[row], col);

@@ -1,23 +1,25 @@
 //! The rows below the window: the output, the message or mark, the prompt and the typed line.
 
-ghost use Rattle.std.specs.Prelude.{◌≡◌, ◌+◌, ◌≤◌, [], length, slice_index_or};
+ghost use Rattle.std.specs.Prelude.{◌≡◌, ◌+◌, ◌≤◌, [], Some, length, slice_index_or};
 ghost use Rattle.template_tree.specs.Listing.{split_at_ends};
 ghost use Rattle.template_tree.specs.Path.{node_at};
 ghost use Rattle.template_tree.specs.PlainTree.{roomless};
 ghost use Rattle.template_tree.specs.Tree.{IsTree};
-ghost use Rattle.screen_window.specs.LowerRows.{cursor_mark, cursor_part, last_ones, mark_text, marked_text, message_or, output_row};
+ghost use Rattle.screen_window.specs.declared.limit.TheConstants.{MOST_ROWS};
+ghost use Rattle.screen_window.specs.LowerRows.{cursor_mark, cursor_part, last_ones, mark_text, marked_text, message_or, output_row, part_mark};
 
-use crate::stop_node::stop_node;
+use crate::cursor::stop_node;
+use crate::limit::MOST_ROWS;
 use plcs_base::{MarkKind, Marked, PhraseAt};
 use plcs_grammar::NodeKind;
-use template_tree::{Stop, Tree};
+use template_tree::{Node, PhrasePlace, Stop, Tree};
 
 /// How many rows show the output.
 pub const OUTPUT_ROWS: usize = 3;
 
 /// A row of the output, which counts from 0.
 pub fn output_row(output: &[u8], row: usize) -> &[u8]
-    requires { row ≤ 100 }
+    requires { row ≤ MOST_ROWS }
     ensures { result.now ≡ output_row output.now row }
 {
     if output.is_empty() {
@@ -68,7 +70,11 @@ pub fn message_row<'a, M: Marked>(
     marks: &M,
 ) -> &'a [u8]
     requires { IsTree tree.now }
-    ensures { result.now ≡ message_or message.now (marked_text (cursor_mark (M.marks marks.now) stop.now.part (node_at (roomless tree.now.items) stop.now.path.items))) }
+    ensures { result.now
+        ≡ message_or message.now
+        (marked_text
+        (cursor_mark (M.marks marks.now) stop.now.part
+        (node_at (roomless tree.now.items) stop.now.path.items))) }
 {
     if !message.is_empty() {
         return message;
@@ -82,14 +88,25 @@ pub fn message_row<'a, M: Marked>(
 /// The mark of the phrase or the assignment at the cursor, if it has one.
 fn cursor_mark<M: Marked>(tree: &Tree, stop: &Stop, marks: &M) -> Option<MarkKind>
     requires { IsTree tree.now }
-    ensures { result ≡ cursor_mark (M.marks marks.now) stop.now.part (node_at (roomless tree.now.items) stop.now.path.items) }
+    ensures { result
+        ≡ cursor_mark (M.marks marks.now) stop.now.part (node_at (roomless tree.now.items) stop.now.path.items) }
 {
     let node = stop_node(tree, stop)?;
     let part = cursor_part(node.kind(), stop.part)?;
-    marks.mark(PhraseAt {
-        slot: node.slot(),
-        part,
-    })
+    part_mark(node, part, marks)
+}
+
+/// The mark of the phrase in a part of the node at the cursor, if a phrase stands there and has one.
+fn part_mark<M: Marked>(node: &Node, part: u8, marks: &M) -> Option<MarkKind>
+    ensures { result ≡ part_mark (M.marks marks.now) node.now (Some part) }
+{
+    match node.part(part) {
+        Some(PhrasePlace::Filled(_)) => marks.mark(PhraseAt {
+            slot: node.slot(),
+            part,
+        }),
+        _ => None,
+    }
 }
 
 /// The number of the part at the cursor in a node of the kind, whose mark the row of the message shows:

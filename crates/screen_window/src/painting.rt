@@ -2,11 +2,12 @@
 
 ghost use Rattle.std.specs.Prelude.{◌≡◌, ◌+◌, ◌≤◌, [], ◌++◌, false, decimal, length, take};
 ghost use Rattle.arrayvec.specs.ArrayVec.{array_vec_len};
+ghost use Rattle.screen_window.specs.declared.limit.TheConstants.{MOST_COLS};
 ghost use Rattle.screen_window.specs.Paint.{Paint, go_to, image_change, row_piece, row_paint, rows_paint, spelled, visible};
 ghost use Rattle.screen_window.specs.Writes.{Writes};
 
 use crate::grid::Grid;
-use crate::text::put;
+use crate::limit::MOST_COLS;
 use arrayvec::ArrayVec;
 use synth_outside::{Sink, SinkFault};
 
@@ -15,13 +16,14 @@ type Piece = ArrayVec<u8, 1024>;
 
 /// Writes the bytes that turn a terminal which shows the old grid into one which shows the new: each
 /// row that differs as one piece, and then the cursor's place. After a fault a front of them was
-/// written.
+/// written. Want of memory is answered only where the sink wanted some.
 #[tactic(auto, unfolding(crate::specs::Paint::Paint))]
 pub fn paint<K: Sink>(old: &Grid, new: &Grid, sink: &mut K) -> Result<(), SinkFault>
     requires rows { old.now.rows ≡ new.now.rows }
     requires cols { old.now.cols ≡ new.now.cols }
     ensures { Writes (Paint old.now new.now) result
-        (K.taken sink.old) (K.taken sink.new) (K.faults sink.old) (K.faults sink.new) }
+        (K.taken sink.old) (K.taken sink.new)
+        (K.faults sink.old) (K.faults sink.new) (K.wants sink.old) (K.wants sink.new) }
 {
     paint_rows(old, new, sink)?;
     paint_cursor(new, sink)
@@ -32,7 +34,8 @@ fn paint_rows<K: Sink>(old: &Grid, new: &Grid, sink: &mut K) -> Result<(), SinkF
     requires rows { old.now.rows ≡ new.now.rows }
     requires cols { old.now.cols ≡ new.now.cols }
     ensures { Writes (rows_paint 1 old.now.lines new.now.lines) result
-        (K.taken sink.old) (K.taken sink.new) (K.faults sink.old) (K.faults sink.new) }
+        (K.taken sink.old) (K.taken sink.new)
+        (K.faults sink.old) (K.faults sink.new) (K.wants sink.old) (K.wants sink.new) }
 {
     for row in 0..old.rows() {
         paint_row(row + 1, old.cells(row + 1), new.cells(row + 1), sink)?;
@@ -42,9 +45,10 @@ fn paint_rows<K: Sink>(old: &Grid, new: &Grid, sink: &mut K) -> Result<(), SinkF
 
 /// Paints one row, whose number counts from 1, where it differs.
 fn paint_row<K: Sink>(number: u16, old: &[u16], new: &[u16], sink: &mut K) -> Result<(), SinkFault>
-    requires { length new.now ≤ 160 }
+    requires { length new.now ≤ MOST_COLS }
     ensures { Writes (row_paint number old.now new.now) result
-        (K.taken sink.old) (K.taken sink.new) (K.faults sink.old) (K.faults sink.new) }
+        (K.taken sink.old) (K.taken sink.new)
+        (K.faults sink.old) (K.faults sink.new) (K.wants sink.old) (K.wants sink.new) }
 {
     if old == new {
         return Ok(());
@@ -57,7 +61,8 @@ fn paint_row<K: Sink>(number: u16, old: &[u16], new: &[u16], sink: &mut K) -> Re
 /// Paints the place of the cursor.
 fn paint_cursor<K: Sink>(grid: &Grid, sink: &mut K) -> Result<(), SinkFault>
     ensures { Writes (go_to grid.now.row grid.now.col) result
-        (K.taken sink.old) (K.taken sink.new) (K.faults sink.old) (K.faults sink.new) }
+        (K.taken sink.old) (K.taken sink.new)
+        (K.faults sink.old) (K.faults sink.new) (K.wants sink.old) (K.wants sink.new) }
 {
     let mut piece = Piece::new();
     let (row, col) = grid.cursor();
@@ -69,7 +74,7 @@ fn paint_cursor<K: Sink>(grid: &Grid, sink: &mut K) -> Result<(), SinkFault>
 #[tactic(auto, unfolding(crate::specs::Paint::row_piece), using(std::proofs::Common::append_assoc))]
 fn put_row_piece(piece: &mut Piece, number: u16, cells: &[u16])
     requires empty { piece.old.items ≡ [] }
-    requires short { length cells.now ≤ 160 }
+    requires short { length cells.now ≤ MOST_COLS }
     ensures { piece.new.items ≡ row_piece number cells.now }
 {
     put_go_to(piece, number, 1);
@@ -80,7 +85,7 @@ fn put_row_piece(piece: &mut Piece, number: u16, cells: &[u16])
 /// Appends the bytes of cells to a piece, each in its image.
 fn put_cells(piece: &mut Piece, cells: &[u16])
     requires room { array_vec_len piece.old ≤ 100 }
-    requires short { length cells.now ≤ 160 }
+    requires short { length cells.now ≤ MOST_COLS }
     ensures cells { piece.new.items ≡ piece.old.items ++ spelled false cells.now }
     ensures fits { array_vec_len piece.new ≤ 1000 }
 {
@@ -130,6 +135,14 @@ fn put_number(piece: &mut Piece, number: u16)
     put(piece, itoa::Buffer::new().format(number).as_bytes());
 }
 
+/// Appends bytes to a piece; they have to fit.
+fn put(piece: &mut Piece, bytes: &[u8])
+    requires { array_vec_len piece.old + length bytes.now ≤ 1024 }
+    ensures { piece.new.items ≡ piece.old.items ++ bytes.now }
+{
+    let _ = piece.try_extend_from_slice(bytes);
+}
+
 /// How many cells of a row are painted: those up to the last that isn't a blank in default image.
 fn visible_len(cells: &[u16]) -> usize
     ensures cells { take result cells.now ≡ visible cells.now }
@@ -146,7 +159,8 @@ fn visible_len(cells: &[u16]) -> usize
 /// own.
 pub fn write_piece<K: Sink>(sink: &mut K, piece: &[u8]) -> Result<(), SinkFault>
     ensures { Writes piece.now result
-        (K.taken sink.old) (K.taken sink.new) (K.faults sink.old) (K.faults sink.new) }
+        (K.taken sink.old) (K.taken sink.new)
+        (K.faults sink.old) (K.faults sink.new) (K.wants sink.old) (K.wants sink.new) }
 {
     let mut at = 0;
     while at < piece.len() {

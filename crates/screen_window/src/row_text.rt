@@ -4,7 +4,7 @@ ghost use Rattle.std.specs.Prelude.{◌≡◌, ℕ, ◌-◌, List, ◌++◌, len
 ghost use Rattle.plcs_base.specs.Byte.{is_printable};
 ghost use Rattle.screen_window.specs.ScreenCell.{is_screen_cell};
 ghost use Rattle.screen_window.specs.ShownRow.{margin, shown_cell, shown_row};
-ghost use Rattle.screen_window.specs.Private.RowText.{text_cells};
+ghost use Rattle.screen_window.specs.Private.RowCells.{text_cells};
 
 use crate::lines::BLANK;
 

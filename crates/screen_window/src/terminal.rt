@@ -2,7 +2,7 @@
 
 ghost use Rattle.std.specs.Prelude.{◌≡◌, ◌+◌, ◌-◌, ◌≤◌, ◌<◌, List, [], ◌++◌, length, replicate, take, slice_set, slice_index_or, IfOk};
 ghost use Rattle.screen_window.specs.declared.limit.TheConstants.{FEWEST_ROWS, MOST_ROWS, FEWEST_COLS, MOST_COLS};
-ghost use Rattle.screen_window.specs.ScreenCell.{blank, screen_cell};
+ghost use Rattle.screen_window.specs.ScreenCell.{blank};
 ghost use Rattle.screen_window.specs.PlainGrid.{blank_lines};
 ghost use Rattle.screen_window.specs.PlainTerminal.{IsTerminal, new_terminal};
 ghost use Rattle.screen_window.specs.Terminal.{Term, cleared, ended, ended_after_digit, with_cursor_at, nearest, terminal_after, terminal_after_in, tail_blanked, typed, with_sequence};
@@ -13,6 +13,7 @@ use crate::sequence::{Gathered, Sequence};
 use plcs_base::{OutOfMemory, is_digit, is_printable};
 use std::alloc::Global;
 use std::marker::Model;
+use unparse_layout::screen_cell;
 
 /// A terminal that takes bytes: cells, a cursor and an image.
 ///
@@ -203,17 +204,6 @@ impl Terminal {
             screen_cell(self.negative, byte),
         );
         self.before = (self.before + 1).min(self.cols - 1);
-    }
-}
-
-/// A byte as a terminal's cell, in negative image or not.
-fn screen_cell(negative: bool, byte: u8) -> u16
-    ensures { result ≡ screen_cell negative byte }
-{
-    if negative {
-        u16::from(byte) + 256
-    } else {
-        u16::from(byte)
     }
 }
 

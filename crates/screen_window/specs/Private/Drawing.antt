@@ -1,5 +1,5 @@
--- Grids while a view is drawn on them.
-use Rattle.std.specs.Prelude.{◌≡◌, ℕ, ◌<◌, Bool, false, nat_lt, if◌then◌else◌, List, [], slice_index_or, Option, None, Some, find}
+-- Grids while a view is drawn on them, and columns as they are counted then.
+use Rattle.std.specs.Prelude.{◌≡◌, ℕ, ◌<◌, min, Bool, false, nat_lt, if◌then◌else◌, List, [], slice_index_or, Option, None, Some, find}
 use Rattle.std.specs.List.{range_with_len}
 use Rattle.unparse_layout.specs.LaidLine.{PlainLine}
 use Rattle.screen_window.specs.PlainGrid.{PlainGrid}
@@ -35,3 +35,7 @@ pub record IsDrawn (draw : ℕ → List ℕ) (count : ℕ) (old new : PlainGrid)
   pub rows : new.rows ≡ old.rows
   pub cols : new.cols ≡ old.cols
   pub drawn : (k : ℕ) → k < count → slice_index_or new.lines k [] ≡ draw k
+
+-- a number, or the greatest one that is kept in 32 bits
+abbrev pub capped : ℕ → ℕ
+capped number = min number 4294967295

@@ -9,13 +9,13 @@ use Rattle.screen_window.proofs.composing.cursor_position.Goals as goal
 pub overflow_add-result : goal.overflow_add-result
 overflow_add-result g c =
     let within = row_within (plain_view g.M.Marked.marks c.args.view.now) (slot_at (roomless c.args.view.now.tree.now.items) c.args.view.now.stop.now.path.items) (c.args.rows - 6) c.in-Some-Some.row (sym c.in-Some-Some.is-1 ∙ c.requires.found) in
-    omega (arith, within, c.requires.most_rows)
+    omega (arith, within, c.requires.size.most_rows)
 
 -- the row lies in the window
 pub returns-in-Some-Some-clause-within : goal.returns-in-Some-Some-clause-within
 returns-in-Some-Some-clause-within g c =
     let within = row_within (plain_view g.M.Marked.marks c.args.view.now) (slot_at (roomless c.args.view.now.tree.now.items) c.args.view.now.stop.now.path.items) (c.args.rows - 6) c.in-Some-Some.row (sym c.in-Some-Some.is-1 ∙ c.requires.found) in
-    omega (arith, within, c.requires.most_rows)
+    omega (arith, within, c.requires.size.most_rows)
 
 -- the row that was found is the cursor's
 pub returns-in-Some-Some-clause-row : goal.returns-in-Some-Some-clause-row

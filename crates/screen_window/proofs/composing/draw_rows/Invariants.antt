@@ -1,4 +1,5 @@
-use Rattle.std.proofs.Common.{◌≡◌, ◌≤◌, ◌+◌, ◌-◌, min, length}
+use Rattle.std.proofs.Common.{◌≡◌, ◌-◌, min, length}
+use Rattle.plcs_base.specs.PlainCounts.{LaysAtMost}
 use Rattle.template_tree.specs.Path.{slot_at}
 use Rattle.template_tree.specs.PlainTree.{roomless}
 use Rattle.screen_window.specs.Screen.{screen_row, window_rows}
@@ -16,9 +17,5 @@ invariant-loop-row g l = record {
   found : row_from (plain_view g.M.Marked.marks l.view) (slot_at (roomless l.view.tree.now.items) l.view.stop.now.path.items) 0 (window_rows l.fn.grid.rows)
       ≡ found_before l.found
       (row_from (plain_view g.M.Marked.marks l.view) (slot_at (roomless l.view.tree.now.items) l.view.stop.now.path.items) l.row (window_rows l.fn.grid.rows - l.row));
-  laid : g.W.Work.laid l.work ≤ g.W.Work.laid l.fn.work + min l.row (window_rows l.fn.grid.rows);
-  lays : g.W.Work.laid l.fn.work ≤ g.W.Work.laid l.work;
-  emitted : g.W.Work.emitted l.work ≡ g.W.Work.emitted l.fn.work;
-  checked : g.W.Work.checked l.work ≡ g.W.Work.checked l.fn.work;
-  fetched : g.W.Work.fetched l.work ≡ g.W.Work.fetched l.fn.work;
+  counts : LaysAtMost (min l.row (window_rows l.fn.grid.rows)) (g.W.Work.counts l.fn.work) (g.W.Work.counts l.work);
 }

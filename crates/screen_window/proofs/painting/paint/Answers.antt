@@ -8,9 +8,9 @@ pub returns-in_err-paint_rows : goal.returns-in_err-paint_rows
 unfolding Paint
 returns-in_err-paint_rows g c =
     let p = err_from_is_err_and c.from_residual.result c.from_residual.ensures.1 in
-    rw (p.1, p.2) (writes_first _ _ _ _ _ _ _ c.in_err-paint_rows.ensures)
+    rw (p.1, p.2) (writes_first _ _ _ _ _ _ _ _ _ c.in_err-paint_rows.ensures)
 
 -- all rows were taken, and then the cursor's place or some of it
 pub returns : goal.returns
 unfolding Paint
-returns g c = writes_both _ _ _ _ _ _ _ _ _ _ c.in_ok-paint_rows.ensures c.paint_cursor.ensures
+returns g c = writes_both _ _ _ _ _ _ _ _ _ _ _ _ _ c.in_ok-paint_rows.ensures c.paint_cursor.ensures

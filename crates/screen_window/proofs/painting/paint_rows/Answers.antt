@@ -29,6 +29,7 @@ returns-in_err-paint_row g c =
           (owes_row _ _ (c.loop-row.row + 1) c.loop-row.row _ _ _ _ _ in_olds in_news (row_again c.args.old.now.lines c.loop-row.row c.cells.ensures.cells) (row_again c.args.new.now.lines c.loop-row.row c.cells-in-loop-row.ensures.cells) c.loop-row.invariant.owed)
           c.in_err-paint_row.ensures.front;
       cause = cause_passed _ _ _ _ _ c.loop-row.invariant.unfailed c.in_err-paint_row.ensures.cause;
+      want = cause_passed _ _ _ _ _ c.loop-row.invariant.unwanted c.in_err-paint_row.ensures.want;
     })
 
 -- this row was taken too
@@ -42,4 +43,5 @@ loop-row-preserved g c =
           (owes_row _ _ (c.loop-row.row + 1) c.loop-row.row _ _ _ _ _ in_olds in_news (row_again c.args.old.now.lines c.loop-row.row c.cells.ensures.cells) (row_again c.args.new.now.lines c.loop-row.row c.cells-in-loop-row.ensures.cells) c.loop-row.invariant.owed)
           c.in_ok-paint_row.ensures.all;
       unfailed = grind (arith, common_steps, c.in_ok-paint_row.ensures.cause.same);
+      unwanted = grind (arith, common_steps, c.in_ok-paint_row.ensures.want.same);
     }

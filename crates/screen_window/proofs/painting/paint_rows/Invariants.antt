@@ -10,4 +10,5 @@ invariant-loop-row g l = record {
       (rows_paint (l.row + 1) (drop l.row l.old.lines) (drop l.row l.new.lines))
       (rows_paint 1 l.old.lines l.new.lines);
   unfailed : g.K.Sink.faults l.sink ≡ g.K.Sink.faults l.fn.sink;
+  unwanted : g.K.Sink.wants l.sink ≡ g.K.Sink.wants l.fn.sink;
 }

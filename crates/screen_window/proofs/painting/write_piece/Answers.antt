@@ -15,6 +15,7 @@ returns-in_err-at g c =
       all = tt;
       front = AppendsFront-more _ _ _ c.args.piece.now c.loop-at.at c.loop-at.invariant.written (rw take-rest at c.in_err-at.ensures.bytes.front);
       cause = cause_passed _ _ _ _ _ c.loop-at.invariant.unfailed c.in_err-at.ensures.cause;
+      want = cause_passed _ _ _ _ _ c.loop-at.invariant.unwanted c.in_err-at.ensures.want;
     })
 
 -- the piece is taken a bit further
@@ -26,4 +27,5 @@ loop-at-preserved g c =
       within = within;
       written = Appends-more _ _ _ c.args.piece.now c.loop-at.at count c.loop-at.invariant.written (rw take-rest at c.in_ok-at.ensures.bytes.accepted);
       unfailed = grind (arith, common_steps, c.in_ok-at.ensures.cause.same);
+      unwanted = grind (arith, common_steps, c.in_ok-at.ensures.want.same);
     }

@@ -8,6 +8,7 @@ invariant-loop-at g l = record {
   within : l.at ≤ length l.piece;
   written : Appends (g.K.Sink.taken l.fn.sink) (g.K.Sink.taken l.sink) (take l.at l.piece);
   unfailed : g.K.Sink.faults l.sink ≡ g.K.Sink.faults l.fn.sink;
+  unwanted : g.K.Sink.wants l.sink ≡ g.K.Sink.wants l.fn.sink;
 }
 
 abbrev pub decreases-loop-at : goal.decreases-loop-at

@@ -1,5 +1,5 @@
 use Rattle.std.proofs.Common.{◌≡◌, ◌<◌, ◌≤◌, ℕ, length, get_or}
-use Rattle.screen_window.specs.Private.Behind.{cell_behind}
+use Rattle.screen_window.specs.Private.RowCells.{cell_behind}
 use Rattle.screen_window.proofs.row_text.show_bytes.Given as goal
 
 -- the cells before the first column are as they were, and those before this one are shown

@@ -1,5 +1,5 @@
 use Rattle.std.proofs.Common.{◌≡◌, length, ap, ◌∙◌, arith}
-use Rattle.screen_window.specs.Private.Behind.{cell_behind}
+use Rattle.screen_window.specs.Private.RowCells.{cell_behind}
 use Rattle.screen_window.proofs.ShownRows.{row_behind}
 use Rattle.screen_window.proofs.row_text.show_cells.Goals as goal
 

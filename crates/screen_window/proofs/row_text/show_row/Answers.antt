@@ -1,6 +1,6 @@
 use Rattle.std.proofs.Common.{◌++◌, length, refl, ap, sym, ◌∙◌}
 use Rattle.screen_window.specs.ShownRow.{shown_row}
-use Rattle.screen_window.specs.Private.RowText.{text_cells}
+use Rattle.screen_window.specs.Private.RowCells.{text_cells}
 use Rattle.screen_window.proofs.ShownRows.{two_shown}
 use Rattle.screen_window.proofs.row_text.show_row.Goals as goal
 

@@ -1,6 +1,5 @@
 use Rattle.std.proofs.Common.{◌<◌, length, ap, ◌∙◌, arith}
-use Rattle.screen_window.specs.Private.WithRow.{with_row}
-use Rattle.screen_window.specs.Private.RowText.{text_cells}
+use Rattle.screen_window.specs.Private.RowCells.{text_cells, with_row}
 use Rattle.screen_window.specs.ShownRow.{shown_row}
 use Rattle.screen_window.proofs.DrawnRows.{grid_again, row_drawn}
 use Rattle.screen_window.proofs.grid.Grid.show.Goals as goal
