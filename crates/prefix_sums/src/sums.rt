@@ -97,7 +97,8 @@ impl PrefixSums {
     fn block_of(&self, at: u32) -> usize
         ensures whole { 64 * result ≤ length self.now.numbers }
         ensures before { sum (take (64 * result) self.now.numbers) ≤ at }
-        ensures behind { 64 * result + 64 ≤ length self.now.numbers → at < sum (take (64 * result + 64) self.now.numbers) }
+        ensures behind { 64 * result + 64 ≤ length self.now.numbers
+            → at < sum (take (64 * result + 64) self.now.numbers) }
     {
         let mut low = 0;
         let mut high = self.marks.len();

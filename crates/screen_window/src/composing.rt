@@ -199,7 +199,8 @@ fn draw_row<W: Work, M: Marked>(
     requires tree { IsTree view.now.tree.now }
     requires row { row < grid.old.rows }
     requires run { run ≡ run_line (roomless view.now.tree.now.items) view.now.run_place }
-    requires line { option_map (λ line. line.now) laid ≡ row_line (window_rows grid.old.rows) (plain_view M.marks view.now) row }
+    requires line { option_map (λ line. line.now) laid
+        ≡ row_line (window_rows grid.old.rows) (plain_view M.marks view.now) row }
     ensures { grid.new
         ≡ with_row grid.old row
         (shown_row grid.old.cols (screen_row grid.old.rows grid.old.cols (plain_view M.marks view.now) row)) }

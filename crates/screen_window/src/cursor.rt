@@ -12,12 +12,13 @@ ghost use Rattle.screen_window.specs.Cursor.{bytes_before, cut_col, stop_col, st
 ghost use Rattle.screen_window.specs.Private.Drawing.{capped};
 
 use plcs_grammar::{Category, Segment, shown_len};
-use template_tree::{Node, PhrasePlace, Stop, Tree, room_is_not_shown};
+use template_tree::{Node, Stop, Tree, phrase_in, room_is_not_shown};
 
 /// The node at which the cursor stands, or in one of whose parts it stands, if there is one.
 pub fn stop_node<'a>(tree: &'a Tree, stop: &Stop) -> Option<&'a Node>
     requires { IsTree tree.now }
-    ensures { option_map (λ node. roomless_node node.now) result ≡ node_at (roomless tree.now.items) stop.now.path.items }
+    ensures { option_map (λ node. roomless_node node.now) result
+        ≡ node_at (roomless tree.now.items) stop.now.path.items }
 {
     room_is_not_shown();
     tree.node(&stop.path)
@@ -48,7 +49,8 @@ fn stop_offset(node: &Node, part: Option<u8>) -> u32
 /// which the cursor is.
 fn bytes_before(node: &Node, part: u8, segments: &[Segment], next: u8) -> u32
     requires { next + length segments.now ≤ 100 }
-    ensures { result ≡ capped (bytes_before part (stretches_of next (map plain_segment segments.now) node.now.label.parts)) }
+    ensures { result
+        ≡ capped (bytes_before part (stretches_of next (map plain_segment segments.now) node.now.label.parts)) }
 {
     let Some((first, rest)) = segments.split_first() else {
         return 0;
@@ -77,8 +79,8 @@ fn capped(number: usize) -> u32
 fn part_len(node: &Node, category: Category, part: u8) -> u32
     ensures { result ≡ capped (length (part_text category (part_at node.now.label.parts part))) }
 {
-    match node.part(part) {
-        Some(PhrasePlace::Filled(phrase)) => shown_len(phrase),
-        _ => capped(category.placeholder().len()),
+    match phrase_in(node, part) {
+        Some(phrase) => shown_len(phrase),
+        None => capped(category.placeholder().len()),
     }
 }

@@ -12,7 +12,7 @@ use crate::cursor::stop_node;
 use crate::limit::MOST_ROWS;
 use plcs_base::{MarkKind, Marked, PhraseAt};
 use plcs_grammar::NodeKind;
-use template_tree::{Node, PhrasePlace, Stop, Tree};
+use template_tree::{Node, Stop, Tree, phrase_in};
 
 /// How many rows show the output.
 pub const OUTPUT_ROWS: usize = 3;
@@ -100,13 +100,11 @@ fn cursor_mark<M: Marked>(tree: &Tree, stop: &Stop, marks: &M) -> Option<MarkKin
 fn part_mark<M: Marked>(node: &Node, part: u8, marks: &M) -> Option<MarkKind>
     ensures { result ≡ part_mark (M.marks marks.now) node.now (Some part) }
 {
-    match node.part(part) {
-        Some(PhrasePlace::Filled(_)) => marks.mark(PhraseAt {
-            slot: node.slot(),
-            part,
-        }),
-        _ => None,
-    }
+    phrase_in(node, part)?;
+    marks.mark(PhraseAt {
+        slot: node.slot(),
+        part,
+    })
 }
 
 /// The number of the part at the cursor in a node of the kind, whose mark the row of the message shows:

@@ -1,10 +1,8 @@
 //! Lines laid as cells.
-ghost use Rattle.std.specs.Prelude.{◌≡◌, ◌*◌, ◌≤◌, ◌<◌, false, flat_map, length, option_map, replicate, take, ◌++◌};
-ghost use Rattle.plcs_grammar.specs.PlainPhrase.{plain_phrase};
+ghost use Rattle.std.specs.Prelude.{◌≡◌, ◌*◌, ◌≤◌, ◌<◌, false, flat_map, length, replicate, take, ◌++◌};
 ghost use Rattle.plcs_grammar.specs.Template.{PlainSegment, plain_segment, row_of};
 ghost use Rattle.template_tree.specs.Limit.{deepest_path};
 ghost use Rattle.unparse_layout.specs.LaidLine.{laid_line, longest_line, stretch_cells};
-ghost use Rattle.template_tree.specs.Part.{part_at};
 ghost use Rattle.unparse_layout.specs.OwnedLine.{first_line, next_after, stretch_of, stretches_of};
 ghost use Rattle.unparse_layout.specs.Private.Cells.{PutsAside};
 ghost use Rattle.unparse_layout.specs.Private.PlainPlan.{planned};
@@ -13,8 +11,8 @@ use crate::line::{LONGEST_LINE, Line, LineKind, screen_cell};
 use crate::plan::Plan;
 use arrayvec::ArrayVec;
 use plcs_base::{ByteOut, Marked, PhraseAt, Slot, put_bytes};
-use plcs_grammar::{Category, Phrase, Segment, show};
-use template_tree::{Node, PhrasePlace};
+use plcs_grammar::{Category, Segment, show};
+use template_tree::{Node, phrase_in};
 
 /// Lays as cells a line that was found, under these marks.
 pub(crate) fn lay<W, M: Marked>(plan: &Plan, marks: &M) -> Line<W>
@@ -130,17 +128,6 @@ fn put_part<M: Marked>(category: Category, node: &Node, part: u8, marks: &M, out
     out.negative = marks.mark(at).is_some();
     show(phrase, out);
     out.negative = false;
-}
-
-/// The phrase that a line shows of the part of this number of a node, or `None` where that is empty or
-/// the node has no such part.
-fn phrase_in(node: &Node, part: u8) -> Option<&Phrase>
-    ensures { option_map (λ phrase. plain_phrase phrase.now) result ≡ part_at node.now.label.parts part }
-{
-    match node.part(part) {
-        Some(PhrasePlace::Filled(phrase)) => Some(phrase),
-        _ => None,
-    }
 }
 
 /// The cells so far of a line that is laid, and whether the bytes that come are in negative image.

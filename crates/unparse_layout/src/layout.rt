@@ -39,7 +39,8 @@ impl<W> Model for Layout<W> {
 impl<W: Work> Layout<W> {
     /// How many lines of the screen the layout has. It takes no memory.
     pub fn lines(&self) -> u32
-        ensures lines { (tree : PlainTree) → IsLayoutOf self.now tree → result ≡ length (Lines (roomless_tree tree).items) }
+        ensures lines { (tree : PlainTree)
+            → IsLayoutOf self.now tree → result ≡ length (Lines (roomless_tree tree).items) }
         ensures few { (tree : PlainTree) → IsLayoutOf self.now tree → IsTree tree → result ≤ 4 * most_slots }
     {
         self.root.lines_inside()

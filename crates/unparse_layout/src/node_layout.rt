@@ -170,7 +170,8 @@ impl NodeLayouts {
     /// Lends what a layout keeps of the node of this number in a list, counted from 0.
     pub(crate) fn get_mut(&mut self, k: usize) -> Option<&mut NodeLayout>
         ensures* writes_back { sem 𝓛
-            (LendsIf list_row.the_row node_layout_row.the_row self.entry result (with_node_layout_set self.old k) self.old) }
+            (LendsIf list_row.the_row node_layout_row.the_row self.entry result
+            (with_node_layout_set self.old k) self.old) }
         ensures found { option_map (λ node_layout. node_layout.now) result ≡ slice_get self.old.items k }
     {
         self.list.get_mut(k)

@@ -2,9 +2,10 @@
 use Rattle.std.specs.Prelude.{◌≡◌, ℕ, Bool, List, refl}
 use Rattle.std.proofs.Common.{ap, sym, subst}
 use Rattle.std.specs.Coded.{Coded, code_by, coded×, coded_ℕ, coded_bool, coded_list}
-use base.Stored.{Gv, gnil, gnum, gcons}
+use base.Stored.{Gv, gnil, gcons}
 use Rattle.plcs_grammar.specs.declared.node_kind.NodeKind.{NodeKind}
 use Rattle.plcs_grammar.specs.contracts.node_kind.NodeKind as kind_row
+use Rattle.plcs_grammar.specs.Private.PhraseCode.{head, tail, IsCons}
 use Rattle.unparse_layout.specs.Bones.{Bone, PlainLayout}
 use Rattle.unparse_layout.specs.Private.PlainNodeLayout.{PlainNodeLayout, PlainNodeLayouts}
 
@@ -16,24 +17,6 @@ bone_code =
     (λ b. (b.slot, (b.kind, (b.elided, b.led))))
     (λ t. record { slot = t.0; kind = t.1.0; elided = t.1.1.0; led = t.1.1.1 }) (λ _. refl)
 
--- the first half of a pair in a layout's tree of labels
-abbrev pub front : Gv → Gv
-front gnil = gnil
-front (gnum n) = gnil
-front (gcons a b) = a
-
--- the second half of a pair in a layout's tree of labels
-abbrev pub back : Gv → Gv
-back gnil = gnil
-back (gnum n) = gnil
-back (gcons a b) = b
-
--- what stands in a layout's tree of labels is a pair
-abbrev pub IsPair : Gv → Type 0
-IsPair gnil = ⊥
-IsPair (gnum n) = ⊥
-IsPair (gcons a b) = Unit {0}
-
 -- a layout's nodes in order as a tree of labels
 abbrev pub bones_code_of : PlainLayout → Gv
 bones_code_of PlainLayout.nil = gnil
@@ -44,10 +27,10 @@ pub bones_code_of_inj : (x y : PlainLayout) → bones_code_of x ≡ bones_code_o
 bones_code_of_inj PlainLayout.nil PlainLayout.nil p = refl
 bones_code_of_inj (PlainLayout.cons l a b) (PlainLayout.cons m c d) p =
     λ i.
-    PlainLayout.cons (bone_code.inj l m (ap front p) i) (bones_code_of_inj a c (ap (λ g. front (back g)) p) i)
-    (bones_code_of_inj b d (ap (λ g. back (back g)) p) i)
-bones_code_of_inj PlainLayout.nil (PlainLayout.cons m c d) p = absurd (subst IsPair (sym p) tt)
-bones_code_of_inj (PlainLayout.cons l a b) PlainLayout.nil p = absurd (subst IsPair p tt)
+    PlainLayout.cons (bone_code.inj l m (ap head p) i) (bones_code_of_inj a c (ap (λ g. head (tail g)) p) i)
+    (bones_code_of_inj b d (ap (λ g. tail (tail g)) p) i)
+bones_code_of_inj PlainLayout.nil (PlainLayout.cons m c d) p = absurd (subst IsCons (sym p) tt)
+bones_code_of_inj (PlainLayout.cons l a b) PlainLayout.nil p = absurd (subst IsCons p tt)
 
 -- a layout's nodes in order are told by their tree of labels
 abbrev pub bones_code : Coded PlainLayout
