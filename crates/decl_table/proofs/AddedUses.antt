@@ -12,7 +12,7 @@ use Rattle.plcs_grammar.specs.PlainPhrase.{PlainPhrase}
 use Rattle.template_tree.specs.Mention.{mention, mentioned, mentions, part_mentions, phrase_at}
 use Rattle.template_tree.specs.PlainTree.{Forest, PlainNode, forest}
 use Rattle.decl_table.specs.PlainDecls.{PlainUses, mentions_of}
-use Rattle.decl_table.specs.Private.UsesView.{Adds, AddsNames, AddsPart, is_among}
+use Rattle.decl_table.specs.Private.UsesView.{Adds, AddsNames, is_among}
 
 -- what follows where it is Ok
 pub then_ok : {T E : Type 0} (r : Result T E) {P Q : Type 0} → (P → Q) → OnOk r P → OnOk r Q
@@ -170,9 +170,6 @@ of_phrase place phrase name at = by (list_any (bytes_eq name) (mentioned phrase)
     by : (mentions : Bool) → is_among at (cond mentions (place ∷ []) []) ≡ (mentions && eq_by_cmp phrase_cmp at place)
     by true = plain (eq_by_cmp phrase_cmp at place)
     by false = refl
-
-pub adds_phrase : (place : PhraseAt) (phrase : PlainPhrase) (old new : PlainUses) → AddsNames (mentioned phrase) place old new → AddsPart place (Some phrase) old new
-adds_phrase place phrase old new adds name at = adds name at ∙ ap (λ b. is_among at (mentions_of name old) || b) (sym (of_phrase place phrase name at))
 
 -- the parts from one on
 pub of_parts-next : (slot part : ℕ) (parts : List (Option PlainPhrase)) (place : Option PlainPhrase) (rest : List (Option PlainPhrase))

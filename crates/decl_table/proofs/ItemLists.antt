@@ -88,10 +88,6 @@ module _ (before : List Declared) (item : Declared) where
   pub one_more : is_some (item_offence before item) ≡ false → with_declared before item ≡ before ++ (item ∷ [])
   one_more none = rw none refl
 
-  -- and another changes nothing
-  pub no_more : is_some (item_offence before item) ≡ true → with_declared before item ≡ before
-  no_more some = rw some refl
-
 -- whether the cells are too many, where they are counted
 pub large_told : (counted many : ℕ) (before : List Declared) (item : Declared) → counted ≡ cells before → many ≡ cells_of item
     → most_cells - counted < many → counted ≤ most_cells → nat_lt most_cells (cells before + cells_of item) ≡ true

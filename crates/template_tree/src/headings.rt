@@ -1,5 +1,5 @@
 //! What the headings of procedures say, read from the parts of their nodes, and which names may be called.
-ghost use Rattle.std.specs.Prelude.{◌≡◌, option_map};
+ghost use Rattle.std.specs.Prelude.{◌≡◌, [], Some, option_map};
 ghost use Rattle.plcs_grammar.specs.PlainPhrase.{plain_phrase};
 ghost use Rattle.template_tree.specs.Environment.{heading_of, heading_with, may_be_called, name_given, name_of_procedure, names_of_list, parameters_given, template_heading};
 
@@ -41,6 +41,53 @@ fn long_heading_name(node: &Node) -> Option<&Name>
         return None;
     }
     name_given(node)
+}
+
+/// The parameters in the heading of a procedure, of which it may have none, or `None` where a part of it
+/// is empty or the node is no procedure.
+pub fn heading_parameters(node: &Node) -> Option<&[Name]>
+    ensures { option_map (λ names. names.now) result ≡ option_map (λ heading. heading.parameters)
+        (heading_of node.now.label.kind node.now.label.parts) }
+{
+    match node.kind() {
+        NodeKind::Filled(template) => template_heading_parameters(template, node),
+        _ => None,
+    }
+}
+
+/// The parameters in the heading of a procedure by the template, if all parts of it are filled.
+fn template_heading_parameters(template: Template, node: &Node) -> Option<&[Name]>
+    ensures { option_map (λ names. names.now) result ≡ option_map (λ heading. heading.parameters)
+        (template_heading template node.now.label.parts) }
+{
+    match template {
+        Template::Proc => short_heading_parameters(node),
+        Template::ProcP => long_heading_parameters(node),
+        _ => None,
+    }
+}
+
+/// The parameters in a heading that can have none, if its name is filled: no names.
+fn short_heading_parameters(node: &Node) -> Option<&[Name]>
+    ensures { option_map (λ names. names.now) result ≡ option_map (λ heading. heading.parameters)
+        (heading_with (name_given node.now.label.parts) (Some [])) }
+{
+    if name_given(node).is_none() {
+        return None;
+    }
+    let none: &[Name] = &[];
+    Some(none)
+}
+
+/// The parameters in a heading with parameters, if both parts of it are filled.
+fn long_heading_parameters(node: &Node) -> Option<&[Name]>
+    ensures { option_map (λ names. names.now) result ≡ option_map (λ heading. heading.parameters)
+        (heading_with (name_given node.now.label.parts) (parameters_given node.now.label.parts)) }
+{
+    if name_given(node).is_none() {
+        return None;
+    }
+    parameters_given(node)
 }
 
 /// The name of a procedure in the first part of its heading, if it is there.

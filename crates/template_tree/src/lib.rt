@@ -62,7 +62,7 @@ pub use change::{Change, What};
 pub use check_laws::checks_ignore_room_and_elision;
 pub use declarations::{cells_of, list_items, type_given};
 pub use filled_part::phrase_in;
-pub use headings::{heading_name, may_be_called, parameters_given};
+pub use headings::{heading_name, heading_parameters, may_be_called, parameters_given};
 pub use hole::hole_left;
 pub use limit::{DEEPEST_PATH, LONGEST_PHRASE, MOST_CELLS, MOST_DRAWN_SLOTS, MOST_SLOTS};
 pub use listing::listing_splits_in_lines;

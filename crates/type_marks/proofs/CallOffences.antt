@@ -28,15 +28,6 @@ headed : (program : Forest) (name : List ℕ) (slot : ℕ) (o : Option Signature
 headed program name slot None is there = absurd (cc)
 headed program name slot (Some signature) is there = record { signature = signature; there = is; slot_is = cc }
 
--- where the table tells no heading, the program has none
-pub unheaded : (decls : PlainDecls) (program : Forest) (name : List ℕ) → None ≡ slot_of name decls.headings → KnowsHeading decls program name
-    → Sig program name ≡ None
-unheaded decls program name none knows = by (Sig program name) (none ∙ knows)
-  where
-    by : (o : Option Signature) → None ≡ option_map (λ (s : Signature). s.slot) o → o ≡ None
-    by None is = refl
-    by (Some s) is = absurd (cc)
-
 module _ (decls : PlainDecls) (program : Forest) (name : List ℕ) (slot : ℕ) (told : Some slot ≡ slot_of name decls.headings)
     (heading : KnowsHeading decls program name) (once : (slot : ℕ) → times slot program ≤ 1) where
   the_heading : IsHeaded program name slot

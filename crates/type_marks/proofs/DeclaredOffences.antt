@@ -3,7 +3,7 @@ use Rattle.std.proofs.Common.{◌≡◌, ℕ, ◌+◌, zero, suc, Bool, true, fa
 use Rattle.std.specs.Prelude.{◌||◌, bytes_eq}
 use Rattle.std.specs.List.{list_any}
 use Rattle.std.specs.Option.{is_none, option_or}
-use Rattle.std.proofs.lemmas.List.{append-nil, append_assoc}
+use Rattle.std.proofs.lemmas.List.{append_assoc}
 use Rattle.std.proofs.lemmas.Slice.Eq.{bytes_eq-Decides}
 use Rattle.plcs_base.specs.declared.declared.Declared.{Declared}
 use Rattle.plcs_base.specs.declared.declared.ItemType.{ItemType}
@@ -115,8 +115,3 @@ module _ (decls : PlainDecls) (procedure : PlainNode) (slot : ℕ) (items : List
           ∙ ap (λ ds. effective [] (declared_before procedure.inner slot ++ ds)) (taken_next (declared_as ty) items i item (drop (i + 1) items) is)
           ∙ ap (effective []) (sym (append_assoc (declared_before procedure.inner slot) (map (declared_as ty) (take i items)) (declared_as ty item ∷ [])))
           ∙ effective_append [] (earlier i) (declared_as ty item ∷ [])
-
-  pub offence_first : declared_offence (effective [] (earlier 0)) (map (declared_as ty) items)
-      ≡ declared_offence (effective [] (declared_before procedure.inner slot)) (map (declared_as ty) items)
-  offence_first =
-      ap (λ ds. declared_offence (effective [] ds) (map (declared_as ty) items)) (append-nil (declared_before procedure.inner slot))

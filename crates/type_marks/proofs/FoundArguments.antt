@@ -69,31 +69,11 @@ module _ (items : List Declared) where
       ∙ ap (λ k. fit_left fits (drop i taken) (both_found k (kinds_of items (plain_exprs (drop (i + 1) exprs))) (λ k ks. Ok (k ∷ ks)))) is
       ∙ ap (fit_left fits (drop i taken)) (sym (kinds_left exprs i expr (drop (i + 1) exprs) left))
 
-  pub fit_offence : (exprs : List Expr) (i : ℕ) (expr : Expr) (fits : Bool) (taken : List Kind) (offence : MarkKind)
-      → drop i exprs ≡ expr ∷ drop (i + 1) exprs → Err offence ≡ kind_of items (plain_expr expr)
-      → Err offence ≡ fit_left fits (drop i taken) (kinds_of items (plain_exprs (drop i exprs)))
-  fit_offence exprs i expr fits taken offence left is =
-      ap (λ k. fit_left fits (drop i taken) (both_found k (kinds_of items (plain_exprs (drop (i + 1) exprs))) (λ k ks. Ok (k ∷ ks)))) is
-      ∙ ap (fit_left fits (drop i taken)) (sym (kinds_left exprs i expr (drop (i + 1) exprs) left))
-
   pub fit_end : (exprs : List Expr) (i : ℕ) (fits : Bool) (taken : List Kind) → drop i exprs ≡ []
       → Ok fits ≡ fit_left fits taken (kinds_of items (plain_exprs (drop i exprs)))
   fit_end exprs i fits taken none =
       sym (ap (λ b. Ok b) (ap (λ b. fits && b) (fit_none taken) ∙ and_true fits))
       ∙ ap (λ es. fit_left fits taken (kinds_of items (plain_exprs es))) (sym none)
-
-  -- the first offence in them
-  pub offence_next : (exprs : List Expr) (i : ℕ) (expr : Expr) (kind : Kind)
-      → drop i exprs ≡ expr ∷ drop (i + 1) exprs → Ok kind ≡ kind_of items (plain_expr expr)
-      → offence_in (kinds_of items (plain_exprs (drop (i + 1) exprs))) ≡ offence_in (kinds_of items (plain_exprs (drop i exprs)))
-  offence_next exprs i expr kind left is =
-      by (kinds_of items (plain_exprs (drop (i + 1) exprs)))
-      ∙ ap (λ k. offence_in (both_found k (kinds_of items (plain_exprs (drop (i + 1) exprs))) (λ k ks. Ok (k ∷ ks)))) is
-      ∙ ap offence_in (sym (kinds_left exprs i expr (drop (i + 1) exprs) left))
-    where
-      by : (rest : Result (List Kind) MarkKind) → offence_in rest ≡ offence_in (both_found (Ok kind) rest (λ k ks. Ok (k ∷ ks)))
-      by (Ok kinds) = refl
-      by (Err offence) = refl
 
   pub offence_here : (exprs : List Expr) (i : ℕ) (expr : Expr) (offence : MarkKind)
       → drop i exprs ≡ expr ∷ drop (i + 1) exprs → Err offence ≡ kind_of items (plain_expr expr)

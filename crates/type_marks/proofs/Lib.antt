@@ -24,10 +24,6 @@ mod NotedVerdicts
 mod ProcedureLists
 -- the nodes of a procedure in order: `type_in`, `has_such_before`
 mod ChildLists
--- arguments beside parameters: `arguments_offence`
-mod CallArguments
--- what headings have: `may_be_called_by`, `heading_parameters`
-mod Headings
 -- main and the procedures of a program: `check_phrase`, `Marks::new`
 mod Programs
 -- where a phrase stands: `check_phrase`

@@ -53,10 +53,6 @@ place_ties x y =
     by Equal b = refl
     by Greater b = refl
 
--- places that pass the test are the same
-pub place_equal : (x y : PhraseAt) → (nat_eq x.slot.0 y.slot.0 && nat_eq x.part y.part) ≡ true → x ≡ y
-place_equal x y same = same_place x y (sym (place_ties x y) ∙ same)
-
 pub place_test_equiv : IsEquivalence (λ (x y : PhraseAt). nat_eq x.slot.0 y.slot.0 && nat_eq x.part y.part)
 place_test_equiv = record {
   refl = λ x. place_ties x x ∙ places_equiv.refl x;

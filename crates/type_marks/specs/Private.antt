@@ -4,8 +4,7 @@ pub mod PlainBuiltinRow
 pub mod Arguments
 -- ---- chains of operators
 pub mod Chain
--- ---- headings with parameters, and the arguments of a call
-pub mod LongHeading
+-- ---- the arguments of a call
 pub mod CallArguments
 -- ---- declared items, one after the other
 pub mod DeclaredItems

@@ -12,7 +12,7 @@ ghost use Rattle.type_marks.specs.Private.CallArguments.{arguments_judged, is_ta
 use crate::kind_table::same_kind;
 use crate::kinds::kind_of;
 use crate::names::kind_of_type;
-use crate::procedures::{heading_parameters, is_named_before, procedure_in};
+use crate::procedures::{called_parameters, is_named_before, procedure_in};
 use crate::statements::exprs_offence;
 use decl_table::Decls;
 use plcs_base::{Kind, MarkKind, Name, Slot};
@@ -42,7 +42,7 @@ pub(crate) fn call_offence(
     let Some(called) = procedure_in(tree, slot) else {
         unreachable!()
     };
-    let parameters = heading_parameters(called);
+    let parameters = called_parameters(called);
     if arguments.len() != parameters.len() {
         return Some(MarkKind::WrongCount);
     }

@@ -8,13 +8,12 @@ ghost use Rattle.template_tree.specs.Program.{IsSubtree};
 ghost use Rattle.template_tree.specs.Slots.{count};
 ghost use Rattle.template_tree.specs.Tree.{IsTree};
 ghost use Rattle.type_marks.specs.Agreement.{heading_parameters};
-ghost use Rattle.type_marks.specs.Private.LongHeading.{has_parameters, takes_parameters};
 ghost use Rattle.type_marks.specs.Private.MarksView.{procedure_item_on};
 
 use plcs_base::{Name, Slot};
-use plcs_grammar::{NodeKind, Template};
 use template_tree::{
-    Node, Path, Tree, heading_name, items_are_nodes, may_be_called, parameters_given, path_of_item,
+    Node, Path, Tree, heading_name, heading_parameters, items_are_nodes, may_be_called,
+    path_of_item,
 };
 
 /// Main or the procedure in the slot, or `None` where none of them has it.
@@ -65,38 +64,12 @@ fn may_be_called_by(node: &Node, name: &Name) -> bool
 }
 
 /// The parameters of main or of a procedure that was found: none where its heading isn't whole.
-pub(crate) fn heading_parameters(node: &Node) -> &[Name]
+pub(crate) fn called_parameters(node: &Node) -> &[Name]
     ensures { result.now ≡ heading_parameters node.now }
 {
-    if !takes_parameters(node.kind()) {
-        return &[];
-    }
-    if heading_name(node).is_none() {
-        return &[];
-    }
-    match parameters_given(node) {
+    match heading_parameters(node) {
         Some(names) => names,
         None => &[],
-    }
-}
-
-/// Whether a node of the kind is a procedure with parameters.
-fn takes_parameters(kind: NodeKind) -> bool
-    ensures { result ≡ takes_parameters kind }
-{
-    match kind {
-        NodeKind::Filled(template) => has_parameters(template),
-        _ => false,
-    }
-}
-
-/// Whether the template is that of a procedure with parameters.
-fn has_parameters(template: Template) -> bool
-    ensures { result ≡ has_parameters template }
-{
-    match template {
-        Template::ProcP => true,
-        _ => false,
     }
 }
 

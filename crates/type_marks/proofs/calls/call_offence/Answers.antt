@@ -17,7 +17,7 @@ returns-then-arguments-parameters c =
     let items = items_in c.args.decls.now.items c.args.procedure.0 in
     another_count c.args.decls.now c.args.tree.now.items c.args.name.now c.in-Some-signature.slot.0 c.in-Some-signature.ensures c.requires.heading
     c.requires.tree.once c.in-Some-procedure_in.called.now c.in-Some-procedure_in.ensures c.requires.parameters items c.args.arguments.now
-    c.in_default.ensures (λ same. c.if-arguments-parameters.true (same ∙ ap length (sym c.heading_parameters-parameters.ensures)))
+    c.in_default.ensures (λ same. c.if-arguments-parameters.true (same ∙ ap length (sym c.called_parameters-parameters.ensures)))
 
 pub returns : goal.returns
 returns c =
@@ -25,7 +25,7 @@ returns c =
     let slot = c.in-Some-signature.slot.0 in
     c.arguments_offence.ensures
     ∙ ap (λ names. arguments_judged (parameter_kinds (items_in c.args.decls.now.items slot) [] names) (kinds_of items (plain_exprs c.args.arguments.now)))
-    c.heading_parameters-parameters.ensures
+    c.called_parameters-parameters.ensures
     ∙ same_count c.args.decls.now c.args.tree.now.items c.args.name.now slot c.in-Some-signature.ensures c.requires.heading
     c.requires.tree.once c.in-Some-procedure_in.called.now c.in-Some-procedure_in.ensures c.requires.parameters items c.args.arguments.now
-    c.in_default.ensures (c.if-arguments-parameters.false ∙ ap length c.heading_parameters-parameters.ensures)
+    c.in_default.ensures (c.if-arguments-parameters.false ∙ ap length c.called_parameters-parameters.ensures)
