@@ -1,6 +1,6 @@
 -- What comes of an edit at a stop is a step: an edit at a node of the tree, of which its condition there gives the sort.
 -- The edit and the node are those of the tree without room; with room the same edit at the node there makes the same tree.
-use Rattle.std.specs.Prelude.{◌≡◌, refl, ℕ, zero, Bool, true, false, ◌&&◌, if◌then◌else◌, is_none, List, Option, Some, None, option_map, Result, Ok, Err}
+use Rattle.std.specs.Prelude.{◌≡◌, refl, ℕ, zero, Bool, true, false, ◌&&◌, if◌then◌else◌, is_none, List, Option, Some, None, option_map, Ok, Err}
 use Rattle.std.proofs.Common.{ap, sym, ◌∙◌, subst}
 use Rattle.std.proofs.Math.Bool.{false≢true}
 use Rattle.std.proofs.lemmas.Bool.{and_parts}
@@ -12,7 +12,7 @@ use Rattle.plcs_grammar.specs.PlainPhrase.{PlainPhrase}
 use Rattle.template_tree.specs.declared.side.Side.{Side}
 use Rattle.template_tree.specs.declared.tree_fault.TreeFault.{TreeFault}
 use Rattle.template_tree.specs.Hole.{hole_left, hole_of, is_hole, lone}
-use Rattle.template_tree.specs.FreshNode.{assignment_node, fresh_node}
+use Rattle.template_tree.specs.FreshNode.{fresh_node}
 use Rattle.template_tree.specs.Path.{added_path, node_at}
 use Rattle.template_tree.specs.PlainTree.{PlainNode, PlainTree, roomless, roomless_node, roomless_tree}
 use Rattle.template_tree.specs.Program.{sort_of}
@@ -21,11 +21,9 @@ use Rattle.template_tree.specs.Section.{same_sort}
 use Rattle.template_tree.specs.Stop.{PlainStop, node_stop}
 use Rattle.template_tree.specs.Tree.{IsTree}
 use Rattle.template_tree.specs.TreeEdit.{TreeEdit, changed_slot, tree_after, what_of}
-use Rattle.tree_steps.specs.EditStep.{BringsSort, CameByEdits, IsEditStep, IsSameTree, substance}
+use Rattle.tree_steps.specs.EditStep.{BringsSort, IsEditStep, substance}
 use Rattle.tree_steps.specs.EditStepLaws.{EditStepsAreWays, RoomIsNoEdit}
 use Rattle.clip_store.specs.PlainFragment.{PlainFragment}
-use Rattle.session_edit.specs.declared.applied.Applied.{Applied}
-use Rattle.session_edit.specs.AppliedEdit.{IsAnswer, IsApplied}
 use Rattle.session_edit.specs.Edited.{Edited, at_node, comes, edited, limit_reached, not_here, outcome_at_node, outcome_of_deletion, outcome_of_fill, outcome_of_hole_beside, outcome_of_insertion, outcome_of_node_taking, outcome_of_phrase_entry, outcome_of_phrase_insertion, outcome_of_taking, phrase_entry, unless}
 use Rattle.session_edit.specs.Here.{can_take, category_in, enclosing_item, is_spare_hole, is_typed, is_wanted, takes_nodes, takes_phrase}
 use Rattle.session_edit.specs.PlainEdit.{PlainEdit}
