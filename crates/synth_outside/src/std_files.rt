@@ -1,7 +1,10 @@
 //! Files of the system, in the current folder.
 
-ghost use Rattle.std.specs.Prelude.{◌≡◌, ◌<◌, ◌≤◌, None, IfOk, IfSome, is_some, length};
+ghost use Rattle.std.specs.Prelude.{◌≡◌, ◌<◌, ◌≤◌, None, IfErr, IfOk, is_some, length};
 ghost use Rattle.plcs_base.specs.Count.{raised};
+ghost use Rattle.synth_outside.specs.Cause.{HasCause};
+ghost use Rattle.synth_outside.specs.Sink.{TakesBytes};
+ghost use Rattle.synth_outside.specs.Source.{GivesBytes};
 ghost use Rattle.synth_outside.specs.StdFiles.{untold_content};
 
 use super::mem_files::counted_want;
@@ -66,10 +69,7 @@ impl<'a, R: rt::Files<File = File>> Files for StdFiles<'a, R> {
         let Some(file) = &mut self.reading else {
             unreachable!();
         };
-        match file.read(buf) {
-            Ok(count) => Ok(count),
-            Err(_) => Err(counted_fault(&mut self.faults)),
-        }
+        read_once(file, &mut self.faults, buf)
     }
 
     fn begin(&mut self, name: &[u8]) -> Result<(), FilesFault> {
@@ -89,10 +89,7 @@ impl<'a, R: rt::Files<File = File>> Files for StdFiles<'a, R> {
     /// A write to a file of the system that takes no byte fails.
     fn write(&mut self, piece: &[u8]) -> Result<usize, FilesFault> {
         match &mut self.begun {
-            Some(beside) => match beside.write(piece) {
-                Some(count) => Ok(count),
-                None => Err(counted_fault(&mut self.faults)),
-            },
+            Some(beside) => write_once(&mut beside.file, &mut self.faults, piece),
             None => unreachable!(),
         }
     }
@@ -146,19 +143,6 @@ impl Beside {
         }
     }
 
-    /// Appends the first bytes of the piece to the file of a new content, at least one, and answers
-    /// how many, if the system takes some.
-    fn write(&mut self, piece: &[u8]) -> Option<usize>
-        ensures same_name { self.new.name ≡ self.old.name }
-        ensures some { IfSome result (λ count. 0 < count) }
-        ensures count { IfSome result (λ count. count ≤ length piece.now) }
-    {
-        match self.file.write(piece) {
-            Ok(count) if count > 0 => Some(count),
-            _ => None,
-        }
-    }
-
     /// The file of a new content takes the place of the file of the name, once all of its bytes are
     /// on the disk.
     fn put_in_place<R: rt::Files>(&self, rt: &R) -> io::Result<()> {
@@ -169,6 +153,32 @@ impl Beside {
     /// Removes the file of a new content, if that can be done.
     fn remove<R: rt::Files>(self, rt: &R) {
         let _ = fs::remove_file(rt, self.path.as_str());
+    }
+}
+
+/// Reads once from the reader, whose fault is counted and never taken for its end.
+fn read_once<R: Read>(reader: &mut R, faults: &mut u64, buf: &mut [u8]) -> Result<usize, FilesFault>
+    requires { 0 < length buf.old }
+    ensures bytes { GivesBytes (R.remaining reader.old) (R.remaining reader.new) buf.new result }
+    ensures fault { IfErr result (λ fault. fault ≡ FilesFault.Failed) }
+    ensures cause { HasCause FilesFault.Failed faults.old faults.new result }
+{
+    match reader.read(buf) {
+        Ok(count) => Ok(count),
+        Err(_) => Err(counted_fault(faults)),
+    }
+}
+
+/// Writes once to the writer, whose fault is counted; that it takes no byte is one.
+fn write_once<W: Write>(writer: &mut W, faults: &mut u64, piece: &[u8]) -> Result<usize, FilesFault>
+    requires { 0 < length piece.now }
+    ensures bytes { TakesBytes (W.contents writer.old) (W.contents writer.new) piece.now result }
+    ensures fault { IfErr result (λ fault. fault ≡ FilesFault.Failed) }
+    ensures cause { HasCause FilesFault.Failed faults.old faults.new result }
+{
+    match writer.write(piece) {
+        Ok(count) if count > 0 => Ok(count),
+        _ => Err(counted_fault(faults)),
     }
 }
 
