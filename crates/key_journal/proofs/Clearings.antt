@@ -11,7 +11,7 @@ use Rattle.key_journal.specs.declared.disk.DiskFault.{DiskFault}
 use Rattle.key_journal.proofs.Blocks.{shut_recovers, torn_first}
 use Rattle.key_journal.proofs.Moments.{newest_after, throughout_same, throughout_one}
 use Rattle.key_journal.proofs.ReadKeys.{sync_leaves}
-use Rattle.key_journal.proofs.SyncedWrites.{torn_written}
+use Rattle.key_journal.specs.Private.ReadImage.{torn_written}
 use Rattle.key_journal.proofs.FoundKeys.{synced_leaves}
 
 -- once it is synced, a crash leaves the kept keys alone

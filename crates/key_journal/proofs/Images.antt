@@ -1,7 +1,7 @@
 -- What a disk reads as is one of the images that a crash may leave of it.
 use Rattle.std.proofs.Common.{refl}
 use Rattle.key_journal.specs.Disk.{SyncsMakeImages, TearsKeepImages, WritesKeepImages}
-use Rattle.key_journal.proofs.SyncedWrites.{torn_written}
+use Rattle.key_journal.specs.Private.ReadImage.{torn_written}
 
 pub torn_image : TearsKeepImages
 torn_image state at count bytes torn reads = (state.bytes, reads, torn)

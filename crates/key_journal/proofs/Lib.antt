@@ -18,6 +18,8 @@ pub mod Held
 pub mod BytesLeft
 -- what became of a journal after some reads
 pub mod MoreReads
+-- a buffer that is filled from a file
+pub mod Fillings
 -- the states of a disk in memory
 pub mod MemDisks
 -- the laws of what a disk reads as

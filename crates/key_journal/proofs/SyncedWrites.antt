@@ -2,6 +2,7 @@
 use Rattle.std.proofs.Common.{◌≡◌, ℕ, ◌+◌, ◌-◌, ◌≤◌, inl, inr, List, [], ◌∷◌, ◌++◌, length, take, refl, sym, ◌∙◌, subst, arith, Ok, Err}
 use Rattle.std.proofs.lemmas.Grind.{common_steps}
 use Rattle.key_journal.specs.Disk.{DiskState, Torn, Leaves, MayLeave, Newest, WritesToDisk, Tears, Syncs, overwritten, with_range, with_sync}
+use Rattle.key_journal.specs.Private.ReadImage.{torn_written}
 use Rattle.key_journal.specs.Private.Writes.{IsSyncedAs, IsSynced, IsTornFrom, WritesSynced}
 use Rattle.key_journal.proofs.Moments.{throughout_same, throughout_one}
 
@@ -9,20 +10,6 @@ use Rattle.key_journal.proofs.Moments.{throughout_same, throughout_one}
 pub torn_same : (at count : ℕ) (bytes : List ℕ) → Torn at count bytes bytes
 torn_same at count bytes =
     record { front = refl; back = refl; no_shorter = omega arith; no_longer = omega arith }
-
--- written bytes are torn ones
-pub torn_written : (at : ℕ) (piece bytes : List ℕ) → at ≤ length bytes →
-    Torn at (length piece) bytes (overwritten bytes at piece)
-torn_written at piece bytes within =
-    let front_length : length (take at bytes) ≡ at = grind (arith, common_steps) in
-    let both_length : length (take at bytes ++ piece) ≡ at + length piece = grind (arith, common_steps) in
-    let whole_length : length (overwritten bytes at piece) ≡ at + length piece + (length bytes - (at + length piece)) = grind (arith, common_steps) in
-    record {
-      front = grind (arith, common_steps);
-      back = grind (arith, common_steps);
-      no_shorter = omega arith;
-      no_longer = omega arith;
-    }
 
 -- what a crash leaves of a synced state
 pub synced_images : (bytes : List ℕ) (state : DiskState) → IsSyncedAs bytes state →

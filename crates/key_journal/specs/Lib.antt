@@ -2,6 +2,7 @@
 pub mod Disk
 pub mod Faults
 pub mod MemDisk
+pub mod DiskFile
 -- ---- the journal
 pub mod Recovered
 pub mod Crash

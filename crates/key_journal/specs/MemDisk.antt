@@ -1,5 +1,5 @@
 -- What a disk in memory is seen as.
-use Rattle.std.specs.Prelude.{ℕ, List, [], ◌∷◌, fold, length}
+use Rattle.std.specs.Prelude.{ℕ, List, [], ◌∷◌, fold, length, min}
 use Rattle.synth_outside.specs.Calls.{PlainCalls}
 use Rattle.key_journal.specs.Disk.{DiskState, with_range, with_sync, overwritten}
 use Rattle.key_journal.specs.declared.mem_disk.DiskCall.{DiskCall}
@@ -12,11 +12,17 @@ pub record PlainMemDisk : Type 0 where
   pub calls : PlainCalls
   pub faults : ℕ
 
+-- the state of a disk in memory once the piece is written from a place on, or from its end where the place
+-- is past it
+abbrev pub with_write : DiskState → ℕ → List ℕ → DiskState
+with_write state at piece =
+    let start = min at (length state.bytes) in
+    with_range state start (length piece) (overwritten state.bytes start piece)
+
 -- the states of a disk in memory after one more call that was done
 abbrev pub with_call : List DiskState → DiskCall → List DiskState
 with_call [] call = []
-with_call (state ∷ past) (Write at piece) =
-    with_range state at (length piece) (overwritten state.bytes at piece) ∷ state ∷ past
+with_call (state ∷ past) (Write at piece) = with_write state at piece ∷ state ∷ past
 with_call (state ∷ past) Sync = with_sync state ∷ state ∷ past
 
 -- the state of a disk in memory that is empty

@@ -3,3 +3,4 @@ pub mod Writes
 pub mod Stages
 pub mod Keeping
 pub mod MemDiskFields
+pub mod ReadImage

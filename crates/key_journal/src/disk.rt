@@ -1,7 +1,7 @@
 //! The trait of disks, and their faults.
 
 ghost use Rattle.std.specs.Prelude.{◌≡◌, ℕ, ◌+◌, ◌<◌, ◌≤◌, List, length, take, IfOk, OnOk, OnErr, IsErrOf};
-ghost use Rattle.key_journal.specs.Disk.{DiskState, Newest, ReadsRange, WritesToDisk, Tears, Syncs, WritesKeepImages, TearsKeepImages, SyncsMakeImages};
+ghost use Rattle.key_journal.specs.Disk.{DiskState, Newest, ReadsAsImage, ReadsRange, WritesToDisk, Tears, Syncs, WritesKeepImages, TearsKeepImages, SyncsMakeImages};
 ghost use Rattle.synth_outside.specs.Cause.{HasCause};
 
 use std::alloc::AllocError;
@@ -51,12 +51,15 @@ impl From<DiskFault> for SourceFault {
 ///
 /// `past` is the states that it was in so far, the newest first; where it is empty, nothing is
 /// claimed of them. A crash at any moment of a call leaves what it may leave of one of the states
-/// from the one before the call to the one after it.
+/// from the one before the call to the one after it. What it reads as is always one of the images that
+/// a crash may leave.
 ///
 /// `faults` counts the failures so far. It never falls, and stays at 2^64 - 1 once it is there. Want
 /// of memory isn't counted.
 pub trait Disk {
     ghost past: { Self → List DiskState };
+
+    ghost reads_as_image: { (disk : Self) → Newest ReadsAsImage (past disk) };
 
     ghost faults: { Self → ℕ };
 
@@ -91,8 +94,13 @@ pub trait Disk {
         ensures cause { HasCause DiskFault.Failed (faults self.old) (faults self.new) result };
 }
 
-/// Laws of the states of a disk: what it reads as is one of the images that a crash may leave of it, from
-/// its first sync on.
+/// A law of disks: what one reads as is one of the images that a crash may leave of it.
+pub fn a_disk_is_an_image<D: Disk>(disk: &D)
+    ensures { Newest ReadsAsImage (D.past disk.now) }
+{}
+
+/// Laws of the states of a disk: each call of it keeps what it reads as among the images that a crash may
+/// leave of it.
 #[tactic(auto, using(crate::proofs::Images::torn_image, crate::proofs::Images::written_image, crate::proofs::Images::synced_image))]
 pub fn a_disk_reads_as_an_image()
     ensures written { WritesKeepImages }

@@ -1,10 +1,10 @@
-//! How a new key is taken from the source and kept on the disk.
+//! How a new key is taken from the source and kept on the disk, and how the last gate is shut.
 
 ghost use Rattle.std.specs.Prelude.{◌≡◌, ◌+◌, ◌^◌, ◌≤◌, ◌⊎◌, IfOk, OnOk, OnErr};
 ghost use Rattle.key_journal.specs.Disk.{Newest};
 ghost use Rattle.key_journal.specs.JournalRead.{HasEitherCause, ReadsKey};
-ghost use Rattle.key_journal.specs.Private.Keeping.{GivesByte, KeepsKey, HoldsAfter};
-ghost use Rattle.key_journal.specs.Private.Stages.{HoldsAt, IsAppending};
+ghost use Rattle.key_journal.specs.Private.Keeping.{GivesByte, KeepsKey, HoldsAfter, ShutsGate};
+ghost use Rattle.key_journal.specs.Private.Stages.{HoldsAt, IsAppending, IsCutOff};
 ghost use Rattle.synth_outside.specs.Cause.{HasCause};
 
 use super::replaying::replay;
@@ -83,6 +83,16 @@ pub(crate) fn keep<D: Disk>(disk: &mut D, given: u64, key: u8) -> Result<(), Dis
 {
     write_synced(disk, 2 * given + 1, &[key, SHUT])?;
     write_synced(disk, 2 * given, &[OPEN])
+}
+
+/// Puts a gate that isn't open behind the last whole block.
+pub(crate) fn shut_gate<D: Disk>(disk: &mut D, given: u64) -> Result<(), DiskFault>
+    requires cut { Newest (IsCutOff given) (D.past disk.old) }
+    requires few { given ≤ 2 ^ 61 }
+    ensures shut { ShutsGate given (D.past disk.old) (D.past disk.new) result }
+    ensures cause { HasCause DiskFault.Failed (D.faults disk.old) (D.faults disk.new) result }
+{
+    write_synced(disk, 2 * given, &[SHUT])
 }
 
 // Takes the next byte of the source of new keys, if there is one.

@@ -3,6 +3,7 @@
 #![tactic(auto)]
 
 mod disk;
+mod disk_file;
 mod journal;
 mod keeping;
 mod mem_disk;
@@ -11,7 +12,8 @@ mod stage;
 mod std_disk;
 mod writes;
 
-pub use disk::{DISK_END, Disk, DiskFault, a_disk_reads_as_an_image};
+pub use disk::{DISK_END, Disk, DiskFault, a_disk_is_an_image, a_disk_reads_as_an_image};
+pub use disk_file::DiskFile;
 pub use journal::JournalKeys;
 pub use mem_disk::{DiskCall, MemDisk, Piece};
-pub use std_disk::{JOURNAL, StdDisk};
+pub use std_disk::{FileDisk, JOURNAL, StdDisk};

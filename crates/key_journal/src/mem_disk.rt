@@ -1,6 +1,6 @@
 //! A disk in memory.
 
-ghost use Rattle.std.specs.Prelude.{◌≡◌, ◌+◌, ◌<◌, ◌≤◌, ◌-◌, ◌⊎◌, ◌↔◌, [], ◌∷◌, ◌++◌, min, length, take, drop, IsTrue, IfOk, OnOk, OnErr, IsErrOf};
+ghost use Rattle.std.specs.Prelude.{◌≡◌, ◌≢◌, ◌+◌, ◌<◌, ◌≤◌, ◌-◌, ◌⊎◌, ◌↔◌, [], ◌∷◌, ◌++◌, min, length, take, drop, Err, IsTrue, IfOk, OnOk, OnErr, IsErrOf};
 ghost use Rattle.synth_outside.specs.Calls.{after_call, is_failing};
 ghost use Rattle.synth_outside.specs.Cause.{HasCause};
 ghost use Rattle.key_journal.specs.Disk.{Newest, ReadsRange, WritesToDisk, Tears, Syncs, disk_bytes, overwritten};
@@ -104,8 +104,11 @@ impl MemDisk {
 
 impl Disk for MemDisk {
     ghost use Rattle.key_journal.specs.MemDisk.{states};
+    ghost use Rattle.key_journal.specs.Private.ReadImage.{states_read_as_image};
 
     ghost past = { λ disk. states disk.done };
+
+    ghost reads_as_image = { λ disk. states_read_as_image disk.done };
 
     ghost faults = { λ disk. disk.faults };
 
@@ -117,8 +120,9 @@ impl Disk for MemDisk {
         ensures same { self.new.done ≡ self.old.done }
         ensures cause { HasCause DiskFault.Failed self.old.faults self.new.faults result }
 
-        // Which calls fail, exactly.
+        // Which calls fail, exactly; memory is never wanted.
         ensures called { self.new.calls ≡ after_call self.old.calls }
+        ensures memory { result ≢ Err DiskFault.OutOfMemory }
         ensures listed { IsErrOf result DiskFault.Failed ↔ IsTrue (is_failing self.old.calls) }
     {
         if self.calls.next_fails() {

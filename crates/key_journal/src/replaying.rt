@@ -2,13 +2,12 @@
 
 ghost use Rattle.std.specs.Prelude.{◌≡◌, ◌+◌, ◌*◌, ◌^◌, ◌≤◌, drop, IfOk, OnOk, IfSome};
 ghost use Rattle.key_journal.specs.Disk.{Newest};
-ghost use Rattle.key_journal.specs.Private.Keeping.{Replays, ReplaysAt, ShutsGate};
-ghost use Rattle.key_journal.specs.Private.Stages.{BeginsWithGate, HoldsAt, IsCutOff, IsReplaying};
+ghost use Rattle.key_journal.specs.Private.Keeping.{Replays, ReplaysAt};
+ghost use Rattle.key_journal.specs.Private.Stages.{BeginsWithGate, HoldsAt, IsReplaying};
 ghost use Rattle.synth_outside.specs.Cause.{HasCause};
 
-use super::keeping::{OPEN, SHUT};
+use super::keeping::{OPEN, SHUT, shut_gate};
 use super::stage::{GateContent, Stage};
-use super::writes::write_synced;
 use super::{Disk, DiskFault};
 
 /// The next kept key behind those that were given, if there is one. A disk that may not be synced is
@@ -95,14 +94,4 @@ fn block_behind<D: Disk>(disk: &mut D, given: u64) -> Result<GateContent, DiskFa
         return Ok(GateContent::Cut);
     }
     Ok(GateContent::Open(key))
-}
-
-// Puts a gate that isn't open behind the last whole block.
-fn shut_gate<D: Disk>(disk: &mut D, given: u64) -> Result<(), DiskFault>
-    requires cut { Newest (IsCutOff given) (D.past disk.old) }
-    requires few { given ≤ 2 ^ 61 }
-    ensures shut { ShutsGate given (D.past disk.old) (D.past disk.new) result }
-    ensures cause { HasCause DiskFault.Failed (D.faults disk.old) (D.faults disk.new) result }
-{
-    write_synced(disk, 2 * given, &[SHUT])
 }

@@ -1,5 +1,5 @@
 use Rattle.key_journal.proofs.FoundKeys.{cut_within, cut_synced, shuts_gate}
-use Rattle.key_journal.proofs.replaying.shut_gate.Goals as goal
+use Rattle.key_journal.proofs.keeping.shut_gate.Goals as goal
 
 pub write_synced-requires-clause-synced : goal.write_synced-requires-clause-synced
 write_synced-requires-clause-synced g c = cut_synced c.args.given _ c.requires.cut
