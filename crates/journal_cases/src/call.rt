@@ -7,6 +7,8 @@ pub(crate) enum Call {
     Held(HeldCall),
     /// What a crash leaves at each moment of a session.
     Walk,
+    /// How a session ends over a file of which each call fails in turn.
+    Stumble,
     /// A call on the file of the system that a journal is kept in.
     File(FileCall),
 }
@@ -41,7 +43,7 @@ pub(crate) enum FileCall {
 }
 
 /// Each word with its call.
-static CALLS: [(&[u8], Call); 20] = [
+static CALLS: [(&[u8], Call); 21] = [
     (b"disk", Call::Held(HeldCall::Disk)),
     (b"write_at", Call::Held(HeldCall::WriteAt)),
     (b"read_at", Call::Held(HeldCall::ReadAt)),
@@ -56,6 +58,7 @@ static CALLS: [(&[u8], Call); 20] = [
     (b"parts", Call::Held(HeldCall::Parts)),
     (b"clear", Call::Held(HeldCall::Clear)),
     (b"crash_at_each_moment", Call::Walk),
+    (b"stumbling_file", Call::Stumble),
     (b"file_session", Call::File(FileCall::Session)),
     (b"file_bytes", Call::File(FileCall::Bytes)),
     (b"put_file", Call::File(FileCall::Put)),

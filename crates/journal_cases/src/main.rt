@@ -7,6 +7,7 @@ mod crash;
 mod disk_file;
 mod held;
 mod images;
+mod stumbling;
 
 use call::{Call, call_of};
 use case_script::words_of;
@@ -77,6 +78,7 @@ fn made(
     match call {
         Call::Held(call) => held.make(alloc, call, words),
         Call::Walk => crash::walk(alloc, words),
+        Call::Stumble => stumbling::stumble(alloc, words),
         Call::File(call) => disk_file::make(rt, alloc, call, words),
     }
 }
