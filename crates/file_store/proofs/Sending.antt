@@ -8,7 +8,7 @@ use Rattle.std.proofs.lemmas.Option.{none-some}
 use Rattle.plcs_base.specs.Count.{Rose, raised}
 use Rattle.plcs_base.specs.Put.{PutsAll, puts_nothing, puts_next}
 use Rattle.synth_outside.specs.Cause.{RisesWith}
-use Rattle.synth_outside.specs.Files.{FileMap, NewContent, begun_bytes, begun_name}
+use Rattle.synth_outside.specs.Files.{NewContent, PlainFiles, begun_bytes, begun_name}
 use Rattle.synth_outside.specs.Source.{IsZeroAtEnd}
 use Rattle.synth_outside.specs.declared.faults.FilesFault.{FilesFault}
 use Rattle.file_store.specs.Private.Desk.{Came, Desk, Sent, Written, desk, with_wait}
@@ -63,9 +63,9 @@ sent_more a b c x y f g =
       told = λ e. appends_more (with_wait a) (with_wait b) (with_wait c) x y (f.told (g.unfailed e)) (g.told e);
       kept = λ fault e. g.kept fault (f.kept fault e);
       found = λ e. f.found (g.found e);
-      faults = rises_more _ _ _ a.faults b.faults c.faults f.faults g.faults (came_twice FilesFault.Failed a b c x y f g)
+      faults = rises_more _ _ _ a.told.faults b.told.faults c.told.faults f.faults g.faults (came_twice FilesFault.Failed a b c x y f g)
           (λ h. (h.0, g.kept FilesFault.Failed h.1)) (λ h. (f.unfailed h.0, h.1));
-      wants = rises_more _ _ _ a.wants b.wants c.wants f.wants g.wants (came_twice FilesFault.OutOfMemory a b c x y f g)
+      wants = rises_more _ _ _ a.told.wants b.told.wants c.told.wants f.wants g.wants (came_twice FilesFault.OutOfMemory a b c x y f g)
           (λ h. (h.0, g.kept FilesFault.OutOfMemory h.1)) (λ h. (f.unfailed h.0, h.1));
     }
 
@@ -78,8 +78,8 @@ sent_nothing a =
       told = λ e. appends_nothing (with_wait a);
       kept = λ fault e. e;
       found = λ e. e;
-      faults = rises_same _ a.faults (λ h. none-some FilesFault.Failed (sym h.0 ∙ h.1));
-      wants = rises_same _ a.wants (λ h. none-some FilesFault.OutOfMemory (sym h.0 ∙ h.1));
+      faults = rises_same _ a.told.faults (λ h. none-some FilesFault.Failed (sym h.0 ∙ h.1));
+      wants = rises_same _ a.told.wants (λ h. none-some FilesFault.OutOfMemory (sym h.0 ∙ h.1));
     }
 
 pub all_sent : {Out : Type 0} (puts : Out → ℕ → Out → Type 0) (desk : Out → Desk)
@@ -104,8 +104,8 @@ waits d byte =
       told = λ e. go (begun_bytes d.begun);
       kept = λ fault e. e;
       found = λ e. e;
-      faults = rises_same _ d.faults (λ h. none-some FilesFault.Failed (sym h.0 ∙ h.1));
-      wants = rises_same _ d.wants (λ h. none-some FilesFault.OutOfMemory (sym h.0 ∙ h.1));
+      faults = rises_same _ d.told.faults (λ h. none-some FilesFault.Failed (sym h.0 ∙ h.1));
+      wants = rises_same _ d.told.wants (λ h. none-some FilesFault.OutOfMemory (sym h.0 ∙ h.1));
     }
   where
     go : (o : Option (List ℕ)) → Appends (append_known o d.wait) (append_known o (d.wait ++ (byte ∷ []))) (byte ∷ [])
@@ -118,12 +118,13 @@ passed_bytes (Some x) None wait h = absurd h
 passed_bytes (Some x) (Some y) wait h = ap (λ z. z ++ []) h
 
 -- what waits was passed on, or a fault came
-pub passed : (stored now_stored : Option FileMap) (begun now_begun : Option NewContent) (faults now_faults wants now_wants : ℕ) (wait : List ℕ) (fault : Option FilesFault)
-    → now_stored ≡ stored → begun_name now_begun ≡ begun_name begun
+pub passed : (before now : PlainFiles) (begun now_begun : Option NewContent) (wait : List ℕ) (fault : Option FilesFault)
+    → now.stored ≡ before.stored → begun_name now_begun ≡ begun_name begun
     → (fault ≡ None → Appends (begun_bytes begun) (begun_bytes now_begun) wait) → (fault ≡ Some FilesFault.NoFile → ⊥)
-    → RisesWith (fault ≡ Some FilesFault.Failed) faults now_faults → RisesWith (fault ≡ Some FilesFault.OutOfMemory) wants now_wants
-    → Sent (desk stored begun faults wants wait None) [] (desk now_stored now_begun now_faults now_wants [] fault)
-passed stored now_stored begun now_begun faults now_faults wants now_wants wait fault s n told found f w =
+    → RisesWith (fault ≡ Some FilesFault.Failed) before.faults now.faults
+    → RisesWith (fault ≡ Some FilesFault.OutOfMemory) before.wants now.wants
+    → Sent (desk before begun wait None) [] (desk now now_begun [] fault)
+passed before now begun now_begun wait fault s n told found f w =
     record {
       stored = s;
       name = n;
@@ -131,8 +132,8 @@ passed stored now_stored begun now_begun faults now_faults wants now_wants wait 
       told = λ e. passed_bytes (begun_bytes begun) (begun_bytes now_begun) wait (told e);
       kept = λ own e. absurd (none-some own e);
       found = λ e. absurd (found e);
-      faults = rises_to (fault ≡ Some FilesFault.Failed) _ faults now_faults (λ h. h.1) (λ h. (refl, h)) f;
-      wants = rises_to (fault ≡ Some FilesFault.OutOfMemory) _ wants now_wants (λ h. h.1) (λ h. (refl, h)) w;
+      faults = rises_to (fault ≡ Some FilesFault.Failed) _ before.faults now.faults (λ h. h.1) (λ h. (refl, h)) f;
+      wants = rises_to (fault ≡ Some FilesFault.OutOfMemory) _ before.wants now.wants (λ h. h.1) (λ h. (refl, h)) w;
     }
 
 -- after a fault nothing is passed on any more
@@ -145,8 +146,8 @@ dropped d fault is =
       told = λ e. absurd (none-some fault (sym e ∙ is));
       kept = λ own e. e;
       found = λ e. e;
-      faults = rises_same _ d.faults (λ h. none-some FilesFault.Failed (sym h.0 ∙ h.1));
-      wants = rises_same _ d.wants (λ h. none-some FilesFault.OutOfMemory (sym h.0 ∙ h.1));
+      faults = rises_same _ d.told.faults (λ h. none-some FilesFault.Failed (sym h.0 ∙ h.1));
+      wants = rises_same _ d.told.wants (λ h. none-some FilesFault.OutOfMemory (sym h.0 ∙ h.1));
     }
 
 -- ---- a piece
@@ -189,7 +190,7 @@ no_wait (Some x) None wait bytes e h = absurd h
 no_wait (Some x) (Some y) wait bytes e h = sym (append-nil y) ∙ ap (λ z. y ++ z) (sym e) ∙ h ∙ ap (λ z. z ++ bytes) (append-nil x)
 
 pub written : (a c : Desk) (x : List ℕ) → Sent a x c → a.wait ≡ [] → a.fault ≡ None → c.wait ≡ []
-    → Written a.stored a.begun a.faults a.wants x c.stored c.begun c.faults c.wants c.fault
+    → Written a.told a.begun x c.told c.begun c.fault
 written a c x h none fine empty =
     record {
       stored = h.stored;
@@ -197,12 +198,12 @@ written a c x h none fine empty =
       told = λ e. no_wait (begun_bytes a.begun) (begun_bytes c.begun) c.wait x empty
           (subst (λ z. Appends (append_known (begun_bytes a.begun) z) (with_wait c) x) none (h.told e));
       found = λ e. none-some FilesFault.NoFile (sym fine ∙ h.found e);
-      faults = rises_to (Came FilesFault.Failed a c) (c.fault ≡ Some FilesFault.Failed) a.faults c.faults (λ e. (fine, e)) (λ e. e.1) h.faults;
-      wants = rises_to (Came FilesFault.OutOfMemory a c) (c.fault ≡ Some FilesFault.OutOfMemory) a.wants c.wants (λ e. (fine, e)) (λ e. e.1) h.wants;
+      faults = rises_to (Came FilesFault.Failed a c) (c.fault ≡ Some FilesFault.Failed) a.told.faults c.told.faults (λ e. (fine, e)) (λ e. e.1) h.faults;
+      wants = rises_to (Came FilesFault.OutOfMemory a c) (c.fault ≡ Some FilesFault.OutOfMemory) a.told.wants c.told.wants (λ e. (fine, e)) (λ e. e.1) h.wants;
     }
 
 pub written_more : (a b c : Desk) (x : List ℕ) → Sent a x b → Sent b [] c → a.wait ≡ [] → a.fault ≡ None → c.wait ≡ []
-    → Written a.stored a.begun a.faults a.wants x c.stored c.begun c.faults c.wants c.fault
+    → Written a.told a.begun x c.told c.begun c.fault
 written_more a b c x h k none fine empty =
     written a c x (subst (λ z. Sent a z c) (append-nil x) (sent_more a b c x [] h k)) none fine empty
 

@@ -3,7 +3,7 @@ use Rattle.std.specs.Prelude.{◌≡◌, ◌⊎◌, ℕ, ◌<◌, List, length, 
 use Rattle.std.specs.FinMap.{get}
 use Rattle.synth_outside.specs.declared.faults.FilesFault.{FilesFault}
 use Rattle.synth_outside.specs.Cause.{HasCause}
-use Rattle.synth_outside.specs.Files.{FileMap, NewContent, Lacks}
+use Rattle.synth_outside.specs.Files.{FileMap, NewContent, PlainFiles, Lacks}
 use Rattle.template_tree.specs.PlainTree.{Forest, PlainTree}
 use Rattle.file_store.specs.declared.refusal.FileRefusal.{FileRefusal}
 use Rattle.template_tree.specs.Listing.{Bare}
@@ -57,15 +57,19 @@ RefusesLoad (Err own) refusal = (own ≡ refusal) ⊎ ((own ≡ FileRefusal.File
 
 -- a call that only reads files: the map and what is begun are as before, the count of faults rises where it answers that
 -- a call failed, and that of wants at most where it answers want of memory
-pub record OnlyReads {T : Type 0} (result : Result T FileRefusal) (stored_before stored_now : Option FileMap)
-    (begun_before begun_now : Option NewContent) (faults_before faults_now wants_before wants_now : ℕ) : Type 0 where
-  pub stored : stored_now ≡ stored_before
+pub record OnlyReads {T : Type 0} (result : Result T FileRefusal) (before now : PlainFiles)
+    (begun_before begun_now : Option NewContent) : Type 0 where
+  pub stored : now.stored ≡ before.stored
   pub begun : begun_now ≡ begun_before
-  pub fault : HasCause FileRefusal.FileFault faults_before faults_now result
-  pub want : MayRiseWith (IsErrOf result FileRefusal.OutOfMemory) wants_before wants_now
+  pub fault : HasCause FileRefusal.FileFault before.faults now.faults result
+  pub want : MayRiseWith (IsErrOf result FileRefusal.OutOfMemory) before.wants now.wants
 
 -- the refusal that a load or a save answers where this fault of the files came
 abbrev pub refusal_of : FilesFault → FileRefusal
 refusal_of FilesFault.NoFile = FileRefusal.NoFile
 refusal_of FilesFault.Failed = FileRefusal.FileFault
 refusal_of FilesFault.OutOfMemory = FileRefusal.OutOfMemory
+
+-- the refusal of a load that wants memory
+abbrev pub memory_refusal : FileRefusal
+memory_refusal = FileRefusal.OutOfMemory

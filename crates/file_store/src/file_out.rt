@@ -1,9 +1,8 @@
 //! A sink that passes bytes on to a file that is begun.
 ghost use Rattle.std.specs.Prelude.{◌≡◌, ◌≢◌, ◌<◌, ◌∷◌, [], Err, IsSome, None, OnOk, length};
 ghost use Rattle.std.specs.Io.KnownBytes.{Appends};
-ghost use Rattle.synth_outside.specs.Cause.{HasCause};
-ghost use Rattle.synth_outside.specs.Files.{begun_bytes, begun_name};
-ghost use Rattle.synth_outside.specs.declared.faults.FilesFault.TheVariants.{NoFile, Failed, OutOfMemory};
+ghost use Rattle.synth_outside.specs.Files.{LeavesMap, begun_bytes, begun_name};
+ghost use Rattle.synth_outside.specs.declared.faults.FilesFault.TheVariants.{NoFile};
 ghost use Rattle.template_tree.specs.Listing.{Listing};
 ghost use Rattle.template_tree.specs.Tree.{IsTree};
 ghost use Rattle.file_store.specs.Private.Desk.{Sent, Written, desk};
@@ -27,9 +26,9 @@ pub(crate) struct FileOut<'a, F: Files> {
 
 impl<'a, F: Files> ByteOut for FileOut<'a, F> {
     ghost puts = { λ a b c. Sent
-        (desk (F.stored a.files.now) (F.begun a.files.now) (F.faults a.files.now) (F.wants a.files.now) a.wait.items a.fault)
+        (desk (F.told a.files.now) (F.begun a.files.now) a.wait.items a.fault)
         (b ∷ [])
-        (desk (F.stored c.files.now) (F.begun c.files.now) (F.faults c.files.now) (F.wants c.files.now) c.wait.items c.fault)
+        (desk (F.told c.files.now) (F.begun c.files.now) c.wait.items c.fault)
         × (c.files.ghost_name ≡ a.files.ghost_name) };
 
     fn put(&mut self, byte: u8) {
@@ -45,9 +44,9 @@ impl<'a, F: Files> FileOut<'a, F> {
         requires none { self.old.wait.items ≡ [] }
         requires fine { self.old.fault ≡ None }
         ensures written { Written
-            (F.stored self.old.files.now) (F.begun self.old.files.now) (F.faults self.old.files.now) (F.wants self.old.files.now)
+            (F.told self.old.files.now) (F.begun self.old.files.now)
             (Listing tree.now.items)
-            (F.stored self.new.files.now) (F.begun self.new.files.now) (F.faults self.new.files.now) (F.wants self.new.files.now) self.new.fault }
+            (F.told self.new.files.now) (F.begun self.new.files.now) self.new.fault }
         ensures files { self.new.files.ghost_name ≡ self.old.files.ghost_name }
     {
         self.put_listing(tree);
@@ -58,9 +57,9 @@ impl<'a, F: Files> FileOut<'a, F> {
     fn put_listing(&mut self, tree: &Tree)
         requires tree { IsTree tree.now }
         ensures sent { Sent
-            (desk (F.stored self.old.files.now) (F.begun self.old.files.now) (F.faults self.old.files.now) (F.wants self.old.files.now) self.old.wait.items self.old.fault)
+            (desk (F.told self.old.files.now) (F.begun self.old.files.now) self.old.wait.items self.old.fault)
             (Listing tree.now.items)
-            (desk (F.stored self.new.files.now) (F.begun self.new.files.now) (F.faults self.new.files.now) (F.wants self.new.files.now) self.new.wait.items self.new.fault) }
+            (desk (F.told self.new.files.now) (F.begun self.new.files.now) self.new.wait.items self.new.fault) }
         ensures files { self.new.files.ghost_name ≡ self.old.files.ghost_name }
     {
         tree.put_listing(self);
@@ -69,9 +68,9 @@ impl<'a, F: Files> FileOut<'a, F> {
     /// Makes room in the sink for one more byte that waits.
     fn make_room(&mut self)
         ensures sent { Sent
-            (desk (F.stored self.old.files.now) (F.begun self.old.files.now) (F.faults self.old.files.now) (F.wants self.old.files.now) self.old.wait.items self.old.fault)
+            (desk (F.told self.old.files.now) (F.begun self.old.files.now) self.old.wait.items self.old.fault)
             []
-            (desk (F.stored self.new.files.now) (F.begun self.new.files.now) (F.faults self.new.files.now) (F.wants self.new.files.now) self.new.wait.items self.new.fault) }
+            (desk (F.told self.new.files.now) (F.begun self.new.files.now) self.new.wait.items self.new.fault) }
         ensures room { length self.new.wait.items < 512 }
         ensures files { self.new.files.ghost_name ≡ self.old.files.ghost_name }
     {
@@ -84,9 +83,9 @@ impl<'a, F: Files> FileOut<'a, F> {
     /// Passes on the bytes that wait, after which none waits.
     pub(crate) fn flush(&mut self)
         ensures sent { Sent
-            (desk (F.stored self.old.files.now) (F.begun self.old.files.now) (F.faults self.old.files.now) (F.wants self.old.files.now) self.old.wait.items self.old.fault)
+            (desk (F.told self.old.files.now) (F.begun self.old.files.now) self.old.wait.items self.old.fault)
             []
-            (desk (F.stored self.new.files.now) (F.begun self.new.files.now) (F.faults self.new.files.now) (F.wants self.new.files.now) self.new.wait.items self.new.fault) }
+            (desk (F.told self.new.files.now) (F.begun self.new.files.now) self.new.wait.items self.new.fault) }
         ensures none { self.new.wait.items ≡ [] }
         ensures files { self.new.files.ghost_name ≡ self.old.files.ghost_name }
     {
@@ -97,9 +96,9 @@ impl<'a, F: Files> FileOut<'a, F> {
     /// Passes on the bytes that wait, and leaves them there.
     fn pass_on(&mut self)
         ensures sent { Sent
-            (desk (F.stored self.old.files.now) (F.begun self.old.files.now) (F.faults self.old.files.now) (F.wants self.old.files.now) self.old.wait.items self.old.fault)
+            (desk (F.told self.old.files.now) (F.begun self.old.files.now) self.old.wait.items self.old.fault)
             []
-            (desk (F.stored self.new.files.now) (F.begun self.new.files.now) (F.faults self.new.files.now) (F.wants self.new.files.now) [] self.new.fault) }
+            (desk (F.told self.new.files.now) (F.begun self.new.files.now) [] self.new.fault) }
         ensures files { self.new.files.ghost_name ≡ self.old.files.ghost_name }
     {
         if self.fault.is_some() {
@@ -115,22 +114,17 @@ impl<'a, F: Files> FileOut<'a, F> {
 /// Passes a whole piece of bytes on to the file that is begun.
 fn write_all<F: Files>(files: &mut F, piece: &[u8]) -> Result<(), FilesFault>
     requires { IsSome (F.begun files.old) }
-    ensures told { OnOk result (Appends (begun_bytes (F.begun files.old)) (begun_bytes (F.begun files.new)) piece.now) }
-    ensures stored { F.stored files.new ≡ F.stored files.old }
+    ensures told { OnOk result
+        (Appends (begun_bytes (F.begun files.old)) (begun_bytes (F.begun files.new)) piece.now) }
+    ensures files { LeavesMap (F.told files.old) (F.told files.new) result }
     ensures name { begun_name (F.begun files.new) ≡ begun_name (F.begun files.old) }
     ensures begun { IsSome (F.begun files.new) }
     ensures found { result ≢ Err NoFile }
-    ensures cause { HasCause Failed (F.faults files.old) (F.faults files.new) result }
-    ensures want { HasCause OutOfMemory (F.wants files.old) (F.wants files.new) result }
 {
     let mut rest = piece;
     while rest.len() > 0 {
-        let count = match files.write(rest) {
-            Ok(count) => count,
-            Err(fault) => return Err(fault),
-        };
-        let (_, more) = rest.split_at(count);
-        rest = more;
+        let count = files.write(rest)?;
+        rest = &rest[count..];
     }
     Ok(())
 }

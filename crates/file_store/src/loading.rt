@@ -1,13 +1,12 @@
 //! Files that are loaded.
 ghost use Rattle.std.specs.Prelude.{◌≡◌, ◌≢◌, ◌<◌, ◌≤◌, ℕ, List, true, IfErr, IfOk, length};
-ghost use Rattle.synth_outside.specs.declared.faults.FilesFault.{FilesFault};
 ghost use Rattle.template_tree.specs.Limit.{deepest_path, most_slots};
 ghost use Rattle.template_tree.specs.Listing.{Spells};
 ghost use Rattle.template_tree.specs.PlainTree.{Forest};
 ghost use Rattle.template_tree.specs.Slots.{count, depth};
 ghost use Rattle.template_tree.specs.Tree.{IsTree};
 ghost use Rattle.file_store.specs.declared.refusal.FileRefusal.{FileRefusal};
-ghost use Rattle.file_store.specs.FileReading.{HasContent, HasNoContent, Holds, IsFileRefused, LoadingSays, LoadsOnly, OnlyReads, RefusesLoad, refusal_of};
+ghost use Rattle.file_store.specs.FileReading.{HasContent, HasNoContent, Holds, IsFileRefused, LoadingSays, LoadsOnly, OnlyReads, RefusesLoad};
 ghost use Rattle.file_store.specs.Limit.{longest_input};
 ghost use Rattle.file_store.specs.Loaded.{Refused};
 ghost use Rattle.file_store.specs.Private.FilePart.{IsChunk, IsPartRead};
@@ -18,23 +17,22 @@ use crate::reader::read_listing;
 use crate::refusal::FileRefusal;
 use std::alloc::Global;
 use std::vec::Vec;
-use synth_outside::{Files, FilesFault};
+use synth_outside::Files;
 use template_tree::Tree;
 
 /// The tree whose listing the file of the name is; a file that is too long is given up as soon as more
 /// bytes came than may.
 pub fn load<F: Files>(alloc: Global, name: &[u8], files: &mut F) -> Result<Tree, FileRefusal>
-    ensures says { LoadingSays (F.stored files.old) name.now result }
+    ensures says { LoadingSays (F.told files.old).stored name.now result }
     // And the other way round, where the map is told: each content has its answer, and so has a name that
     // isn't there, unless a call failed or memory ran out.
-    ensures only { (x : List ℕ) (items : Forest) → HasContent (F.stored files.old) name.now x → Spells items x
+    ensures only { (x : List ℕ) (items : Forest) → HasContent (F.told files.old).stored name.now x → Spells items x
         → depth items ≤ deepest_path → count items ≤ most_slots → LoadsOnly result items }
-    ensures refused { (x : List ℕ) (refusal : FileRefusal) → HasContent (F.stored files.old) name.now x → Refused x refusal
+    ensures refused { (x : List ℕ) (refusal : FileRefusal) → HasContent (F.told files.old).stored name.now x → Refused x refusal
         → RefusesLoad result refusal }
-    ensures missing { HasNoContent (F.stored files.old) name.now → RefusesLoad result FileRefusal.NoFile }
+    ensures missing { HasNoContent (F.told files.old).stored name.now → RefusesLoad result FileRefusal.NoFile }
     ensures tree { IfOk result IsTree }
-    ensures files { OnlyReads result (F.stored files.old) (F.stored files.new) (F.begun files.old) (F.begun files.new)
-        (F.faults files.old) (F.faults files.new) (F.wants files.old) (F.wants files.new) }
+    ensures files { OnlyReads result (F.told files.old) (F.told files.new) (F.begun files.old) (F.begun files.new) }
 {
     line_laws();
     load_listing(alloc, name, files)
@@ -42,15 +40,11 @@ pub fn load<F: Files>(alloc: Global, name: &[u8], files: &mut F) -> Result<Tree,
 
 /// Loads the file of the name and has its bytes read as a listing.
 fn load_listing<F: Files>(alloc: Global, name: &[u8], files: &mut F) -> Result<Tree, FileRefusal>
-    ensures says { LoadingSays (F.stored files.old) name.now result }
+    ensures says { LoadingSays (F.told files.old).stored name.now result }
     ensures tree { IfOk result IsTree }
-    ensures files { OnlyReads result (F.stored files.old) (F.stored files.new) (F.begun files.old) (F.begun files.new)
-        (F.faults files.old) (F.faults files.new) (F.wants files.old) (F.wants files.new) }
+    ensures files { OnlyReads result (F.told files.old) (F.told files.new) (F.begun files.old) (F.begun files.new) }
 {
-    let bytes = match read_file(alloc, name, files, LONGEST_LISTING) {
-        Ok(bytes) => bytes,
-        Err(refusal) => return Err(refusal),
-    };
+    let bytes = read_file(alloc, name, files, LONGEST_LISTING)?;
     read_listing(alloc, &bytes)
 }
 
@@ -60,11 +54,10 @@ pub fn load_input<F: Files>(
     name: &[u8],
     files: &mut F,
 ) -> Result<Vec<u8>, FileRefusal>
-    ensures bytes { IfOk result (λ bytes. Holds (F.stored files.old) name.now (λ x. x ≡ bytes.items)) }
+    ensures bytes { IfOk result (λ bytes. Holds (F.told files.old).stored name.now (λ x. x ≡ bytes.items)) }
     ensures within { IfOk result (λ bytes. length bytes.items ≤ longest_input) }
-    ensures refused { IfErr result (IsFileRefused longest_input (F.stored files.old) name.now) }
-    ensures files { OnlyReads result (F.stored files.old) (F.stored files.new) (F.begun files.old) (F.begun files.new)
-        (F.faults files.old) (F.faults files.new) (F.wants files.old) (F.wants files.new) }
+    ensures refused { IfErr result (IsFileRefused longest_input (F.told files.old).stored name.now) }
+    ensures files { OnlyReads result (F.told files.old) (F.told files.new) (F.begun files.old) (F.begun files.new) }
 {
     read_file(alloc, name, files, LONGEST_INPUT)
 }
@@ -76,24 +69,15 @@ fn read_file<F: Files>(
     files: &mut F,
     most: usize,
 ) -> Result<Vec<u8>, FileRefusal>
-    ensures bytes { IfOk result (λ bytes. Holds (F.stored files.old) name.now (λ x. x ≡ bytes.items)) }
+    ensures bytes { IfOk result (λ bytes. Holds (F.told files.old).stored name.now (λ x. x ≡ bytes.items)) }
     ensures within { IfOk result (λ bytes. length bytes.items ≤ most) }
-    ensures refused { IfErr result (IsFileRefused most (F.stored files.old) name.now) }
-    ensures files { OnlyReads result (F.stored files.old) (F.stored files.new) (F.begun files.old) (F.begun files.new)
-        (F.faults files.old) (F.faults files.new) (F.wants files.old) (F.wants files.new) }
+    ensures refused { IfErr result (IsFileRefused most (F.told files.old).stored name.now) }
+    ensures files { OnlyReads result (F.told files.old) (F.told files.new) (F.begun files.old) (F.begun files.new) }
 {
-    match files.open_read(name) {
-        Ok(()) => {}
-        Err(fault) => return Err(refusal_of(fault)),
-    }
+    files.open_read(name)?;
     let mut bytes = Vec::new(alloc);
-    loop {
-        match read_chunk(files, &mut bytes, most) {
-            Ok(true) => {}
-            Ok(false) => return Ok(bytes),
-            Err(refusal) => return Err(refusal),
-        }
-    }
+    while read_chunk(files, &mut bytes, most)? {}
+    Ok(bytes)
 }
 
 /// Appends the next bytes of the file that is loaded, if any are left, and says whether there were some.
@@ -106,33 +90,16 @@ fn read_chunk<F: Files>(
     requires within { length bytes.old.items ≤ most }
     ensures chunk { IsChunk most (F.left files.old) (F.left files.new) bytes.old.items bytes.new.items result }
     ensures readable { F.is_open files.new ≡ true }
-    ensures files { OnlyReads result (F.stored files.old) (F.stored files.new) (F.begun files.old) (F.begun files.new)
-        (F.faults files.old) (F.faults files.new) (F.wants files.old) (F.wants files.new) }
+    ensures files { OnlyReads result (F.told files.old) (F.told files.new) (F.begun files.old) (F.begun files.new) }
 {
     let mut buf = [0; 1024];
-    let count = match files.read(&mut buf) {
-        Ok(count) => count,
-        Err(fault) => return Err(refusal_of(fault)),
-    };
+    let count = files.read(&mut buf)?;
     if count == 0 {
         return Ok(false);
     }
     if count > most - bytes.len() {
         return Err(FileRefusal::TooLong);
     }
-    if let Err(_) = bytes.extend_from_slice(&buf[..count]) {
-        return Err(FileRefusal::OutOfMemory);
-    }
+    bytes.extend_from_slice(&buf[..count])?;
     Ok(true)
-}
-
-/// The refusal that a load or a save answers where this fault of the files came.
-pub(crate) fn refusal_of(fault: FilesFault) -> FileRefusal
-    ensures { result ≡ refusal_of fault }
-{
-    match fault {
-        FilesFault::NoFile => FileRefusal::NoFile,
-        FilesFault::Failed => FileRefusal::FileFault,
-        FilesFault::OutOfMemory => FileRefusal::OutOfMemory,
-    }
 }

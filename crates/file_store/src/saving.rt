@@ -1,15 +1,13 @@
 //! Trees that are saved.
 ghost use Rattle.std.specs.Prelude.{◌≡◌, ◌≢◌, Err, IsSome, OnOk, codes};
 ghost use Rattle.std.specs.Io.KnownBytes.{Appends};
-ghost use Rattle.synth_outside.specs.Cause.{HasCause};
-ghost use Rattle.synth_outside.specs.Files.{begun_bytes, begun_name};
-ghost use Rattle.synth_outside.specs.declared.faults.FilesFault.TheVariants.{NoFile, Failed, OutOfMemory};
+ghost use Rattle.synth_outside.specs.Files.{LeavesMap, begun_bytes, begun_name};
+ghost use Rattle.synth_outside.specs.declared.faults.FilesFault.TheVariants.{NoFile};
 ghost use Rattle.template_tree.specs.Listing.{Listing};
 ghost use Rattle.template_tree.specs.Tree.{IsTree};
 ghost use Rattle.file_store.specs.Saved.{Saves};
 
 use crate::file_out::FileOut;
-use crate::loading::refusal_of;
 use crate::refusal::FileRefusal;
 use arrayvec::ArrayVec;
 use synth_outside::{Files, FilesFault};
@@ -18,28 +16,17 @@ use template_tree::Tree;
 /// Saves a tree as the listing file of the name, all of it or nothing. It takes no memory of its own.
 pub fn save<F: Files>(tree: &Tree, name: &[u8], files: &mut F) -> Result<(), FileRefusal>
     requires tree { IsTree tree.now }
-    ensures { Saves name.now (Listing tree.now.items) result (F.stored files.old) (F.stored files.new)
-        (F.faults files.old) (F.faults files.new) (F.wants files.old) (F.wants files.new) }
+    ensures { Saves name.now (Listing tree.now.items) result (F.told files.old) (F.told files.new) }
 {
-    match files.begin(name) {
-        Ok(()) => {}
-        Err(fault) => return Err(refusal_of(fault)),
-    }
-    match write_listing(tree, files) {
-        Ok(()) => {}
-        Err(fault) => return Err(refusal_of(fault)),
-    }
-    match files.commit() {
-        Ok(()) => Ok(()),
-        Err(fault) => Err(refusal_of(fault)),
-    }
+    files.begin(name)?;
+    write_listing(tree, files)?;
+    Ok(files.commit()?)
 }
 
 /// Saves a tree as the listing file of the name `RESCUE`.
 pub fn rescue<F: Files>(tree: &Tree, files: &mut F) -> Result<(), FileRefusal>
     requires tree { IsTree tree.now }
-    ensures { Saves (codes "RESCUE") (Listing tree.now.items) result (F.stored files.old) (F.stored files.new)
-        (F.faults files.old) (F.faults files.new) (F.wants files.old) (F.wants files.new) }
+    ensures { Saves (codes "RESCUE") (Listing tree.now.items) result (F.told files.old) (F.told files.new) }
 {
     save(tree, b"RESCUE", files)
 }
@@ -49,13 +36,12 @@ pub fn rescue<F: Files>(tree: &Tree, files: &mut F) -> Result<(), FileRefusal>
 fn write_listing<F: Files>(tree: &Tree, files: &mut F) -> Result<(), FilesFault>
     requires tree { IsTree tree.now }
     requires begun { IsSome (F.begun files.old) }
-    ensures told { OnOk result (Appends (begun_bytes (F.begun files.old)) (begun_bytes (F.begun files.new)) (Listing tree.now.items)) }
-    ensures stored { F.stored files.new ≡ F.stored files.old }
+    ensures told { OnOk result (Appends (begun_bytes (F.begun files.old)) (begun_bytes (F.begun files.new))
+        (Listing tree.now.items)) }
+    ensures files { LeavesMap (F.told files.old) (F.told files.new) result }
     ensures name { begun_name (F.begun files.new) ≡ begun_name (F.begun files.old) }
     ensures begun { IsSome (F.begun files.new) }
     ensures found { result ≢ Err NoFile }
-    ensures cause { HasCause Failed (F.faults files.old) (F.faults files.new) result }
-    ensures want { HasCause OutOfMemory (F.wants files.old) (F.wants files.new) result }
 {
     let mut out = FileOut {
         files,

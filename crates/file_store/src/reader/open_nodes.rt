@@ -9,7 +9,7 @@ ghost use Rattle.file_store.specs.Private.Views.{filling_of, open_node_of, open_
 
 use crate::reader::fault::ReadFault;
 use crate::reader::filling::{Filling, LAST, is_text};
-use crate::reader::open_list::{OpenNode, OpenList, OpenNodes};
+use crate::reader::open_list::{OpenList, OpenNode, OpenNodes};
 use crate::reader::said::{Said, Saying};
 use plcs_grammar::{NodeKind, Template, program_sections};
 use std::alloc::Global;
@@ -41,7 +41,11 @@ impl OpenNodes {
 }
 
 /// What a line does to the open lists, if some listing may go on with it.
-pub(crate) fn line_taken(alloc: Global, stack: OpenNodes, said: Said) -> Result<OpenNodes, ReadFault>
+pub(crate) fn line_taken(
+    alloc: Global,
+    stack: OpenNodes,
+    said: Said,
+) -> Result<OpenNodes, ReadFault>
     requires small { said.level < 2 ^ 63 }
     ensures { Gives open_nodes_of result (line_taken (open_nodes_of stack) (said_of said)) }
 {
@@ -181,7 +185,7 @@ fn with_filling(list: OpenList, filling: Filling) -> OpenList
 }
 
 /// The open lists once a node is opened in the innermost one, if it may come there.
-#[tactic(auto, using(crate::proofs::FrameStacks::frames_push))]
+#[tactic(auto, using(crate::proofs::OpenNodes::frames_push))]
 fn begun(
     alloc: Global,
     stack: OpenNodes,
@@ -226,7 +230,7 @@ fn led(stack: OpenNodes) -> Result<OpenNodes, ReadFault>
 }
 
 /// The open lists behind the last line of the innermost node, if that may end.
-#[tactic(auto, using(crate::proofs::FrameStacks::frames_push))]
+#[tactic(auto, using(crate::proofs::OpenNodes::frames_push))]
 fn ended(stack: OpenNodes) -> Result<OpenNodes, ReadFault>
     ensures { Gives open_nodes_of result (ended_in (codes "END;") (open_nodes_of stack).own (open_nodes_of stack).outer) }
 {

@@ -12,9 +12,9 @@ abbrev pub invariant-loop-rest : goal.invariant-loop-rest
 invariant-loop-rest g l = record {
   told : (after : Option (List ℕ)) → Appends (begun_bytes (g.F.Files.begun l.files)) after l.rest
       → Appends (begun_bytes (g.F.Files.begun l.fn.files)) after l.piece;
-  stored : g.F.Files.stored l.files ≡ g.F.Files.stored l.fn.files;
+  stored : (g.F.Files.told l.files).stored ≡ (g.F.Files.told l.fn.files).stored;
   name : begun_name (g.F.Files.begun l.files) ≡ begun_name (g.F.Files.begun l.fn.files);
   begun : IsSome (g.F.Files.begun l.files);
-  faults : g.F.Files.faults l.files ≡ g.F.Files.faults l.fn.files;
-  wants : g.F.Files.wants l.files ≡ g.F.Files.wants l.fn.files;
+  faults : (g.F.Files.told l.files).faults ≡ (g.F.Files.told l.fn.files).faults;
+  wants : (g.F.Files.told l.files).wants ≡ (g.F.Files.told l.fn.files).wants;
 }

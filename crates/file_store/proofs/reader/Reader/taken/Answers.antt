@@ -8,18 +8,18 @@ use Rattle.file_store.proofs.ReadListings.{past_refused}
 use Rattle.file_store.proofs.Texts.{one_line}
 use Rattle.file_store.proofs.reader.Reader.taken.Goals as goal
 
-pub returns-in-Err-Refused-step-clause-refused : goal.returns-in-Err-Refused-step-clause-refused
-returns-in-Err-Refused-step-clause-refused c = (
+pub returns-in-Err-Refused-line_taken-clause-refused : goal.returns-in-Err-Refused-line_taken-clause-refused
+returns-in-Err-Refused-line_taken-clause-refused c = (
   refl,
   (λ said h.
       ap (line_taken (open_nodes_of c.args.self.stack))
       (one_line c.line_laws.ensures said (said_of c.in-Ok.said) h.0 c.in-Ok.ensures.says.0 (h.1 ∙ sym c.in-Ok.ensures.says.1))
-      ∙ refused_is c.in-Err-Refused-step.field-0 (line_taken (open_nodes_of c.args.self.stack) (said_of c.in-Ok.said)) c.in-Err-Refused-step.field-0-is c.in-Err-Refused-step.ensures),
+      ∙ refused_is c.in-Err-Refused-line_taken.field-0 (line_taken (open_nodes_of c.args.self.stack) (said_of c.in-Ok.said)) c.in-Err-Refused-line_taken.field-0-is c.in-Err-Refused-line_taken.ensures),
 )
 
 pub returns-in-Some-clause-refused : goal.returns-in-Some-clause-refused
 returns-in-Some-clause-refused c =
-    past_refused c.args.line.now (come_of c.args.self) (said_of c.in-Ok.said) (open_nodes_of c.in-Ok-step.stack) c.in-Some.refusal c.in-Ok.ensures.says c.in-Ok-step.ensures
+    past_refused c.args.line.now (come_of c.args.self) (said_of c.in-Ok.said) (open_nodes_of c.in-Ok-line_taken.stack) c.in-Some.refusal c.in-Ok.ensures.says c.in-Ok-line_taken.ensures
     (subst (λ b. IsPast b c.in-Ok.said.level c.args.self.opened (Some c.in-Some.refusal)) c.opens-opens.ensures c.in-Some.ensures)
 
 pub returns-in-None-clause-taken : goal.returns-in-None-clause-taken
@@ -28,7 +28,7 @@ returns-in-None-clause-taken c =
       said_of c.in-Ok.said,
       record {
         says = c.in-Ok.ensures.says;
-        steps = c.in-Ok-step.ensures;
+        steps = c.in-Ok-line_taken.ensures;
         may_open = record { shallow = past.0; few = past.1 };
         lines = refl;
         opened = c.counted.ensures ∙ ap (λ b. (if b then 1 else 0) + c.args.self.opened) c.opens-opens.ensures;
