@@ -1,7 +1,8 @@
 -- What stands at a stop, with and without the room of lists, and what is taken out there.
-use Rattle.std.proofs.Common.{◌≡◌, ◌+◌, true, false, Option, Some, None, option_map, is_some, refl, sym, ap, ◌∙◌}
+use Rattle.std.proofs.Common.{◌≡◌, ◌+◌, true, false, Option, Some, None, option_map, ℕ, is_some, option_and_then, refl, sym, ap, subst, ◌∙◌}
 use Rattle.std.specs.Prelude.{IsSome, IsSomeAnd}
 use Rattle.std.specs.Option.{option_map_or}
+use Rattle.plcs_grammar.specs.PlainPhrase.{PlainPhrase}
 use Rattle.plcs_grammar.specs.declared.node_kind.NodeKind.{NodeKind}
 use Rattle.template_tree.specs.Hole.{hole_left}
 use Rattle.template_tree.specs.EditAnswer.{MayTake}
@@ -12,7 +13,10 @@ use Rattle.template_tree.specs.Stop.{PlainStop}
 use Rattle.template_tree.specs.Copy.{IsCopy}
 use Rattle.clip_store.specs.PlainFragment.{PlainFragment, roomless_fragment, slots_of, whole_fragment}
 use Rattle.session_edit.specs.Here.{can_take, takes_at}
+use Rattle.screen_window.specs.LowerRows.{cursor_part}
+use Rattle.template_tree.specs.Part.{part_at}
 use Rattle.synth_session.specs.ClipCommands.{fragment_there}
+use Rattle.synth_session.specs.TypedLine.{cursor_phrase}
 
 -- a node without room has as many slots
 pub node_slots : ((items : Forest) → count (roomless items) ≡ count items) → (found : Option PlainNode)
@@ -55,3 +59,41 @@ pub node_there : (tree : PlainTree) (stop : PlainStop) → stop.part ≡ None �
 unfolding takes_at
 node_there tree stop node takes none =
     absurd (let gone = ap (λ (found : Option PlainNode). option_map_or (can_take stop.part) found false) none ∙ takes in cc)
+
+-- a phrase that can be taken out stands there
+phrase_in : (part : ℕ) (found : Option PlainNode) → option_map_or (can_take (Some part)) found false ≡ true
+    → None ≡ option_and_then (λ node. option_and_then (λ part. part_at node.label.parts part) (cursor_part node.label.kind (Some part))) found → ⊥
+phrase_in part None takes none = absurd (cc)
+phrase_in part (Some node) takes none = absurd (let gone = ap (λ (phrase : Option PlainPhrase). is_some phrase) none ∙ takes in cc)
+
+phrase_at_part : (tree : PlainTree) (stop : PlainStop) (part : Option ℕ) → IsSome part
+    → option_map_or (can_take part) (node_at tree.items stop.path) false ≡ true
+    → None ≡ option_and_then (λ node. option_and_then (λ part. part_at node.label.parts part) (cursor_part node.label.kind part))
+    (node_at tree.items stop.path) → ⊥
+phrase_at_part tree stop None some takes none = absurd some
+phrase_at_part tree stop (Some part) some takes none = phrase_in part (node_at tree.items stop.path) takes none
+
+pub phrase_there : (tree : PlainTree) (stop : PlainStop) → IsSome stop.part → takes_at tree stop ≡ true
+    → None ≡ cursor_phrase tree stop → ⊥
+unfolding takes_at cursor_phrase
+phrase_there tree stop some takes none = phrase_at_part tree stop stop.part some takes none
+
+-- where a fragment is missing, so is its node or phrase
+no_node : (found : Option PlainNode) → None ≡ option_map PlainFragment.node found → None ≡ found
+no_node None missing = refl
+no_node (Some node) missing = absurd (cc)
+
+no_phrase : (found : Option PlainPhrase) → None ≡ option_map PlainFragment.phrase found → None ≡ found
+no_phrase None missing = refl
+no_phrase (Some phrase) missing = absurd (cc)
+
+fragment_by : (tree : PlainTree) (stop : PlainStop) (part : Option ℕ) → stop.part ≡ part → takes_at tree stop ≡ true
+    → None ≡ fragment_there tree stop part → ⊥
+fragment_by tree stop None is takes none = node_there tree stop is takes (no_node (node_at tree.items stop.path) none)
+fragment_by tree stop (Some part) is takes none =
+    phrase_there tree stop (subst (λ (p : Option ℕ). IsSome p) (sym is) tt) takes (no_phrase (cursor_phrase tree stop) none)
+
+-- a fragment that can be taken out stands there
+pub fragment_stands : (tree : PlainTree) (stop : PlainStop) → takes_at tree stop ≡ true
+    → None ≡ fragment_there tree stop stop.part → ⊥
+fragment_stands tree stop takes none = fragment_by tree stop stop.part refl takes none

@@ -35,7 +35,7 @@ failed_only refusal (inr is) other = absurd (other is)
 
 -- a save that was refused
 pub refused_save : {T : Type 0} (name own bytes : List ℕ) (refusal : FileRefusal) (before now : PlainFiles)
-    → Saves {T = T} name own (Err refusal) before.stored now.stored before.faults now.faults before.wants now.wants
+    → Saves {T = T} name own (Err refusal) before now
     → (refusal ≡ FileRefusal.OutOfMemory → ⊥) → HaveReplied (Request.Save name bytes) (Reply.Refused refusal) before now
 refused_save name own bytes refusal before now saves other = record {
   can = failed_only refusal saves.only other;
@@ -47,7 +47,7 @@ refused_save name own bytes refusal before now saves other = record {
 -- a load that was refused
 pub refused_load : {T : Type 0} (name : List ℕ) (begun_before begun_now : Option NewContent) (refusal : FileRefusal) (before now : PlainFiles)
     → LoadingSays before.stored name (Err refusal)
-    → OnlyReads {T = T} (Err refusal) before.stored now.stored begun_before begun_now before.faults now.faults before.wants now.wants
+    → OnlyReads {T = T} (Err refusal) before now begun_before begun_now
     → (refusal ≡ FileRefusal.OutOfMemory → ⊥) → HaveReplied (Request.Load name) (Reply.Refused refusal) before now
 refused_load name begun_before begun_now refusal before now says reads other = record {
   can = (other, says);
@@ -99,7 +99,7 @@ module _ (trees : TreesIgnoreRoom) (counts : CountsIgnoreRoom) (listings : Listi
   -- a load that was made, by whether memory was left to take the program
   pub loaded_files : (name : List ℕ) (begun_before begun_now : Option NewContent) (tree : PlainTree) (before now : PlainFiles)
       → IsTree tree → LoadingSays before.stored name (Ok tree)
-      → OnlyReads {T = PlainTree} (Ok tree) before.stored now.stored begun_before begun_now before.faults now.faults before.wants now.wants
+      → OnlyReads {T = PlainTree} (Ok tree) before now begun_before begun_now
       → (result : Result Answer OutOfMemory) → FilesDo (Request.Load name) (Reply.Loaded (roomless_tree tree)) before now result
   loaded_files name begun_before begun_now tree before now is says reads (Ok answer) = record {
     can = ((trees tree).0 is, says_without_room before.stored name tree says);

@@ -4,17 +4,19 @@ mod Limits
 pub mod RefusedKeys
 -- `TextsStandSo`, and `Does` of enter_text: what the parser answers is what the text is taken for
 pub mod StandingTexts
--- `Answers` of turn_comment: the cursor may stay at a comment that is turned
+-- `Answers` of toggle_comment: the cursor may stay at a comment that is turned
 pub mod TurnedStops
 -- `sound` of copy_phrase_at: what stands in a part may be inserted
 pub mod SoundPhrases
 -- `text` of line_text, and `put` of LineText
 pub mod LineTexts
--- clauses of slots_there, copy_there and cut_node
+-- clauses of slots_there, copy_there and take_node
 pub mod ClipFragments
--- `Does` of cut_node: the node that is given out is the one at the cursor
+-- `Does` of take_node: the node that is given out is the one at the cursor
 pub mod TakenNodes
 -- `agrees` of change: the layout where an edit is undone
 pub mod AgreeingDependents
 -- `DoesByReply` of save and load: what the files did
 pub mod FileReplies
+-- `counts` of Dependents::of: a check for each phrase
+pub mod CheckedPhrases

@@ -1,4 +1,5 @@
--- A refused key changes the message alone.
+-- A refused key changes the message alone, and checks nothing: each outcome of a key is either a refusal, which is so by its
+-- definition, or its answer is none.
 use Rattle.std.proofs.Common.{◌≡◌, ℕ, ◌-◌, Bool, true, false, if◌then◌else◌, List, [], ◌∷◌, ◌++◌, length, take, Option, Some, None, Ok, Err, refl}
 use Rattle.std.specs.Prelude.{◌==◌, nat_lt}
 use Rattle.plcs_grammar.specs.Canon.{Canon}
@@ -41,22 +42,23 @@ use Rattle.synth_session.specs.EditCommands.{edit_outcome, edit_refusal, edited_
 use Rattle.synth_session.specs.ElideCommand.{comment_toggled, is_at_comment}
 use Rattle.synth_session.specs.EnteredLine.{command_line_outcome, command_outcome, is_unbuilt, line_entered, reading_outcome, standing_entered, text_entered}
 use Rattle.synth_session.specs.TextStanding.{standing_of}
-use Rattle.synth_session.specs.Press.{RefusedKeysChangeTheMessage, press}
+use Rattle.synth_session.specs.Press.{RefusedKeysChangeTheMessage, RefusedKeysCheckNothing, press}
 
--- where this is the outcome of a refused key, the message alone changes
+-- where this is the outcome of a refused key, the message alone changes, and nothing is checked
 record Alone (s : PlainSession) (outcome : KeyOutcome) : Type 0 where
   pub alone : (reason : Refusal) → outcome.answer ≡ Answer.Refused reason → outcome.after ≡ record s { message = refusal_text reason }
+  pub unchecked : (reason : Refusal) → outcome.answer ≡ Answer.Refused reason → outcome.checks ≡ 0
 
 -- a refusal does
 refused_alone : (s : PlainSession) (reason : Refusal) → Alone s (refusal_outcome s reason)
-refused_alone s reason = record { alone = λ other is. cc }
+refused_alone s reason = record { alone = λ other is. cc; unchecked = λ other is. refl }
 
 -- a key that isn't refused says nothing of that
 taken_alone : (s : PlainSession) (outcome : KeyOutcome) → outcome.answer ≡ Answer.Done → Alone s outcome
-taken_alone s outcome taken = record { alone = λ reason is. absurd (cc) }
+taken_alone s outcome taken = record { alone = λ reason is. absurd (cc); unchecked = λ reason is. absurd (cc) }
 
 ended_alone : (s : PlainSession) (outcome : KeyOutcome) → outcome.answer ≡ Answer.Quit → Alone s outcome
-ended_alone s outcome ended = record { alone = λ reason is. absurd (cc) }
+ended_alone s outcome ended = record { alone = λ reason is. absurd (cc); unchecked = λ reason is. absurd (cc) }
 
 -- of two outcomes either
 either_alone : (s : PlainSession) (test : Bool) (one other : KeyOutcome) → Alone s one → Alone s other → Alone s (if test then one else other)
@@ -222,6 +224,9 @@ key_alone s Left reply = moves_alone s stop_left
 key_alone s Right reply = moves_alone s stop_right
 key_alone s Other reply = refused_alone s why.UnknownCommand
 
--- the law
+-- the laws
 pub refused_keys_change_the_message : RefusedKeysChangeTheMessage
 refused_keys_change_the_message s key reply = (key_alone s key reply).alone
+
+pub refused_keys_check_nothing : RefusedKeysCheckNothing
+refused_keys_check_nothing s key reply = (key_alone s key reply).unchecked

@@ -4,7 +4,7 @@ use Rattle.session_edit.specs.Edited.{Edited, edited}
 use Rattle.session_edit.specs.PlainEdit.{PlainEdit}
 use Rattle.synth_session.specs.declared.answer.Refusal.{Refusal}
 use Rattle.synth_session.specs.declared.answer.Refusal.TheVariants as why
-use Rattle.synth_session.specs.KeyOutcome.{KeyOutcome, line_acceptance_outcome, refusal_outcome}
+use Rattle.synth_session.specs.KeyOutcome.{KeyOutcome, program_acceptance_outcome, refusal_outcome}
 use Rattle.synth_session.specs.PlainSession.{PlainSession}
 
 -- the refusal of a key where an edit of the program isn't made for this fault
@@ -17,7 +17,8 @@ edit_refusal TreeFault.OutOfMemory = why.Tree TreeFault.OutOfMemory
 
 -- what comes of an edit of the program: the tree and the cursor after it, or its refusal
 abbrev pub edit_outcome : PlainSession → Edited → KeyOutcome
-edit_outcome s (Edited.became tree stop taken what slot) = line_acceptance_outcome (record s { tree = tree; stop = stop })
+edit_outcome s (Edited.became tree stop taken what slot) =
+    program_acceptance_outcome (record s { tree = tree; stop = stop })
 edit_outcome s (Edited.refused fault) = refusal_outcome s (edit_refusal fault)
 
 -- what comes of a command or of phrase text that edits the program: the edit is made at the cursor

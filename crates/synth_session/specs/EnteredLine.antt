@@ -45,7 +45,7 @@ is_unbuilt line = option_map_or is_unbuilt_word (command_word line) false
 
 -- what `.quit` does: the session ends, and nothing is shown any more
 abbrev pub quit_outcome : PlainSession → KeyOutcome
-quit_outcome s = record { after = s; answer = Answer.Quit }
+quit_outcome s = record { after = s; answer = Answer.Quit; checks = 0 }
 
 -- what each command does; what one of files does depends on what they reply
 abbrev pub command_outcome : PlainSession → PlainCommand → Reply → KeyOutcome

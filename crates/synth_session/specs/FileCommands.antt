@@ -4,12 +4,12 @@ use Rattle.session_words.specs.declared.message.Notice.{Notice}
 use Rattle.synth_session.specs.declared.answer.Answer.{Answer}
 use Rattle.synth_session.specs.declared.answer.Refusal.TheVariants as why
 use Rattle.synth_session.specs.FileReply.{Reply}
-use Rattle.synth_session.specs.KeyOutcome.{KeyOutcome, line_acceptance_outcome, line_notice_outcome, refusal_outcome}
+use Rattle.synth_session.specs.KeyOutcome.{KeyOutcome, line_notice_outcome, program_acceptance_outcome, refusal_outcome}
 use Rattle.synth_session.specs.PlainSession.{PlainSession}
 
 -- what comes of `.save` or `.load` with a reply that it can't have: no files reply so, and it may be anything
 abbrev pub no_reply_outcome : PlainSession → KeyOutcome
-no_reply_outcome s = record { after = s; answer = Answer.Done }
+no_reply_outcome s = record { after = s; answer = Answer.Done; checks = 0 }
 
 -- what `.save` does, by what the files reply: it tells that the program was saved, and changes nothing else but the line
 abbrev pub save_outcome : PlainSession → Reply → KeyOutcome
@@ -20,6 +20,7 @@ save_outcome s reply = no_reply_outcome s
 -- what `.load` does, by what the files reply: the program that was loaded comes in place of the one that is edited, the cursor
 -- goes to main, and the window to the top; the clips and the input stay
 abbrev pub load_outcome : PlainSession → Reply → KeyOutcome
-load_outcome s (Reply.Loaded tree) = line_acceptance_outcome (record s { tree = tree; stop = first_stop tree.items; top = 0 })
+load_outcome s (Reply.Loaded tree) =
+    program_acceptance_outcome (record s { tree = tree; stop = first_stop tree.items; top = 0 })
 load_outcome s (Reply.Refused refusal) = refusal_outcome s (why.File refusal)
 load_outcome s reply = no_reply_outcome s

@@ -1,36 +1,51 @@
--- What comes of a key: the session after it, and the answer.
-use Rattle.std.specs.Prelude.{[]}
+-- What comes of a key: the session after it, the answer, and how many phrases are checked at most.
+use Rattle.std.specs.Prelude.{ℕ, []}
 use Rattle.session_words.specs.declared.message.Message.{Message}
 use Rattle.session_words.specs.declared.message.Notice.{Notice}
 use Rattle.session_words.specs.Message.{message_text}
 use Rattle.synth_session.specs.declared.answer.Answer.{Answer}
 use Rattle.synth_session.specs.declared.answer.Refusal.{Refusal}
+use Rattle.synth_session.specs.CheckedPhrases.{phrase_count}
 use Rattle.synth_session.specs.PlainSession.{PlainSession}
 use Rattle.synth_session.specs.RefusalText.{refusal_text}
 use Rattle.synth_session.specs.Window.{with_cursor_seen}
 
--- the session after a key, and the answer to the key
+-- the session after a key, the answer to the key, and its bill: how many phrases are checked in it at most
 pub record KeyOutcome : Type 0 where
   pub after : PlainSession
   pub answer : Answer
+  pub checks : ℕ
 
--- what comes of a key that is refused for this: it changes the message alone
+-- what comes of a key that is refused for this: it changes the message alone, and nothing is checked
 abbrev pub refusal_outcome : PlainSession → Refusal → KeyOutcome
-refusal_outcome s reason = record { after = record s { message = refusal_text reason }; answer = Answer.Refused reason }
+refusal_outcome s reason = record {
+  after = record s { message = refusal_text reason };
+  answer = Answer.Refused reason;
+  checks = 0;
+}
 
--- what comes of a key that is accepted, and leaves this but for message and window: the message is cleared, and the window
--- follows the cursor
+-- what comes of a key that is accepted, and leaves this but for message and window: the message is cleared, the window
+-- follows the cursor, and nothing is checked
 abbrev pub acceptance_outcome : PlainSession → KeyOutcome
-acceptance_outcome s = record { after = record (with_cursor_seen s) { message = [] }; answer = Answer.Done }
+acceptance_outcome s = record {
+  after = record (with_cursor_seen s) { message = [] };
+  answer = Answer.Done;
+  checks = 0;
+}
 
 -- what comes of a key by which the typed line is accepted: the line is typed no more
 abbrev pub line_acceptance_outcome : PlainSession → KeyOutcome
 line_acceptance_outcome s = acceptance_outcome (record s { typed = [] })
 
+-- what comes of a key by which the typed line is accepted, and the program comes to be another: each of its phrases is
+-- checked once at most
+abbrev pub program_acceptance_outcome : PlainSession → KeyOutcome
+program_acceptance_outcome s = record (line_acceptance_outcome s) { checks = phrase_count s.tree }
+
 -- what comes of a key by which the typed line is accepted, where this notice is told
 abbrev pub line_notice_outcome : PlainSession → Notice → KeyOutcome
-line_notice_outcome s notice =
-    record {
-      after = record (with_cursor_seen (record s { typed = [] })) { message = message_text (Message.Notice notice) };
-      answer = Answer.Done;
-    }
+line_notice_outcome s notice = record {
+  after = record (with_cursor_seen (record s { typed = [] })) { message = message_text (Message.Notice notice) };
+  answer = Answer.Done;
+  checks = 0;
+}

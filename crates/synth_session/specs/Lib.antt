@@ -5,6 +5,7 @@ pub mod PlainScreens
 pub mod PlainSession
 pub mod RefusalText
 pub mod Window
+pub mod CheckedPhrases
 pub mod OpenedSession
 pub mod KeyOutcome
 -- ---- the files

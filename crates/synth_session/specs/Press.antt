@@ -35,3 +35,10 @@ RefusedKeysChangeTheMessage =
     (s : PlainSession) (key : Key) (reply : Reply) (reason : Refusal)
     → (press s key reply).answer ≡ Answer.Refused reason
     → (press s key reply).after ≡ record s { message = refusal_text reason }
+
+-- the law of the bills of refused keys: nothing is checked in such a key
+abbrev pub RefusedKeysCheckNothing : Type 0
+RefusedKeysCheckNothing =
+    (s : PlainSession) (key : Key) (reply : Reply) (reason : Refusal)
+    → (press s key reply).answer ≡ Answer.Refused reason
+    → (press s key reply).checks ≡ 0

@@ -5,6 +5,8 @@ pub mod EditFault
 pub mod LineText
 -- ---- what comes of a key that takes no memory
 pub mod MemorylessKey
+-- ---- what comes of a key that asks the files, and counts nothing
+pub mod UncountedKey
 -- ---- the fault of phrase text
 pub mod TextFault
 -- ---- what comes of taking something out of the program

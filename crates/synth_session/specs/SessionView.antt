@@ -1,5 +1,6 @@
 -- The session in the code: its plain form, the conditions between its parts, and what becomes of it in a key.
 use Rattle.std.specs.Prelude.{◌≡◌, ◌+◌, ◌*◌, ◌<◌, ◌≤◌, Bool, IsTrue, Result, Ok, Err}
+use Rattle.plcs_base.specs.PlainCounts.{ChecksAtMost, PlainCounts}
 use Rattle.plcs_base.specs.declared.memory.OutOfMemory.{OutOfMemory}
 use Rattle.synth_outside.specs.Files.{PlainFiles}
 use Rattle.template_tree.specs.Limit.{most_slots}
@@ -81,9 +82,12 @@ pub record Does {W : Type 0} (may_take_memory : Bool) (outcome : KeyOutcome) (be
   pub screens : now.screens ≡ before.screens
   pub met : Meets may_take_memory outcome (plain_session before) (plain_session now) result
 
--- a key that asked this of the files did this, by what they replied, as far as memory allows
+-- a key that asked this of the files did this, by what they replied, as far as memory allows, and checked no more phrases than
+-- its bill says
 pub record DoesByReply {W : Type 0} (may_take_memory : Bool) (request : Request) (outcome : Reply → KeyOutcome)
-    (before now : Session W) (files_before files_now : PlainFiles) (result : Result Answer OutOfMemory) : Type 0 where
+    (before now : Session W) (files_before files_now : PlainFiles) (counts_before counts_now : PlainCounts)
+    (result : Result Answer OutOfMemory) : Type 0 where
   pub reply : Reply
   pub files : FilesDo request reply files_before files_now result
   pub does : Does may_take_memory (outcome reply) before now result
+  pub counts : ChecksAtMost (outcome reply).checks counts_before counts_now

@@ -1,5 +1,6 @@
 //! The commands of clips, `.copy`, `.cut` and `.insert`.
 ghost use Rattle.std.specs.Prelude.{◌≡◌, ◌≤◌, false, true, IfOk, IfSome, Option, Some, None, option_map, option_and_then};
+ghost use Rattle.plcs_base.specs.PlainCounts.{ChecksAtMost};
 ghost use Rattle.plcs_grammar.specs.PlainPhrase.{plain_phrase};
 ghost use Rattle.template_tree.specs.PlainTree.{roomless_tree};
 ghost use Rattle.template_tree.specs.Program.{IsSubtree};
@@ -57,10 +58,8 @@ impl<W: Work> Session<W> {
     ) -> Result<Answer, OutOfMemory>
         requires session { IsSession self.old }
         ensures does { Does true (cut_to_clip (plain_session self.old) name) self.old self.new result }
-        ensures checks { W.checked work.old ≤ W.checked work.new }
-        ensures emitted { W.emitted work.new ≡ W.emitted work.old }
-        ensures fetched { W.fetched work.new ≡ W.fetched work.old }
-        ensures laid { W.laid work.new ≡ W.laid work.old }
+        ensures counts { ChecksAtMost (cut_to_clip (plain_session self.old) name).checks
+            (W.counts work.old) (W.counts work.new) }
     {
         room_is_not_clipped();
         if !takes(&self.program.tree, &self.stop) {
@@ -93,10 +92,8 @@ impl<W: Work> Session<W> {
     ) -> Result<Answer, OutOfMemory>
         requires session { IsSession self.old }
         ensures does { Does true (clip_inserted (plain_session self.old) name.now) self.old self.new result }
-        ensures checks { W.checked work.old ≤ W.checked work.new }
-        ensures emitted { W.emitted work.new ≡ W.emitted work.old }
-        ensures fetched { W.fetched work.new ≡ W.fetched work.old }
-        ensures laid { W.laid work.new ≡ W.laid work.old }
+        ensures counts { ChecksAtMost (clip_inserted (plain_session self.old) name.now).checks
+            (W.counts work.old) (W.counts work.new) }
     {
         room_is_not_clipped();
         let Some(clip) = self.clips.get(name) else {

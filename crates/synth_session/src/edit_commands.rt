@@ -1,5 +1,6 @@
 //! The commands that edit the program at the cursor.
 ghost use Rattle.std.specs.Prelude.{◌≡◌, ◌≤◌, true};
+ghost use Rattle.plcs_base.specs.PlainCounts.{ChecksAtMost};
 ghost use Rattle.session_edit.specs.PlainEdit.{BringsWhatMayStand, plain_edit};
 ghost use Rattle.synth_session.specs.EditCommands.{edit_refusal, edited_by};
 ghost use Rattle.synth_session.specs.SessionView.{Does, IsSession, plain_session};
@@ -23,10 +24,8 @@ impl<W: Work> Session<W> {
         requires session { IsSession self.old }
         requires edit { BringsWhatMayStand edit }
         ensures does { Does true (edited_by (plain_session self.old) (plain_edit edit)) self.old self.new result }
-        ensures checks { W.checked work.old ≤ W.checked work.new }
-        ensures emitted { W.emitted work.new ≡ W.emitted work.old }
-        ensures fetched { W.fetched work.new ≡ W.fetched work.old }
-        ensures laid { W.laid work.new ≡ W.laid work.old }
+        ensures counts { ChecksAtMost (edited_by (plain_session self.old) (plain_edit edit)).checks
+            (W.counts work.old) (W.counts work.new) }
     {
         match self.program.change(alloc, &self.stop, edit, work) {
             Ok(changed) => {

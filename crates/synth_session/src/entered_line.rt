@@ -2,6 +2,7 @@
 ghost use Rattle.std.specs.Prelude.{◌≡◌, ◌≤◌, ◌<◌, ◌^◌, IfErr, IfOk, IsTrue, is_some, length, map};
 ghost use Rattle.std.specs.List.{list_any};
 ghost use Rattle.std.specs.Str.{bytes_eq};
+ghost use Rattle.plcs_base.specs.PlainCounts.{ChecksAtMost};
 ghost use Rattle.plcs_grammar.specs.Canon.{IsWellFormed};
 ghost use Rattle.plcs_grammar.specs.PlainPhrase.{category_of, plain_phrase};
 ghost use Rattle.phrase_parser.specs.Standing.{Standing};
@@ -40,12 +41,7 @@ impl<W: Work> Session<W> {
         requires session { IsSession self.old }
         ensures does { DoesByReply (line_takes_memory (plain_session self.old)) (line_request (plain_session self.old)) (line_entered (plain_session self.old))
             self.old self.new
-            (record { stored = F.stored files.old; faults = F.faults files.old; wants = F.wants files.old })
-            (record { stored = F.stored files.new; faults = F.faults files.new; wants = F.wants files.new }) result }
-        ensures checks { W.checked work.old ≤ W.checked work.new }
-        ensures emitted { W.emitted work.new ≡ W.emitted work.old }
-        ensures fetched { W.fetched work.new ≡ W.fetched work.old }
-        ensures laid { W.laid work.new ≡ W.laid work.old }
+            (F.told files.old) (F.told files.new) (W.counts work.old) (W.counts work.new) result }
     {
         if self.typed.is_empty() {
             return Ok(self.move_right());
@@ -72,12 +68,7 @@ impl<W: Work> Session<W> {
         requires point { IsTrue (begins_with_point line.now) }
         ensures does { DoesByReply (command_line_takes_memory (plain_session self.old)) (command_line_request (plain_session self.old)) (command_line_outcome (plain_session self.old))
             self.old self.new
-            (record { stored = F.stored files.old; faults = F.faults files.old; wants = F.wants files.old })
-            (record { stored = F.stored files.new; faults = F.faults files.new; wants = F.wants files.new }) result }
-        ensures checks { W.checked work.old ≤ W.checked work.new }
-        ensures emitted { W.emitted work.new ≡ W.emitted work.old }
-        ensures fetched { W.fetched work.new ≡ W.fetched work.old }
-        ensures laid { W.laid work.new ≡ W.laid work.old }
+            (F.told files.old) (F.told files.new) (W.counts work.old) (W.counts work.new) result }
     {
         if is_unbuilt(line) {
             return Ok(self.refuse(Refusal::NotBuilt));
@@ -101,10 +92,8 @@ impl<W: Work> Session<W> {
         requires session { IsSession self.old }
         requires unasked { command_request (plain_session self.old) (plain_command command) ≡ Request.Nothing }
         ensures does { Does (command_takes_memory (plain_command command.entry)) (command_outcome (plain_session self.old) (plain_command command.entry) Reply.NotAsked) self.old self.new result }
-        ensures checks { W.checked work.old ≤ W.checked work.new }
-        ensures emitted { W.emitted work.new ≡ W.emitted work.old }
-        ensures fetched { W.fetched work.new ≡ W.fetched work.old }
-        ensures laid { W.laid work.new ≡ W.laid work.old }
+        ensures counts { ChecksAtMost (command_outcome (plain_session self.old) (plain_command command.entry) Reply.NotAsked).checks
+            (W.counts work.old) (W.counts work.new) }
     {
         match command {
             Command::Template(template) => self.edit(alloc, Edit::Fill(template), work),
@@ -128,10 +117,9 @@ impl<W: Work> Session<W> {
     fn enter_text(&mut self, alloc: Global, work: &mut W) -> Result<Answer, OutOfMemory>
         requires session { IsSession self.old }
         ensures does { Does (is_some (category_at (plain_session self.old).tree (plain_session self.old).stop)) (text_entered (plain_session self.old) (category_at (plain_session self.old).tree (plain_session self.old).stop)) self.old self.new result }
-        ensures checks { W.checked work.old ≤ W.checked work.new }
-        ensures emitted { W.emitted work.new ≡ W.emitted work.old }
-        ensures fetched { W.fetched work.new ≡ W.fetched work.old }
-        ensures laid { W.laid work.new ≡ W.laid work.old }
+        ensures counts { ChecksAtMost
+            (text_entered (plain_session self.old) (category_at (plain_session self.old).tree (plain_session self.old).stop)).checks
+            (W.counts work.old) (W.counts work.new) }
     {
         let Some(category) = wanted(&self.program.tree, &self.stop) else {
             return Ok(self.refuse(Refusal::NotHere));

@@ -1,11 +1,13 @@
 //! The commands of files, `.save` and `.load`, and the copy that is saved where memory ran out.
 ghost use Rattle.std.specs.Prelude.{◌≡◌, ◌≤◌, codes, true};
+ghost use Rattle.plcs_base.specs.PlainCounts.{ChecksAtMost};
 ghost use Rattle.template_tree.specs.Listing.{Listing};
 ghost use Rattle.template_tree.specs.PlainTree.{roomless_tree};
 ghost use Rattle.template_tree.specs.Tree.{IsTree};
 ghost use Rattle.file_store.specs.Saved.{Saves};
 ghost use Rattle.synth_session.specs.FileCommands.{load_outcome, save_outcome};
 ghost use Rattle.synth_session.specs.FileReply.{Reply, Request};
+ghost use Rattle.synth_session.specs.Private.UncountedKey.{DoesUncounted};
 ghost use Rattle.synth_session.specs.SessionView.{Does, DoesByReply, IsSession, plain_session};
 
 use crate::answer::{Answer, Refusal};
@@ -28,10 +30,9 @@ impl<W: Work> Session<W> {
         files: &mut F,
     ) -> Result<Answer, OutOfMemory>
         requires { IsSession self.old }
-        ensures { DoesByReply true (Request.Save name.now (Listing (plain_session self.old).tree.items)) (save_outcome (plain_session self.old))
+        ensures { DoesUncounted true (Request.Save name.now (Listing (plain_session self.old).tree.items)) (save_outcome (plain_session self.old))
             self.old self.new
-            (record { stored = F.stored files.old; faults = F.faults files.old; wants = F.wants files.old })
-            (record { stored = F.stored files.new; faults = F.faults files.new; wants = F.wants files.new }) result }
+            (F.told files.old) (F.told files.new) result }
     {
         room_is_not_shown();
         match save(&self.program.tree, name, files) {
@@ -54,12 +55,7 @@ impl<W: Work> Session<W> {
         requires session { IsSession self.old }
         ensures does { DoesByReply true (Request.Load name.now) (load_outcome (plain_session self.old))
             self.old self.new
-            (record { stored = F.stored files.old; faults = F.faults files.old; wants = F.wants files.old })
-            (record { stored = F.stored files.new; faults = F.faults files.new; wants = F.wants files.new }) result }
-        ensures checks { W.checked work.old ≤ W.checked work.new }
-        ensures emitted { W.emitted work.new ≡ W.emitted work.old }
-        ensures fetched { W.fetched work.new ≡ W.fetched work.old }
-        ensures laid { W.laid work.new ≡ W.laid work.old }
+            (F.told files.old) (F.told files.new) (W.counts work.old) (W.counts work.new) result }
     {
         room_is_not_shown();
         match load(alloc, name, files) {
@@ -82,10 +78,8 @@ impl<W: Work> Session<W> {
         requires session { IsSession self.old }
         requires tree { IsTree tree }
         ensures does { Does true (load_outcome (plain_session self.old) (Reply.Loaded (roomless_tree tree))) self.old self.new result }
-        ensures checks { W.checked work.old ≤ W.checked work.new }
-        ensures emitted { W.emitted work.new ≡ W.emitted work.old }
-        ensures fetched { W.fetched work.new ≡ W.fetched work.old }
-        ensures laid { W.laid work.new ≡ W.laid work.old }
+        ensures counts { ChecksAtMost (load_outcome (plain_session self.old) (Reply.Loaded (roomless_tree tree))).checks
+            (W.counts work.old) (W.counts work.new) }
     {
         let program = Program::new(alloc, tree, work)?;
         self.stop = top(&program.tree);
@@ -98,8 +92,8 @@ impl<W: Work> Session<W> {
     /// memory of its own.
     pub fn rescue<F: Files>(&self, files: &mut F) -> Result<(), FileRefusal>
         requires { IsSession self.now }
-        ensures { Saves (codes "RESCUE") (Listing (plain_session self.now).tree.items) result (F.stored files.old) (F.stored files.new)
-            (F.faults files.old) (F.faults files.new) (F.wants files.old) (F.wants files.new) }
+        ensures { Saves (codes "RESCUE") (Listing (plain_session self.now).tree.items) result
+            (F.told files.old) (F.told files.new) }
     {
         room_is_not_shown();
         rescue(&self.program.tree, files)

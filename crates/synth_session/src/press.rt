@@ -2,7 +2,7 @@
 ghost use Rattle.std.specs.Prelude.{◌≡◌, ◌≤◌};
 ghost use Rattle.synth_session.specs.KeyRequest.{request};
 ghost use Rattle.synth_session.specs.MemoryTaken.{key_takes_memory};
-ghost use Rattle.synth_session.specs.Press.{RefusedKeysChangeTheMessage, press};
+ghost use Rattle.synth_session.specs.Press.{RefusedKeysChangeTheMessage, RefusedKeysCheckNothing, press};
 ghost use Rattle.synth_session.specs.SessionView.{DoesByReply, IsSession, plain_session};
 ghost use Rattle.synth_session.specs.TextStanding.{TextsStandSo};
 
@@ -15,7 +15,7 @@ use synth_outside::Files;
 
 impl<W: Work> Session<W> {
     /// Does what a key asks for, with the files where it asks something of them. Where memory runs out, the
-    /// session and the map of the files are as they were. Only checks of phrases are counted.
+    /// session and the map of the files are as they were.
     #[tactic(auto, unfolding(crate::specs::Press::press))]
     pub fn press<F: Files>(
         &mut self,
@@ -27,12 +27,7 @@ impl<W: Work> Session<W> {
         requires { IsSession self.old }
         ensures pressed { DoesByReply (key_takes_memory (plain_session self.old) key) (request (plain_session self.old) key) (press (plain_session self.old) key)
             self.old self.new
-            (record { stored = F.stored files.old; faults = F.faults files.old; wants = F.wants files.old })
-            (record { stored = F.stored files.new; faults = F.faults files.new; wants = F.wants files.new }) result }
-        ensures checks { W.checked work.old ≤ W.checked work.new }
-        ensures emitted { W.emitted work.new ≡ W.emitted work.old }
-        ensures fetched { W.fetched work.new ≡ W.fetched work.old }
-        ensures laid { W.laid work.new ≡ W.laid work.old }
+            (F.told files.old) (F.told files.new) (W.counts work.old) (W.counts work.new) result }
     {
         match key {
             Key::Char(byte) => Ok(self.type_char(byte)),
@@ -49,9 +44,11 @@ impl<W: Work> Session<W> {
     }
 }
 
-/// The law of refused keys: such a key changes the message alone, whatever the files reply.
+/// The law of refused keys: such a key changes the message alone, and nothing is checked in it, whatever the files
+/// reply.
 pub fn refused_keys_change_the_message()
-    ensures { RefusedKeysChangeTheMessage }
+    ensures message { RefusedKeysChangeTheMessage }
+    ensures checks { RefusedKeysCheckNothing }
 {}
 
 /// The law of phrase text: every text is what the session takes it for.

@@ -1,5 +1,6 @@
 //! The program with all that depends on it, and the four steps of its edits.
 ghost use Rattle.std.specs.Prelude.{◌≡◌, ◌≤◌, true, IfErr, IfOk, IfSome, IsSome, None, option_map};
+ghost use Rattle.plcs_base.specs.PlainCounts.{ChecksAtMost};
 ghost use Rattle.template_tree.specs.Elision.{with_toggled_at};
 ghost use Rattle.template_tree.specs.PlainTree.{roomless_node, roomless_tree};
 ghost use Rattle.template_tree.specs.Program.{IsSubtree};
@@ -7,9 +8,10 @@ ghost use Rattle.template_tree.specs.Stop.{IsStop, plain_stop};
 ghost use Rattle.template_tree.specs.Tree.{IsTree};
 ghost use Rattle.session_edit.specs.Edited.{Edited, edited};
 ghost use Rattle.session_edit.specs.Here.{takes_at};
-ghost use Rattle.session_edit.specs.PlainEdit.{BringsWhatMayStand, plain_edit};
+ghost use Rattle.session_edit.specs.PlainEdit.{BringsWhatMayStand, PlainEdit, plain_edit};
+ghost use Rattle.synth_session.specs.CheckedPhrases.{phrase_count};
 ghost use Rattle.synth_session.specs.SessionView.{Agrees, DependOn};
-ghost use Rattle.synth_session.specs.Private.EditFault.{IsEditFault};
+ghost use Rattle.synth_session.specs.Private.EditFault.{IsEditFault, edit_checks};
 ghost use Rattle.synth_session.specs.Private.TakenFragment.{TakesOutFragment};
 
 use crate::clip_commands::copy_phrase_at;
@@ -61,10 +63,8 @@ impl<W: Work> Program<W> {
         requires tree { IsTree tree }
         ensures agrees { IfOk result (λ program. Agrees program) }
         ensures tree { IfOk result (λ program. program.tree ≡ tree) }
-        ensures checks { W.checked work.old ≤ W.checked work.new }
-        ensures emitted { W.emitted work.new ≡ W.emitted work.old }
-        ensures fetched { W.fetched work.new ≡ W.fetched work.old }
-        ensures laid { W.laid work.new ≡ W.laid work.old }
+        ensures counts { ChecksAtMost (phrase_count (roomless_tree tree))
+            (W.counts work.old) (W.counts work.new) }
     {
         let dependents = Dependents::of(alloc, &tree, work)?;
         Ok(Program { tree, dependents })
@@ -91,10 +91,8 @@ impl<W: Work> Program<W> {
         ensures taken { IfOk result (λ changed. IfSome changed.taken IsSubtree) }
         ensures refused { IfErr result (IsEditFault (edited (roomless_tree self.old.tree) (plain_stop at.now) (plain_edit edit))) }
         ensures same { IfErr result (λ _. roomless_tree self.new.tree ≡ roomless_tree self.old.tree) }
-        ensures checks { W.checked work.old ≤ W.checked work.new }
-        ensures emitted { W.emitted work.new ≡ W.emitted work.old }
-        ensures fetched { W.fetched work.new ≡ W.fetched work.old }
-        ensures laid { W.laid work.new ≡ W.laid work.old }
+        ensures counts { ChecksAtMost (edit_checks (edited (roomless_tree self.old.tree) (plain_stop at.now) (plain_edit edit)))
+            (W.counts work.old) (W.counts work.new) }
     {
         let applied = apply(alloc, &mut self.tree, at, edit)?;
         let change = applied.receipt.change();
@@ -120,10 +118,8 @@ impl<W: Work> Program<W> {
         ensures depend { IfOk result (λ _. DependOn self.new.dependents self.old.tree) }
         ensures tree { self.new.tree ≡ self.old.tree }
         ensures same { IfErr result (λ _. self.new.dependents ≡ self.old.dependents) }
-        ensures checks { W.checked work.old ≤ W.checked work.new }
-        ensures emitted { W.emitted work.new ≡ W.emitted work.old }
-        ensures fetched { W.fetched work.new ≡ W.fetched work.old }
-        ensures laid { W.laid work.new ≡ W.laid work.old }
+        ensures counts { ChecksAtMost (phrase_count (roomless_tree self.old.tree))
+            (W.counts work.old) (W.counts work.new) }
     {
         match Dependents::of(alloc, &self.tree, work) {
             Ok(dependents) => {
@@ -145,10 +141,8 @@ impl<W: Work> Program<W> {
         requires stop { IsStop (roomless_tree self.old.tree).items (plain_stop at.now) }
         requires taken { takes_at (roomless_tree self.old.tree) (plain_stop at.now) ≡ true }
         ensures taken { TakesOutFragment self.old self.new at.now result }
-        ensures checks { W.checked work.old ≤ W.checked work.new }
-        ensures emitted { W.emitted work.new ≡ W.emitted work.old }
-        ensures fetched { W.fetched work.new ≡ W.fetched work.old }
-        ensures laid { W.laid work.new ≡ W.laid work.old }
+        ensures counts { ChecksAtMost (edit_checks (edited (roomless_tree self.old.tree) (plain_stop at.now) PlainEdit.take))
+            (W.counts work.old) (W.counts work.new) }
     {
         match at.part {
             None => self.take_node(alloc, at, work),
@@ -163,10 +157,8 @@ impl<W: Work> Program<W> {
         requires node { at.now.part ≡ None }
         requires taken { takes_at (roomless_tree self.old.tree) (plain_stop at.now) ≡ true }
         ensures taken { TakesOutFragment self.old self.new at.now result }
-        ensures checks { W.checked work.old ≤ W.checked work.new }
-        ensures emitted { W.emitted work.new ≡ W.emitted work.old }
-        ensures fetched { W.fetched work.new ≡ W.fetched work.old }
-        ensures laid { W.laid work.new ≡ W.laid work.old }
+        ensures counts { ChecksAtMost (edit_checks (edited (roomless_tree self.old.tree) (plain_stop at.now) PlainEdit.take))
+            (W.counts work.old) (W.counts work.new) }
     {
         let Changed { stop, taken, .. } = self.change(alloc, at, Edit::Take, work)?;
         match taken {
@@ -185,10 +177,8 @@ impl<W: Work> Program<W> {
         requires part { IsSome at.now.part }
         requires taken { takes_at (roomless_tree self.old.tree) (plain_stop at.now) ≡ true }
         ensures taken { TakesOutFragment self.old self.new at.now result }
-        ensures checks { W.checked work.old ≤ W.checked work.new }
-        ensures emitted { W.emitted work.new ≡ W.emitted work.old }
-        ensures fetched { W.fetched work.new ≡ W.fetched work.old }
-        ensures laid { W.laid work.new ≡ W.laid work.old }
+        ensures counts { ChecksAtMost (edit_checks (edited (roomless_tree self.old.tree) (plain_stop at.now) PlainEdit.take))
+            (W.counts work.old) (W.counts work.new) }
     {
         let Some(phrase) = copy_phrase_at(alloc, &self.tree, at)? else {
             return Err(TreeFault::OutOfMemory);
@@ -220,10 +210,8 @@ impl<W: Work> Dependents<W> {
     fn of(alloc: Global, tree: &Tree, work: &mut W) -> Result<Dependents<W>, OutOfMemory>
         requires tree { IsTree tree.now }
         ensures depend { IfOk result (λ dependents. DependOn dependents tree.now) }
-        ensures checks { W.checked work.old ≤ W.checked work.new }
-        ensures emitted { W.emitted work.new ≡ W.emitted work.old }
-        ensures fetched { W.fetched work.new ≡ W.fetched work.old }
-        ensures laid { W.laid work.new ≡ W.laid work.old }
+        ensures counts { ChecksAtMost (phrase_count (roomless_tree tree.now))
+            (W.counts work.old) (W.counts work.new) }
     {
         let layout = Layout::new(alloc, tree)?;
         let decls = Decls::new(alloc, tree)?;

@@ -1,5 +1,6 @@
 //! The two screens of a session: the one that is shown, and the one that is shown next.
 ghost use Rattle.std.specs.Prelude.{◌≡◌, ◌+◌, ◌≤◌, ◌<◌, ◌^◌, IfOk, OnErr, OnOk};
+ghost use Rattle.plcs_base.specs.PlainCounts.{LaysAtMost};
 ghost use Rattle.template_tree.specs.Tree.{IsTree};
 ghost use Rattle.unparse_layout.specs.Agreement.{IsLayoutOf};
 ghost use Rattle.screen_window.specs.Paint.{Paint};
@@ -63,11 +64,7 @@ impl Screens {
         requires top { view.now.top + MOST_ROWS < 2 ^ 32 }
         ensures next { self.new.next ≡ Screen self.old.shown.rows self.old.shown.cols (plain_view M.marks view.now) }
         ensures shown { self.new.shown ≡ self.old.shown }
-        ensures laid { W.laid work.new ≤ W.laid work.old + window_rows self.old.shown.rows }
-        ensures lays { W.laid work.old ≤ W.laid work.new }
-        ensures emitted { W.emitted work.new ≡ W.emitted work.old }
-        ensures checked { W.checked work.new ≡ W.checked work.old }
-        ensures fetched { W.fetched work.new ≡ W.fetched work.old }
+        ensures counts { LaysAtMost (window_rows self.old.shown.rows) (W.counts work.old) (W.counts work.new) }
     {
         let _ = self.next.rows();
         compose(&mut self.next, view, work);
@@ -76,7 +73,7 @@ impl Screens {
     /// Paints the next screen over the one that is shown, and shows it then.
     pub(crate) fn paint<K: Sink>(&mut self, sink: &mut K) -> Result<(), SinkFault>
         ensures wrote { Writes (Paint self.old.shown self.old.next) result
-            (K.taken sink.old) (K.taken sink.new) (K.faults sink.old) (K.faults sink.new) }
+            (K.taken sink.old) (K.taken sink.new) (K.faults sink.old) (K.faults sink.new) (K.wants sink.old) (K.wants sink.new) }
         ensures shown { OnOk result (self.new.shown ≡ self.old.next) }
         ensures failed { OnErr result (self.new ≡ self.old) }
         ensures rows { self.new.shown.rows ≡ self.old.shown.rows }

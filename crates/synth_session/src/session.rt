@@ -1,6 +1,7 @@
 //! The session: the program that is edited, with the cursor, the window, the typed line, the clips and the
 //! program's input.
 ghost use Rattle.std.specs.Prelude.{◌≡◌, ◌≤◌, [], ◌∷◌, None, IfOk, IfSome, length, option_map};
+ghost use Rattle.plcs_base.specs.PlainCounts.{ChecksAtMost};
 ghost use Rattle.plcs_base.specs.Put.{PutsAll};
 ghost use Rattle.template_tree.specs.Listing.{Listing};
 ghost use Rattle.template_tree.specs.PlainTree.{roomless_tree};
@@ -10,8 +11,9 @@ ghost use Rattle.template_tree.specs.Tree.{IsTree};
 ghost use Rattle.template_tree.specs.NewTree.{new_tree};
 ghost use Rattle.file_store.specs.Limit.{longest_input};
 ghost use Rattle.screen_window.specs.PlainGrid.{blank_grid};
+ghost use Rattle.synth_session.specs.CheckedPhrases.{phrase_count};
 ghost use Rattle.synth_session.specs.KeyOutcome.{acceptance_outcome, line_acceptance_outcome, line_notice_outcome, refusal_outcome};
-ghost use Rattle.synth_session.specs.OpenedSession.{opened_session, session_over, stop_at_first};
+ghost use Rattle.synth_session.specs.OpenedSession.{opened_session, session_over, stop_at_first, tree_at_first};
 ghost use Rattle.synth_session.specs.RefusalText.{refusal_text};
 ghost use Rattle.synth_session.specs.Private.MemorylessKey.{HasOutcome};
 ghost use Rattle.synth_session.specs.SessionView.{Agrees, IsPlaced, IsSession, next_grid, plain_session, shown_grid};
@@ -49,7 +51,6 @@ impl<W: Work> Session<W> {
     /// A session over the program, or over a new one, on a screen of this size, with this input of the
     /// program. The cursor stands at the new program's hole for a statement, or at main of a program that is
     /// given. Both screens are blank.
-    /// Each phrase of the program is counted as checked once at most.
     #[tactic(auto, unfolding(crate::specs::OpenedSession::opened_session))]
     pub fn open(
         alloc: Global,
@@ -64,10 +65,8 @@ impl<W: Work> Session<W> {
         ensures opened { IfOk result (λ session. plain_session session ≡ opened_session size (option_map roomless_tree tree) input.items) }
         ensures shown { IfOk result (λ session. shown_grid session ≡ blank_grid size.rows size.cols) }
         ensures next { IfOk result (λ session. next_grid session ≡ blank_grid size.rows size.cols) }
-        ensures checks { W.checked work.old ≤ W.checked work.new }
-        ensures emitted { W.emitted work.new ≡ W.emitted work.old }
-        ensures fetched { W.fetched work.new ≡ W.fetched work.old }
-        ensures laid { W.laid work.new ≡ W.laid work.old }
+        ensures counts { ChecksAtMost (phrase_count (tree_at_first (option_map roomless_tree tree)))
+            (W.counts work.old) (W.counts work.new) }
     {
         match tree {
             Some(tree) => {
@@ -97,10 +96,8 @@ impl<W: Work> Session<W> {
         ensures opened { IfOk result (λ session. plain_session session ≡ session_over size (roomless_tree tree) (plain_stop stop) input.items) }
         ensures shown { IfOk result (λ session. shown_grid session ≡ blank_grid size.rows size.cols) }
         ensures next { IfOk result (λ session. next_grid session ≡ blank_grid size.rows size.cols) }
-        ensures checks { W.checked work.old ≤ W.checked work.new }
-        ensures emitted { W.emitted work.new ≡ W.emitted work.old }
-        ensures fetched { W.fetched work.new ≡ W.fetched work.old }
-        ensures laid { W.laid work.new ≡ W.laid work.old }
+        ensures counts { ChecksAtMost (phrase_count (roomless_tree tree))
+            (W.counts work.old) (W.counts work.new) }
     {
         let screens = Screens::new(alloc, size)?;
         let clips = Clips::new(alloc)?;

@@ -1,5 +1,6 @@
 //! The screen of a session, with the prompt, drawn and painted.
 ghost use Rattle.std.specs.Prelude.{◌≡◌, ◌+◌, ◌*◌, ◌≤◌, [], None, length, OnErr, OnOk};
+ghost use Rattle.plcs_base.specs.PlainCounts.{LaysAtMost};
 ghost use Rattle.template_tree.specs.Marks.{Marks};
 ghost use Rattle.template_tree.specs.PlainTree.{roomless_tree};
 ghost use Rattle.template_tree.specs.Limit.{most_slots};
@@ -34,11 +35,7 @@ impl<W: Work> Session<W> {
         ensures next { next_grid self.new ≡ grid (plain_session self.old) }
         ensures shown { shown_grid self.new ≡ shown_grid self.old }
         ensures same { plain_session self.new ≡ plain_session self.old }
-        ensures laid { W.laid work.new ≤ W.laid work.old + window_rows (plain_session self.old).size.rows }
-        ensures lays { W.laid work.old ≤ W.laid work.new }
-        ensures emitted { W.emitted work.new ≡ W.emitted work.old }
-        ensures checked { W.checked work.new ≡ W.checked work.old }
-        ensures fetched { W.fetched work.new ≡ W.fetched work.old }
+        ensures counts { LaysAtMost (window_rows (plain_session self.old).size.rows) (W.counts work.old) (W.counts work.new) }
     {
         let prompt = prompt(&self.program.tree, &self.stop);
         let text = shown_text(self.message);
@@ -59,7 +56,7 @@ impl<W: Work> Session<W> {
         requires { IsSession self.old }
         ensures session { IsSession self.new }
         ensures wrote { Writes (Paint (shown_grid self.old) (next_grid self.old)) result
-            (K.taken sink.old) (K.taken sink.new) (K.faults sink.old) (K.faults sink.new) }
+            (K.taken sink.old) (K.taken sink.new) (K.faults sink.old) (K.faults sink.new) (K.wants sink.old) (K.wants sink.new) }
         ensures shown { OnOk result (shown_grid self.new ≡ next_grid self.old) }
         ensures failed { OnErr result (shown_grid self.new ≡ shown_grid self.old) }
         ensures same { plain_session self.new ≡ plain_session self.old }
@@ -104,11 +101,7 @@ fn draw_on<'a, W: Work>(
       code = None;
     }) }
     ensures shown { screens.new.shown ≡ screens.old.shown }
-    ensures laid { W.laid work.new ≤ W.laid work.old + window_rows screens.old.shown.rows }
-    ensures lays { W.laid work.old ≤ W.laid work.new }
-    ensures emitted { W.emitted work.new ≡ W.emitted work.old }
-    ensures checked { W.checked work.new ≡ W.checked work.old }
-    ensures fetched { W.fetched work.new ≡ W.fetched work.old }
+    ensures counts { LaysAtMost (window_rows screens.old.shown.rows) (W.counts work.old) (W.counts work.new) }
 {
     checks_ignore_room_and_elision();
     let view = View {

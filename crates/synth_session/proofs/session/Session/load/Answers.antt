@@ -1,21 +1,24 @@
 use Rattle.std.proofs.Common.{rules}
 use Rattle.template_tree.specs.PlainTree.{roomless_tree}
 use Rattle.synth_session.specs.FileReply.{Reply}
+use Rattle.synth_session.proofs.CheckedPhrases.{checks_free}
 use Rattle.synth_session.proofs.FileReplies.{loaded_files, refused_load}
 use Rattle.synth_session.proofs.session.Session.load.Goals as goal
 
-pub returns-in-Ok-clause-does : goal.returns-in-Ok-clause-does
-returns-in-Ok-clause-does g c =
+pub returns-in-Ok : goal.returns-in-Ok
+returns-in-Ok g c =
     let laws = c.room_is_not_shown.ensures in
     record {
       reply = Reply.Loaded (roomless_tree c.in-Ok.tree);
       files = loaded_files laws.trees laws.counts laws.listing _ _ _ c.in-Ok.tree _ _ c.in-Ok.ensures.tree c.in-Ok.ensures.says c.in-Ok.ensures.files c.take_program.result;
       does = c.take_program.ensures.does;
+      counts = c.take_program.ensures.counts;
     }
 
-pub returns-in_default-clause-does : goal.returns-in_default-clause-does
-returns-in_default-clause-does g c = record {
+pub returns-in_default : goal.returns-in_default
+returns-in_default g c = record {
   reply = Reply.Refused c.in-Err.refusal;
   files = refused_load _ _ _ c.in-Err.refusal _ _ c.in-Err.ensures.says c.in-Err.ensures.files c.in_default.not-OutOfMemory;
   does = search rules;
+  counts = checks_free 0;
 }
