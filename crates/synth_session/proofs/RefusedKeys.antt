@@ -42,7 +42,7 @@ use Rattle.synth_session.specs.EditCommands.{edit_outcome, edit_refusal, edited_
 use Rattle.synth_session.specs.ElideCommand.{comment_toggled, is_at_comment}
 use Rattle.synth_session.specs.EnteredLine.{command_line_outcome, command_outcome, is_unbuilt, line_entered, reading_outcome, standing_entered, text_entered}
 use Rattle.synth_session.specs.TextStanding.{standing_of}
-use Rattle.synth_session.specs.Press.{RefusedKeysChangeTheMessage, RefusedKeysCheckNothing, press}
+use Rattle.synth_session.specs.Press.{RefusedKeysChangeTheMessage, RefusedKeysCheckNothing, key_outcome, press, without_code_display}
 
 -- where this is the outcome of a refused key, the message alone changes, and nothing is checked
 record Alone (s : PlainSession) (outcome : KeyOutcome) : Type 0 where
@@ -205,8 +205,7 @@ line_alone s reply =
     (command_line_alone s reply) (text_alone s (category_at s.tree s.stop)))
 
 -- each key
-key_alone : (s : PlainSession) (key : Key) (reply : Reply) → Alone s (press s key reply)
-unfolding press
+key_alone : (s : PlainSession) (key : Key) (reply : Reply) → Alone s (key_outcome s key reply)
 key_alone s (Char byte) reply =
     either_alone s (nat_lt (length s.typed) LINE_LIMIT) (acceptance_outcome (record s { typed = s.typed ++ byte ∷ [] })) (refusal_outcome s why.PhraseFull)
     (taken_alone s _ refl) (refused_alone s why.PhraseFull)
@@ -226,7 +225,9 @@ key_alone s Other reply = refused_alone s why.UnknownCommand
 
 -- the laws
 pub refused_keys_change_the_message : RefusedKeysChangeTheMessage
-refused_keys_change_the_message s key reply = (key_alone s key reply).alone
+unfolding press
+refused_keys_change_the_message s key reply = (key_alone (without_code_display s) key reply).alone
 
 pub refused_keys_check_nothing : RefusedKeysCheckNothing
-refused_keys_check_nothing s key reply = (key_alone s key reply).unchecked
+unfolding press
+refused_keys_check_nothing s key reply = (key_alone (without_code_display s) key reply).unchecked

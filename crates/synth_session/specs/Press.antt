@@ -16,25 +16,34 @@ use Rattle.synth_session.specs.PlainSession.{PlainSession}
 use Rattle.synth_session.specs.RefusalText.{refusal_text}
 use Rattle.synth_session.specs.TypedLine.{char_typed, last_erased, line_cleared, phrase_typed}
 
+-- a session without a display of code, which every key ends, a refused one too; no command displays code yet, so this is the
+-- session itself
+abbrev pub without_code_display : PlainSession → PlainSession
+without_code_display s = s
+
+-- what comes of a key in a session that displays no code, where the files reply so to what it asks of them
+abbrev pub key_outcome : PlainSession → Key → Reply → KeyOutcome
+key_outcome s (Char byte) reply = char_typed s byte
+key_outcome s Enter reply = line_entered s reply
+key_outcome s Erase reply = last_erased s
+key_outcome s Clear reply = line_cleared s
+key_outcome s Tab reply = phrase_typed s
+key_outcome s Up reply = cursor_moved s stop_up
+key_outcome s Down reply = cursor_moved s stop_down
+key_outcome s Left reply = cursor_moved s stop_left
+key_outcome s Right reply = cursor_moved s stop_right
+key_outcome s Other reply = refusal_outcome s why.UnknownCommand
+
 -- what a key makes of a session, where the files reply so to what it asks of them
 unfoldable pub press : PlainSession → Key → Reply → KeyOutcome
-press s (Char byte) reply = char_typed s byte
-press s Enter reply = line_entered s reply
-press s Erase reply = last_erased s
-press s Clear reply = line_cleared s
-press s Tab reply = phrase_typed s
-press s Up reply = cursor_moved s stop_up
-press s Down reply = cursor_moved s stop_down
-press s Left reply = cursor_moved s stop_left
-press s Right reply = cursor_moved s stop_right
-press s Other reply = refusal_outcome s why.UnknownCommand
+press s key reply = key_outcome (without_code_display s) key reply
 
--- the law of refused keys: such a key changes the message alone, whatever the files reply
+-- the law of refused keys: such a key changes the message alone, and ends a display of code, whatever the files reply
 abbrev pub RefusedKeysChangeTheMessage : Type 0
 RefusedKeysChangeTheMessage =
     (s : PlainSession) (key : Key) (reply : Reply) (reason : Refusal)
     → (press s key reply).answer ≡ Answer.Refused reason
-    → (press s key reply).after ≡ record s { message = refusal_text reason }
+    → (press s key reply).after ≡ record (without_code_display s) { message = refusal_text reason }
 
 -- the law of the bills of refused keys: nothing is checked in such a key
 abbrev pub RefusedKeysCheckNothing : Type 0

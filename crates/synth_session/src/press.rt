@@ -44,7 +44,7 @@ impl<W: Work> Session<W> {
     }
 }
 
-/// The law of refused keys: such a key changes the message alone, and nothing is checked in it, whatever the files
+/// The law of refused keys: such a key changes the message alone, ends a display of code, and nothing is checked in it, whatever the files
 /// reply.
 pub fn refused_keys_change_the_message()
     ensures message { RefusedKeysChangeTheMessage }
