@@ -1,4 +1,6 @@
 -- The commands that edit the program at the cursor.
+use Rattle.template_tree.specs.PlainTree.{PlainTree}
+use Rattle.template_tree.specs.Stop.{PlainStop}
 use Rattle.template_tree.specs.declared.tree_fault.TreeFault.{TreeFault}
 use Rattle.session_edit.specs.Edited.{Edited, edited}
 use Rattle.session_edit.specs.PlainEdit.{PlainEdit}
@@ -15,10 +17,14 @@ edit_refusal TreeFault.TooLarge = why.Tree TreeFault.TooLarge
 edit_refusal TreeFault.SlotsUsedUp = why.Tree TreeFault.SlotsUsedUp
 edit_refusal TreeFault.OutOfMemory = why.Tree TreeFault.OutOfMemory
 
+-- a session whose program was edited: it is this tree, with the cursor at this stop
+abbrev pub edited_session : PlainSession → PlainTree → PlainStop → PlainSession
+edited_session s tree stop = record s { tree = tree; stop = stop }
+
 -- what comes of an edit of the program: the tree and the cursor after it, or its refusal
 abbrev pub edit_outcome : PlainSession → Edited → KeyOutcome
 edit_outcome s (Edited.became tree stop taken what slot) =
-    program_acceptance_outcome (record s { tree = tree; stop = stop })
+    program_acceptance_outcome (edited_session s tree stop)
 edit_outcome s (Edited.refused fault) = refusal_outcome s (edit_refusal fault)
 
 -- what comes of a command or of phrase text that edits the program: the edit is made at the cursor

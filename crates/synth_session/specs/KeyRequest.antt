@@ -11,9 +11,27 @@ use Rattle.synth_session.specs.PlainSession.{PlainSession}
 
 -- what a command asks of the files: `.save` asks them to save the listing of the program, and `.load` to load one
 abbrev pub command_request : PlainSession → PlainCommand → Request
+command_request s (PlainCommand.template template) = Request.Nothing
+command_request s PlainCommand.float = Request.Nothing
+command_request s PlainCommand.before = Request.Nothing
+command_request s PlainCommand.after = Request.Nothing
+command_request s PlainCommand.del = Request.Nothing
+command_request s (PlainCommand.cut name) = Request.Nothing
+command_request s (PlainCommand.copy name) = Request.Nothing
+command_request s (PlainCommand.insert name) = Request.Nothing
+command_request s PlainCommand.elide = Request.Nothing
+command_request s PlainCommand.top = Request.Nothing
+command_request s PlainCommand.bottom = Request.Nothing
+command_request s PlainCommand.run = Request.Nothing
+command_request s (PlainCommand.step n) = Request.Nothing
+command_request s PlainCommand.resume = Request.Nothing
+command_request s (PlainCommand.back n) = Request.Nothing
+command_request s PlainCommand.trace = Request.Nothing
+command_request s (PlainCommand.input text) = Request.Nothing
 command_request s (PlainCommand.save name) = Request.Save name (Listing s.tree.items)
 command_request s (PlainCommand.load name) = Request.Load name
-command_request s _ = Request.Nothing
+command_request s (PlainCommand.code n) = Request.Nothing
+command_request s PlainCommand.quit = Request.Nothing
 
 -- what a command line asks of the files that reads as this command, or as none
 abbrev pub reading_request : PlainSession → PlainReading → Request

@@ -10,26 +10,37 @@ use Rattle.synth_session.specs.PlainSession.{PlainSession}
 
 -- whether a command takes memory: those that edit the program, those of clips, and those of files do; saving takes none of
 -- its own, but the files may want some
-abbrev pub command_takes_memory : PlainCommand → Bool
-command_takes_memory (PlainCommand.template template) = true
-command_takes_memory PlainCommand.before = true
-command_takes_memory PlainCommand.after = true
-command_takes_memory PlainCommand.del = true
-command_takes_memory (PlainCommand.cut name) = true
-command_takes_memory (PlainCommand.copy name) = true
-command_takes_memory (PlainCommand.insert name) = true
-command_takes_memory (PlainCommand.save file) = true
-command_takes_memory (PlainCommand.load file) = true
-command_takes_memory _ = false
+abbrev pub command_takes_memory : PlainSession → PlainCommand → Bool
+command_takes_memory s (PlainCommand.template template) = true
+command_takes_memory s PlainCommand.float = false
+command_takes_memory s PlainCommand.before = true
+command_takes_memory s PlainCommand.after = true
+command_takes_memory s PlainCommand.del = true
+command_takes_memory s (PlainCommand.cut name) = true
+command_takes_memory s (PlainCommand.copy name) = true
+command_takes_memory s (PlainCommand.insert name) = true
+command_takes_memory s PlainCommand.elide = false
+command_takes_memory s PlainCommand.top = false
+command_takes_memory s PlainCommand.bottom = false
+command_takes_memory s PlainCommand.run = false
+command_takes_memory s (PlainCommand.step n) = false
+command_takes_memory s PlainCommand.resume = false
+command_takes_memory s (PlainCommand.back n) = false
+command_takes_memory s PlainCommand.trace = false
+command_takes_memory s (PlainCommand.input text) = false
+command_takes_memory s (PlainCommand.save file) = true
+command_takes_memory s (PlainCommand.load file) = true
+command_takes_memory s (PlainCommand.code n) = false
+command_takes_memory s PlainCommand.quit = false
 
 -- whether a command line takes memory that reads as this command, or as none
-abbrev pub reading_takes_memory : PlainReading → Bool
-reading_takes_memory (Ok command) = command_takes_memory command
-reading_takes_memory (Err fault) = false
+abbrev pub reading_takes_memory : PlainSession → PlainReading → Bool
+reading_takes_memory s (Ok command) = command_takes_memory s command
+reading_takes_memory s (Err fault) = false
 
 -- whether a command line takes memory
 abbrev pub command_line_takes_memory : PlainSession → Bool
-command_line_takes_memory s = if is_unbuilt s.typed then false else reading_takes_memory (command_of s.typed)
+command_line_takes_memory s = if is_unbuilt s.typed then false else reading_takes_memory s (command_of s.typed)
 
 -- whether the typed line takes memory where it is entered: phrase text does where it is wanted
 abbrev pub line_takes_memory : PlainSession → Bool

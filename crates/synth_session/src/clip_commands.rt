@@ -74,9 +74,8 @@ impl<W: Work> Session<W> {
         self.clips.reserve(&name)?;
         match self.program.take(alloc, &self.stop, work) {
             Ok(taken) => {
-                self.stop = taken.stop;
                 keep(&mut self.clips, name, taken.fragment);
-                Ok(self.accept_line())
+                Ok(self.accept_edit(taken.stop))
             }
             Err(TreeFault::OutOfMemory) => Err(OutOfMemory),
             Err(fault) => Ok(self.refuse(edit_refusal(fault))),

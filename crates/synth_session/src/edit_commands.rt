@@ -1,16 +1,20 @@
 //! The commands that edit the program at the cursor.
-ghost use Rattle.std.specs.Prelude.{◌≡◌, ◌≤◌, true};
+ghost use Rattle.std.specs.Prelude.{◌≡◌, ◌*◌, ◌≤◌, true};
 ghost use Rattle.plcs_base.specs.PlainCounts.{ChecksAtMost};
+ghost use Rattle.template_tree.specs.Limit.{most_slots};
+ghost use Rattle.template_tree.specs.Stop.{IsStop, plain_stop};
 ghost use Rattle.session_edit.specs.PlainEdit.{BringsWhatMayStand, plain_edit};
-ghost use Rattle.synth_session.specs.EditCommands.{edit_refusal, edited_by};
-ghost use Rattle.synth_session.specs.SessionView.{Does, IsSession, plain_session};
+ghost use Rattle.synth_session.specs.EditCommands.{edit_refusal, edited_by, edited_session};
+ghost use Rattle.synth_session.specs.KeyOutcome.{program_acceptance_outcome};
+ghost use Rattle.synth_session.specs.Private.MemorylessKey.{HasOutcome};
+ghost use Rattle.synth_session.specs.SessionView.{Agrees, Does, IsSession, plain_session};
 
 use crate::answer::{Answer, Refusal};
 use crate::session::Session;
 use plcs_base::{OutOfMemory, Work};
 use session_edit::Edit;
 use std::alloc::Global;
-use template_tree::TreeFault;
+use template_tree::{Stop, TreeFault};
 
 impl<W: Work> Session<W> {
     /// Edits the program at the cursor, as a command or phrase text asks for, and takes the typed line.
@@ -28,13 +32,23 @@ impl<W: Work> Session<W> {
             (W.counts work.old) (W.counts work.new) }
     {
         match self.program.change(alloc, &self.stop, edit, work) {
-            Ok(changed) => {
-                self.stop = changed.stop;
-                Ok(self.accept_line())
-            }
+            Ok(changed) => Ok(self.accept_edit(changed.stop)),
             Err(TreeFault::OutOfMemory) => Err(OutOfMemory),
             Err(fault) => Ok(self.refuse(edit_refusal(fault))),
         }
+    }
+
+    /// Accepts a key that edited the program, with the cursor at the stop.
+    pub(crate) fn accept_edit(&mut self, stop: Stop) -> Answer
+        requires agrees { Agrees self.old.program }
+        requires stop { IsStop (plain_session self.old).tree.items (plain_stop stop) }
+        requires top { self.old.top ≤ 4 * most_slots }
+        ensures { HasOutcome
+            (program_acceptance_outcome (edited_session (plain_session self.old) (plain_session self.old).tree (plain_stop stop)))
+            self.old self.new result }
+    {
+        self.stop = stop;
+        self.accept_line()
     }
 }
 

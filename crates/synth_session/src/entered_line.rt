@@ -91,7 +91,7 @@ impl<W: Work> Session<W> {
     ) -> Result<Answer, OutOfMemory>
         requires session { IsSession self.old }
         requires unasked { command_request (plain_session self.old) (plain_command command) ≡ Request.Nothing }
-        ensures does { Does (command_takes_memory (plain_command command.entry)) (command_outcome (plain_session self.old) (plain_command command.entry) Reply.NotAsked) self.old self.new result }
+        ensures does { Does (command_takes_memory (plain_session self.old) (plain_command command.entry)) (command_outcome (plain_session self.old) (plain_command command.entry) Reply.NotAsked) self.old self.new result }
         ensures counts { ChecksAtMost (command_outcome (plain_session self.old) (plain_command command.entry) Reply.NotAsked).checks
             (W.counts work.old) (W.counts work.new) }
     {
@@ -109,7 +109,13 @@ impl<W: Work> Session<W> {
             Command::Bottom => Ok(self.go_to_bottom()),
             Command::Quit => Ok(Answer::Quit),
             Command::Save(_) | Command::Load(_) => unreachable!(),
-            _ => Ok(self.refuse(Refusal::NotBuilt)),
+            Command::Run
+            | Command::Step(_)
+            | Command::Resume
+            | Command::Back(_)
+            | Command::Trace
+            | Command::Input(_)
+            | Command::Code(_) => Ok(self.refuse(Refusal::NotBuilt)),
         }
     }
 
