@@ -7,11 +7,11 @@ mod key_cases;
 mod pieces;
 mod playing;
 mod repainting;
-mod whole_run_cases;
 mod scene;
 mod screen_cases;
 mod session_cases;
 mod session_keys;
+mod whole_run_cases;
 
 use case_script::words_of;
 use scene::Scene;
@@ -126,9 +126,9 @@ fn play_case(
         Case::Rescue => session_cases::rescue(rt, scene, arguments),
         Case::Repaint => repainting::repaint(rt, scene, arguments),
         Case::Screen => screen_cases::screen(rt, scene, arguments),
-        Case::Run => run_cases::run(rt, scene, arguments),
-        Case::Fail => run_cases::fail(rt, scene, arguments),
-        Case::Bytes => run_cases::bytes(rt, arguments),
+        Case::Run => whole_run_cases::run(rt, scene, arguments),
+        Case::Fail => whole_run_cases::fail(rt, scene, arguments),
+        Case::Bytes => whole_run_cases::bytes(rt, arguments),
         Case::Files => file_cases::files(rt, scene, arguments),
         Case::File => file_cases::file(rt, scene, arguments),
         Case::Content => file_cases::content(rt, scene, arguments),

@@ -11,7 +11,7 @@ use plcs_base::{ByteOut, OutOfMemory};
 use std::alloc::Global;
 use std::io;
 use synth_outside::MemFiles;
-use synth_session::{Answer, ClipRefusal, Refusal, Tick};
+use synth_session::{Answer, ClipRefusal, Refusal};
 use template_tree::TreeFault;
 
 /// `from KEYS`: a session over a new program after these keys. It answers what the last of them answers, and
@@ -116,8 +116,7 @@ static REFUSALS: [(&[u8], Refusal); 22] = [
     (b"NotBuilt", Refusal::NotBuilt),
 ];
 
-/// `tell REFUSAL`: what painting writes once this refusal is shown after the keys at hand, and whether steps of
-/// a run are to be made then.
+/// `tell REFUSAL`: what painting writes once this refusal is shown after the keys at hand.
 pub fn tell(rt: &HostRuntime, scene: &mut Scene, arguments: &[Vec<u8>]) -> io::Result<bool> {
     let [word] = arguments else {
         return Ok(false);
@@ -125,11 +124,11 @@ pub fn tell(rt: &HostRuntime, scene: &mut Scene, arguments: &[Vec<u8>]) -> io::R
     let Some(refusal) = refusal_of(word.as_slice()) else {
         return Ok(false);
     };
-    let Ok((bytes, tick)) = painted_with(rt.alloc(), scene.keys.as_slice(), refusal) else {
+    let Ok(bytes) = painted_with(rt.alloc(), scene.keys.as_slice(), refusal) else {
         return Ok(false);
     };
     let text = quoted(rt.alloc(), bytes.as_slice())?;
-    println!(rt; "= {tick:?} {text}")?;
+    println!(rt; "= {text}")?;
     Ok(true)
 }
 
@@ -143,17 +142,12 @@ fn refusal_of(word: &[u8]) -> Option<Refusal> {
     None
 }
 
-/// What painting writes once this refusal is shown in a session after these keys, and its tick.
-fn painted_with(
-    alloc: Global,
-    keys: &[u8],
-    refusal: Refusal,
-) -> Result<(Vec<u8>, Tick), OutOfMemory> {
+/// What painting writes once this refusal is shown in a session after these keys.
+fn painted_with(alloc: Global, keys: &[u8], refusal: Refusal) -> Result<Vec<u8>, OutOfMemory> {
     let mut session = after_keys(alloc, keys)?;
     let _ = painted(alloc, &mut session)?;
     session.show_message(refusal);
-    let tick = session.tick();
-    Ok((painted(alloc, &mut session)?, tick))
+    painted(alloc, &mut session)
 }
 
 /// `rescue N..`: the session's program is rescued where the N-th call of the files fails, for each of these

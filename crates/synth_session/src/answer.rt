@@ -1,4 +1,4 @@
-//! Answers to keys, refusals with their messages, and whether steps of a run are to be made.
+//! Answers to keys, and refusals with their messages.
 ghost use Rattle.std.specs.Prelude.{◌≡◌};
 ghost use Rattle.synth_session.specs.RefusalText.{file_message, phrase_message, refusal_message, tree_message};
 
@@ -16,15 +16,6 @@ pub enum Answer {
     Refused(Refusal),
     /// It ended the session.
     Quit,
-}
-
-/// Whether steps of a run are to be made after a key.
-#[derive(Clone, Copy, Debug, PartialEq, Eq)]
-pub enum Tick {
-    /// A step was made, and more may follow.
-    Again,
-    /// No step is to be made.
-    Over,
 }
 
 /// Why a key was refused.

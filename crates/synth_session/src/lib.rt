@@ -20,7 +20,7 @@ mod size;
 mod typed_line;
 mod window;
 
-pub use answer::{Answer, ClipRefusal, Refusal, Tick};
+pub use answer::{Answer, ClipRefusal, Refusal};
 pub use key::Key;
 pub use press::{refused_keys_change_the_message, texts_stand_so};
 pub use session::Session;

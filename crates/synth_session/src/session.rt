@@ -18,7 +18,7 @@ ghost use Rattle.synth_session.specs.RefusalText.{refusal_text};
 ghost use Rattle.synth_session.specs.Private.MemorylessKey.{HasOutcome};
 ghost use Rattle.synth_session.specs.SessionView.{Agrees, IsPlaced, IsSession, next_grid, plain_session, shown_grid};
 
-use crate::answer::{Answer, Refusal, Tick};
+use crate::answer::{Answer, Refusal};
 use crate::program::Program;
 use crate::program_input::ProgramInput;
 use crate::screens::Screens;
@@ -143,16 +143,6 @@ impl<W: Work> Session<W> {
         ensures next { next_grid self.new ≡ next_grid self.old }
     {
         self.message = refusal.message();
-    }
-
-    /// Makes the steps of a run that are wanted after a key: none, since nothing runs yet. It takes no
-    /// memory.
-    pub fn tick(&mut self) -> Tick
-        requires { IsSession self.old }
-        ensures over { result ≡ Tick.Over }
-        ensures same { self.new ≡ self.old }
-    {
-        Tick::Over
     }
 }
 
