@@ -29,9 +29,11 @@ slots_there tree stop = option_map_or slots_of (fragment_there tree stop stop.pa
 -- what comes of copying what stands at the cursor into the clip of this name, with nothing elided in it
 abbrev pub copy_outcome : PlainSession → List ℕ → Option PlainFragment → KeyOutcome
 copy_outcome s name None = refusal_outcome s why.NotHere
-copy_outcome s name (Some fragment) = line_acceptance_outcome (record s { clips = with_clip name (whole_fragment fragment) s.clips })
+copy_outcome s name (Some fragment) =
+    line_acceptance_outcome (record s { clips = with_clip name (whole_fragment fragment) s.clips })
 
--- what `.copy` does: what could be taken out at the cursor is copied into the clip of this name, where the clips have room
+-- what `.copy` does: what could be taken out at the cursor is copied into the clip of this name, where the clips have
+-- room
 abbrev pub copied_to_clip : PlainSession → List ℕ → KeyOutcome
 copied_to_clip s name =
     if takes_at s.tree s.stop

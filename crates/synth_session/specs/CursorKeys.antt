@@ -13,4 +13,5 @@ cursor_goes s (Some stop) = acceptance_outcome (record s { stop = stop })
 
 -- what a key that moves the cursor does: the cursor moves so, where nothing is typed
 abbrev pub cursor_moved : PlainSession → (Forest → PlainStop → Option PlainStop) → KeyOutcome
-cursor_moved s move = if length s.typed == 0 then cursor_goes s (move s.tree.items s.stop) else refusal_outcome s why.NotHere
+cursor_moved s move =
+    if length s.typed == 0 then cursor_goes s (move s.tree.items s.stop) else refusal_outcome s why.NotHere

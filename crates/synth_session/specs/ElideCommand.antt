@@ -16,4 +16,6 @@ is_at_comment tree stop = option_map_or (λ node. is_comment node.label.kind) (n
 -- what `.elide` does: the refinement of the comment at the cursor is hidden, or shown again
 abbrev pub comment_toggled : PlainSession → KeyOutcome
 comment_toggled s =
-    if is_at_comment s.tree s.stop then line_acceptance_outcome (record s { tree = with_toggled_at s.stop.path s.tree }) else refusal_outcome s why.NotHere
+    if is_at_comment s.tree s.stop
+    then line_acceptance_outcome (record s { tree = with_toggled_at s.stop.path s.tree })
+    else refusal_outcome s why.NotHere

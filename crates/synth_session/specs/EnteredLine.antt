@@ -87,8 +87,11 @@ command_line_outcome s reply =
 -- what comes of entering phrase text that is this: a phrase is entered where its canonical text isn't too long
 abbrev pub standing_entered : PlainSession → Standing → KeyOutcome
 standing_entered s (Standing.phrase phrase) =
-    if nat_lt longest_phrase (length (Canon phrase)) then refusal_outcome s why.PhraseFull else edited_by s (PlainEdit.enter phrase)
-standing_entered s (Standing.over (OverLimit.number_too_large place)) = refusal_outcome s (why.Phrase (fault.NumberTooLarge place))
+    if nat_lt longest_phrase (length (Canon phrase))
+    then refusal_outcome s why.PhraseFull
+    else edited_by s (PlainEdit.enter phrase)
+standing_entered s (Standing.over (OverLimit.number_too_large place)) =
+    refusal_outcome s (why.Phrase (fault.NumberTooLarge place))
 standing_entered s (Standing.over (OverLimit.too_deep place)) = refusal_outcome s (why.Phrase (fault.TooDeep place))
 standing_entered s (Standing.wrong_at place) = refusal_outcome s (why.Phrase (fault.Syntax place))
 
@@ -105,4 +108,5 @@ abbrev pub line_entered : PlainSession → Reply → KeyOutcome
 line_entered s reply =
     if length s.typed == 0
     then cursor_moved s stop_right
-    else (if begins_with_point s.typed then command_line_outcome s reply else text_entered s (category_at s.tree s.stop))
+    else
+    (if begins_with_point s.typed then command_line_outcome s reply else text_entered s (category_at s.tree s.stop))

@@ -11,14 +11,15 @@ use Rattle.synth_session.specs.PlainSession.{PlainSession}
 abbrev pub no_reply_outcome : PlainSession → KeyOutcome
 no_reply_outcome s = record { after = s; answer = Answer.Done; checks = 0 }
 
--- what `.save` does, by what the files reply: it tells that the program was saved, and changes nothing else but the line
+-- what `.save` does, by what the files reply: it tells that the program was saved, and changes nothing else but the
+-- line
 abbrev pub save_outcome : PlainSession → Reply → KeyOutcome
 save_outcome s Reply.Saved = line_notice_outcome s Notice.Saved
 save_outcome s (Reply.Refused refusal) = refusal_outcome s (why.File refusal)
 save_outcome s reply = no_reply_outcome s
 
--- what `.load` does, by what the files reply: the program that was loaded comes in place of the one that is edited, the cursor
--- goes to main, and the window to the top; the clips and the input stay
+-- what `.load` does, by what the files reply: the program that was loaded comes in place of the one that is edited, the
+-- cursor goes to main, and the window to the top; the clips and the input stay
 abbrev pub load_outcome : PlainSession → Reply → KeyOutcome
 load_outcome s (Reply.Loaded tree) =
     program_acceptance_outcome (record s { tree = tree; stop = first_stop tree.items; top = 0 })

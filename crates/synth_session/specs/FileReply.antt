@@ -19,8 +19,8 @@ pub data Request : Type 0 where
   Save : (name bytes : List ℕ) → Request
   Load : (name : List ℕ) → Request
 
--- what the files reply to a key: they weren't asked, the bytes were saved, this program was loaded, or what was asked was
--- refused for this
+-- what the files reply to a key: they weren't asked, the bytes were saved, this program was loaded, or what was asked
+-- was refused for this
 pub data Reply : Type 0 where
   NotAsked : Reply
   Saved : Reply
@@ -33,11 +33,12 @@ IsSaveReply Reply.Saved = Unit {0}
 IsSaveReply (Reply.Refused refusal) = refusal ≡ FileRefusal.FileFault
 IsSaveReply reply = ⊥
 
--- a load from files with this map can be replied to so: the program is the one whose listing is the content of the name, or there is
--- none for this reason; want of memory is no reply
+-- a load from files with this map can be replied to so: the program is the one whose listing is the content of the
+-- name, or there is none for this reason; want of memory is no reply
 abbrev pub IsLoadReply : Option FileMap → List ℕ → Reply → Type 0
 IsLoadReply stored name (Reply.Loaded tree) = IsTree tree × LoadingSays stored name (Ok tree)
-IsLoadReply stored name (Reply.Refused refusal) = (refusal ≢ FileRefusal.OutOfMemory) × LoadingSays stored name (Err refusal)
+IsLoadReply stored name (Reply.Refused refusal) =
+    (refusal ≢ FileRefusal.OutOfMemory) × LoadingSays stored name (Err refusal)
 IsLoadReply stored name reply = ⊥
 
 -- files with this map can reply so to what is asked
@@ -48,8 +49,8 @@ CanReply stored (Request.Load name) reply = IsLoadReply stored name reply
 
 -- ---- what the files do
 
--- what a reply makes of the map that the files tell: where bytes were saved it has them under their name, and else it is
--- as before
+-- what a reply makes of the map that the files tell: where bytes were saved it has them under their name, and else it
+-- is as before
 abbrev pub IsMapAfter : Request → Reply → Option FileMap → Option FileMap → Type 0
 IsMapAfter (Request.Save name bytes) Reply.Saved before now = IsSaved before now name bytes
 IsMapAfter request reply before now = now ≡ before

@@ -18,12 +18,22 @@ abbrev pub stop_at_first : Option PlainTree → PlainStop
 stop_at_first None = node_stop (0 ∷ 1 ∷ [])
 stop_at_first (Some tree) = first_stop tree.items
 
--- a session over a tree with the cursor at a stop, on a screen of this size, with this input: nothing is typed, clipped or
--- told, and the window begins at the first line from which the cursor is seen
+-- a session over a tree with the cursor at a stop, on a screen of this size, with this input: nothing is typed, clipped
+-- or told, and the window begins at the first line from which the cursor is seen
 abbrev pub session_over : PlainScreenSize → PlainTree → PlainStop → List ℕ → PlainSession
 session_over size tree stop input =
-    with_cursor_seen record { size = size; tree = tree; stop = stop; top = 0; typed = []; clips = []; input = input; message = [] }
+    with_cursor_seen record {
+      size = size;
+      tree = tree;
+      stop = stop;
+      top = 0;
+      typed = [];
+      clips = [];
+      input = input;
+      message = [];
+    }
 
--- the session with which an editor is opened, over the program that is given or a new one, with this input of the program
+-- the session with which an editor is opened, over the program that is given or a new one, with this input of the
+-- program
 unfoldable pub opened_session : PlainScreenSize → Option PlainTree → List ℕ → PlainSession
 opened_session size tree input = session_over size (tree_at_first tree) (stop_at_first tree) input

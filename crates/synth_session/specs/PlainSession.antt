@@ -5,8 +5,9 @@ use Rattle.template_tree.specs.Stop.{PlainStop}
 use Rattle.clip_store.specs.PlainClips.{Pair}
 use Rattle.synth_session.specs.PlainScreenSize.{PlainScreenSize}
 
--- a session as plain data: the screen's size, the program, the stop of the cursor, the number of the window's first line,
--- the typed line, the clips, the bytes of the program's input, and the text of the message; lists have no room in it
+-- a session as plain data: the screen's size, the program, the stop of the cursor, the number of the window's first
+-- line, the typed line, the clips, the bytes of the program's input, and the text of the message; lists have no
+-- room in it
 pub record PlainSession : Type 0 where
   pub size : PlainScreenSize
   pub tree : PlainTree

@@ -1,6 +1,6 @@
 -- What each key does. A key that asks for more than one thing is refused for the first of these that holds: an unbuilt
--- command, an unknown command, a wrong argument, floating point, no clip, the wrong stop, a fault in phrase text, a phrase or
--- line that is full, a limit of trees, full clips, a file, the edge.
+-- command, an unknown command, a wrong argument, floating point, no clip, the wrong stop, a fault in phrase text, a
+-- phrase or line that is full, a limit of trees, full clips, a file, the edge.
 use Rattle.std.specs.Prelude.{◌≡◌}
 use Rattle.cursor_moves.specs.Move.{stop_down, stop_left, stop_right, stop_up}
 use Rattle.synth_session.specs.declared.key.Key.{Key}
@@ -11,13 +11,13 @@ use Rattle.synth_session.specs.declared.answer.Refusal.TheVariants as why
 use Rattle.synth_session.specs.CursorKeys.{cursor_moved}
 use Rattle.synth_session.specs.EnteredLine.{line_entered}
 use Rattle.synth_session.specs.FileReply.{Reply}
-use Rattle.synth_session.specs.KeyOutcome.{KeyOutcome, refusal_outcome}
+use Rattle.synth_session.specs.KeyOutcome.{KeyOutcome, line_acceptance_outcome, refusal_outcome}
 use Rattle.synth_session.specs.PlainSession.{PlainSession}
 use Rattle.synth_session.specs.RefusalText.{refusal_text}
-use Rattle.synth_session.specs.TypedLine.{char_typed, last_erased, line_cleared, phrase_typed}
+use Rattle.synth_session.specs.TypedLine.{char_typed, last_erased, phrase_typed}
 
--- a session without a display of code, which every key ends, a refused one too; no command displays code yet, so this is the
--- session itself
+-- a session without a display of code, which every key ends, a refused one too; no command displays code yet, so this
+-- is the session itself
 abbrev pub without_code_display : PlainSession → PlainSession
 without_code_display s = s
 
@@ -26,7 +26,7 @@ abbrev pub key_outcome : PlainSession → Key → Reply → KeyOutcome
 key_outcome s (Char byte) reply = char_typed s byte
 key_outcome s Enter reply = line_entered s reply
 key_outcome s Erase reply = last_erased s
-key_outcome s Clear reply = line_cleared s
+key_outcome s Clear reply = line_acceptance_outcome s
 key_outcome s Tab reply = phrase_typed s
 key_outcome s Up reply = cursor_moved s stop_up
 key_outcome s Down reply = cursor_moved s stop_down

@@ -54,7 +54,8 @@ pub record Agrees {W : Type 0} (program : Program W) : Type 0 where
   pub tree : IsTree program.tree
   pub dependents : DependOn program.dependents program.tree
 
--- a condition of a session: the cursor stands at a visible stop, and the window begins at a line that a program can have
+-- a condition of a session: the cursor stands at a visible stop, and the window begins at a line that a program can
+-- have
 pub record IsPlaced (s : PlainSession) : Type 0 where
   pub stop : IsStop s.tree.items s.stop
   pub top : s.top ≤ 4 * most_slots
@@ -71,19 +72,20 @@ pub record IsSession {W : Type 0} (s : Session W) : Type 0 where
   pub seen : IsSeen (plain_session s)
 
 -- what became of a key that may take memory, or may not: its outcome, or memory ran out and the session is as it was
-abbrev pub Meets : (may_take_memory : Bool) → KeyOutcome → PlainSession → PlainSession → Result Answer OutOfMemory → Type 0
+abbrev pub Meets : (may_take_memory : Bool) → KeyOutcome → PlainSession → PlainSession → Result Answer OutOfMemory
+    → Type 0
 Meets may_take_memory outcome before now (Ok answer) = (now ≡ outcome.after) × (answer ≡ outcome.answer)
 Meets may_take_memory outcome before now (Err error) = IsTrue may_take_memory × (now ≡ before)
 
 -- a key did this, as far as memory allows; the session's parts keep their conditions, and its screens stay
-pub record Does {W : Type 0} (may_take_memory : Bool) (outcome : KeyOutcome) (before now : Session W) (result : Result Answer OutOfMemory)
-    : Type 0 where
+pub record Does {W : Type 0} (may_take_memory : Bool) (outcome : KeyOutcome) (before now : Session W)
+    (result : Result Answer OutOfMemory) : Type 0 where
   pub session : IsSession now
   pub screens : now.screens ≡ before.screens
   pub met : Meets may_take_memory outcome (plain_session before) (plain_session now) result
 
--- a key that asked this of the files did this, by what they replied, as far as memory allows, and checked no more phrases than
--- its bill says
+-- a key that asked this of the files did this, by what they replied, as far as memory allows, and checked no more
+-- phrases than its bill says
 pub record DoesByReply {W : Type 0} (may_take_memory : Bool) (request : Request) (outcome : Reply → KeyOutcome)
     (before now : Session W) (files_before files_now : PlainFiles) (counts_before counts_now : PlainCounts)
     (result : Result Answer OutOfMemory) : Type 0 where

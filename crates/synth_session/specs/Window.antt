@@ -4,10 +4,11 @@ use Rattle.template_tree.specs.Stop.{line_at}
 use Rattle.screen_window.specs.Screen.{window_rows}
 use Rattle.synth_session.specs.PlainSession.{PlainSession}
 
--- the number of the window's first line from which this line is seen: that line where it is above the window, the one with
--- which the line comes last where it is below, and else the one as it is
+-- the number of the window's first line from which this line is seen: that line where it is above the window, the one
+-- with which the line comes last where it is below, and else the one as it is
 unfoldable pub top_showing : (rows top line : ℕ) → ℕ
-top_showing rows top line = if nat_lt line top then line else (if nat_le (top + rows) line then line + 1 - rows else top)
+top_showing rows top line =
+    if nat_lt line top then line else (if nat_le (top + rows) line then line + 1 - rows else top)
 
 -- the session with its window where the cursor is seen
 abbrev pub with_cursor_seen : PlainSession → PlainSession

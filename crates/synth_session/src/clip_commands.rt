@@ -108,7 +108,8 @@ fn copy_there(alloc: Global, tree: &Tree, at: &Stop) -> Result<Option<Fragment>,
     requires tree { IsTree tree.now }
     ensures copy { IfOk result (λ copy. option_map (λ fragment. roomless_fragment (plain_fragment fragment)) copy
         ≡ option_map whole_fragment (fragment_there (roomless_tree tree.now) (plain_stop at.now) at.now.part)) }
-    ensures slots { IfOk result (λ copy. IfSome copy (λ fragment. slots_of (plain_fragment fragment) ≡ slots_there (roomless_tree tree.now) (plain_stop at.now))) }
+    ensures slots { IfOk result (λ copy. IfSome copy (λ fragment.
+        slots_of (plain_fragment fragment) ≡ slots_there (roomless_tree tree.now) (plain_stop at.now))) }
     ensures sound { IfOk result (λ copy. IfSome copy (λ fragment. IsFragment (plain_fragment fragment))) }
 {
     room_is_not_shown();
@@ -132,8 +133,10 @@ pub(crate) fn copy_phrase_at(
     at: &Stop,
 ) -> Result<Option<Phrase>, OutOfMemory>
     requires { IsTree tree.now }
-    ensures copy { IfOk result (λ copy. option_map plain_phrase copy ≡ cursor_phrase (roomless_tree tree.now) (plain_stop at.now)) }
-    ensures sound { IfOk result (λ copy. IfSome copy (λ phrase. IsFragment (PlainFragment.phrase (plain_phrase phrase)))) }
+    ensures copy { IfOk result (λ copy. option_map plain_phrase copy
+        ≡ cursor_phrase (roomless_tree tree.now) (plain_stop at.now)) }
+    ensures sound { IfOk result (λ copy.
+        IfSome copy (λ phrase. IsFragment (PlainFragment.phrase (plain_phrase phrase)))) }
 {
     room_is_not_shown();
     let Some(phrase) = phrase_at(tree, at) else {

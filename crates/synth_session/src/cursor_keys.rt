@@ -52,7 +52,10 @@ impl<W: Work> Session<W> {
     /// Does what `.top` asks for: moves the cursor to the first stop.
     pub(crate) fn go_to_top(&mut self) -> Answer
         requires { IsSession self.old }
-        ensures { HasOutcome (line_acceptance_outcome (record (plain_session self.old) { stop = first_stop (plain_session self.old).tree.items })) self.old self.new result }
+        ensures { HasOutcome
+            (line_acceptance_outcome
+            (record (plain_session self.old) { stop = first_stop (plain_session self.old).tree.items }))
+            self.old self.new result }
     {
         self.stop = top(&self.program.tree);
         self.accept_line()
@@ -61,7 +64,10 @@ impl<W: Work> Session<W> {
     /// Does what `.bottom` asks for: moves the cursor to the last stop.
     pub(crate) fn go_to_bottom(&mut self) -> Answer
         requires { IsSession self.old }
-        ensures { HasOutcome (line_acceptance_outcome (record (plain_session self.old) { stop = last_stop (plain_session self.old).tree.items })) self.old self.new result }
+        ensures { HasOutcome
+            (line_acceptance_outcome
+            (record (plain_session self.old) { stop = last_stop (plain_session self.old).tree.items }))
+            self.old self.new result }
     {
         self.stop = bottom(&self.program.tree);
         self.accept_line()
@@ -71,8 +77,10 @@ impl<W: Work> Session<W> {
     fn go(&mut self, to: Move) -> Answer
         requires session { IsSession self.old }
         requires stop { IfSome (moved_to to) (IsStop (plain_session self.old).tree.items) }
-        ensures { HasOutcome (if length self.old.typed.items == 0 then cursor_goes (plain_session self.old) (moved_to to)
-            else refusal_outcome (plain_session self.old) Refusal.NotHere) self.old self.new result }
+        ensures { HasOutcome
+            (if length self.old.typed.items == 0 then cursor_goes (plain_session self.old) (moved_to to)
+            else refusal_outcome (plain_session self.old) Refusal.NotHere)
+            self.old self.new result }
     {
         if !self.typed.is_empty() {
             return self.refuse(Refusal::NotHere);

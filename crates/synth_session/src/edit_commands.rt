@@ -44,7 +44,8 @@ impl<W: Work> Session<W> {
         requires stop { IsStop (plain_session self.old).tree.items (plain_stop stop) }
         requires top { self.old.top ≤ 4 * most_slots }
         ensures { HasOutcome
-            (program_acceptance_outcome (edited_session (plain_session self.old) (plain_session self.old).tree (plain_stop stop)))
+            (program_acceptance_outcome
+            (edited_session (plain_session self.old) (plain_session self.old).tree (plain_stop stop)))
             self.old self.new result }
     {
         self.stop = stop;

@@ -1,5 +1,5 @@
 //! What Enter does with the typed line, which is a command or phrase text.
-ghost use Rattle.std.specs.Prelude.{◌≡◌, ◌≤◌, ◌<◌, ◌^◌, IfErr, IfOk, IsTrue, is_some, length, map};
+ghost use Rattle.std.specs.Prelude.{◌≡◌, ◌≤◌, ◌<◌, ◌^◌, IfErr, IfOk, IsTrue, is_some, length};
 ghost use Rattle.std.specs.List.{list_any};
 ghost use Rattle.std.specs.Str.{bytes_eq};
 ghost use Rattle.plcs_base.specs.PlainCounts.{ChecksAtMost};
@@ -9,7 +9,7 @@ ghost use Rattle.phrase_parser.specs.Standing.{Standing};
 ghost use Rattle.session_words.specs.CommandLine.{begins_with_point};
 ghost use Rattle.session_words.specs.PlainCommand.{plain_command};
 ghost use Rattle.session_edit.specs.Here.{category_at};
-ghost use Rattle.synth_session.specs.EnteredLine.{command_line_outcome, command_outcome, is_unbuilt, line_entered, text_entered, unbuilt_words};
+ghost use Rattle.synth_session.specs.EnteredLine.{command_line_outcome, command_outcome, is_unbuilt, line_entered, text_entered};
 ghost use Rattle.synth_session.specs.FileReply.{Reply, Request};
 ghost use Rattle.synth_session.specs.KeyRequest.{command_line_request, command_request, line_request};
 ghost use Rattle.synth_session.specs.MemoryTaken.{command_line_takes_memory, command_takes_memory, line_takes_memory};
@@ -39,8 +39,8 @@ impl<W: Work> Session<W> {
         work: &mut W,
     ) -> Result<Answer, OutOfMemory>
         requires session { IsSession self.old }
-        ensures does { DoesByReply (line_takes_memory (plain_session self.old)) (line_request (plain_session self.old)) (line_entered (plain_session self.old))
-            self.old self.new
+        ensures does { DoesByReply (line_takes_memory (plain_session self.old))
+            (line_request (plain_session self.old)) (line_entered (plain_session self.old)) self.old self.new
             (F.told files.old) (F.told files.new) (W.counts work.old) (W.counts work.new) result }
     {
         if self.typed.is_empty() {
@@ -66,7 +66,8 @@ impl<W: Work> Session<W> {
         requires session { IsSession self.old }
         requires line { line.now ≡ self.old.typed.items }
         requires point { IsTrue (begins_with_point line.now) }
-        ensures does { DoesByReply (command_line_takes_memory (plain_session self.old)) (command_line_request (plain_session self.old)) (command_line_outcome (plain_session self.old))
+        ensures does { DoesByReply (command_line_takes_memory (plain_session self.old))
+            (command_line_request (plain_session self.old)) (command_line_outcome (plain_session self.old))
             self.old self.new
             (F.told files.old) (F.told files.new) (W.counts work.old) (W.counts work.new) result }
     {
@@ -91,8 +92,11 @@ impl<W: Work> Session<W> {
     ) -> Result<Answer, OutOfMemory>
         requires session { IsSession self.old }
         requires unasked { command_request (plain_session self.old) (plain_command command) ≡ Request.Nothing }
-        ensures does { Does (command_takes_memory (plain_session self.old) (plain_command command.entry)) (command_outcome (plain_session self.old) (plain_command command.entry) Reply.NotAsked) self.old self.new result }
-        ensures counts { ChecksAtMost (command_outcome (plain_session self.old) (plain_command command.entry) Reply.NotAsked).checks
+        ensures does { Does (command_takes_memory (plain_session self.old) (plain_command command.entry))
+            (command_outcome (plain_session self.old) (plain_command command.entry) Reply.NotAsked)
+            self.old self.new result }
+        ensures counts { ChecksAtMost
+            (command_outcome (plain_session self.old) (plain_command command.entry) Reply.NotAsked).checks
             (W.counts work.old) (W.counts work.new) }
     {
         match command {
@@ -122,9 +126,13 @@ impl<W: Work> Session<W> {
     /// Enters the typed line as phrase text at the cursor.
     fn enter_text(&mut self, alloc: Global, work: &mut W) -> Result<Answer, OutOfMemory>
         requires session { IsSession self.old }
-        ensures does { Does (is_some (category_at (plain_session self.old).tree (plain_session self.old).stop)) (text_entered (plain_session self.old) (category_at (plain_session self.old).tree (plain_session self.old).stop)) self.old self.new result }
+        ensures does { Does (is_some (category_at (plain_session self.old).tree (plain_session self.old).stop))
+            (text_entered (plain_session self.old)
+            (category_at (plain_session self.old).tree (plain_session self.old).stop))
+            self.old self.new result }
         ensures counts { ChecksAtMost
-            (text_entered (plain_session self.old) (category_at (plain_session self.old).tree (plain_session self.old).stop)).checks
+            (text_entered (plain_session self.old)
+            (category_at (plain_session self.old).tree (plain_session self.old).stop)).checks
             (W.counts work.old) (W.counts work.new) }
     {
         let Some(category) = wanted(&self.program.tree, &self.stop) else {
@@ -165,24 +173,14 @@ fn is_unbuilt(line: &[u8]) -> bool
     ensures { result ≡ is_unbuilt line.now }
 {
     match command_word(line) {
-        Some(word) => is_among(unbuilt_words(), word),
+        Some(word) => is_among(word, &UNBUILT_WORDS),
         None => false,
     }
 }
 
-/// The words of the commands that aren't built yet, as the definition lists them.
-fn unbuilt_words() -> &'static [&'static [u8]]
-    ensures { map (λ word. word.now) result.now ≡ unbuilt_words }
-{
-    &UNBUILT_WORDS
-}
-
 /// Whether a word is among these words of commands.
-fn is_among(words: &[&[u8]], word: &[u8]) -> bool
-    ensures { result ≡ list_any (bytes_eq word.now) (map (λ listed. listed.now) words.now) }
+fn is_among(word: &[u8], words: &[&[u8]]) -> bool
+    ensures { result ≡ list_any (λ listed. bytes_eq word.now listed.now) words.now }
 {
-    let Some((first, rest)) = words.split_first() else {
-        return false;
-    };
-    word == *first || is_among(rest, word)
+    words.iter().any(|listed| word == *listed)
 }

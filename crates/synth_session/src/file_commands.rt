@@ -30,8 +30,8 @@ impl<W: Work> Session<W> {
         files: &mut F,
     ) -> Result<Answer, OutOfMemory>
         requires { IsSession self.old }
-        ensures { DoesUncounted true (Request.Save name.now (Listing (plain_session self.old).tree.items)) (save_outcome (plain_session self.old))
-            self.old self.new
+        ensures { DoesUncounted true (Request.Save name.now (Listing (plain_session self.old).tree.items))
+            (save_outcome (plain_session self.old)) self.old self.new
             (F.told files.old) (F.told files.new) result }
     {
         room_is_not_shown();
@@ -53,8 +53,8 @@ impl<W: Work> Session<W> {
         work: &mut W,
     ) -> Result<Answer, OutOfMemory>
         requires session { IsSession self.old }
-        ensures does { DoesByReply true (Request.Load name.now) (load_outcome (plain_session self.old))
-            self.old self.new
+        ensures does { DoesByReply true (Request.Load name.now)
+            (load_outcome (plain_session self.old)) self.old self.new
             (F.told files.old) (F.told files.new) (W.counts work.old) (W.counts work.new) result }
     {
         room_is_not_shown();
@@ -77,7 +77,8 @@ impl<W: Work> Session<W> {
     ) -> Result<Answer, OutOfMemory>
         requires session { IsSession self.old }
         requires tree { IsTree tree }
-        ensures does { Does true (load_outcome (plain_session self.old) (Reply.Loaded (roomless_tree tree))) self.old self.new result }
+        ensures does { Does true (load_outcome (plain_session self.old) (Reply.Loaded (roomless_tree tree)))
+            self.old self.new result }
         ensures counts { ChecksAtMost (load_outcome (plain_session self.old) (Reply.Loaded (roomless_tree tree))).checks
             (W.counts work.old) (W.counts work.new) }
     {

@@ -25,15 +25,15 @@ impl<W: Work> Session<W> {
         work: &mut W,
     ) -> Result<Answer, OutOfMemory>
         requires { IsSession self.old }
-        ensures pressed { DoesByReply (key_takes_memory (plain_session self.old) key) (request (plain_session self.old) key) (press (plain_session self.old) key)
-            self.old self.new
+        ensures pressed { DoesByReply (key_takes_memory (plain_session self.old) key)
+            (request (plain_session self.old) key) (press (plain_session self.old) key) self.old self.new
             (F.told files.old) (F.told files.new) (W.counts work.old) (W.counts work.new) result }
     {
         match key {
             Key::Char(byte) => Ok(self.type_char(byte)),
             Key::Enter => self.enter(alloc, files, work),
             Key::Erase => Ok(self.erase()),
-            Key::Clear => Ok(self.clear()),
+            Key::Clear => Ok(self.accept_line()),
             Key::Tab => Ok(self.type_phrase()),
             Key::Up => Ok(self.move_up()),
             Key::Down => Ok(self.move_down()),
@@ -44,8 +44,8 @@ impl<W: Work> Session<W> {
     }
 }
 
-/// The law of refused keys: such a key changes the message alone, ends a display of code, and nothing is checked in it, whatever the files
-/// reply.
+/// The law of refused keys: such a key changes the message alone, but for a display of code, which it ends, and
+/// nothing is checked in it, whatever the files reply.
 pub fn refused_keys_change_the_message()
     ensures message { RefusedKeysChangeTheMessage }
     ensures checks { RefusedKeysCheckNothing }

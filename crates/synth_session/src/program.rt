@@ -85,13 +85,15 @@ impl<W: Work> Program<W> {
         ensures agrees { Agrees self.new }
         ensures became { IfOk result (λ changed.
             edited (roomless_tree self.old.tree) (plain_stop at.now) (plain_edit edit)
-            ≡ Edited.became (roomless_tree self.new.tree) (plain_stop changed.stop) (option_map roomless_node changed.taken)
-            changed.change.what changed.change.slot.0) }
+            ≡ Edited.became (roomless_tree self.new.tree) (plain_stop changed.stop)
+            (option_map roomless_node changed.taken) changed.change.what changed.change.slot.0) }
         ensures stop { IfOk result (λ changed. IsStop (roomless_tree self.new.tree).items (plain_stop changed.stop)) }
         ensures taken { IfOk result (λ changed. IfSome changed.taken IsSubtree) }
-        ensures refused { IfErr result (IsEditFault (edited (roomless_tree self.old.tree) (plain_stop at.now) (plain_edit edit))) }
+        ensures refused { IfErr result
+            (IsEditFault (edited (roomless_tree self.old.tree) (plain_stop at.now) (plain_edit edit))) }
         ensures same { IfErr result (λ _. roomless_tree self.new.tree ≡ roomless_tree self.old.tree) }
-        ensures counts { ChecksAtMost (edit_checks (edited (roomless_tree self.old.tree) (plain_stop at.now) (plain_edit edit)))
+        ensures counts { ChecksAtMost
+            (edit_checks (edited (roomless_tree self.old.tree) (plain_stop at.now) (plain_edit edit)))
             (W.counts work.old) (W.counts work.new) }
     {
         let applied = apply(alloc, &mut self.tree, at, edit)?;
@@ -121,13 +123,9 @@ impl<W: Work> Program<W> {
         ensures counts { ChecksAtMost (phrase_count (roomless_tree self.old.tree))
             (W.counts work.old) (W.counts work.new) }
     {
-        match Dependents::of(alloc, &self.tree, work) {
-            Ok(dependents) => {
-                self.dependents = dependents;
-                Ok(())
-            }
-            Err(OutOfMemory) => Err(OutOfMemory),
-        }
+        let dependents = Dependents::of(alloc, &self.tree, work)?;
+        self.dependents = dependents;
+        Ok(())
     }
 
     /// Takes what stands at the stop out of the program, from which it can be taken. A phrase is copied first.
@@ -141,7 +139,8 @@ impl<W: Work> Program<W> {
         requires stop { IsStop (roomless_tree self.old.tree).items (plain_stop at.now) }
         requires taken { takes_at (roomless_tree self.old.tree) (plain_stop at.now) ≡ true }
         ensures taken { TakesOutFragment self.old self.new at.now result }
-        ensures counts { ChecksAtMost (edit_checks (edited (roomless_tree self.old.tree) (plain_stop at.now) PlainEdit.take))
+        ensures counts { ChecksAtMost
+            (edit_checks (edited (roomless_tree self.old.tree) (plain_stop at.now) PlainEdit.take))
             (W.counts work.old) (W.counts work.new) }
     {
         match at.part {
@@ -157,7 +156,8 @@ impl<W: Work> Program<W> {
         requires node { at.now.part ≡ None }
         requires taken { takes_at (roomless_tree self.old.tree) (plain_stop at.now) ≡ true }
         ensures taken { TakesOutFragment self.old self.new at.now result }
-        ensures counts { ChecksAtMost (edit_checks (edited (roomless_tree self.old.tree) (plain_stop at.now) PlainEdit.take))
+        ensures counts { ChecksAtMost
+            (edit_checks (edited (roomless_tree self.old.tree) (plain_stop at.now) PlainEdit.take))
             (W.counts work.old) (W.counts work.new) }
     {
         let Changed { stop, taken, .. } = self.change(alloc, at, Edit::Take, work)?;
@@ -177,7 +177,8 @@ impl<W: Work> Program<W> {
         requires part { IsSome at.now.part }
         requires taken { takes_at (roomless_tree self.old.tree) (plain_stop at.now) ≡ true }
         ensures taken { TakesOutFragment self.old self.new at.now result }
-        ensures counts { ChecksAtMost (edit_checks (edited (roomless_tree self.old.tree) (plain_stop at.now) PlainEdit.take))
+        ensures counts { ChecksAtMost
+            (edit_checks (edited (roomless_tree self.old.tree) (plain_stop at.now) PlainEdit.take))
             (W.counts work.old) (W.counts work.new) }
     {
         let Some(phrase) = copy_phrase_at(alloc, &self.tree, at)? else {

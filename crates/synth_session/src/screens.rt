@@ -12,7 +12,7 @@ ghost use Rattle.screen_window.specs.declared.limit.TheConstants.{MOST_ROWS};
 
 use crate::size::ScreenSize;
 use plcs_base::{Marked, OutOfMemory, Work};
-use screen_window::{Grid, View, compose, paint};
+use screen_window::{Grid, OTHER_ROWS, View, compose, paint};
 use std::alloc::Global;
 use std::marker::Model;
 use std::mem;
@@ -84,6 +84,3 @@ impl Screens {
         Ok(())
     }
 }
-
-/// How many rows of a screen aren't the window's: dashes, three rows of output, the message and the input.
-const OTHER_ROWS: u16 = 6;

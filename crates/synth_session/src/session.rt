@@ -62,7 +62,8 @@ impl<W: Work> Session<W> {
         requires tree { IfSome tree IsTree }
         requires input { length input.items ≤ longest_input }
         ensures session { IfOk result (λ session. IsSession session) }
-        ensures opened { IfOk result (λ session. plain_session session ≡ opened_session size (option_map roomless_tree tree) input.items) }
+        ensures opened { IfOk result (λ session.
+            plain_session session ≡ opened_session size (option_map roomless_tree tree) input.items) }
         ensures shown { IfOk result (λ session. shown_grid session ≡ blank_grid size.rows size.cols) }
         ensures next { IfOk result (λ session. next_grid session ≡ blank_grid size.rows size.cols) }
         ensures counts { ChecksAtMost (phrase_count (tree_at_first (option_map roomless_tree tree)))
@@ -93,7 +94,8 @@ impl<W: Work> Session<W> {
         requires stop { IsStop (roomless_tree tree).items (plain_stop stop) }
         requires input { length input.items ≤ longest_input }
         ensures session { IfOk result (λ session. IsSession session) }
-        ensures opened { IfOk result (λ session. plain_session session ≡ session_over size (roomless_tree tree) (plain_stop stop) input.items) }
+        ensures opened { IfOk result (λ session.
+            plain_session session ≡ session_over size (roomless_tree tree) (plain_stop stop) input.items) }
         ensures shown { IfOk result (λ session. shown_grid session ≡ blank_grid size.rows size.cols) }
         ensures next { IfOk result (λ session. next_grid session ≡ blank_grid size.rows size.cols) }
         ensures counts { ChecksAtMost (phrase_count (roomless_tree tree))

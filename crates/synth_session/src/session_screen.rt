@@ -35,7 +35,8 @@ impl<W: Work> Session<W> {
         ensures next { next_grid self.new ≡ grid (plain_session self.old) }
         ensures shown { shown_grid self.new ≡ shown_grid self.old }
         ensures same { plain_session self.new ≡ plain_session self.old }
-        ensures counts { LaysAtMost (window_rows (plain_session self.old).size.rows) (W.counts work.old) (W.counts work.new) }
+        ensures counts { LaysAtMost (window_rows (plain_session self.old).size.rows)
+            (W.counts work.old) (W.counts work.new) }
     {
         let prompt = prompt(&self.program.tree, &self.stop);
         let text = shown_text(self.message);

@@ -7,7 +7,7 @@ ghost use Rattle.template_tree.specs.Stop.{plain_stop};
 ghost use Rattle.template_tree.specs.Tree.{IsTree};
 ghost use Rattle.synth_session.specs.Private.MemorylessKey.{HasOutcome};
 ghost use Rattle.synth_session.specs.SessionView.{IsSession, plain_session};
-ghost use Rattle.synth_session.specs.TypedLine.{char_typed, cursor_phrase, last_erased, line_cleared, phrase_typed};
+ghost use Rattle.synth_session.specs.TypedLine.{char_typed, cursor_phrase, last_erased, phrase_typed};
 
 use crate::answer::{Answer, Refusal};
 use crate::session::Session;
@@ -45,15 +45,6 @@ impl<W: Work> Session<W> {
         self.accept()
     }
 
-    /// Takes the whole typed line back.
-    pub(crate) fn clear(&mut self) -> Answer
-        requires { IsSession self.old }
-        ensures { HasOutcome (line_cleared (plain_session self.old)) self.old self.new result }
-    {
-        self.typed.clear();
-        self.accept()
-    }
-
     /// Does what Tab asks for: takes the text of the phrase at the cursor into the empty line.
     pub(crate) fn type_phrase(&mut self) -> Answer
         requires { IsSession self.old }
@@ -78,7 +69,8 @@ impl<W: Work> Session<W> {
 #[tactic(auto, unfolding(crate::specs::TypedLine::cursor_phrase))]
 pub(crate) fn phrase_at<'a>(tree: &'a Tree, stop: &Stop) -> Option<&'a Phrase>
     requires { IsTree tree.now }
-    ensures { option_map (λ phrase. plain_phrase phrase.now) result ≡ cursor_phrase (roomless_tree tree.now) (plain_stop stop.now) }
+    ensures { option_map (λ phrase. plain_phrase phrase.now) result
+        ≡ cursor_phrase (roomless_tree tree.now) (plain_stop stop.now) }
 {
     room_is_not_shown();
     let node = tree.node(&stop.path)?;

@@ -13,14 +13,17 @@ use Rattle.synth_session.specs.ClipCommands.{fragment_there}
 use Rattle.synth_session.specs.Private.EditFault.{HasBecome, IsEditFault}
 use Rattle.synth_session.specs.SessionView.{Agrees}
 
--- what stands at a stop was taken out of the program, which is what the edit makes of it, and is given out whole, or the edit
--- was refused for this fault and the program is as it was; what depends on the program is that of the program
-pub record TakesOutFragment {W : Type 0} (before now : Program W) (at : Stop) (result : Result Taken TreeFault) : Type 0 where
+-- what stands at a stop was taken out of the program, which is what the edit makes of it, and is given out whole, or
+-- the edit was refused for this fault and the program is as it was; what depends on the program is that of the program
+pub record TakesOutFragment {W : Type 0} (before now : Program W) (at : Stop) (result : Result Taken TreeFault)
+    : Type 0 where
   pub agrees : Agrees now
   pub became : IfOk result (λ taken.
-      HasBecome (edited (roomless_tree before.tree) (plain_stop at) PlainEdit.take) (roomless_tree now.tree) (plain_stop taken.stop))
+      HasBecome (edited (roomless_tree before.tree) (plain_stop at) PlainEdit.take)
+      (roomless_tree now.tree) (plain_stop taken.stop))
   pub fragment : IfOk result (λ taken.
-      fragment_there (roomless_tree before.tree) (plain_stop at) at.part ≡ Some (roomless_fragment (plain_fragment taken.fragment)))
+      fragment_there (roomless_tree before.tree) (plain_stop at) at.part
+      ≡ Some (roomless_fragment (plain_fragment taken.fragment)))
   pub stop : IfOk result (λ taken. IsStop (roomless_tree now.tree).items (plain_stop taken.stop))
   pub sound : IfOk result (λ taken. IsFragment (plain_fragment taken.fragment))
   pub refused : IfErr result (IsEditFault (edited (roomless_tree before.tree) (plain_stop at) PlainEdit.take))
