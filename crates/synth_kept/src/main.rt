@@ -9,9 +9,9 @@ use kept::synth_kept;
 use key_journal::StdDisk;
 use plcs_base::Counts;
 use status::KeptStatus;
-use std::io;
 use std::io::ErrorKind;
 use std::process::ExitCode;
+use std::{env, io};
 use synth_outside::{StdFiles, StdSink, StdSource};
 use synth_top::{Status, words_of};
 
@@ -27,7 +27,7 @@ fn status_of(error: &io::Error) -> KeptStatus {
 /// folder.
 fn run(rt: &HostRuntime) -> KeptStatus {
     let alloc = rt.alloc();
-    let words = match words_of(rt, alloc) {
+    let words = match words_of(alloc, env::args(rt)) {
         Ok(words) => words,
         Err(status) => return KeptStatus::Run(status),
     };

@@ -2,6 +2,7 @@
 #![tactic(auto)]
 
 use plcs_base::Counts;
+use std::env;
 use std::process::ExitCode;
 use synth_outside::{StdFiles, StdSink, StdSource};
 use synth_top::{Status, synth, words_of};
@@ -9,7 +10,7 @@ use synth_top::{Status, synth, words_of};
 /// Runs the editor over the system's streams and the files of the current folder, without a journal.
 fn run(rt: &HostRuntime) -> Status {
     let alloc = rt.alloc();
-    let words = match words_of(rt, alloc) {
+    let words = match words_of(alloc, env::args(rt)) {
         Ok(words) => words,
         Err(status) => return status,
     };
