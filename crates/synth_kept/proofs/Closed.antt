@@ -1,6 +1,7 @@
 -- A journal that is closed behind the editor's run.
 use Rattle.std.proofs.Common.{◌≡◌, ℕ, Bool, false, ◌⊎◌, inl, inr, List, [], ◌∷◌, ◌++◌, refl, sym, ap, ◌∙◌, subst, Option, append-nil}
 use Rattle.std.specs.Prelude.{IsTrue}
+use Rattle.plcs_base.specs.PlainCounts.{PlainCounts}
 use Rattle.synth_outside.specs.Files.{PlainFiles}
 use Rattle.key_journal.specs.ClearedJournal.{LeavesNothingOr}
 use Rattle.key_journal.specs.Crash.{LeavesOnly, LeavesOneOf}
@@ -16,7 +17,7 @@ use Rattle.synth_kept.specs.declared.status.KeptStatus.{KeptStatus}
 use Rattle.synth_kept.specs.declared.status.KeptStatus.TheVariants.{Run}
 use Rattle.synth_top.specs.declared.status.Status.{Status}
 use Rattle.synth_top.specs.declared.status.Status.TheVariants.{Done}
-use Rattle.synth_top.specs.Options.{PlainOptions}
+use Rattle.synth_top.specs.Task.{PlainTask}
 use Rattle.synth_kept.proofs.Moments.{newest_weaker, throughout_weaker}
 
 -- where a crash left these keys alone, it leaves nothing or them while they are cleared
@@ -43,11 +44,11 @@ all_of_one keys last none state one = record {
   either found (inr same) = same ∙ ap (λ (l : List ℕ). keys ++ l) none ∙ append-nil keys
 
 -- a run that is done left all keys
-done_safe : (words : Option PlainOptions) (run : Status) (closing : Closing) (before now : KeptTold)
+done_safe : (task : Option PlainTask) (run : Status) (closing : Closing) (before now : KeptTold)
     (same_outside after_reads after_fault : Type 0)
-    (editing : JournalWholeRun words run closing before now same_outside after_reads after_fault) → run ≡ Done →
+    (editing : JournalWholeRun task run closing before now same_outside after_reads after_fault) → run ≡ Done →
     Newest (LeavesOnly (kept_keys before.past ++ editing.taken)) now.past
-done_safe words run closing before now same_outside after_reads after_fault editing done =
+done_safe task run closing before now same_outside after_reads after_fault editing done =
     newest_weaker _ _ now.past (all_of_one (kept_keys before.past ++ editing.taken) editing.last none_last) editing.safe where
       none_last : editing.last ≡ []
       none_last = elim editing.failed as (λ _. editing.last ≡ []) [
@@ -64,33 +65,33 @@ not_true test failed passed = cc (failed, passed)
 pub same_inner : {S D : Type 0} (one other : PlainJournalKeys S D) → one ≡ other → one.inner ≡ other.inner
 same_inner {S} {D} one other same = ap (λ (journal : PlainJournalKeys S D). journal.inner) same
 
--- what is told of this source and these states of the disk, beside what was written, the files and the lines laid
-abbrev pub told_of : {S : Type 0} → (S → Option (List ℕ)) → Option (List ℕ) → PlainFiles → ℕ → S → List DiskState →
+-- what is told of this source and these states of the disk, beside what was written, the files and what was counted
+abbrev pub told_of : {S : Type 0} → (S → Option (List ℕ)) → Option (List ℕ) → ℕ → PlainFiles → PlainCounts → S → List DiskState →
     KeptTold
-told_of left written files laid source past =
-    record { left = left source; past = past; taken = written; files = files; laid = laid }
+told_of left written wants files counts source past =
+    record { left = left source; past = past; taken = written; wants = wants; files = files; counts = counts }
 
 module _ {S : Type 0} (left : S → Option (List ℕ)) (leads_to breaks_at : S → S → Type 0) (keys first last source : S)
-    (same_first : first ≡ keys) (same_last : source ≡ last) (words : Option PlainOptions) (run : Status)
-    (origin behind : List DiskState) (written written_after : Option (List ℕ)) (files files_after : PlainFiles)
-    (laid laid_after : ℕ) (same_outside : Type 0) where
+    (same_first : first ≡ keys) (same_last : source ≡ last) (task : Option PlainTask) (run : Status)
+    (origin behind : List DiskState) (written written_after : Option (List ℕ)) (wants wants_after : ℕ) (files files_after : PlainFiles)
+    (counts counts_after : PlainCounts) (same_outside : Type 0) where
   abbrev pub Editing : Closing → Type 0
   Editing closing =
-      JournalWholeRun words run closing (told_of left written files laid first origin)
-      (told_of left written_after files_after laid_after last behind) same_outside (leads_to first last) (breaks_at first last)
+      JournalWholeRun task run closing (told_of left written wants files counts first origin)
+      (told_of left written_after wants_after files_after counts_after last behind) same_outside (leads_to first last) (breaks_at first last)
 
   abbrev pub Keeps : KeptStatus → List DiskState → Type 0
   Keeps status past =
-      JournalSession words status (told_of left written files laid keys origin)
-      (told_of left written_after files_after laid_after source past) same_outside (leads_to keys source) (breaks_at keys source)
+      JournalSession task status (told_of left written wants files counts keys origin)
+      (told_of left written_after wants_after files_after counts_after source past) same_outside (leads_to keys source) (breaks_at keys source)
 
   keeps : (closing : Closing) (editing : Editing closing) (status : KeptStatus) (past : List DiskState) →
       Closes closing run status (kept_keys origin ++ editing.taken) behind past → Keeps status past
   keeps closing editing status past closed =
-      subst (λ (s : S). JournalSession words status (told_of left written files laid s origin)
-      (told_of left written_after files_after laid_after source past) same_outside (leads_to s source) (breaks_at s source)) same_first
-      (subst (λ (s : S). JournalSession words status (told_of left written files laid first origin)
-      (told_of left written_after files_after laid_after s past) same_outside (leads_to first s) (breaks_at first s)) (sym same_last)
+      subst (λ (s : S). JournalSession task status (told_of left written wants files counts s origin)
+      (told_of left written_after wants_after files_after counts_after source past) same_outside (leads_to s source) (breaks_at s source)) same_first
+      (subst (λ (s : S). JournalSession task status (told_of left written wants files counts first origin)
+      (told_of left written_after wants_after files_after counts_after s past) same_outside (leads_to first s) (breaks_at first s)) (sym same_last)
       (record { run = run; behind = behind; closing = closing; editing = editing; closed = closed }))
 
   -- the journal stands
@@ -100,8 +101,8 @@ module _ {S : Type 0} (left : S → Option (List ℕ)) (leads_to breaks_at : S �
   -- a run that is done left all keys
   safe_when_done : (closing : Closing) (editing : Editing closing) → run ≡ Done → Newest (LeavesOnly (kept_keys origin ++ editing.taken)) behind
   safe_when_done closing editing done =
-      done_safe words run closing (told_of left written files laid first origin)
-      (told_of left written_after files_after laid_after last behind) same_outside (leads_to first last) (breaks_at first last) editing done
+      done_safe task run closing (told_of left written wants files counts first origin)
+      (told_of left written_after wants_after files_after counts_after last behind) same_outside (leads_to first last) (breaks_at first last) editing done
 
   -- it was cleared, or couldn't be
   pub keeps_clearing : (given : ℕ) (ended : Bool) → ((closing : Closing) → ClosesAsDue closing run given ended → Editing closing) →

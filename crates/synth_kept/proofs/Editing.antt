@@ -3,6 +3,7 @@ use Rattle.std.proofs.Common.{◌≡◌, ℕ, ◌+◌, ◌≤◌, ◌⊎◌, inl
 use Rattle.std.specs.Prelude.{◌≢◌, IfSome, IsSome}
 use Rattle.std.proofs.KnownBytes.{Consumes-nil}
 use Rattle.std.specs.Io.KnownBytes.{Consumes}
+use Rattle.plcs_base.specs.PlainCounts.{PlainCounts}
 use Rattle.synth_outside.specs.Files.{PlainFiles}
 use Rattle.key_journal.specs.AfterReads.{BreaksAt, KeepsAll, KeepsAllButLast, LeadsTo}
 use Rattle.key_journal.specs.Crash.{LeavesBetween, LeavesOneOf, LeavesOnly, Throughout}
@@ -14,12 +15,14 @@ use Rattle.synth_kept.specs.KeptWholeRun.{AreKeys, JournalWholeRun, KeptTold, Te
 use Rattle.synth_kept.specs.Private.Agreement.{ClosesAsDue}
 use Rattle.synth_top.specs.declared.status.Status.{Status}
 use Rattle.synth_top.specs.declared.status.Status.TheVariants.{Done, ReadFault, WriteFault, NoMemory, BadWords, KeyLimit}
-use Rattle.synth_top.specs.WholeRun.{Ended, LeavesSource, NoneLost, NotOpened, QuitPressed, Ran, ReadCut, Told}
+use Rattle.synth_top.specs.WholeRun.{Ended, LeavesSource, NoneLost, NotOpened, QuitPressed, Ran, ReadCut, TaskEnded, Told, ToldStreams}
 use Rattle.synth_top.specs.Status.{LeftAs}
 use Rattle.synth_top.specs.Loads.{first_state}
 use Rattle.synth_top.specs.Options.{PlainOptions}
+use Rattle.synth_top.specs.Task.{PlainTask}
+use Rattle.synth_top.specs.Task.PlainTask.{Edit}
 use Rattle.synth_kept.proofs.GivenKeys.{given_all, given_before}
-use Rattle.synth_kept.proofs.Limits.{IsLimited}
+use Rattle.synth_kept.proofs.Limits.{IsLimited, IsLimitedTask}
 use Rattle.synth_kept.proofs.Moments.{newest_weaker, one_of_all, still_told, throughout_both, throughout_same, throughout_weaker}
 use Rattle.synth_kept.proofs.PressedKeys.{leaves_given}
 use Rattle.synth_kept.proofs.Quits.{clears_at_quit, stands_undone}
@@ -94,15 +97,16 @@ module _ {S D : Type 0} (left : S → Option (List ℕ)) (source_faults : S → 
     (origin : List DiskState)
     (opens : Throughout (LeavesOnly (kept_keys origin)) origin (past first.disk))
     (is_safe : Newest (LeavesOnly (kept_keys origin)) (past first.disk))
-    (written written_after : Option (List ℕ)) (files files_after : PlainFiles)
-    (laid laid_after : ℕ) where
+    (written written_after : Option (List ℕ)) (wants wants_after : ℕ) (files files_after : PlainFiles)
+    (counts counts_after : PlainCounts) where
   abbrev pub before : KeptTold
   before = record {
     left = left first.inner;
     past = origin;
     taken = written;
+    wants = wants;
     files = files;
-    laid = laid;
+    counts = counts;
   }
 
   abbrev pub after : KeptTold
@@ -110,8 +114,9 @@ module _ {S D : Type 0} (left : S → Option (List ℕ)) (source_faults : S → 
     left = left now.inner;
     past = past now.disk;
     taken = written_after;
+    wants = wants_after;
     files = files_after;
-    laid = laid_after;
+    counts = counts_after;
   }
 
   abbrev Leads : Type 0
@@ -120,11 +125,25 @@ module _ {S D : Type 0} (left : S → Option (List ℕ)) (source_faults : S → 
   abbrev Breaks : Type 0
   Breaks = BreaksAt left source_faults leads_to breaks_at past disk_faults first now
 
+  -- what is told before the run, with this left and so many reads
+  abbrev pub told_first : Option (List ℕ) → ℕ → Told
+  told_first bytes reads = record {
+    streams = record { left = bytes; reads = reads; taken = written; wants = wants };
+    files = files;
+    counts = counts;
+  }
+
   -- the run that `synth` says of
   abbrev pub SynthEnded : Status → PlainOptions → Type 0
   SynthEnded run options = Ended run options
-      (record { left = left_of_both (left first.inner) (past first.disk) first.given; reads = first.reads; taken = written; laid = laid })
-      (told_editor after now.given now.reads) files files_after Leads Breaks
+      (told_first (left_of_both (left first.inner) (past first.disk) first.given) first.reads)
+      (told_editor after now.given now.reads) Leads Breaks
+
+  -- the task that `synth` says of
+  abbrev pub SynthTaskEnded : Status → PlainTask → Type 0
+  SynthTaskEnded run task = TaskEnded task run
+      (told_first (left_of_both (left first.inner) (past first.disk) first.given) first.reads)
+      (told_editor after now.given now.reads) Leads Breaks
 
   same : kept_keys (past first.disk) ≡ kept_keys origin
   same = kept_still origin (past first.disk) opens is_safe
@@ -135,23 +154,19 @@ module _ {S D : Type 0} (left : S → Option (List ℕ)) (source_faults : S → 
   safe : Newest (LeavesOnly (kept_keys (past first.disk))) (past first.disk)
   safe = subst (λ (keys : List ℕ). Newest (LeavesOnly keys) (past first.disk)) (sym same) is_safe
 
-  -- what is told before it, with this left and so many reads
-  abbrev told_first : Option (List ℕ) → ℕ → Told
-  told_first bytes reads = record { left = bytes; reads = reads; taken = written; laid = laid }
-
   from_first : (run : Status) (options : PlainOptions) → SynthEnded run options →
-      Ended run options (told_editor before 0 0) (told_editor after now.given now.reads) files files_after Leads Breaks
+      Ended run options (told_editor before 0 0) (told_editor after now.given now.reads) Leads Breaks
   from_first run options ended =
-      subst (λ (bytes : Option (List ℕ)). Ended run options (told_first bytes 0) (told_editor after now.given now.reads) files files_after Leads Breaks)
+      subst (λ (bytes : Option (List ℕ)). Ended run options (told_first bytes 0) (told_editor after now.given now.reads) Leads Breaks)
       (ap (λ (given : ℕ). left_of_both (left first.inner) (past first.disk) given) none_given ∙ left_same)
-      (subst (λ (reads : ℕ). Ended run options (told_first (left_of_both (left first.inner) (past first.disk) first.given) reads) (told_editor after now.given now.reads) files files_after Leads Breaks)
+      (subst (λ (reads : ℕ). Ended run options (told_first (left_of_both (left first.inner) (past first.disk) first.given) reads) (told_editor after now.given now.reads) Leads Breaks)
       none_read ended)
 
   -- a run that left its source so instead
   abbrev with_source : (run : Status) (options : PlainOptions) {led broke led_so broke_so : Type 0}
-      (ended : Ran run options (told_editor before 0 0) (told_editor after now.given now.reads) files files_after led broke)
+      (ended : Ran run options (told_editor before 0 0) (told_editor after now.given now.reads) led broke)
       → LeavesSource ended.course led_so broke_so
-      → Ran run options (told_editor before 0 0) (told_editor after now.given now.reads) files files_after led_so broke_so
+      → Ran run options (told_editor before 0 0) (told_editor after now.given now.reads) led_so broke_so
   with_source run options ended source = record {
     loads = ended.loads;
     can_load = ended.can_load;
@@ -165,6 +180,7 @@ module _ {S D : Type 0} (left : S → Option (List ℕ)) (source_faults : S → 
     wants_now = ended.wants_now;
     files = ended.files;
     faults = ended.faults;
+    counts = ended.counts;
   }
 
   few_given : first.given ≤ length (kept_keys (past first.disk))
@@ -172,7 +188,7 @@ module _ {S D : Type 0} (left : S → Option (List ℕ)) (source_faults : S → 
 
   module _ (run : Status) (options : PlainOptions) (limited : IsLimited options) (closing : Closing)
       (agrees : ClosesAsDue closing run now.given now.ended) (same_outside : Type 0)
-      (ended : Ran run options (told_editor before 0 0) (told_editor after now.given now.reads) files files_after Leads Breaks) where
+      (ended : Ran run options (told_editor before 0 0) (told_editor after now.given now.reads) Leads Breaks) where
     -- the bytes that were read, from the disk that was opened
     read_first : Consumes (left_of_both (left first.inner) (past first.disk) 0) (left_of_both (left now.inner) (past now.disk) now.given) (ended.course.bytes ++ ended.course.lost)
     read_first =
@@ -189,7 +205,7 @@ module _ {S D : Type 0} (left : S → Option (List ℕ)) (source_faults : S → 
 
     -- all reads were Ok
     edits_all : Leads → NoneLost ended.course →
-        JournalWholeRun (Some options) run closing before after same_outside (leads_to first.inner now.inner) (breaks_at first.inner now.inner)
+        JournalWholeRun (Some (Edit options)) run closing before after same_outside (leads_to first.inner now.inner) (breaks_at first.inner now.inner)
     edits_all leads none_lost =
         let keeps = leads.keeps few_given safe in
         let given_keys : TellsBoth before → AreKeys (kept_keys (past first.disk)) leads.taken [] ended.course.bytes × (length ended.course.bytes ≡ now.given) =
@@ -217,7 +233,7 @@ module _ {S D : Type 0} (left : S → Option (List ℕ)) (source_faults : S → 
             keys = are;
             none_lost = λ told. leaves_given (kept_keys origin) leads.taken [] ended.course.bytes (past now.disk) (are told) safe_now;
             quit = λ told.
-                clears_at_quit options limited (first_state options files.stored ended.loads) (told_editor before 0 0) (told_editor after now.given now.reads) files.wants ended.wants ended.course refl
+                clears_at_quit options limited (first_state options files.stored ended.loads) (told_editor before 0 0).streams (told_editor after now.given now.reads).streams files.wants ended.wants ended.course refl
                 now.given leads.counts.ends now.ended (given_keys told).1
                 (λ few. let counted = leads.counts.counted few in omega (arith, counted, none_given, none_read))
                 (leads.counts.noted not_ended)
@@ -228,7 +244,7 @@ module _ {S D : Type 0} (left : S → Option (List ℕ)) (source_faults : S → 
 
     -- a read wasn't Ok
     edits_before : Breaks → ReadCut ended.course → (run ≡ ReadFault) ⊎ (run ≡ NoMemory) →
-        JournalWholeRun (Some options) run closing before after same_outside (leads_to first.inner now.inner) (breaks_at first.inner now.inner)
+        JournalWholeRun (Some (Edit options)) run closing before after same_outside (leads_to first.inner now.inner) (breaks_at first.inner now.inner)
     edits_before breaks cut why =
         let keeps = breaks.keeps few_given safe in
         let undone : run ≡ Done → ⊥ = λ done. elim why as (λ _. ⊥) [ inl fault ↦ absurd (cc (fault, done)) | inr want ↦ absurd (cc (want, done)) ] in
@@ -266,14 +282,14 @@ module _ {S D : Type 0} (left : S → Option (List ℕ)) (source_faults : S → 
 
   -- no session was opened
   edits_unopened : (run : Status) (options : PlainOptions) (closing : Closing) → ClosesAsDue closing run now.given now.ended → (same_outside : Type 0)
-      → NotOpened run (told_editor before 0 0) (told_editor after now.given now.reads) files files_after Leads
-      → JournalWholeRun (Some options) run closing before after same_outside (leads_to first.inner now.inner) (breaks_at first.inner now.inner)
+      → NotOpened run (told_editor before 0 0) (told_editor after now.given now.reads) Leads
+      → JournalWholeRun (Some (Edit options)) run closing before after same_outside (leads_to first.inner now.inner) (breaks_at first.inner now.inner)
   edits_unopened run options closing agrees same_outside unopened =
       let leads = unopened.source in
       let keeps = leads.keeps few_given safe in
       let undone : run ≡ Done → ⊥ = λ done. cc (unopened.wanted, done) in
       let unread : left_of_both (left now.inner) (past now.disk) now.given ≡ left_of_both (left first.inner) (past first.disk) 0 =
-      ap (λ (told : Told). told.left) unopened.same ∙ sym left_same in
+      ap (λ (told : ToldStreams). told.left) unopened.same ∙ sym left_same in
       let read_none : Consumes (left_of_both (left first.inner) (past first.disk) 0) (left_of_both (left now.inner) (past now.disk) now.given) [] =
       subst (λ (bytes : Option (List ℕ)). Consumes (left_of_both (left first.inner) (past first.disk) 0) bytes []) (sym unread) (Consumes-nil _) in
       let are : TellsBoth before → AreKeys (kept_keys origin) leads.taken [] [] =
@@ -303,6 +319,7 @@ module _ {S D : Type 0} (left : S → Option (List ℕ)) (source_faults : S → 
             stored = unopened.stored;
             faults = unopened.faults;
             wants = unopened.wants;
+            counts = unopened.counts;
           });
           keys = are;
           none_lost = λ told. leaves_given (kept_keys origin) leads.taken [] [] (past now.disk) (are told) safe_now;
@@ -313,8 +330,8 @@ module _ {S D : Type 0} (left : S → Option (List ℕ)) (source_faults : S → 
   -- by how the editor ended
   edits_ran : (run : Status) (options : PlainOptions) → IsLimited options → (closing : Closing) → ClosesAsDue closing run now.given now.ended →
       (same_outside : Type 0) → LeftAs run Leads Breaks →
-      Ran run options (told_editor before 0 0) (told_editor after now.given now.reads) files files_after Leads Breaks →
-      JournalWholeRun (Some options) run closing before after same_outside (leads_to first.inner now.inner) (breaks_at first.inner now.inner)
+      Ran run options (told_editor before 0 0) (told_editor after now.given now.reads) Leads Breaks →
+      JournalWholeRun (Some (Edit options)) run closing before after same_outside (leads_to first.inner now.inner) (breaks_at first.inner now.inner)
   edits_ran Done options limited closing agrees same_outside left_as e =
       edits_all Done options limited closing agrees same_outside e left_as e.stopped.1
   edits_ran KeyLimit options limited closing agrees same_outside left_as e =
@@ -324,7 +341,7 @@ module _ {S D : Type 0} (left : S → Option (List ℕ)) (source_faults : S → 
   edits_ran ReadFault options limited closing agrees same_outside left_as e =
       edits_before ReadFault options limited closing agrees same_outside e left_as e.stopped.1 (inl refl)
   edits_ran NoMemory options limited closing agrees same_outside left_as e =
-      elim e.source as (λ _. JournalWholeRun (Some options) NoMemory closing before after same_outside (leads_to first.inner now.inner) (breaks_at first.inner now.inner)) [
+      elim e.source as (λ _. JournalWholeRun (Some (Edit options)) NoMemory closing before after same_outside (leads_to first.inner now.inner) (breaks_at first.inner now.inner)) [
         | inl all ↦ edits_all NoMemory options limited closing agrees same_outside e all.0 all.1
         | inr cut ↦ edits_before NoMemory options limited closing agrees same_outside e cut.0 cut.1 (inr refl)
       ]
@@ -332,10 +349,10 @@ module _ {S D : Type 0} (left : S → Option (List ℕ)) (source_faults : S → 
 
   edits_by : (run : Status) (options : PlainOptions) → IsLimited options → (closing : Closing) → ClosesAsDue closing run now.given now.ended →
       (same_outside : Type 0) → LeftAs run Leads Breaks → SynthEnded run options →
-      JournalWholeRun (Some options) run closing before after same_outside (leads_to first.inner now.inner) (breaks_at first.inner now.inner)
+      JournalWholeRun (Some (Edit options)) run closing before after same_outside (leads_to first.inner now.inner) (breaks_at first.inner now.inner)
   edits_by run options limited closing agrees same_outside left_as ended =
       elim (from_first run options ended)
-      as (λ _. JournalWholeRun (Some options) run closing before after same_outside (leads_to first.inner now.inner) (breaks_at first.inner now.inner)) [
+      as (λ _. JournalWholeRun (Some (Edit options)) run closing before after same_outside (leads_to first.inner now.inner) (breaks_at first.inner now.inner)) [
         | inl unopened ↦ edits_unopened run options closing agrees same_outside unopened
         | inr e ↦ edits_ran run options limited closing agrees same_outside left_as e
       ]
@@ -360,13 +377,13 @@ module _ {S D : Type 0} (left : S → Option (List ℕ)) (source_faults : S → 
     edits = record { refused = refused; none = refl; outside = outside };
   }
 
-  -- by the words
-  pub edits_with : (words : Option PlainOptions) → IfSome words IsLimited → (run : Status) (closing : Closing) →
+  -- by the task
+  pub edits_with : (task : Option PlainTask) → IfSome task IsLimitedTask → (run : Status) (closing : Closing) →
       ClosesAsDue closing run now.given now.ended → (same_outside : Type 0) →
-      (words ≡ None → ((run ≡ BadWords) ⊎ (run ≡ NoMemory)) × (now ≡ first) × same_outside) → LeftAs run Leads Breaks →
-      IfSome words (λ options. SynthEnded run options) →
-      JournalWholeRun words run closing before after same_outside (leads_to first.inner now.inner) (breaks_at first.inner now.inner)
+      (task ≡ None → ((run ≡ BadWords) ⊎ (run ≡ NoMemory)) × (now ≡ first) × same_outside) → LeftAs run Leads Breaks →
+      IfSome task (λ asked. SynthTaskEnded run asked) →
+      JournalWholeRun task run closing before after same_outside (leads_to first.inner now.inner) (breaks_at first.inner now.inner)
   edits_with None limited run closing agrees same_outside bad left_as ended =
       edits_none run closing same_outside (bad refl).0 (bad refl).1 (bad refl).2
-  edits_with (Some options) limited run closing agrees same_outside bad left_as ended =
+  edits_with (Some (Edit options)) limited run closing agrees same_outside bad left_as ended =
       edits_by run options limited closing agrees same_outside left_as ended

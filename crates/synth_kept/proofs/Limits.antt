@@ -1,15 +1,21 @@
 -- How many bytes of keys are taken at most, whatever the words.
 use Rattle.std.proofs.Common.{◌≡◌, ◌≤◌, ℕ, Bool, true, false, List, Option, Some, None, refl, arith}
 use Rattle.std.proofs.lemmas.Bool.{leb-true}
-use Rattle.std.specs.Prelude.{IfSome, ◌&&◌, nat_le, if◌then◌else◌, option_and_then}
+use Rattle.std.specs.Prelude.{IfSome, ◌&&◌, nat_le, if◌then◌else◌, option_and_then, option_map}
 use Rattle.screen_window.specs.declared.limit.TheConstants.{FEWEST_ROWS, MOST_ROWS, FEWEST_COLS, MOST_COLS}
 use Rattle.synth_top.specs.Given.{PlainGiven, given_in}
 use Rattle.synth_top.specs.Number.{is_number, number_in_digits, value_of}
-use Rattle.synth_top.specs.Options.{PlainOptions, count_given, is_name_given, options_of, options_with}
+use Rattle.synth_top.specs.Options.{PlainOptions, count_given, is_name_given, options_with}
+use Rattle.synth_top.specs.Task.{PlainTask, task_of, task_with}
+use Rattle.synth_top.specs.Task.PlainTask.{Edit}
 
 -- these options have no greater limit
 abbrev pub IsLimited : PlainOptions → Type 0
 IsLimited options = options.key_limit ≤ 1000000000
+
+-- nor has this task
+abbrev pub IsLimitedTask : PlainTask → Type 0
+IsLimitedTask (Edit options) = IsLimited options
 
 -- what may be made of a value that may be there
 and_then_all : {X Y : Type 0} (o : Option X) (f : X → Option Y) (P : Y → Type 0) → ((x : X) → IfSome (f x) P) → IfSome (option_and_then f o) P
@@ -52,10 +58,15 @@ limited_with given =
     (count_limited 1 1000000000 1000000000 given.keys (omega arith))
     (λ keys few. tested (is_name_given given.program && is_name_given given.input) _ IsLimited (λ is. few))))
 
+-- to edit with such options is a task
+task_limited : (options : Option PlainOptions) → IfSome options IsLimited → IfSome (option_map Edit options) IsLimitedTask
+task_limited None limited = tt
+task_limited (Some options) limited = limited
+
 -- whatever the words ask for
-pub limited : (words : List (List ℕ)) → IfSome (options_of words) IsLimited
-unfolding options_of
+pub limited : (words : List (List ℕ)) → IfSome (task_of words) IsLimitedTask
+unfolding task_of
 limited words = given_limited (given_in words) where
-  given_limited : (given : Option PlainGiven) → IfSome (option_and_then options_with given) IsLimited
+  given_limited : (given : Option PlainGiven) → IfSome (option_and_then task_with given) IsLimitedTask
   given_limited None = tt
-  given_limited (Some given) = limited_with given
+  given_limited (Some given) = task_limited (options_with given) (limited_with given)

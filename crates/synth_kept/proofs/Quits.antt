@@ -7,7 +7,7 @@ use Rattle.synth_kept.specs.Private.Agreement.{IsToClear, ClosesAsDue}
 use Rattle.synth_top.specs.declared.status.Status.{Status}
 use Rattle.synth_top.specs.declared.status.Status.TheVariants.{Done}
 use Rattle.synth_top.specs.Keys.{IsFront, keys}
-use Rattle.synth_top.specs.WholeRun.{Told, Course, QuitPressed, SourceEnded, Stopped}
+use Rattle.synth_top.specs.WholeRun.{ToldStreams, Course, QuitPressed, SourceEnded, Stopped}
 use Rattle.synth_top.specs.Turn.{PressedKey, EditorState, keys_pressed}
 use Rattle.synth_top.specs.Options.{PlainOptions}
 use Rattle.synth_kept.proofs.Limits.{IsLimited}
@@ -28,7 +28,7 @@ some_byte [] pressed earlier last is front none =
       nothing [] front = absurd (cc (front.1))
       nothing (first ∷ earlier) front = absurd (cc (front.1))
 
-module _ (options : PlainOptions) (limited : IsLimited options) (first : EditorState) (before now : Told) (wants_before wants_now : ℕ)
+module _ (options : PlainOptions) (limited : IsLimited options) (first : EditorState) (before now : ToldStreams) (wants_before wants_now : ℕ)
     (course : Course options first before now) (unread : before.reads ≡ 0) (given ends : ℕ) (ended : Bool)
     (many : length course.bytes ≡ given)
     (counted : now.reads < 2 ^ 64 - 1 → now.reads ≡ given + ends)

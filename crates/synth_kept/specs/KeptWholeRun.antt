@@ -2,6 +2,7 @@
 use Rattle.std.proofs.Common.{inl, inr}
 use Rattle.std.specs.Prelude.{◌≡◌, ◌≢◌, ◌⊎◌, ℕ, ◌≤◌, List, [], ◌++◌, length, Option, Some, None, IsSome}
 use Rattle.std.specs.Io.KnownBytes.{Consumes}
+use Rattle.plcs_base.specs.PlainCounts.{PlainCounts}
 use Rattle.synth_outside.specs.Files.{PlainFiles}
 use Rattle.key_journal.specs.Crash.{LeavesAllOf, LeavesBetween, LeavesOneOf, Throughout}
 use Rattle.key_journal.specs.Disk.{DiskState, Newest}
@@ -15,15 +16,18 @@ use Rattle.synth_top.specs.declared.status.Status.{Status}
 use Rattle.synth_top.specs.declared.status.Status.TheVariants.{Done, ReadFault, NoMemory, BadWords}
 use Rattle.synth_top.specs.WholeRun.{Ended, QuitPressed, Told}
 use Rattle.synth_top.specs.Options.{PlainOptions}
+use Rattle.synth_top.specs.Task.{PlainTask}
+use Rattle.synth_top.specs.Task.PlainTask.{Edit}
 
 -- what is told of the outside of a kept session: the bytes that the source of new keys has left, the
--- states of the disk, the bytes that the sink took, the files, and how many lines were counted as laid
+-- states of the disk, the bytes that the sink took and its count of wants, the files, and what was counted
 pub record KeptTold : Type 0 where
   pub left : Option (List ℕ)
   pub past : List DiskState
   pub taken : Option (List ℕ)
+  pub wants : ℕ
   pub files : PlainFiles
-  pub laid : ℕ
+  pub counts : PlainCounts
 
 -- both the source of new keys and the disk of a kept session tell
 pub record TellsBoth (told : KeptTold) : Type 0 where
@@ -34,10 +38,9 @@ pub record TellsBoth (told : KeptTold) : Type 0 where
 -- and then the bytes of the source, are left to read
 abbrev pub told_editor : KeptTold → ℕ → ℕ → Told
 told_editor told given reads = record {
-  left = left_of_both told.left told.past given;
-  reads = reads;
-  taken = told.taken;
-  laid = told.laid;
+  streams = record { left = left_of_both told.left told.past given; reads = reads; taken = told.taken; wants = told.wants };
+  files = told.files;
+  counts = told.counts;
 }
 
 -- the bytes given to the editor are the kept keys and then all that was taken from the source; or
@@ -48,14 +51,14 @@ AreKeys keys taken last bytes =
     ⊎ ((taken ++ last ≡ []) × ((rest : List ℕ) × (keys ≡ bytes ++ rest)))
 
 -- the bytes that the editor was given: none where no session was opened
-abbrev pub bytes_given : {run : Status} {options : PlainOptions} {before now : Told} {files_before files_now : PlainFiles}
-    {after_reads after_fault : Type 0} → Ended run options before now files_before files_now after_reads after_fault → List ℕ
+abbrev pub bytes_given : {run : Status} {options : PlainOptions} {before now : Told}
+    {after_reads after_fault : Type 0} → Ended run options before now after_reads after_fault → List ℕ
 bytes_given (inl unopened) = []
 bytes_given (inr ran) = ran.course.bytes
 
 -- a key ended the session of the editor that ran over kept keys
-abbrev pub IsQuit : {run : Status} {options : PlainOptions} {before now : Told} {files_before files_now : PlainFiles}
-    {after_reads after_fault : Type 0} → Ended run options before now files_before files_now after_reads after_fault → Type 0
+abbrev pub IsQuit : {run : Status} {options : PlainOptions} {before now : Told}
+    {after_reads after_fault : Type 0} → Ended run options before now after_reads after_fault → Type 0
 IsQuit (inl unopened) = ⊥
 IsQuit (inr ran) = QuitPressed ran.course
 
@@ -64,7 +67,7 @@ pub record WholeRunOverKeys (options : PlainOptions) (run : Status) (closing : C
     (taken last : List ℕ) (after_reads after_fault : Type 0) : Type 0 where
   pub given : ℕ
   pub reads : ℕ
-  pub ended : Ended run options (told_editor before 0 0) (told_editor now given reads) before.files now.files
+  pub ended : Ended run options (told_editor before 0 0) (told_editor now given reads)
       after_reads (after_reads ⊎ after_fault)
   -- which bytes it was given; a crash leaves all of them, whether they were kept before or taken now, and
   -- perhaps others behind them
@@ -81,16 +84,16 @@ pub record RefusesWords (run : Status) (taken last : List ℕ) (same_outside : T
   pub none : taken ++ last ≡ []
   pub outside : same_outside
 
--- what the editor did over an open journal, by the words
-abbrev pub WholeRunByWords : Option PlainOptions → Status → Closing → KeptTold → KeptTold → List ℕ → List ℕ →
+-- what was done over an open journal, by the task that the words ask for, where they are of the command
+abbrev pub WholeRunByTask : Option PlainTask → Status → Closing → KeptTold → KeptTold → List ℕ → List ℕ →
     Type 0 → Type 0 → Type 0 → Type 0
-WholeRunByWords None run closing before now taken last same_outside after_reads after_fault =
+WholeRunByTask None run closing before now taken last same_outside after_reads after_fault =
     RefusesWords run taken last same_outside
-WholeRunByWords (Some options) run closing before now taken last same_outside after_reads after_fault =
+WholeRunByTask (Some (Edit options)) run closing before now taken last same_outside after_reads after_fault =
     WholeRunOverKeys options run closing before now taken last after_reads after_fault
 
 -- a run of the editor over an open journal
-pub record JournalWholeRun (words : Option PlainOptions) (run : Status) (closing : Closing)
+pub record JournalWholeRun (task : Option PlainTask) (run : Status) (closing : Closing)
     (before now : KeptTold) (same_outside after_reads after_fault : Type 0) : Type 0 where
   -- the bytes that were taken from the source of new keys, and one behind them at most that a failed
   -- read took
@@ -104,16 +107,16 @@ pub record JournalWholeRun (words : Option PlainOptions) (run : Status) (closing
   pub each : Throughout (LeavesBetween (kept_keys before.past) ((kept_keys before.past ++ taken) ++ last))
       before.past now.past
   pub safe : Newest (LeavesOneOf (kept_keys before.past ++ taken) last) now.past
-  pub edits : WholeRunByWords words run closing before now taken last same_outside after_reads after_fault
+  pub edits : WholeRunByTask task run closing before now taken last same_outside after_reads after_fault
 
 -- the journal was opened: the editor ran over it, and then it was closed
-pub record JournalSession (words : Option PlainOptions) (status : KeptStatus) (before now : KeptTold)
+pub record JournalSession (task : Option PlainTask) (status : KeptStatus) (before now : KeptTold)
     (same_outside after_reads after_fault : Type 0) : Type 0 where
   -- how the editor ended, the states of the disk then, and how the journal was closed
   pub run : Status
   pub behind : List DiskState
   pub closing : Closing
-  pub editing : JournalWholeRun words run closing before (record now { past = behind })
+  pub editing : JournalWholeRun task run closing before (record now { past = behind })
       same_outside after_reads after_fault
   pub closed : Closes closing run status (kept_keys before.past ++ editing.taken) behind now.past
 
@@ -125,8 +128,8 @@ pub record KeptNotOpened (status : KeptStatus) (before now : KeptTold) (same_out
   pub same : now ≡ before
 
 -- a kept session ended so: its journal couldn't be opened, or the editor ran over it
-abbrev pub KeptEnded : Option PlainOptions → KeptStatus → KeptTold → KeptTold → Type 0 → Type 0 →
+abbrev pub KeptEnded : Option PlainTask → KeptStatus → KeptTold → KeptTold → Type 0 → Type 0 →
     Type 0 → Type 0
-KeptEnded words status before now same_outside after_reads after_fault =
+KeptEnded task status before now same_outside after_reads after_fault =
     KeptNotOpened status before now same_outside
-    ⊎ JournalSession words status before now same_outside after_reads after_fault
+    ⊎ JournalSession task status before now same_outside after_reads after_fault

@@ -1,13 +1,13 @@
 //! A session whose keys are kept.
 
-ghost use Rattle.std.specs.Prelude.{◌≡◌, ◌⊎◌, ◌↔◌, ◌<◌, ◌≤◌, IsTrue, None, map, string_bytes};
+ghost use Rattle.std.specs.Prelude.{◌≡◌, ◌⊎◌, ◌↔◌, ◌<◌, IsTrue, None, map, string_bytes};
 ghost use Rattle.key_journal.specs.Journal.{both_counts};
 ghost use Rattle.plcs_base.specs.Count.{Rose};
 ghost use Rattle.synth_kept.specs.KeptWholeRun.{KeptEnded};
 ghost use Rattle.synth_kept.specs.Private.Agreement.{IsToClear};
 ghost use Rattle.synth_kept.specs.Private.Clearing.{ClearsKeys};
 ghost use Rattle.synth_top.specs.Status.{CausedBy};
-ghost use Rattle.synth_top.specs.Options.{options_of};
+ghost use Rattle.synth_top.specs.Task.{task_of};
 
 use crate::status::KeptStatus;
 use key_journal::{Disk, JournalKeys};
@@ -29,26 +29,28 @@ pub fn synth_kept<S: Source, K: Sink, F: Files, D: Disk, W: Work>(
     work: &mut W,
 ) -> (KeptStatus, S, D)
     // Which keys the editor was given, what it wrote, and what a crash leaves.
-    ensures ended { KeptEnded (options_of (map string_bytes words.now)) result.0
+    ensures ended { KeptEnded (task_of (map string_bytes words.now)) result.0
         (record {
           left = S.left keys;
           past = D.past disk;
           taken = K.taken screen.old;
-          files = record { stored = F.stored files.old; faults = F.faults files.old; wants = F.wants files.old };
-          laid = W.laid work.old;
+          wants = K.wants screen.old;
+          files = F.told files.old;
+          counts = W.counts work.old;
         })
         (record {
           left = S.left result.1;
           past = D.past result.2;
           taken = K.taken screen.new;
-          files = record { stored = F.stored files.new; faults = F.faults files.new; wants = F.wants files.new };
-          laid = W.laid work.new;
+          wants = K.wants screen.new;
+          files = F.told files.new;
+          counts = W.counts work.new;
         })
         ((result.1 ≡ keys) × (screen.new ≡ screen.old) × (files.new ≡ files.old) × (work.new ≡ work.old))
         (S.leads_to keys result.1) (S.breaks_at keys result.1) }
 
     // Words that aren't of the command are refused before anything is read or written.
-    ensures bad_words { options_of (map string_bytes words.now) ≡ None →
+    ensures bad_words { task_of (map string_bytes words.now) ≡ None →
         (result.1 ≡ keys) × (screen.new ≡ screen.old) × (files.new ≡ files.old) × (work.new ≡ work.old) }
 
     // A fault is answered exactly where the count of its own cause rose; that of reads is the sum of
@@ -61,11 +63,6 @@ pub fn synth_kept<S: Source, K: Sink, F: Files, D: Disk, W: Work>(
         Rose (D.faults disk) (D.faults result.2) }
     ensures write { CausedBy (result.0 ≡ KeptStatus.Run Status.WriteFault)
         (K.faults screen.old) (K.faults screen.new) }
-
-    // Nothing is counted but lines laid and phrases checked.
-    ensures emitted { W.emitted work.new ≡ W.emitted work.old }
-    ensures checks { W.checked work.old ≤ W.checked work.new }
-    ensures fetched { W.fetched work.new ≡ W.fetched work.old }
 {
     let mut journal = match JournalKeys::open(keys, disk) {
         Ok(journal) => journal,

@@ -2,14 +2,13 @@
 use Rattle.std.proofs.Common.{◌≡◌, ℕ, Bool, ◌||◌, List, [], ◌∷◌, ◌++◌, Option, Some, None, refl, sym, ap, ◌∙◌, subst, arith}
 use Rattle.plcs_base.specs.Count.{RoseBy}
 use Rattle.synth_outside.specs.Files.{FileMap}
-use Rattle.screen_window.specs.PlainGrid.{PlainGrid}
 use Rattle.file_store.specs.declared.refusal.FileRefusal.{FileRefusal}
 use Rattle.file_store.specs.FileReading.{IsLoadRefused}
 use Rattle.synth_session.specs.FileReply.{CanReply, CountsFault, IsMapAfter, Reply, Request}
 use Rattle.synth_session.specs.PlainSession.{PlainSession}
 use Rattle.synth_session.specs.KeyRequest.{request}
 use Rattle.synth_session.specs.Press.{press}
-use Rattle.synth_top.specs.Turn.{HasReply, HaveReplies, IsToldAs, PressedKey, EditorState, state_after_keys, asked, ends, failure, files_after, grids, turn}
+use Rattle.synth_top.specs.Turn.{HasReply, HaveReplies, IsToldAs, PressedKey, EditorState, Shot, state_after_keys, asked, ends, failure, files_after, grids, screens_of, shots, turn}
 
 -- ---- maps
 
@@ -110,9 +109,9 @@ module _ (s t : EditorState) (pressed : PressedKey) (less : ClaimsNoMore s t) wh
         (less_behind (asked s pressed) pressed.reply s.files t.files less.files);
   }
 
-  turn_grids_same : (turn s pressed).grids ≡ (turn t pressed).grids
+  turn_shots_same : (turn s pressed).shots ≡ (turn t pressed).shots
   unfolding turn
-  turn_grids_same = ap (λ (z : PlainSession). (turn (record { session = z; files = s.files }) pressed).grids) less.session
+  turn_shots_same = ap (λ (z : PlainSession). (turn (record { session = z; files = s.files }) pressed).shots) less.session
 
   turn_ends_same : (turn s pressed).ends ≡ (turn t pressed).ends
   unfolding turn
@@ -129,11 +128,14 @@ pub after_less : (s t : EditorState) (ps : List PressedKey) → ClaimsNoMore s t
 after_less s t [] less = less
 after_less s t (p ∷ ps) less = after_less (turn s p).after (turn t p).after ps (turn_less s t p less)
 
+pub same_shots : (s t : EditorState) (ps : List PressedKey) → ClaimsNoMore s t → shots s ps ≡ shots t ps
+same_shots s t [] less = refl
+same_shots s t (p ∷ ps) less =
+    ap (λ (all : List Shot). all ++ shots (turn s p).after ps) (turn_shots_same s t p less)
+    ∙ ap (λ (all : List Shot). (turn t p).shots ++ all) (same_shots (turn s p).after (turn t p).after ps (turn_less s t p less))
+
 pub same_grids : (s t : EditorState) (ps : List PressedKey) → ClaimsNoMore s t → grids s ps ≡ grids t ps
-same_grids s t [] less = refl
-same_grids s t (p ∷ ps) less =
-    ap (λ (gs : List PlainGrid). gs ++ grids (turn s p).after ps) (turn_grids_same s t p less)
-    ∙ ap (λ (gs : List PlainGrid). (turn t p).grids ++ gs) (same_grids (turn s p).after (turn t p).after ps (turn_less s t p less))
+same_grids s t ps less = ap screens_of (same_shots s t ps less)
 
 pub same_ends : (s t : EditorState) (ps : List PressedKey) → ClaimsNoMore s t → ends s ps ≡ ends t ps
 same_ends s t [] less = refl

@@ -4,7 +4,8 @@ use Rattle.std.proofs.lemmas.List.{take_all}
 use Rattle.std.proofs.Math.Seq.{take-append-add}
 use Rattle.std.proofs.KnownBytes.{Appends-trans, Consumes-nil}
 use Rattle.std.specs.Io.KnownBytes.{Appends, Consumes}
-use Rattle.plcs_base.specs.Count.{RoseBy, raised_by}
+use Rattle.plcs_base.specs.Count.{Rose, RoseBy, raised_by}
+use Rattle.plcs_base.specs.PlainCounts.{PlainCounts}
 use Rattle.synth_outside.specs.Sink.{AppendsFront}
 use Rattle.synth_outside.specs.Files.{PlainFiles}
 use Rattle.synth_session.specs.declared.key.Key.{Key}
@@ -16,26 +17,30 @@ use Rattle.synth_session.specs.SessionScreen.{grid}
 use Rattle.synth_top.specs.declared.status.Status.{Status}
 use Rattle.synth_top.specs.declared.status.Status.TheVariants.{WriteFault, NoMemory}
 use Rattle.synth_top.specs.Keys.{IsFront, completed, keys}
-use Rattle.synth_top.specs.Laid.{LaysFor}
+use Rattle.synth_top.specs.Counted.{CountsFor}
 use Rattle.synth_top.specs.Options.{PlainOptions}
 use Rattle.synth_top.specs.Private.Pressing.{AllShown, Moment, UpToLast, state_at}
 use Rattle.synth_top.specs.Private.EditorRuns.{EditorRuns}
-use Rattle.synth_top.specs.WholeRun.{AtLastKey, Course, NoKeyComes, LeavesSource, OpeningCut, ReadsInTurn, Stopped, Told, opening, painted_over, written}
-use Rattle.synth_top.specs.Turn.{HaveReplies, IsToldAs, PressedKey, EditorState, state_after_keys, ends, failures, grids, keys_pressed}
-use Rattle.synth_top.proofs.LaidInTurn.{lays_then}
+use Rattle.synth_top.specs.WholeRun.{AtLastKey, Course, NoKeyComes, LeavesSource, OpeningCut, ReadsInTurn, Stopped, Told, ToldStreams, opening, painted_over, written}
+use Rattle.synth_top.specs.Turn.{HaveReplies, IsToldAs, PressedKey, EditorState, state_after_keys, ends, failures, grids, keys_pressed, shot_of, shots}
+use Rattle.synth_top.proofs.CountsInTurn.{counts_both}
 
--- what is told at a moment
-abbrev pub told_at : Option (List ℕ) → ℕ → Moment → Told
-told_at left reads m = record { left = left; reads = reads; taken = m.taken; laid = m.laid }
+-- what is told of keys and screens at a moment, and of all
+abbrev pub told_at : Option (List ℕ) → ℕ → Moment → ToldStreams
+told_at left reads m = record { left = left; reads = reads; taken = m.taken; wants = m.wanted }
+
+abbrev pub whole_at : Option (List ℕ) → ℕ → Moment → Told
+whole_at left reads m = record { streams = told_at left reads m; files = m.files; counts = m.counts }
 
 -- the opening screen of a state was written, and the files are as before
-pub record Opened (first : EditorState) (before : Told) (files : PlainFiles) (m : Moment) : Type 0 where
-  pub wrote : Appends before.taken m.taken (opening first.session)
+pub record Opened (first : EditorState) (before : Told) (m : Moment) : Type 0 where
+  pub wrote : Appends before.streams.taken m.taken (opening first.session)
   pub state : state_at m ≡ first
   pub shown : m.shown ≡ grid first.session
-  pub faults : m.files.faults ≡ files.faults
-  pub wants : m.files.wants ≡ files.wants
-  pub laid : LaysFor (grid first.session ∷ []) before.laid m.laid
+  pub unwanted : m.wanted ≡ before.streams.wants
+  pub faults : m.files.faults ≡ before.files.faults
+  pub wants : m.files.wants ≡ before.files.wants
+  pub counts : CountsFor (shot_of first.session ∷ []) before.counts m.counts
 
 -- no byte of keys was read before the keys that those before it complete
 abbrev pub InTurn : List ℕ → List PressedKey → Type 0
@@ -48,18 +53,20 @@ pub one_byte : (seen : List ℕ) (newest : ℕ) → [] ≡ seen ++ newest ∷ []
 one_byte [] newest e = absurd (cc)
 one_byte (first ∷ rest) newest e = absurd (cc)
 
-module _ (options : PlainOptions) (first : EditorState) (before now : Told) (files : PlainFiles) (session : PlainSession)
-    (read : now.left ≡ before.left) (unread : now.reads ≡ before.reads) (front : AppendsFront before.taken now.taken (opening first.session))
-    (same : session ≡ first.session) (told : IsToldAs first.files files.stored) (laid : LaysFor (grid first.session ∷ []) before.laid now.laid) where
-  opening_wrote : Appends before.taken now.taken (take front.0 (written first []))
+module _ (options : PlainOptions) (first : EditorState) (before now : Told) (session : PlainSession)
+    (read : now.streams.left ≡ before.streams.left) (unread : now.streams.reads ≡ before.streams.reads)
+    (front : AppendsFront before.streams.taken now.streams.taken (opening first.session)) (same : session ≡ first.session)
+    (untouched : now.files ≡ before.files) (told : IsToldAs first.files before.files.stored)
+    (counts : CountsFor (shot_of first.session ∷ []) before.counts now.counts) where
+  opening_wrote : Appends before.streams.taken now.streams.taken (take front.0 (written first []))
   unfolding written
-  opening_wrote = subst (λ l. Appends before.taken now.taken (take front.0 l)) (sym (append-nil (opening first.session))) front.1
+  opening_wrote = subst (λ l. Appends before.streams.taken now.streams.taken (take front.0 l)) (sym (append-nil (opening first.session))) front.1
 
-  abbrev opening_course : Course options first before now
+  abbrev opening_course : Course options first before.streams now.streams
   opening_course = record {
     bytes = [];
     lost = [];
-    read = subst (λ left. Consumes before.left left []) (sym read) (Consumes-nil before.left);
+    read = subst (λ left. Consumes before.streams.left left []) (sym read) (Consumes-nil before.streams.left);
     one = omega arith;
     within = omega arith;
     reads = 0;
@@ -70,32 +77,33 @@ module _ (options : PlainOptions) (first : EditorState) (before now : Told) (fil
     complete = inl (completed [], refl);
     count = front.0;
     wrote = opening_wrote;
-    laid = laid;
   }
 
   opening_cut : OpeningCut opening_course
   opening_cut = record { no_read = refl; no_byte = refl; no_key = refl }
 
-  opening_runs : (status : Status) → Stopped opening_course files.wants files.wants status → {after_reads after_fault : Type 0} → after_reads
-      → EditorRuns status options first before now files files after_reads after_fault session
+  opening_runs : (status : Status) → Stopped opening_course before.files.wants now.files.wants status → {after_reads after_fault : Type 0} → after_reads
+      → EditorRuns status options first before now after_reads after_fault session
   opening_runs status stopped led = record {
     course = opening_course;
     stopped = stopped;
     source = inl (led, refl);
     session_is = same;
-    files = told;
-    faults = omega arith;
-    wants = omega arith;
+    files = subst (λ (files : PlainFiles). IsToldAs first.files files.stored) (sym untouched) told;
+    faults = omega (arith, ap (λ (files : PlainFiles). files.faults) untouched);
+    wants = omega (arith, ap (λ (files : PlainFiles). files.wants) untouched);
+    counts = counts;
   }
 
-  pub opening_failed : {after_reads after_fault : Type 0} → after_reads → EditorRuns WriteFault options first before now files files after_reads after_fault session
+  pub opening_failed : {after_reads after_fault : Type 0} → after_reads → EditorRuns WriteFault options first before now after_reads after_fault session
   opening_failed led = opening_runs WriteFault (refl, inl opening_cut) led
 
-  pub opening_wanted : {after_reads after_fault : Type 0} → after_reads → EditorRuns NoMemory options first before now files files after_reads after_fault session
-  opening_wanted led = opening_runs NoMemory (inr (inl (refl, inl opening_cut))) led
+  pub opening_wanted : {after_reads after_fault : Type 0} → Rose before.streams.wants now.streams.wants → after_reads
+      → EditorRuns NoMemory options first before now after_reads after_fault session
+  opening_wanted rose led = opening_runs NoMemory (inr (inl (refl, inl opening_cut, rose))) led
 
-module _ (options : PlainOptions) (first : EditorState) (before : Told) (files : PlainFiles) (opened m : Moment) (left : Option (List ℕ)) (now_reads : ℕ)
-    (is_opened : Opened first before files opened) where
+module _ (options : PlainOptions) (first : EditorState) (before : Told) (opened m : Moment) (left : Option (List ℕ)) (now_reads : ℕ)
+    (is_opened : Opened first before opened) where
   -- all that is written, from the opening screen on
   written_is : (ps : List PressedKey) → written first ps ≡ opening first.session ++ painted_over opened.shown (grids (state_at opened) ps)
   unfolding written
@@ -107,12 +115,12 @@ module _ (options : PlainOptions) (first : EditorState) (before : Told) (files :
       → length (written first ps) ≡ length (opening first.session) + length (painted_over opened.shown (grids (state_at opened) ps))
   length_is ps = ap length (written_is ps) ∙ length-append (opening first.session) (painted_over opened.shown (grids (state_at opened) ps))
 
-  -- the lines laid, from the opening screen on
-  pub lays_all : (ps : List PressedKey) (now : ℕ) → LaysFor (grids (state_at opened) ps) opened.laid now
-      → LaysFor (grid first.session ∷ grids first ps) before.laid now
-  lays_all ps now laid =
-      lays_then (grid first.session) _ before.laid opened.laid now is_opened.laid
-      (subst (λ s. LaysFor (grids s ps) opened.laid now) is_opened.state laid)
+  -- what was counted, from the opening screen on
+  pub counts_all : (ps : List PressedKey) (now : PlainCounts) → CountsFor (shots (state_at opened) ps) opened.counts now
+      → CountsFor (shot_of first.session ∷ shots first ps) before.counts now
+  counts_all ps now counts =
+      counts_both (shot_of first.session ∷ []) (shots first ps) before.counts opened.counts now is_opened.counts
+      (subst (λ (s : EditorState). CountsFor (shots s ps) opened.counts now) is_opened.state counts)
 
   -- what is seen after some keys: the session, the map that is claimed, and the faults of the files
   behind_session : (ps : List PressedKey) → m.session ≡ (state_after_keys (state_at opened) ps).session → m.session ≡ (state_after_keys first ps).session
@@ -121,20 +129,20 @@ module _ (options : PlainOptions) (first : EditorState) (before : Told) (files :
   behind_files : (ps : List PressedKey) → IsToldAs (state_after_keys (state_at opened) ps).files m.files.stored → IsToldAs (state_after_keys first ps).files m.files.stored
   behind_files ps told = subst (λ s. IsToldAs (state_after_keys s ps).files m.files.stored) is_opened.state told
 
-  behind_faults : (ps : List PressedKey) → RoseBy (failures ps) opened.files.faults m.files.faults → RoseBy (failures ps) files.faults m.files.faults
+  behind_faults : (ps : List PressedKey) → RoseBy (failures ps) opened.files.faults m.files.faults → RoseBy (failures ps) before.files.faults m.files.faults
   behind_faults ps faults = omega (arith, is_opened.faults, faults)
 
   -- ---- all keys were shown
-  module _ (bytes lost : List ℕ) (read : Consumes before.left left (bytes ++ lost)) (one : length lost ≤ 1) (within : length bytes ≤ options.key_limit)
-      (reads : ℕ) (made : now_reads ≡ raised_by reads before.reads) (ps : List PressedKey) (all : AllShown opened m ps) (order : IsFront (keys_pressed ps) (keys bytes))
+  module _ (bytes lost : List ℕ) (read : Consumes before.streams.left left (bytes ++ lost)) (one : length lost ≤ 1) (within : length bytes ≤ options.key_limit)
+      (reads : ℕ) (made : now_reads ≡ raised_by reads before.streams.reads) (ps : List PressedKey) (all : AllShown opened m ps) (order : IsFront (keys_pressed ps) (keys bytes))
       (complete : IsFront (keys_pressed ps) (completed bytes) ⊎ NoKeyComes options (told_at left now_reads m) bytes reads) where
-    pub all_wrote : Appends before.taken m.taken (take (length (written first ps)) (written first ps))
+    pub all_wrote : Appends before.streams.taken m.taken (take (length (written first ps)) (written first ps))
     all_wrote =
-        subst (Appends before.taken m.taken)
+        subst (Appends before.streams.taken m.taken)
         (sym (take_all (length (written first ps)) (written first ps) (omega arith) ∙ written_is ps))
-        (Appends-trans before.taken opened.taken m.taken _ _ is_opened.wrote all.wrote)
+        (Appends-trans before.streams.taken opened.taken m.taken _ _ is_opened.wrote all.wrote)
 
-    abbrev pub all_course : Course options first before (told_at left now_reads m)
+    abbrev pub all_course : Course options first before.streams (told_at left now_reads m)
     all_course = record {
       bytes = bytes;
       lost = lost;
@@ -149,7 +157,6 @@ module _ (options : PlainOptions) (first : EditorState) (before : Told) (files :
       complete = complete;
       count = length (written first ps);
       wrote = all_wrote;
-      laid = lays_all ps m.laid all.laid;
     }
 
     -- none ended the session
@@ -161,15 +168,15 @@ module _ (options : PlainOptions) (first : EditorState) (before : Told) (files :
     all_takes key takes = subst (λ (s : EditorState). IsTrue (key_takes_memory (state_after_keys s ps).session key)) is_opened.state takes
 
     pub all_counts : (key : Key) (now : ℕ) → CountsWant (request (state_after_keys (state_at opened) ps).session key) opened.files.wants now
-        → CountsWant (request (state_after_keys first ps).session key) files.wants now
+        → CountsWant (request (state_after_keys first ps).session key) before.files.wants now
     all_counts key now counts =
-        subst (λ (s : EditorState). CountsWant (request (state_after_keys s ps).session key) files.wants now) is_opened.state
+        subst (λ (s : EditorState). CountsWant (request (state_after_keys s ps).session key) before.files.wants now) is_opened.state
         (subst (λ wants. CountsWant (request (state_after_keys (state_at opened) ps).session key) wants now) is_opened.wants counts)
 
     -- the run that stopped so behind them
-    pub all_runs : (status : Status) → files.wants ≤ m.files.wants → Stopped all_course files.wants m.files.wants status → {after_reads after_fault : Type 0}
+    pub all_runs : (status : Status) → before.files.wants ≤ m.files.wants → Stopped all_course before.files.wants m.files.wants status → {after_reads after_fault : Type 0}
         → LeavesSource all_course after_reads after_fault
-        → EditorRuns status options first before (told_at left now_reads m) files m.files after_reads after_fault m.session
+        → EditorRuns status options first before (whole_at left now_reads m) after_reads after_fault m.session
     all_runs status wants stopped source = record {
       course = all_course;
       stopped = stopped;
@@ -178,21 +185,22 @@ module _ (options : PlainOptions) (first : EditorState) (before : Told) (files :
       files = behind_files ps all.files;
       faults = behind_faults ps all.faults;
       wants = wants;
+      counts = counts_all ps m.counts all.counts;
     }
 
   -- ---- keys were shown up to a last one
-  module _ (bytes : List ℕ) (read : Consumes before.left left (bytes ++ [])) (within : length bytes ≤ options.key_limit)
-      (reads : ℕ) (made : now_reads ≡ raised_by reads before.reads) (earlier : List PressedKey) (last : PressedKey) (count : ℕ) (up_to : UpToLast opened m earlier last count)
+  module _ (bytes : List ℕ) (read : Consumes before.streams.left left (bytes ++ [])) (within : length bytes ≤ options.key_limit)
+      (reads : ℕ) (made : now_reads ≡ raised_by reads before.streams.reads) (earlier : List PressedKey) (last : PressedKey) (count : ℕ) (up_to : UpToLast opened m earlier last count)
       (order : IsFront (keys_pressed (earlier ++ last ∷ [])) (keys bytes))
       (complete : IsFront (keys_pressed (earlier ++ last ∷ [])) (completed bytes) ⊎ NoKeyComes options (told_at left now_reads m) bytes reads) where
-    pub last_wrote : Appends before.taken m.taken (take (length (opening first.session) + count) (written first (earlier ++ last ∷ [])))
+    pub last_wrote : Appends before.streams.taken m.taken (take (length (opening first.session) + count) (written first (earlier ++ last ∷ [])))
     last_wrote =
         let screens = painted_over opened.shown (grids (state_at opened) (earlier ++ last ∷ [])) in
-        subst (Appends before.taken m.taken)
+        subst (Appends before.streams.taken m.taken)
         (sym (ap (take (length (opening first.session) + count)) (written_is (earlier ++ last ∷ [])) ∙ take-append-add (opening first.session) screens count))
-        (Appends-trans before.taken opened.taken m.taken (opening first.session) (take count screens) is_opened.wrote up_to.wrote)
+        (Appends-trans before.streams.taken opened.taken m.taken (opening first.session) (take count screens) is_opened.wrote up_to.wrote)
 
-    abbrev pub last_course : Course options first before (told_at left now_reads m)
+    abbrev pub last_course : Course options first before.streams (told_at left now_reads m)
     last_course = record {
       bytes = bytes;
       lost = [];
@@ -207,7 +215,6 @@ module _ (options : PlainOptions) (first : EditorState) (before : Told) (files :
       complete = complete;
       count = length (opening first.session) + count;
       wrote = last_wrote;
-      laid = lays_all (earlier ++ last ∷ []) m.laid up_to.laid;
     }
 
     pub at_last : InTurn bytes earlier → ReadsInTurn options (told_at left now_reads m) bytes reads earlier → AtLastKey last_course
@@ -230,8 +237,8 @@ module _ (options : PlainOptions) (first : EditorState) (before : Told) (files :
     last_all all = omega (arith, length_is (earlier ++ last ∷ []), all)
 
     -- the run that stopped so at the last one
-    pub last_runs : (status : Status) → Stopped last_course files.wants m.files.wants status → {after_reads after_fault : Type 0} → after_reads
-        → EditorRuns status options first before (told_at left now_reads m) files m.files after_reads after_fault m.session
+    pub last_runs : (status : Status) → Stopped last_course before.files.wants m.files.wants status → {after_reads after_fault : Type 0} → after_reads
+        → EditorRuns status options first before (whole_at left now_reads m) after_reads after_fault m.session
     last_runs status stopped led = record {
       course = last_course;
       stopped = stopped;
@@ -240,4 +247,5 @@ module _ (options : PlainOptions) (first : EditorState) (before : Told) (files :
       files = behind_files (earlier ++ last ∷ []) up_to.files;
       faults = behind_faults (earlier ++ last ∷ []) up_to.faults;
       wants = omega (arith, up_to.wants, is_opened.wants);
+      counts = counts_all (earlier ++ last ∷ []) m.counts up_to.counts;
     }

@@ -4,8 +4,7 @@ use Rattle.std.proofs.lemmas.Bool.{true≢false}
 use Rattle.std.proofs.lemmas.List.{same_from_push}
 use Rattle.std.proofs.KnownBytes.{Consumes-nil, Consumes-trans}
 use Rattle.std.specs.Io.KnownBytes.{Consumes, IsAtEnd}
-use Rattle.plcs_base.specs.Count.{raised, raised_by}
-use Rattle.synth_outside.specs.Files.{PlainFiles}
+use Rattle.plcs_base.specs.Count.{Rose, raised, raised_by}
 use Rattle.synth_session.specs.declared.key.Key.{Key}
 use Rattle.synth_session.specs.declared.key.Key.TheVariants.{Other}
 use Rattle.synth_session.specs.FileReply.{CountsWant, Reply, Request}
@@ -22,19 +21,19 @@ use Rattle.synth_top.specs.Private.EditorRuns.{EditorRuns}
 use Rattle.synth_top.specs.WholeRun.{AtLastKey, Course, EndRead, NoKeyComes, KeyWanted, LimitTaken, PressedAll, ReadCut, ReadsInTurn, ScreenCut, Stopped, Told, painted_over, written}
 use Rattle.synth_top.specs.Turn.{PressedKey, EditorState, state_after_keys, ends, grids, keys_pressed, turn}
 use Rattle.synth_top.specs.Options.{PlainOptions}
-use Rattle.synth_top.proofs.Courses.{InTurn, Opened, all_counts, all_course, all_going, all_runs, all_takes, at_last, last_all, last_course, last_ends, last_runs, one_byte, told_at}
+use Rattle.synth_top.proofs.Courses.{InTurn, Opened, all_counts, all_course, all_going, all_runs, all_takes, at_last, last_all, last_course, last_ends, last_runs, one_byte, told_at, whole_at}
 use Rattle.synth_top.proofs.KeysInOrder.{keys_pressed-append, counts_more, takes_more, both_shown, then_up_to, front_behind, wanted_behind, ends_more, painted_more}
 use Rattle.synth_top.proofs.OneKey.{none_shown, unchanged_itself}
 
 -- so many bytes were read, one a read, all keys that they complete were pressed, and all screens were written
-pub record SoFar (number : ℕ) (first : EditorState) (before : Told) (files : PlainFiles) (left : Option (List ℕ)) (reads : ℕ) (held : List ℕ) (m : Moment) : Type 0 where
+pub record SoFar (number : ℕ) (first : EditorState) (before : Told) (left : Option (List ℕ)) (reads : ℕ) (held : List ℕ) (m : Moment) : Type 0 where
   pub bytes : List ℕ
   pub many : length bytes ≡ number
-  pub read : Consumes before.left left bytes
-  pub made : reads ≡ raised_by number before.reads
+  pub read : Consumes before.streams.left left bytes
+  pub made : reads ≡ raised_by number before.streams.reads
   pub held_is : IsHeld held
   pub opened : Moment
-  pub is_opened : Opened first before files opened
+  pub is_opened : Opened first before opened
   pub pressed : List PressedKey
   pub all : AllShown opened m pressed
   pub wants : m.files.wants ≡ opened.files.wants
@@ -113,12 +112,12 @@ wants_rose (Request.Save name bytes) before now counts = omega (arith, counts)
 wants_rose (Request.Load name) before now counts = counts
 
 -- ---- the opening screen was written, and nothing was read
-pub so_far_none : (first : EditorState) (before : Told) (files : PlainFiles) (left : Option (List ℕ)) (reads : ℕ) (held : List ℕ) (m : Moment) → left ≡ before.left
-    → reads ≡ before.reads → held ≡ [] → Opened first before files m → SoFar 0 first before files left reads held m
-so_far_none first before files left reads held m same unread none is_opened = record {
+pub so_far_none : (first : EditorState) (before : Told) (left : Option (List ℕ)) (reads : ℕ) (held : List ℕ) (m : Moment) → left ≡ before.streams.left
+    → reads ≡ before.streams.reads → held ≡ [] → Opened first before m → SoFar 0 first before left reads held m
+so_far_none first before left reads held m same unread none is_opened = record {
   bytes = [];
   many = refl;
-  read = subst (λ l. Consumes before.left l []) (sym same) (Consumes-nil before.left);
+  read = subst (λ l. Consumes before.streams.left l []) (sym same) (Consumes-nil before.streams.left);
   made = omega (arith, unread);
   held_is = inl none;
   opened = m;
@@ -131,26 +130,26 @@ so_far_none first before files left reads held m same unread none is_opened = re
   in_turn = λ seen newest e. absurd (one_byte seen newest e);
 }
 
-module _ (number : ℕ) (options : PlainOptions) (first : EditorState) (before : Told) (files : PlainFiles) (left : Option (List ℕ)) (so_reads : ℕ) (held : List ℕ) (m : Moment)
-    (so : SoFar number first before files left so_reads held m)
+module _ (number : ℕ) (options : PlainOptions) (first : EditorState) (before : Told) (left : Option (List ℕ)) (so_reads : ℕ) (held : List ℕ) (m : Moment)
+    (so : SoFar number first before left so_reads held m)
     (now_left : Option (List ℕ)) (now_reads : ℕ) (now : Moment) where
   -- the keys so far
   abbrev pressed_keys : List Key
   pressed_keys = keys_pressed so.pressed
 
   -- one read more
-  made_more : now_reads ≡ raised so_reads → now_reads ≡ raised_by (number + 1) before.reads
+  made_more : now_reads ≡ raised so_reads → now_reads ≡ raised_by (number + 1) before.streams.reads
   made_more one = omega (arith, so.made, one)
 
   -- ---- some more keys, one of which ended the run
-  module _ (bytes : List ℕ) (more : List Key) (read : Consumes before.left now_left bytes) (within : length bytes ≤ options.key_limit)
-      (reads : ℕ) (made : now_reads ≡ raised_by reads before.reads) (order : IsFront (pressed_keys ++ more) (keys bytes))
+  module _ (bytes : List ℕ) (more : List Key) (read : Consumes before.streams.left now_left bytes) (within : length bytes ≤ options.key_limit)
+      (reads : ℕ) (made : now_reads ≡ raised_by reads before.streams.reads) (order : IsFront (pressed_keys ++ more) (keys bytes))
       (complete : IsFront (pressed_keys ++ more) (completed bytes) ⊎ NoKeyComes options (told_at now_left now_reads now) bytes reads)
       (in_turn : (earlier : List PressedKey) → InTurn bytes (so.pressed ++ earlier))
       (reads_in_turn : (earlier : List PressedKey) → ReadsInTurn options (told_at now_left now_reads now) bytes reads (so.pressed ++ earlier))
       (quit_last : KeysQuit more m now → reads ≡ length bytes) where
-    nothing_behind : Consumes before.left now_left (bytes ++ [])
-    nothing_behind = subst (Consumes before.left now_left) (sym (append-nil bytes)) read
+    nothing_behind : Consumes before.streams.left now_left (bytes ++ [])
+    nothing_behind = subst (Consumes before.streams.left now_left) (sym (append-nil bytes)) read
 
     module _ (earlier : List PressedKey) (last : PressedKey) (front : IsFront (keys_pressed (earlier ++ last ∷ [])) more) (count : ℕ)
         (up_to : UpToLast m now earlier last count) where
@@ -168,17 +167,17 @@ module _ (number : ℕ) (options : PlainOptions) (first : EditorState) (before :
       all_up_to : UpToLast so.opened now (so.pressed ++ earlier) last (length (painted_over so.opened.shown (grids (state_at so.opened) so.pressed)) + count)
       all_up_to = then_up_to so.opened m so.pressed so.all now earlier last count so.wants up_to
 
-      abbrev course : Course options first before (told_at now_left now_reads now)
-      course = last_course options first before files so.opened now now_left now_reads so.is_opened bytes nothing_behind within reads made (so.pressed ++ earlier) last _ all_up_to
+      abbrev course : Course options first before.streams (told_at now_left now_reads now)
+      course = last_course options first before so.opened now now_left now_reads so.is_opened bytes nothing_behind within reads made (so.pressed ++ earlier) last _ all_up_to
           (front_trans _ _ _ in_front order) complete_front
 
       at_key : AtLastKey course
-      at_key = at_last options first before files so.opened now now_left now_reads so.is_opened bytes nothing_behind within reads made (so.pressed ++ earlier) last _ all_up_to
+      at_key = at_last options first before so.opened now now_left now_reads so.is_opened bytes nothing_behind within reads made (so.pressed ++ earlier) last _ all_up_to
           (front_trans _ _ _ in_front order) complete_front (in_turn earlier) (reads_in_turn earlier)
 
       ends_as : (b : _) → ends (state_at m) (earlier ++ last ∷ []) ≡ b → ends first ((so.pressed ++ earlier) ++ last ∷ []) ≡ b
       ends_as b e =
-          last_ends options first before files so.opened now now_left now_reads so.is_opened bytes nothing_behind within reads made (so.pressed ++ earlier) last _ all_up_to
+          last_ends options first before so.opened now now_left now_reads so.is_opened bytes nothing_behind within reads made (so.pressed ++ earlier) last _ all_up_to
           (front_trans _ _ _ in_front order) complete_front
           ∙ ap (ends (state_at so.opened)) (sym joined) ∙ ends_more so.opened m so.pressed so.all (earlier ++ last ∷ []) ∙ e
 
@@ -191,17 +190,17 @@ module _ (number : ℕ) (options : PlainOptions) (first : EditorState) (before :
           ap (λ l. length (painted_over so.opened.shown (grids (state_at so.opened) l))) (sym joined)
           ∙ ap length (painted_more so.opened m so.pressed so.all (earlier ++ last ∷ []))
           ∙ length-append shown_bytes (painted_over m.shown (grids (state_at m) (earlier ++ last ∷ []))) in
-          last_all options first before files so.opened now now_left now_reads so.is_opened bytes nothing_behind within reads made (so.pressed ++ earlier) last _ all_up_to
+          last_all options first before so.opened now now_left now_reads so.is_opened bytes nothing_behind within reads made (so.pressed ++ earlier) last _ all_up_to
           (front_trans _ _ _ in_front order) complete_front (omega (arith, bytes_are, all))
 
       screen_cut : ends (state_at m) (earlier ++ last ∷ []) ≡ false → ScreenCut course
       screen_cut going = record { at_key = at_key; going = ends_as false going }
 
       -- the run that stopped there
-      last_stopped : (status : Status) → Stopped course files.wants now.files.wants status → {after_reads after_fault : Type 0} → after_reads
-          → EditorRuns status options first before (told_at now_left now_reads now) files now.files after_reads after_fault now.session
+      last_stopped : (status : Status) → Stopped course before.files.wants now.files.wants status → {after_reads after_fault : Type 0} → after_reads
+          → EditorRuns status options first before (whole_at now_left now_reads now) after_reads after_fault now.session
       last_stopped status stopped led =
-          last_runs options first before files so.opened now now_left now_reads so.is_opened bytes nothing_behind within reads made (so.pressed ++ earlier) last _ all_up_to
+          last_runs options first before so.opened now now_left now_reads so.is_opened bytes nothing_behind within reads made (so.pressed ++ earlier) last _ all_up_to
           (front_trans _ _ _ in_front order) complete_front status stopped led
 
     -- ---- keys up to one that wanted memory
@@ -223,47 +222,51 @@ module _ (number : ℕ) (options : PlainOptions) (first : EditorState) (before :
       pressed_complete = elim in_complete as (λ _. IsFront (keys_pressed (so.pressed ++ next.pressed)) (completed bytes) ⊎ NoKeyComes options (told_at now_left now_reads now) bytes reads)
           [ inl h ↦ inl (front_without _ _ next.wanted h) | inr h ↦ inr h ]
 
-      abbrev wanting_course : Course options first before (told_at now_left now_reads now)
-      wanting_course = all_course options first before files so.opened now now_left now_reads so.is_opened bytes [] nothing_behind (omega arith) within reads made
+      abbrev wanting_course : Course options first before.streams (told_at now_left now_reads now)
+      wanting_course = all_course options first before so.opened now now_left now_reads so.is_opened bytes [] nothing_behind (omega arith) within reads made
           (so.pressed ++ next.pressed) all_shown (front_without _ _ next.wanted in_keys) pressed_complete
 
-      key_wanted : KeyWanted wanting_course files.wants now.files.wants
+      key_wanted : KeyWanted wanting_course before.files.wants now.files.wants
       key_wanted = record {
         wanted = next.wanted;
-        takes = all_takes options first before files so.opened now now_left now_reads so.is_opened bytes [] nothing_behind (omega arith) within reads made
+        takes = all_takes options first before so.opened now now_left now_reads so.is_opened bytes [] nothing_behind (omega arith) within reads made
             (so.pressed ++ next.pressed) all_shown (front_without _ _ next.wanted in_keys) pressed_complete next.wanted
             (takes_more so.opened m so.pressed so.all next.pressed next.wanted next.takes);
-        counts = all_counts options first before files so.opened now now_left now_reads so.is_opened bytes [] nothing_behind (omega arith) within reads made
+        counts = all_counts options first before so.opened now now_left now_reads so.is_opened bytes [] nothing_behind (omega arith) within reads made
             (so.pressed ++ next.pressed) all_shown (front_without _ _ next.wanted in_keys) pressed_complete next.wanted now.files.wants
             (counts_more so.opened m so.pressed so.all next.pressed next.wanted now.files.wants so.wants next.counts);
         next = in_keys;
         complete = in_complete;
-        going = all_going options first before files so.opened now now_left now_reads so.is_opened bytes [] nothing_behind (omega arith) within reads made
+        going = all_going options first before so.opened now now_left now_reads so.is_opened bytes [] nothing_behind (omega arith) within reads made
             (so.pressed ++ next.pressed) all_shown (front_without _ _ next.wanted in_keys) pressed_complete;
         taken = record { in_turn = in_turn next.pressed; reads = reads_in_turn next.pressed };
       }
 
       -- the run that stopped there
       key_wanted_runs : {after_reads after_fault : Type 0} → after_reads
-          → EditorRuns NoMemory options first before (told_at now_left now_reads now) files now.files after_reads after_fault now.session
+          → EditorRuns NoMemory options first before (whole_at now_left now_reads now) after_reads after_fault now.session
       key_wanted_runs led =
-          all_runs options first before files so.opened now now_left now_reads so.is_opened bytes [] nothing_behind (omega arith) within reads made
+          all_runs options first before so.opened now now_left now_reads so.is_opened bytes [] nothing_behind (omega arith) within reads made
           (so.pressed ++ next.pressed) all_shown (front_without _ _ next.wanted in_keys) pressed_complete NoMemory
-          (wants_rose (request (state_after_keys first (so.pressed ++ next.pressed)).session key_wanted.wanted) files.wants now.files.wants key_wanted.counts)
-          (inr (inr (omega arith, refl, key_wanted))) (inl (led, refl))
+          (wants_rose (request (state_after_keys first (so.pressed ++ next.pressed)).session key_wanted.wanted) before.files.wants now.files.wants key_wanted.counts)
+          (inr (inr (omega arith, refl, inl key_wanted))) (inl (led, refl))
 
     -- a screen of one of the keys was cut short, or one of them wanted memory
     module _ {after_reads after_fault : Type 0} (led : after_reads) where
-      out_of_memory : KeysCut more m now ⊎ KeysWanted more m now
-          → EditorRuns NoMemory options first before (told_at now_left now_reads now) files now.files after_reads after_fault now.session
+      out_of_memory : (KeysCut more m now × Rose m.wanted now.wanted) ⊎ KeysWanted more m now
+          → EditorRuns NoMemory options first before (whole_at now_left now_reads now) after_reads after_fault now.session
       out_of_memory (inl cut) =
-          last_stopped cut.earlier cut.last cut.front cut.count cut.up_to NoMemory
-          (inr (inl (refl, inr (screen_cut cut.earlier cut.last cut.front cut.count cut.up_to cut.going)))) led
+          last_stopped cut.0.earlier cut.0.last cut.0.front cut.0.count cut.0.up_to NoMemory
+          (inr (inl (
+            refl,
+            inr (screen_cut cut.0.earlier cut.0.last cut.0.front cut.0.count cut.0.up_to cut.0.going),
+            omega (arith, cut.1, so.all.unwanted, so.is_opened.unwanted),
+          ))) led
       out_of_memory (inr next) = key_wanted_runs next led
 
     -- by the status
     pub stopped_at_key : (status : Status) → Pressed (Over status) more m now → {after_reads after_fault : Type 0} → after_reads
-        → EditorRuns status options first before (told_at now_left now_reads now) files now.files after_reads after_fault now.session
+        → EditorRuns status options first before (whole_at now_left now_reads now) after_reads after_fault now.session
     stopped_at_key Done next led =
         last_stopped next.earlier next.last next.front next.count next.up_to Done (
           all_written next.earlier next.last next.front next.count next.up_to next.all,
@@ -303,15 +306,15 @@ module _ (number : ℕ) (options : PlainOptions) (first : EditorState) (before :
     now_many : length now_bytes ≡ number + 1
     now_many = length-append so.bytes (byte ∷ []) ∙ ap (λ n. n + 1) so.many
 
-    now_read : Consumes before.left now_left now_bytes
+    now_read : Consumes before.streams.left now_left now_bytes
     now_read = Consumes-trans _ _ _ so.bytes (byte ∷ []) so.read read
 
     -- all its keys were shown
-    pub so_far_more : (kept : List ℕ) → kept ≡ now_held → KeysShown (listed_keys given) m now → SoFar (number + 1) first before files now_left now_reads kept now
+    pub so_far_more : (kept : List ℕ) → kept ≡ now_held → KeysShown (listed_keys given) m now → SoFar (number + 1) first before now_left now_reads kept now
     so_far_more kept same next =
         let all : pressed_keys ++ listed_keys given ≡ keys_pressed (so.pressed ++ next.pressed) =
         ap (λ l. pressed_keys ++ l) (sym next.all) ∙ sym (keys_pressed-append so.pressed next.pressed) in
-        subst (λ h. SoFar (number + 1) first before files now_left now_reads h now) (sym same)
+        subst (λ h. SoFar (number + 1) first before now_left now_reads h now) (sym same)
         (record {
           bytes = now_bytes;
           many = now_many;
@@ -330,7 +333,7 @@ module _ (number : ℕ) (options : PlainOptions) (first : EditorState) (before :
 
     -- one of its keys ended the run
     pub ended_by_byte : (status : Status) → number < options.key_limit → Pressed (Over status) (listed_keys given) m now → {after_reads after_fault : Type 0} → after_reads
-        → EditorRuns status options first before (told_at now_left now_reads now) files now.files after_reads after_fault now.session
+        → EditorRuns status options first before (whole_at now_left now_reads now) after_reads after_fault now.session
     ended_by_byte status below next led =
         let done : completed now_bytes ≡ pressed_keys ++ listed_keys given = completed_list now_bytes now_held (pressed_keys ++ listed_keys given) completed_now now_held_is in
         stopped_at_key now_bytes (listed_keys given) now_read (omega (arith, now_many, below)) (number + 1) (made_more one)
@@ -346,7 +349,7 @@ module _ (number : ℕ) (options : PlainOptions) (first : EditorState) (before :
     cut_done : completed so.bytes ≡ pressed_keys
     cut_done = completed_list so.bytes held pressed_keys so.completed_are so.held_is
 
-    cut_read : Consumes before.left now_left (so.bytes ++ lost)
+    cut_read : Consumes before.streams.left now_left (so.bytes ++ lost)
     cut_read = Consumes-trans _ _ _ so.bytes lost so.read read
 
     cut_order : IsFront pressed_keys (keys so.bytes)
@@ -355,38 +358,38 @@ module _ (number : ℕ) (options : PlainOptions) (first : EditorState) (before :
     cut_complete : IsFront pressed_keys (completed so.bytes) ⊎ NoKeyComes options (told_at now_left now_reads now) so.bytes (number + 1)
     cut_complete = inl ([], cut_done ∙ sym (append-nil pressed_keys))
 
-    abbrev cut_course : Course options first before (told_at now_left now_reads now)
-    cut_course = all_course options first before files so.opened now now_left now_reads so.is_opened so.bytes lost cut_read few (omega (arith, so.many, below))
+    abbrev cut_course : Course options first before.streams (told_at now_left now_reads now)
+    cut_course = all_course options first before so.opened now now_left now_reads so.is_opened so.bytes lost cut_read few (omega (arith, so.many, below))
         (number + 1) (made_more one) so.pressed cut_shown cut_order cut_complete
 
     read_cut : ReadCut cut_course
     read_cut = record {
       all = record {
         pressed = sym cut_done;
-        going = all_going options first before files so.opened now now_left now_reads so.is_opened so.bytes lost cut_read few (omega (arith, so.many, below))
+        going = all_going options first before so.opened now now_left now_reads so.is_opened so.bytes lost cut_read few (omega (arith, so.many, below))
             (number + 1) (made_more one) so.pressed cut_shown cut_order cut_complete;
       };
       below = omega (arith, so.many, below);
       one_more = ap (λ n. n + 1) (sym so.many);
     }
 
-    cut_runs : (status : Status) → Stopped cut_course files.wants now.files.wants status → {after_reads after_fault : Type 0} → after_fault → EditorRuns status options first before (told_at now_left now_reads now) files now.files after_reads after_fault now.session
+    cut_runs : (status : Status) → Stopped cut_course before.files.wants now.files.wants status → {after_reads after_fault : Type 0} → after_fault → EditorRuns status options first before (whole_at now_left now_reads now) after_reads after_fault now.session
     cut_runs status stopped broke =
-        all_runs options first before files so.opened now now_left now_reads so.is_opened so.bytes lost cut_read few (omega (arith, so.many, below))
+        all_runs options first before so.opened now now_left now_reads so.is_opened so.bytes lost cut_read few (omega (arith, so.many, below))
         (number + 1) (made_more one) so.pressed cut_shown cut_order cut_complete status
         (omega (arith, ap (λ (z : Moment). z.files.wants) same, so.wants, so.is_opened.wants)) stopped (inr (broke, read_cut))
 
-    pub read_failed : {after_reads after_fault : Type 0} → after_fault → EditorRuns ReadFault options first before (told_at now_left now_reads now) files now.files after_reads after_fault now.session
+    pub read_failed : {after_reads after_fault : Type 0} → after_fault → EditorRuns ReadFault options first before (whole_at now_left now_reads now) after_reads after_fault now.session
     read_failed broke = cut_runs ReadFault (omega arith, read_cut) broke
 
-    pub read_wanted : {after_reads after_fault : Type 0} → after_fault → EditorRuns NoMemory options first before (told_at now_left now_reads now) files now.files after_reads after_fault now.session
+    pub read_wanted : {after_reads after_fault : Type 0} → after_fault → EditorRuns NoMemory options first before (whole_at now_left now_reads now) after_reads after_fault now.session
     read_wanted broke = cut_runs NoMemory (inl (omega arith, read_cut)) broke
 
   -- ---- no byte comes any more
-  module _ (read : Consumes left now_left []) (within : number ≤ options.key_limit) (reads : ℕ) (made : now_reads ≡ raised_by reads before.reads)
+  module _ (read : Consumes left now_left []) (within : number ≤ options.key_limit) (reads : ℕ) (made : now_reads ≡ raised_by reads before.streams.reads)
       (over : NoKeyComes options (told_at now_left now_reads now) so.bytes reads) where
-    all_read : Consumes before.left now_left so.bytes
-    all_read = subst (Consumes before.left now_left) (append-nil so.bytes) (Consumes-trans _ _ _ so.bytes [] so.read read)
+    all_read : Consumes before.streams.left now_left so.bytes
+    all_read = subst (Consumes before.streams.left now_left) (append-nil so.bytes) (Consumes-trans _ _ _ so.bytes [] so.read read)
 
     all_keys : keys so.bytes ≡ pressed_keys ++ keys held
     all_keys = ended_list keys so.bytes held pressed_keys so.keys_are
@@ -406,7 +409,7 @@ module _ (number : ℕ) (options : PlainOptions) (first : EditorState) (before :
 
     -- what isn't complete ended the run
     pub ended_by_rest : (status : Status) → Pressed (Over status) (keys held) m now → {after_reads after_fault : Type 0} → after_reads
-        → EditorRuns status options first before (told_at now_left now_reads now) files now.files after_reads after_fault now.session
+        → EditorRuns status options first before (whole_at now_left now_reads now) after_reads after_fault now.session
     ended_by_rest status next led =
         stopped_at_key so.bytes (keys held) all_read (omega (arith, so.many, within)) reads made ([], all_keys ∙ sym (append-nil (pressed_keys ++ keys held))) (inr over)
         in_turn_still reads_still (λ quit. absurd (rest_goes_on held m now so.held_is quit)) status next led
@@ -425,23 +428,23 @@ module _ (number : ℕ) (options : PlainOptions) (first : EditorState) (before :
       pub ended_order : IsFront (keys_pressed ended_keys) (keys so.bytes)
       ended_order = ([], sym ended_pressed ∙ sym (append-nil (keys_pressed ended_keys)))
 
-      pub ended_read : Consumes before.left now_left (so.bytes ++ [])
-      ended_read = subst (Consumes before.left now_left) (sym (append-nil so.bytes)) all_read
+      pub ended_read : Consumes before.streams.left now_left (so.bytes ++ [])
+      ended_read = subst (Consumes before.streams.left now_left) (sym (append-nil so.bytes)) all_read
 
-      abbrev ended_course : Course options first before (told_at now_left now_reads now)
-      ended_course = all_course options first before files so.opened now now_left now_reads so.is_opened so.bytes [] ended_read (omega arith)
+      abbrev ended_course : Course options first before.streams (told_at now_left now_reads now)
+      ended_course = all_course options first before so.opened now now_left now_reads so.is_opened so.bytes [] ended_read (omega arith)
           (omega (arith, so.many, within)) reads made ended_keys ended_shown ended_order (inr over)
 
       pub pressed_all : PressedAll ended_course (keys so.bytes)
       pressed_all = record {
         pressed = ended_pressed;
-        going = all_going options first before files so.opened now now_left now_reads so.is_opened so.bytes [] ended_read (omega arith)
+        going = all_going options first before so.opened now now_left now_reads so.is_opened so.bytes [] ended_read (omega arith)
             (omega (arith, so.many, within)) reads made ended_keys ended_shown ended_order (inr over);
       }
 
-      pub ended_runs : (status : Status) → Stopped ended_course files.wants now.files.wants status → {after_reads after_fault : Type 0} → after_reads → EditorRuns status options first before (told_at now_left now_reads now) files now.files after_reads after_fault now.session
+      pub ended_runs : (status : Status) → Stopped ended_course before.files.wants now.files.wants status → {after_reads after_fault : Type 0} → after_reads → EditorRuns status options first before (whole_at now_left now_reads now) after_reads after_fault now.session
       ended_runs status stopped led =
-          all_runs options first before files so.opened now now_left now_reads so.is_opened so.bytes [] ended_read (omega arith)
+          all_runs options first before so.opened now now_left now_reads so.is_opened so.bytes [] ended_read (omega arith)
           (omega (arith, so.many, within)) reads made ended_keys ended_shown ended_order (inr over) status
           (omega (arith, next.wants, so.wants, so.is_opened.wants)) stopped (inl (led, refl))
 
@@ -451,7 +454,7 @@ module _ (number : ℕ) (options : PlainOptions) (first : EditorState) (before :
     end_read = record { one_more = ap (λ n. n + 1) (sym so.many); below = omega (arith, so.many, below); ended = ended }
 
     pub ended_at_end : (going : Going) → Pressed going (keys held) m now → {after_reads after_fault : Type 0} → after_reads
-        → EditorRuns (ended_as going Done) options first before (told_at now_left now_reads now) files now.files after_reads after_fault now.session
+        → EditorRuns (ended_as going Done) options first before (whole_at now_left now_reads now) after_reads after_fault now.session
     ended_at_end On next led =
         ended_runs read (omega (arith, below)) (number + 1) (made_more one) (inl end_read) next Done
         (omega arith, refl, inl (record { all = pressed_all read (omega (arith, below)) (number + 1) (made_more one) (inl end_read) next; end = end_read })) led
@@ -463,7 +466,7 @@ module _ (number : ℕ) (options : PlainOptions) (first : EditorState) (before :
     limit_taken = record { one_each = sym so.many; many = so.many ∙ all }
 
     pub ended_at_limit : (going : Going) → Pressed going (keys held) m now → {after_reads after_fault : Type 0} → after_reads
-        → EditorRuns (ended_as going KeyLimit) options first before (told_at now_left now_reads now) files now.files after_reads after_fault now.session
+        → EditorRuns (ended_as going KeyLimit) options first before (whole_at now_left now_reads now) after_reads after_fault now.session
     ended_at_limit On next led =
         ended_runs read (omega (arith, all)) number (unread ∙ so.made) (inr limit_taken) next KeyLimit
         (omega arith, refl, record { all = pressed_all read (omega (arith, all)) number (unread ∙ so.made) (inr limit_taken) next; limit = limit_taken }) led

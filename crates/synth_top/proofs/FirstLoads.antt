@@ -54,7 +54,7 @@ module _ (trees : TreesIgnoreRoom) (counts : CountsIgnoreRoom) (listings : Listi
   -- a program that was loaded
   pub program_loaded : {T : Type 0} (name : List ℕ) (begun_before begun_now : Option NewContent) (tree : PlainTree) (content : T) (before now : PlainFiles)
       → IsTree tree → LoadingSays before.stored name (Ok tree)
-      → OnlyReads (Ok content) before.stored now.stored begun_before begun_now before.faults now.faults before.wants now.wants
+      → OnlyReads (Ok content) before now begun_before begun_now
       → ProgramLoads (Some name) (Reply.Loaded (roomless_tree tree)) before now
   program_loaded name begun_before begun_now tree content before now is says reads = record {
     can = ((trees tree).0 is, says_without_room before.stored name tree says);

@@ -4,6 +4,7 @@ use Rattle.std.proofs.lemmas.List.{map-append}
 use Rattle.std.proofs.Math.Seq.{take-append-add}
 use Rattle.std.proofs.KnownBytes.{Appends-trans}
 use Rattle.std.specs.Io.KnownBytes.{Appends}
+use Rattle.plcs_base.specs.Count.{Rose}
 use Rattle.synth_outside.specs.Files.{FileMap}
 use Rattle.screen_window.specs.PlainGrid.{PlainGrid}
 use Rattle.synth_session.specs.declared.key.Key.{Key}
@@ -16,12 +17,12 @@ use Rattle.synth_top.specs.declared.editor.Going.TheVariants.{On, Over}
 use Rattle.synth_top.specs.declared.status.Status.{Status}
 use Rattle.synth_top.specs.declared.status.Status.TheVariants.{Done, ReadFault, WriteFault, NoMemory, BadWords, KeyLimit}
 use Rattle.synth_top.specs.Private.Pressing.{Moment, AllShown, UpToLast, KeysShown, KeysQuit, KeysCut, KeysWanted, Pressed, last_shown, state_at}
-use Rattle.synth_top.specs.Laid.{LaysFor}
+use Rattle.synth_top.specs.Counted.{CountsFor}
 use Rattle.synth_top.specs.WholeRun.{painted_over}
-use Rattle.synth_top.specs.Turn.{HaveReplies, IsToldAs, PressedKey, state_after_keys, ends, failures, grids, keys_pressed}
-use Rattle.synth_top.proofs.ClaimedFiles.{ClaimsNoMore, after_less, replies_less, same_ends, same_grids, told_through}
-use Rattle.synth_top.proofs.LaidInTurn.{lays_both}
-use Rattle.synth_top.proofs.TurnsInOrder.{after-append, ends-going, grids-append, HaveReplies-append, failures-append, painted_over-append, last_shown-append}
+use Rattle.synth_top.specs.Turn.{HaveReplies, IsToldAs, PressedKey, Shot, state_after_keys, ends, failures, grids, keys_pressed, shots}
+use Rattle.synth_top.proofs.ClaimedFiles.{ClaimsNoMore, after_less, replies_less, same_ends, same_grids, same_shots, told_through}
+use Rattle.synth_top.proofs.CountsInTurn.{counts_both}
+use Rattle.synth_top.proofs.TurnsInOrder.{after-append, ends-going, grids-append, HaveReplies-append, failures-append, painted_over-append, last_shown-append, shots-append}
 use Rattle.synth_top.specs.Keys.{IsFront}
 
 -- the keys of some and of others
@@ -32,6 +33,12 @@ module _ (a b : Moment) (ps : List PressedKey) (shown : AllShown a b ps) where
   -- the state after claims no more than the next moment tells
   behind_less : ClaimsNoMore (state_after_keys (state_at a) ps) (state_at b)
   behind_less = record { session = sym shown.session; files = shown.files }
+
+  -- the shots of others
+  shots_more : (qs : List PressedKey) → shots (state_at a) (ps ++ qs) ≡ shots (state_at a) ps ++ shots (state_at b) qs
+  shots_more qs =
+      shots-append (state_at a) ps qs
+      ∙ ap (λ (all : List Shot). shots (state_at a) ps ++ all) (same_shots (state_after_keys (state_at a) ps) (state_at b) qs behind_less)
 
   -- the screens of others
   grids_more : (qs : List PressedKey) → grids (state_at a) (ps ++ qs) ≡ grids (state_at a) ps ++ grids (state_at b) qs
@@ -64,11 +71,12 @@ module _ (a b : Moment) (ps : List PressedKey) (shown : AllShown a b ps) where
       ∙ last_shown-append a.shown (grids (state_at a) ps) (grids (state_at b) qs)
       ∙ ap (λ g. last_shown g (grids (state_at b) qs)) (sym shown.shown)
 
-  -- the lines laid
-  laid_more : (c : Moment) (qs : List PressedKey) → LaysFor (grids (state_at b) qs) b.laid c.laid → LaysFor (grids (state_at a) (ps ++ qs)) a.laid c.laid
-  laid_more c qs laid =
-      subst (λ gs. LaysFor gs a.laid c.laid) (sym (grids_more qs))
-      (lays_both (grids (state_at a) ps) (grids (state_at b) qs) a.laid b.laid c.laid shown.laid laid)
+  -- what was counted
+  counted_more : (c : Moment) (qs : List PressedKey) → CountsFor (shots (state_at b) qs) b.counts c.counts
+      → CountsFor (shots (state_at a) (ps ++ qs)) a.counts c.counts
+  counted_more c qs counts =
+      subst (λ (all : List Shot). CountsFor all a.counts c.counts) (sym (shots_more qs))
+      (counts_both (shots (state_at a) ps) (shots (state_at b) qs) a.counts b.counts c.counts shown.counts counts)
 
   -- what the files replied
   replies_more : (qs : List PressedKey) → HaveReplies (state_at b) qs → HaveReplies (state_at a) (ps ++ qs)
@@ -89,8 +97,9 @@ module _ (a b : Moment) (ps : List PressedKey) (shown : AllShown a b ps) where
     shown = next.shown ∙ sym (last_more qs);
     wrote = subst (Appends a.taken c.taken) (sym (painted_more qs))
         (Appends-trans a.taken b.taken c.taken (painted_over a.shown (grids (state_at a) ps)) (painted_over b.shown (grids (state_at b) qs)) shown.wrote next.wrote);
+    unwanted = next.unwanted ∙ shown.unwanted;
     faults = omega (arith, shown.faults, next.faults, failures-append ps qs);
-    laid = laid_more c qs next.laid;
+    counts = counted_more c qs next.counts;
   }
 
   -- all of some keys, and others up to a last one
@@ -116,7 +125,7 @@ module _ (a b : Moment) (ps : List PressedKey) (shown : AllShown a b ps) where
         whole = omega (arith, whole, next.whole);
         faults = omega (arith, shown.faults, next.faults, faults);
         wants = next.wants ∙ same_wants;
-        laid = subst (λ l. LaysFor (grids (state_at a) l) a.laid c.laid) joined (laid_more c all next.laid);
+        counts = subst (λ l. CountsFor (shots (state_at a) l) a.counts c.counts) joined (counted_more c all next.counts);
       }
 
   -- a key that wanted memory behind all of them
@@ -207,8 +216,10 @@ pressed_then On keys more a b c first next = then_all keys more a b c first next
 pressed_then (Over Done) keys more a b c first next = then_quit keys more a b c first next
 pressed_then (Over WriteFault) keys more a b c first next = then_cut keys more a b c first next
 pressed_then (Over NoMemory) keys more a b c first next =
-    elim next as (λ _. KeysCut (keys ++ more) a c ⊎ KeysWanted (keys ++ more) a c)
-    [ inl cut ↦ inl (then_cut keys more a b c first cut) | inr wanted ↦ inr (then_wanted keys more a b c first wanted) ]
+    elim next as (λ _. (KeysCut (keys ++ more) a c × Rose a.wanted c.wanted) ⊎ KeysWanted (keys ++ more) a c) [
+      | inl cut ↦ inl (then_cut keys more a b c first cut.0, omega (arith, cut.1, first.shown.unwanted))
+      | inr wanted ↦ inr (then_wanted keys more a b c first wanted)
+    ]
 pressed_then (Over ReadFault) keys more a b c first next = absurd next
 pressed_then (Over BadWords) keys more a b c first next = absurd next
 pressed_then (Over KeyLimit) keys more a b c first next = absurd next
@@ -242,8 +253,8 @@ pressed_before Done keys more a b pressed = record {
 }
 pressed_before WriteFault keys more a b pressed = cut_before keys more a b pressed
 pressed_before NoMemory keys more a b pressed =
-    elim pressed as (λ _. KeysCut (keys ++ more) a b ⊎ KeysWanted (keys ++ more) a b) [
-      | inl cut ↦ inl (cut_before keys more a b cut)
+    elim pressed as (λ _. (KeysCut (keys ++ more) a b × Rose a.wanted b.wanted) ⊎ KeysWanted (keys ++ more) a b) [
+      | inl cut ↦ inl (cut_before keys more a b cut.0, cut.1)
       | inr wanted ↦ inr (record { pressed = wanted.pressed; wanted = wanted.wanted; takes = wanted.takes; counts = wanted.counts; front = front_more _ keys more wanted.front; shown = wanted.shown })
     ]
 pressed_before ReadFault keys more a b pressed = absurd pressed

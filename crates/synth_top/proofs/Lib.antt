@@ -12,8 +12,8 @@ pub mod KeyLists
 -- `wrote` of Editor::start: fronts of bytes, and bytes one after the other
 pub mod Fronts
 pub mod WritesInTurn
--- `laid` of Editor::show, and of what is said of several keys: lines laid for some screens and then for others
-pub mod LaidInTurn
+-- `runs` of Editor::run and `presses` of Editor::press: what is counted for some shots and then for others
+pub mod CountsInTurn
 -- `presses` of Editor::press and press_keys: turns of a state of which less is claimed, turns along a list of keys, one key, and
 -- keys behind others
 pub mod ClaimedFiles

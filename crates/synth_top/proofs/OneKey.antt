@@ -11,17 +11,18 @@ use Rattle.synth_session.specs.declared.answer.Answer.{Answer}
 use Rattle.synth_session.specs.declared.answer.Answer.TheVariants.{Done, Refused, Quit}
 use Rattle.synth_session.specs.declared.key.Key.{Key}
 use Rattle.synth_session.specs.FileReply.{HaveNoMemory}
+use Rattle.synth_session.specs.KeyOutcome.{KeyOutcome}
 use Rattle.synth_session.specs.KeyRequest.{request}
 use Rattle.synth_session.specs.MemoryTaken.{key_takes_memory}
 use Rattle.synth_session.specs.PlainSession.{PlainSession}
 use Rattle.synth_session.specs.Press.{press}
 use Rattle.synth_session.specs.SessionScreen.{grid}
-use Rattle.synth_top.specs.Laid.{LaysFor}
+use Rattle.synth_top.specs.Counted.{CountsFor}
 use Rattle.synth_top.specs.Private.Pressing.{AllShown, IsPressed, KeysCut, KeysQuit, KeysShown, KeysWanted, Moment, last_shown, state_at}
 use Rattle.synth_top.specs.WholeRun.{painted_over}
-use Rattle.synth_top.specs.Turn.{IsToldAs, PressedKey, Turn, state_after_keys, ends, failures, files_after, grids, is_quit, turn, turn_with}
+use Rattle.synth_top.specs.Turn.{IsToldAs, PressedKey, Shot, Turn, state_after_keys, ends, failures, files_after, grids, is_quit, screens_of, shot_of, shots, turn, turn_with}
 use Rattle.synth_top.proofs.ClaimedFiles.{fault_counted, told_behind, told_same}
-use Rattle.synth_top.proofs.LaidInTurn.{lays_nothing}
+use Rattle.synth_top.proofs.CountsInTurn.{counts_nothing}
 
 -- an answer that isn't the end
 not_quit : (answer : Answer) → (answer ≡ Quit → ⊥) → is_quit answer ≡ false
@@ -39,16 +40,20 @@ module _ (key : Key) (answer : Answer) (a b : Moment) (s : PlainSession) (presse
   abbrev one : PressedKey
   one = record { key = key; reply = pressed.reply }
 
+  -- what comes of it
+  abbrev outcome : KeyOutcome
+  outcome = press a.session key pressed.reply
+
   -- the map that is claimed after it
   abbrev files_claimed : Option FileMap
   files_claimed = files_after (request a.session key) pressed.reply a.files.stored
 
   -- its turn, by its answer
-  turn_is : turn (state_at a) one ≡ turn_with (record { after = s; answer = answer }) files_claimed
+  turn_is : turn (state_at a) one ≡ turn_with (record outcome { after = s; answer = answer }) files_claimed
   unfolding turn
   turn_is =
-      sym (ap (λ (z : PlainSession). turn_with (record { after = z; answer = answer }) files_claimed) pressed.session
-      ∙ ap (λ (z : Answer). turn_with (record { after = (press a.session key pressed.reply).after; answer = z }) files_claimed) pressed.answered)
+      sym (ap (λ (z : PlainSession). turn_with (record outcome { after = z; answer = answer }) files_claimed) pressed.session
+      ∙ ap (λ (z : Answer). turn_with (record outcome { after = outcome.after; answer = z }) files_claimed) pressed.answered)
 
   ends_is : ends (state_at a) (one ∷ []) ≡ is_quit answer
   ends_is = ap (λ (t : Turn). t.ends || false) turn_is ∙ or_nothing (is_quit answer)
@@ -66,21 +71,25 @@ module _ (key : Key) (answer : Answer) (a b : Moment) (s : PlainSession) (presse
   faults_are : RoseBy (failures (one ∷ [])) a.files.faults b.files.faults
   faults_are = let one_fault = fault_counted pressed.reply a.files.faults b.files.faults pressed.files.faults in omega (arith, one_fault)
 
-  -- the screen, where it isn't the end
+  -- the shot, where it isn't the end
+  shots_are : is_quit answer ≡ false → shots (state_at a) (one ∷ []) ≡ shot_of s ∷ []
+  shots_are going = ap (λ (t : Turn). t.shots ++ []) turn_is ∙ ap (λ q. cond q [] (shot_of s ∷ []) ++ []) going
+
+  -- its screen
   grids_are : is_quit answer ≡ false → grids (state_at a) (one ∷ []) ≡ grid s ∷ []
-  grids_are going = ap (λ (t : Turn). t.grids ++ []) turn_is ∙ ap (λ q. cond q [] (grid s ∷ []) ++ []) going
+  grids_are going = ap screens_of (shots_are going)
 
   bytes_are : is_quit answer ≡ false → painted_over a.shown (grids (state_at a) (one ∷ [])) ≡ Paint a.shown (grid s)
   bytes_are going = ap (painted_over a.shown) (grids_are going) ∙ append-nil (Paint a.shown (grid s))
 
-  -- lines were laid for the screen
-  lays_one : is_quit answer ≡ false → LaysFor (grid s ∷ []) a.laid b.laid → LaysFor (grids (state_at a) (one ∷ [])) a.laid b.laid
-  lays_one going laid = subst (λ (screens : List PlainGrid). LaysFor screens a.laid b.laid) (sym (grids_are going)) laid
+  -- what was counted for the shot
+  counts_one : is_quit answer ≡ false → CountsFor (shot_of s ∷ []) a.counts b.counts → CountsFor (shots (state_at a) (one ∷ [])) a.counts b.counts
+  counts_one going counts = subst (λ (all : List Shot). CountsFor all a.counts b.counts) (sym (shots_are going)) counts
 
   -- the key was pressed, and its screen was written
   pub one_shown : (answer ≡ Quit → ⊥) → (over : PlainGrid) → over ≡ a.shown → Appends a.taken b.taken (Paint over (grid s))
-      → b.shown ≡ grid s → LaysFor (grid s ∷ []) a.laid b.laid → KeysShown (key ∷ []) a b
-  one_shown other over same_over wrote shown laid = record {
+      → b.shown ≡ grid s → b.wanted ≡ a.wanted → CountsFor (shot_of s ∷ []) a.counts b.counts → KeysShown (key ∷ []) a b
+  one_shown other over same_over wrote shown unwanted counts = record {
     pressed = one ∷ [];
     all = refl;
     shown = record {
@@ -90,18 +99,20 @@ module _ (key : Key) (answer : Answer) (a b : Moment) (s : PlainSession) (presse
       files = files_told;
       shown = shown ∙ sym (ap (last_shown a.shown) (grids_are (not_quit answer other)));
       wrote = subst (Appends a.taken b.taken) (ap (λ g. Paint g (grid s)) same_over ∙ sym (bytes_are (not_quit answer other))) wrote;
+      unwanted = unwanted;
       faults = faults_are;
-      laid = lays_one (not_quit answer other) laid;
+      counts = counts_one (not_quit answer other) counts;
     };
     wants = pressed.files.wants;
   }
 
   -- the key ended the session, and nothing was written
-  pub one_quit : answer ≡ Quit → b.taken ≡ a.taken → b.laid ≡ a.laid → KeysQuit (key ∷ []) a b
-  one_quit quit same_taken same_laid =
+  pub one_quit : answer ≡ Quit → b.taken ≡ a.taken → CountsFor [] a.counts b.counts → KeysQuit (key ∷ []) a b
+  one_quit quit same_taken counts =
       let ending : is_quit answer ≡ true = ap is_quit quit in
-      let none : painted_over a.shown (grids (state_at a) (one ∷ [])) ≡ [] =
-      ap (painted_over a.shown) (ap (λ (t : Turn). t.grids ++ []) turn_is ∙ ap (λ q. cond q [] (grid s ∷ []) ++ []) ending) in
+      let no_shot : shots (state_at a) (one ∷ []) ≡ [] =
+      ap (λ (t : Turn). t.shots ++ []) turn_is ∙ ap (λ q. cond q [] (shot_of s ∷ []) ++ []) ending in
+      let none : painted_over a.shown (grids (state_at a) (one ∷ [])) ≡ [] = ap (λ (all : List Shot). painted_over a.shown (screens_of all)) no_shot in
       record {
         earlier = [];
         last = one;
@@ -116,7 +127,7 @@ module _ (key : Key) (answer : Answer) (a b : Moment) (s : PlainSession) (presse
           whole = omega arith;
           faults = faults_are;
           wants = pressed.files.wants;
-          laid = lays_nothing _ a.laid b.laid same_laid;
+          counts = subst (λ (all : List Shot). CountsFor all a.counts b.counts) (sym no_shot) counts;
         };
         quit = ends_is ∙ ending;
         all = omega (arith, ap (λ (l : List ℕ). length l) none);
@@ -124,8 +135,8 @@ module _ (key : Key) (answer : Answer) (a b : Moment) (s : PlainSession) (presse
 
   -- the key was pressed, and its screen was cut short
   pub one_cut : (answer ≡ Quit → ⊥) → (over : PlainGrid) → over ≡ a.shown → AppendsFront a.taken b.taken (Paint over (grid s))
-      → LaysFor (grid s ∷ []) a.laid b.laid → KeysCut (key ∷ []) a b
-  one_cut other over same_over front laid = record {
+      → CountsFor (shot_of s ∷ []) a.counts b.counts → KeysCut (key ∷ []) a b
+  one_cut other over same_over front counts = record {
     earlier = [];
     last = one;
     front = ([], refl);
@@ -140,25 +151,26 @@ module _ (key : Key) (answer : Answer) (a b : Moment) (s : PlainSession) (presse
       whole = omega arith;
       faults = faults_are;
       wants = pressed.files.wants;
-      laid = lays_one (not_quit answer other) laid;
+      counts = counts_one (not_quit answer other) counts;
     };
     going = ends_is ∙ not_quit answer other;
   }
 
 -- ---- no key
 
--- nothing but the count of wants of the files is seen to have changed
+-- nothing but the count of wants of the files, and that of phrases checked, is seen to have changed
 pub record IsUnchanged (a b : Moment) : Type 0 where
   pub session : b.session ≡ a.session
   pub shown : b.shown ≡ a.shown
   pub taken : b.taken ≡ a.taken
+  pub wanted : b.wanted ≡ a.wanted
   pub stored : b.files.stored ≡ a.files.stored
   pub faults : b.files.faults ≡ a.files.faults
-  pub laid : b.laid ≡ a.laid
+  pub counts : CountsFor [] a.counts b.counts
 
 -- nothing at all
 pub unchanged_itself : (a : Moment) → IsUnchanged a a
-unchanged_itself a = record { session = refl; shown = refl; taken = refl; stored = refl; faults = refl; laid = refl }
+unchanged_itself a = record { session = refl; shown = refl; taken = refl; wanted = refl; stored = refl; faults = refl; counts = counts_nothing a.counts }
 
 -- no key was pressed
 pub none_shown : (a b : Moment) → IsUnchanged a b → AllShown a b []
@@ -169,18 +181,19 @@ none_shown a b same = record {
   files = told_same a.files.stored b.files.stored same.stored;
   shown = same.shown;
   wrote = subst (λ taken. Appends a.taken taken []) (sym same.taken) (Appends-nil a.taken);
+  unwanted = same.wanted;
   faults = omega (arith, same.faults);
-  laid = lays_nothing [] a.laid b.laid same.laid;
+  counts = same.counts;
 }
 
 -- the key wanted memory, and did nothing
 pub one_wanted : (key : Key) (a b : Moment) → IsTrue (key_takes_memory a.session key) → HaveNoMemory (request a.session key) a.files b.files
-    → b.session ≡ a.session → b.shown ≡ a.shown → b.taken ≡ a.taken → b.laid ≡ a.laid → KeysWanted (key ∷ []) a b
-one_wanted key a b takes files session shown taken laid = record {
+    → b.session ≡ a.session → b.shown ≡ a.shown → b.taken ≡ a.taken → b.wanted ≡ a.wanted → CountsFor [] a.counts b.counts → KeysWanted (key ∷ []) a b
+one_wanted key a b takes files session shown taken wanted counts = record {
   pressed = [];
   wanted = key;
   takes = takes;
   counts = files.wants;
   front = ([], refl);
-  shown = none_shown a b (record { session = session; shown = shown; taken = taken; stored = files.stored; faults = files.faults; laid = laid });
+  shown = none_shown a b (record { session = session; shown = shown; taken = taken; wanted = wanted; stored = files.stored; faults = files.faults; counts = counts });
 }

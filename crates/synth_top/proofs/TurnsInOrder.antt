@@ -1,10 +1,11 @@
 -- Turns of some keys and then of others.
 use Rattle.std.proofs.Common.{◌≡◌, ◌+◌, Bool, true, false, ◌||◌, List, [], ◌∷◌, ◌++◌, refl, sym, ap, ◌∙◌, append_assoc, arith}
+use Rattle.std.proofs.lemmas.List.{map-append}
 use Rattle.screen_window.specs.Paint.{Paint}
 use Rattle.screen_window.specs.PlainGrid.{PlainGrid}
 use Rattle.synth_top.specs.Private.Pressing.{last_shown}
 use Rattle.synth_top.specs.WholeRun.{painted_over}
-use Rattle.synth_top.specs.Turn.{HaveReplies, PressedKey, EditorState, state_after_keys, ends, failures, grids, turn}
+use Rattle.synth_top.specs.Turn.{HaveReplies, PressedKey, EditorState, Shot, state_after_keys, ends, failures, grids, screens_of, shots, turn}
 
 -- a test that fails, and then another
 or_false : (a b : Bool) → a ≡ false → (a || b) ≡ b
@@ -26,12 +27,17 @@ ends-going s (p ∷ ps) qs going =
     let parts = or_parts (turn s p).ends (ends (turn s p).after ps) going in
     or_false (turn s p).ends (ends (turn s p).after (ps ++ qs)) parts.0 ∙ ends-going (turn s p).after ps qs parts.1
 
+-- all shots
+pub shots-append : (s : EditorState) (ps qs : List PressedKey) → shots s (ps ++ qs) ≡ shots s ps ++ shots (state_after_keys s ps) qs
+shots-append s [] qs = refl
+shots-append s (p ∷ ps) qs =
+    ap (λ l. (turn s p).shots ++ l) (shots-append (turn s p).after ps qs)
+    ∙ sym (append_assoc (turn s p).shots (shots (turn s p).after ps) (shots (state_after_keys s (p ∷ ps)) qs))
+
 -- all screens
 pub grids-append : (s : EditorState) (ps qs : List PressedKey) → grids s (ps ++ qs) ≡ grids s ps ++ grids (state_after_keys s ps) qs
-grids-append s [] qs = refl
-grids-append s (p ∷ ps) qs =
-    ap (λ l. (turn s p).grids ++ l) (grids-append (turn s p).after ps qs)
-    ∙ sym (append_assoc (turn s p).grids (grids (turn s p).after ps) (grids (state_after_keys s (p ∷ ps)) qs))
+grids-append s ps qs =
+    ap screens_of (shots-append s ps qs) ∙ map-append (λ (shot : Shot). shot.screen) (shots s ps) (shots (state_after_keys s ps) qs)
 
 -- what the files replied
 pub HaveReplies-append : (s : EditorState) (ps qs : List PressedKey) → HaveReplies s ps → HaveReplies (state_after_keys s ps) qs → HaveReplies s (ps ++ qs)

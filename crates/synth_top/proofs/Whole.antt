@@ -1,20 +1,22 @@
 -- A whole run: the loads, the keys, and what is saved at the end.
-use Rattle.std.proofs.Common.{◌≡◌, inl, ℕ, List, Option, Some, None, codes, refl, ap, ◌∙◌, subst, arith}
+use Rattle.std.proofs.Common.{◌≡◌, inl, ℕ, List, [], Option, Some, None, codes, refl, ap, ◌∙◌, subst, arith}
 use Rattle.std.specs.Prelude.{option_map}
 use Rattle.std.specs.FinMap.{insert}
+use Rattle.plcs_base.specs.PlainCounts.{ChecksAtMost, PlainCounts}
 use Rattle.synth_outside.specs.Files.{FileMap, PlainFiles}
 use Rattle.template_tree.specs.Listing.{Listing}
 use Rattle.synth_session.specs.PlainSession.{PlainSession}
 use Rattle.synth_top.specs.declared.status.Status.{Status}
 use Rattle.synth_top.specs.declared.status.Status.TheVariants.{NoMemory}
-use Rattle.synth_top.specs.Loads.{PlainFirstLoads, first_session, first_state}
+use Rattle.synth_top.specs.Loads.{PlainFirstLoads, first_session, first_state, opening_checks}
 use Rattle.synth_top.specs.Options.{PlainOptions}
 use Rattle.synth_top.specs.Private.Loading.{BothLoad, LoadsNothing, OnlyRead}
 use Rattle.synth_top.specs.Private.EditorRuns.{Rescues, EditorRuns}
 use Rattle.synth_top.specs.Rescue.{NoRescue, Rescue, RescueFailed, RescueWanted, Rescued, files_with}
-use Rattle.synth_top.specs.WholeRun.{Ended, Ran, Stopped, Told, state_after}
+use Rattle.synth_top.specs.WholeRun.{Ended, Ran, Stopped, Told, ToldStreams, all_shots, state_after}
 use Rattle.synth_top.specs.Turn.{IsToldAs, EditorState}
 use Rattle.synth_top.proofs.ClaimedFiles.{told_through}
+use Rattle.synth_top.proofs.CountsInTurn.{counts_both, counts_checks, counts_nothing}
 
 -- ---- the loads
 
@@ -57,15 +59,20 @@ pub opened_first : (options : PlainOptions) (loads : PlainFirstLoads) (stored lo
 opened_first options loads stored loaded s opened same =
     ap (λ (z : PlainSession). state_with z loaded) opened ∙ ap (λ (f : Option FileMap). state_with (first_session options loads) f) same
 
+-- what is told of keys and screens, of files and of counts
+abbrev whole : ToldStreams → PlainFiles → PlainCounts → Told
+whole streams files counts = record { streams = streams; files = files; counts = counts }
+
 -- the loads, the run from the session that they make, and the rescue after it
-pub ran : (status : Status) (options : PlainOptions) (loads : PlainFirstLoads) (before now : Told) (files loaded behind files_now : PlainFiles)
-    (first : EditorState) (after_reads after_fault : Type 0) (session : PlainSession) → BothLoad options loads files loaded
-    → first ≡ first_state options files.stored loads
-    → EditorRuns status options first before now loaded behind after_reads after_fault session → Rescues status session behind files_now
-    → Ran status options before now files files_now after_reads after_fault
-ran status options loads before now files loaded behind files_now first after_reads after_fault session load is runs_first rescue =
-    let runs : EditorRuns status options (first_state options files.stored loads) before now loaded behind after_reads after_fault session =
-    subst (λ (s : EditorState). EditorRuns status options s before now loaded behind after_reads after_fault session) is runs_first in
+pub ran : (status : Status) (options : PlainOptions) (loads : PlainFirstLoads) (before now : ToldStreams) (files loaded behind files_now : PlainFiles)
+    (counts opened counts_now : PlainCounts) (first : EditorState) (after_reads after_fault : Type 0) (session : PlainSession)
+    → BothLoad options loads files loaded → ChecksAtMost (opening_checks loads) counts opened → first ≡ first_state options files.stored loads
+    → EditorRuns status options first (whole before loaded opened) (whole now behind counts_now) after_reads after_fault session
+    → Rescues status session behind files_now
+    → Ran status options (whole before files counts) (whole now files_now counts_now) after_reads after_fault
+ran status options loads before now files loaded behind files_now counts opened counts_now first after_reads after_fault session load opening is runs_first rescue =
+    let runs : EditorRuns status options (first_state options files.stored loads) (whole before loaded opened) (whole now behind counts_now) after_reads after_fault session =
+    subst (λ (s : EditorState). EditorRuns status options s (whole before loaded opened) (whole now behind counts_now) after_reads after_fault session) is runs_first in
     record {
       loads = loads;
       can_load = load.can;
@@ -80,23 +87,35 @@ ran status options loads before now files loaded behind files_now first after_re
       files = files_with_less rescue.rescue (state_after runs.course) (record { session = session; files = behind.stored }) files_now.stored
           runs.session_is runs.files rescue.files;
       faults = omega (arith, load.read.faults, runs.faults, rescue.faults);
+      counts = counts_both [] (all_shots runs.course) counts opened counts_now (counts_checks (opening_checks loads) counts opened opening) runs.counts;
     }
 
 -- no session was opened, since memory ran out over a load
-pub unloaded : (options : PlainOptions) (told : Told) (files files_now : PlainFiles) (after_reads after_fault : Type 0) → LoadsNothing files files_now → after_reads
-    → Ended NoMemory options told told files files_now after_reads after_fault
-unloaded options told files files_now after_reads after_fault nothing led =
-    inl (record { wanted = refl; same = refl; source = led; stored = nothing.stored; faults = nothing.faults; wants = nothing.wants })
-
--- no session was opened, since memory ran out after the loads
-pub unopened : (options : PlainOptions) (loads : PlainFirstLoads) (before now : Told) (files files_now : PlainFiles) (after_reads after_fault : Type 0)
-    → BothLoad options loads files files_now → now ≡ before → after_reads → Ended NoMemory options before now files files_now after_reads after_fault
-unopened options loads before now files files_now after_reads after_fault load same led =
+pub unloaded : (options : PlainOptions) (told : ToldStreams) (files files_now : PlainFiles) (counts : PlainCounts) (after_reads after_fault : Type 0)
+    → LoadsNothing files files_now → after_reads
+    → Ended NoMemory options (whole told files counts) (whole told files_now counts) after_reads after_fault
+unloaded options told files files_now counts after_reads after_fault nothing led =
     inl (record {
       wanted = refl;
-      same = same;
+      same = refl;
+      source = led;
+      stored = nothing.stored;
+      faults = nothing.faults;
+      wants = nothing.wants;
+      counts = counts_nothing counts;
+    })
+
+-- no session was opened, since memory ran out after the loads
+pub unopened : (options : PlainOptions) (loads : PlainFirstLoads) (told : ToldStreams) (files files_now : PlainFiles) (counts counts_now : PlainCounts)
+    (after_reads after_fault : Type 0) → BothLoad options loads files files_now → ChecksAtMost (opening_checks loads) counts counts_now → after_reads
+    → Ended NoMemory options (whole told files counts) (whole told files_now counts_now) after_reads after_fault
+unopened options loads told files files_now counts counts_now after_reads after_fault load opening led =
+    inl (record {
+      wanted = refl;
+      same = refl;
       source = led;
       stored = load.read.stored;
       faults = load.read.later;
       wants = omega (arith, load.read.wants);
+      counts = counts_checks (opening_checks loads) counts counts_now opening;
     })

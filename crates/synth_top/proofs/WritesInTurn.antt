@@ -32,19 +32,21 @@ caused_behind p q s same cause = record {
 }
 
 -- all of xs was written, and then ys
-pub writes_both : {T U : Type 0} (xs ys : List ℕ) (x : U) (result : Result T SinkFault) (a b c : Option (List ℕ)) (p q s : ℕ)
-    → Writes xs (Ok x) a b p q → Writes ys result b c q s → Writes (xs ++ ys) result a c p s
-writes_both xs ys x result a b c p q s first second = record {
+pub writes_both : {T U : Type 0} (xs ys : List ℕ) (x : U) (result : Result T SinkFault) (a b c : Option (List ℕ)) (p q s u v w : ℕ)
+    → Writes xs (Ok x) a b p q u v → Writes ys result b c q s v w → Writes (xs ++ ys) result a c p s u w
+writes_both xs ys x result a b c p q s u v w first second = record {
   all = on_ok_weaker result (λ all. Appends-trans a b c xs ys first.all all) second.all;
   front = on_err_weaker result (λ front. AppendsFront-append a b c xs ys first.all front) second.front;
   cause = cause_behind _ p q s result (first.cause.same (λ h. absurd (cc))) second.cause;
+  want = cause_behind _ u v w result (first.want.same (λ h. absurd (cc))) second.want;
 }
 
 -- of xs a front was written, and of ys nothing
-pub writes_first : {T U : Type 0} (xs ys : List ℕ) (e : SinkFault) (a b : Option (List ℕ)) (p q : ℕ)
-    → Writes {T = U} xs (Err e) a b p q → Writes {T = T} (xs ++ ys) (Err e) a b p q
-writes_first xs ys e a b p q first = record {
+pub writes_first : {T U : Type 0} (xs ys : List ℕ) (e : SinkFault) (a b : Option (List ℕ)) (p q u v : ℕ)
+    → Writes {T = U} xs (Err e) a b p q u v → Writes {T = T} (xs ++ ys) (Err e) a b p q u v
+writes_first xs ys e a b p q u v first = record {
   all = tt;
   front = AppendsFront-first a b xs ys first.front;
   cause = cause_passed _ e p p q refl first.cause;
+  want = cause_passed _ e u u v refl first.want;
 }

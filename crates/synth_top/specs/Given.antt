@@ -49,7 +49,8 @@ abbrev pub value_before : NamedValue → Option (List NamedValue) → Option (Li
 value_before value others = option_map (λ values. value ∷ values) others
 
 -- the values of an option's word and of those behind it: where it has no value in itself, the next word is its value
-abbrev pub option_values : (name : List ℕ) → (in_word : Option (List ℕ)) → (behind behind_name : Option (List NamedValue)) → Option (List NamedValue)
+abbrev pub option_values : (name : List ℕ) → (in_word : Option (List ℕ)) → (behind behind_name : Option (List NamedValue))
+    → Option (List NamedValue)
 option_values name (Some value) behind behind_name = value_before (record { name = name; value = value }) behind
 option_values name None behind behind_name = behind_name
 

@@ -2,6 +2,7 @@
 pub mod Number
 pub mod Given
 pub mod Options
+pub mod Task
 -- ---- keys, and what one makes of session and files
 pub mod Keys
 pub mod Turn
@@ -10,7 +11,7 @@ pub mod Loads
 pub mod Rescue
 -- ---- whole runs
 pub mod Status
-pub mod Laid
+pub mod Counted
 pub mod WholeRun
 -- ---- what private contracts alone cite
 pub mod Private

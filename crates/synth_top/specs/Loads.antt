@@ -8,7 +8,8 @@ use Rattle.file_store.specs.FileReading.{Holds, IsFileRefused}
 use Rattle.file_store.specs.Limit.{longest_input}
 use Rattle.synth_session.specs.declared.answer.Refusal.{Refusal}
 use Rattle.synth_session.specs.FileReply.{CanReply, Reply, Request}
-use Rattle.synth_session.specs.OpenedSession.{opened_session}
+use Rattle.synth_session.specs.CheckedPhrases.{phrase_count}
+use Rattle.synth_session.specs.OpenedSession.{opened_session, tree_at_first}
 use Rattle.synth_session.specs.PlainSession.{PlainSession}
 use Rattle.synth_session.specs.RefusalText.{refusal_text}
 use Rattle.synth_top.specs.Options.{PlainOptions}
@@ -37,7 +38,8 @@ program_request (Some name) = Request.Load name
 abbrev pub IsInputReply : Option FileMap → (name : Option (List ℕ)) → InputReply → Type 0
 IsInputReply stored None reply = reply ≡ InputReply.NotAsked
 IsInputReply stored (Some name) InputReply.NotAsked = ⊥
-IsInputReply stored (Some name) (InputReply.Loaded bytes) = Holds stored name (λ content. content ≡ bytes) × (length bytes ≤ longest_input)
+IsInputReply stored (Some name) (InputReply.Loaded bytes) =
+    Holds stored name (λ content. content ≡ bytes) × (length bytes ≤ longest_input)
 IsInputReply stored (Some name) (InputReply.Refused refusal) =
     (refusal ≢ FileRefusal.OutOfMemory) × IsFileRefused longest_input stored name refusal
 
@@ -66,6 +68,10 @@ loaded_program reply = None
 abbrev pub loaded_input : InputReply → List ℕ
 loaded_input (InputReply.Loaded bytes) = bytes
 loaded_input reply = []
+
+-- how many phrases are checked at most where a session is opened over what was loaded: each of its program
+abbrev pub opening_checks : PlainFirstLoads → ℕ
+opening_checks loads = phrase_count (tree_at_first (loaded_program loads.program))
 
 -- why the file with the program was refused, if it was
 abbrev pub program_refusal : Reply → Option FileRefusal

@@ -1,14 +1,14 @@
--- What the words that follow the program's name ask for: the options.
+-- The options of a whole run that edits.
 use Rattle.std.specs.Prelude.{ℕ, Bool, true, ◌&&◌, nat_le, List, Option, None, Some, option_and_then, if◌then◌else◌}
 use Rattle.std.specs.Option.{option_map_or}
 use Rattle.screen_window.specs.declared.limit.TheConstants.{FEWEST_ROWS, MOST_ROWS, FEWEST_COLS, MOST_COLS}
 use Rattle.session_words.specs.Argument.{is_file_name}
 use Rattle.synth_session.specs.PlainScreenSize.{PlainScreenSize}
 use Rattle.synth_top.specs.declared.options.TheConstants.{FEWEST_KEYS, MOST_KEYS, USUAL_ROWS, USUAL_COLS}
-use Rattle.synth_top.specs.Given.{PlainGiven, given_in}
+use Rattle.synth_top.specs.Given.{PlainGiven}
 use Rattle.synth_top.specs.Number.{number_in_digits}
 
--- the options, which are what the words ask for: the size of the screen, how many bytes of keys are taken at most, and
+-- the options, as the words ask for them: the size of the screen, how many bytes of keys are taken at most, and
 -- the names of the files with the program and with its input, if there are any
 pub record PlainOptions : Type 0 where
   pub size : PlainScreenSize
@@ -42,7 +42,3 @@ options_with given =
     (count_given FEWEST_KEYS MOST_KEYS MOST_KEYS given.keys))
     (count_given FEWEST_COLS MOST_COLS USUAL_COLS given.cols))
     (count_given FEWEST_ROWS MOST_ROWS USUAL_ROWS given.rows)
-
--- the options that the words ask for, or none where they aren't words of the command
-unfoldable pub options_of : List (List ℕ) → Option PlainOptions
-options_of words = option_and_then options_with (given_in words)

@@ -1,4 +1,4 @@
--- The turns of keys: what each makes of the session and the files, and the screens that it shows.
+-- The turns of keys: what each makes of the session and the files, and the shots that it shows.
 use Rattle.std.specs.Prelude.{◌≡◌, ℕ, ◌+◌, Bool, true, false, ◌||◌, List, [], ◌∷◌, ◌++◌, map, Option, Some, None, option_map, if◌then◌else◌}
 use Rattle.std.specs.FinMap.{insert}
 use Rattle.synth_outside.specs.Files.{FileMap}
@@ -56,17 +56,32 @@ is_quit Quit = true
 is_quit Done = false
 is_quit (Refused why) = false
 
--- what a turn gives: the screens that are painted in their order, the state after it, and whether
+-- whether a key's answer is that a run of the program goes on in its turn, step by step; no key makes steps yet
+abbrev pub makes_steps : Answer → Bool
+makes_steps Quit = false
+makes_steps Done = false
+makes_steps (Refused why) = false
+
+-- a shot: a screen that is shown in a turn, and how many instructions were fetched in the turn before it, since the shot before
+pub record Shot : Type 0 where
+  pub screen : PlainGrid
+  pub fetched : ℕ
+
+-- the shot of a session, for which nothing is fetched
+abbrev pub shot_of : PlainSession → Shot
+shot_of s = record { screen = grid s; fetched = 0 }
+
+-- what a turn gives: its shots in the order in which they are painted, the state after it, and whether
 -- the session ends
 pub record Turn : Type 0 where
-  pub grids : List PlainGrid
+  pub shots : List Shot
   pub after : EditorState
   pub ends : Bool
 
--- the turn of a key with this outcome, after which the files have this map: one screen, but none where the session ends
+-- the turn of a key with this outcome, after which the files have this map: one shot, but none where the session ends
 abbrev pub turn_with : KeyOutcome → Option FileMap → Turn
 turn_with outcome files = record {
-  grids = if is_quit outcome.answer then [] else grid outcome.after ∷ [];
+  shots = if is_quit outcome.answer then [] else shot_of outcome.after ∷ [];
   after = record { session = outcome.after; files = files };
   ends = is_quit outcome.answer;
 }
@@ -76,6 +91,10 @@ unfoldable pub turn : EditorState → PressedKey → Turn
 turn state pressed =
     turn_with (press state.session pressed.key pressed.reply) (files_after (asked state pressed) pressed.reply state.files)
 
+-- what a pressed key is answered
+abbrev pub answered : EditorState → PressedKey → Answer
+answered state pressed = (press state.session pressed.key pressed.reply).answer
+
 -- ---- one turn after the other
 
 -- the state after the turns of some keys
@@ -83,10 +102,18 @@ abbrev pub state_after_keys : EditorState → List PressedKey → EditorState
 state_after_keys state [] = state
 state_after_keys state (first ∷ rest) = state_after_keys (turn state first).after rest
 
+-- the shots that the turns of some keys show, in their order
+abbrev pub shots : EditorState → List PressedKey → List Shot
+shots state [] = []
+shots state (first ∷ rest) = (turn state first).shots ++ shots (turn state first).after rest
+
+-- the screens of shots
+abbrev pub screens_of : List Shot → List PlainGrid
+screens_of shots = map (λ shot. shot.screen) shots
+
 -- the screens that the turns of some keys show, in their order
 abbrev pub grids : EditorState → List PressedKey → List PlainGrid
-grids state [] = []
-grids state (first ∷ rest) = (turn state first).grids ++ grids (turn state first).after rest
+grids state pressed = screens_of (shots state pressed)
 
 -- whether one of the turns of some keys ends the session
 abbrev pub ends : EditorState → List PressedKey → Bool

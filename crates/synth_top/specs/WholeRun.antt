@@ -1,7 +1,8 @@
 -- A whole run: from the bytes of keys to the bytes of screens.
 use Rattle.std.specs.Prelude.{◌≡◌, ◌⊎◌, ℕ, ◌+◌, ◌<◌, ◌≤◌, true, false, IsTrue, List, [], ◌∷◌, ◌++◌, length, take, Option, codes}
 use Rattle.std.specs.Io.KnownBytes.{Appends, Consumes, IsAtEnd}
-use Rattle.plcs_base.specs.Count.{RoseBy, raised_by}
+use Rattle.plcs_base.specs.Count.{Rose, RoseBy, raised_by}
+use Rattle.plcs_base.specs.PlainCounts.{PlainCounts}
 use Rattle.synth_outside.specs.Files.{PlainFiles}
 use Rattle.screen_window.specs.Paint.{Paint, control}
 use Rattle.screen_window.specs.PlainGrid.{PlainGrid, blank_grid}
@@ -13,12 +14,14 @@ use Rattle.synth_session.specs.PlainSession.{PlainSession}
 use Rattle.synth_session.specs.SessionScreen.{grid}
 use Rattle.synth_top.specs.declared.status.Status.{Status}
 use Rattle.synth_top.specs.declared.status.Status.TheVariants.{Done, ReadFault, WriteFault, NoMemory, BadWords, KeyLimit}
+use Rattle.synth_top.specs.Counted.{CountsFor}
 use Rattle.synth_top.specs.Keys.{IsFront, completed, keys}
-use Rattle.synth_top.specs.Laid.{LaysFor}
 use Rattle.synth_top.specs.Loads.{CanLoad, PlainFirstLoads, first_state, load_failures}
 use Rattle.synth_top.specs.Options.{PlainOptions}
 use Rattle.synth_top.specs.Rescue.{CountsRescueWant, IsRescue, Rescue, files_with, rescue_failure}
-use Rattle.synth_top.specs.Turn.{HaveReplies, IsToldAs, PressedKey, EditorState, state_after_keys, ends, failures, grids, keys_pressed}
+use Rattle.synth_top.specs.Task.{PlainTask}
+use Rattle.synth_top.specs.Task.PlainTask.{Edit}
+use Rattle.synth_top.specs.Turn.{HaveReplies, IsToldAs, PressedKey, EditorState, Shot, answered, state_after_keys, ends, failures, grids, keys_pressed, makes_steps, shot_of, shots}
 
 -- ---- what is written
 
@@ -43,17 +46,23 @@ written state pressed =
 -- ---- what a run begins with
 
 -- what is told of keys and screens at a moment of a run: the bytes that the source has left and how many reads it
--- counted, the bytes that the sink took, and how many lines were counted as laid
-pub record Told : Type 0 where
+-- counted, and the bytes that the sink took and how many wants of memory it counted
+pub record ToldStreams : Type 0 where
   pub left : Option (List ℕ)
   pub reads : ℕ
   pub taken : Option (List ℕ)
-  pub laid : ℕ
+  pub wants : ℕ
+
+-- what is told of all that is handed in, at a moment of a run: keys and screens, files, and what was counted
+pub record Told : Type 0 where
+  pub streams : ToldStreams
+  pub files : PlainFiles
+  pub counts : PlainCounts
 
 -- ---- what a run has done
 
 -- below the limit one read was made behind these bytes, and it found the source's end
-pub record EndRead (options : PlainOptions) (now : Told) (bytes : List ℕ) (reads : ℕ) : Type 0 where
+pub record EndRead (options : PlainOptions) (now : ToldStreams) (bytes : List ℕ) (reads : ℕ) : Type 0 where
   pub one_more : reads ≡ length bytes + 1
   pub below : length bytes < options.key_limit
   pub ended : IsAtEnd now.left
@@ -64,18 +73,18 @@ pub record LimitTaken (options : PlainOptions) (bytes : List ℕ) (reads : ℕ) 
   pub many : length bytes ≡ options.key_limit
 
 -- no byte of keys comes behind these: the source's end was read, or the limit is met
-abbrev pub NoKeyComes : PlainOptions → Told → List ℕ → ℕ → Type 0
+abbrev pub NoKeyComes : PlainOptions → ToldStreams → List ℕ → ℕ → Type 0
 NoKeyComes options now bytes reads = EndRead options now bytes reads ⊎ LimitTaken options bytes reads
 
 -- one read a byte was made; or the source's end was read too, and these keys begin with all that the
 -- bytes complete
-abbrev pub ReadsInTurn : PlainOptions → Told → List ℕ → ℕ → List PressedKey → Type 0
+abbrev pub ReadsInTurn : PlainOptions → ToldStreams → List ℕ → ℕ → List PressedKey → Type 0
 ReadsInTurn options now bytes reads pressed =
     (reads ≡ length bytes)
     ⊎ (EndRead options now bytes reads × IsFront (completed bytes) (keys_pressed pressed))
 
 -- what a run from this state of its opening screen has done between two moments
-pub record Course (options : PlainOptions) (first : EditorState) (before now : Told) : Type 0 where
+pub record Course (options : PlainOptions) (first : EditorState) (before now : ToldStreams) : Type 0 where
   -- the bytes of keys, each taken once and in order, and at most one that a failed read lost
   pub bytes : List ℕ
   pub lost : List ℕ
@@ -94,16 +103,17 @@ pub record Course (options : PlainOptions) (first : EditorState) (before now : T
   -- how many bytes of all that is written the sink took
   pub count : ℕ
   pub wrote : Appends before.taken now.taken (take count (written first pressed))
-  -- the lines laid: at most as many as the windows of the opening screen and of the screens of the keys
-  -- have rows
-  pub laid : LaysFor (grid first.session ∷ grids first pressed) before.laid now.laid
 
 -- ---- why a run stopped
 
-module _ {options : PlainOptions} {first : EditorState} {before now : Told} (course : Course options first before now) where
+module _ {options : PlainOptions} {first : EditorState} {before now : ToldStreams} (course : Course options first before now) where
   -- the state after all keys that a run pressed
   abbrev pub state_after : EditorState
-  state_behind = state_after_keys first course.pressed
+  state_after = state_after_keys first course.pressed
+
+  -- all shots of a run: that of the opening screen, and then those of the keys
+  abbrev pub all_shots : List Shot
+  all_shots = shot_of first.session ∷ shots first course.pressed
 
   -- the sink took all that a run writes
   abbrev pub AllWritten : Type 0
@@ -181,6 +191,18 @@ module _ {options : PlainOptions} {first : EditorState} {before now : Told} (cou
     pub going : ends first course.pressed ≡ false
     pub taken : TakenBehind course.pressed
 
+  -- a step of the program's run wanted memory, in the turn of the last key pressed, which was taken and which asked the files for
+  -- nothing; none before it ended the session
+  pub record StepWanted (wants_before wants_now : ℕ) : Type 0 where
+    pub at_key : AtLastKey
+    pub steps : IsTrue (makes_steps (answered (state_after_keys first at_key.earlier) at_key.last))
+    pub wants : wants_now ≡ wants_before
+    pub going : ends first course.pressed ≡ false
+
+  -- in a turn memory ran out: a key wanted some, or a step in the turn of a key that was taken
+  abbrev pub TurnWanted : (wants_before wants_now : ℕ) → Type 0
+  TurnWanted wants_before wants_now = KeyWanted wants_before wants_now ⊎ StepWanted wants_before wants_now
+
   -- what each status says of the run, between these counts of the files' wants
   abbrev pub Stopped : (wants_before wants_now : ℕ) → Status → Type 0
   Stopped wants_before wants_now Done = AllWritten × NoneLost × (SourceEnded ⊎ QuitPressed)
@@ -188,7 +210,7 @@ module _ {options : PlainOptions} {first : EditorState} {before now : Told} (cou
   Stopped wants_before wants_now ReadFault = AllWritten × ReadCut
   Stopped wants_before wants_now WriteFault = NoneLost × (OpeningCut ⊎ ScreenCut)
   Stopped wants_before wants_now NoMemory =
-      (AllWritten × ReadCut) ⊎ ((NoneLost × (OpeningCut ⊎ ScreenCut)) ⊎ (AllWritten × NoneLost × KeyWanted wants_before wants_now))
+      (AllWritten × ReadCut) ⊎ ((NoneLost × (OpeningCut ⊎ ScreenCut) × Rose before.wants now.wants) ⊎ (AllWritten × NoneLost × TurnWanted wants_before wants_now))
   Stopped wants_before wants_now BadWords = ⊥
 
   -- what the source keeps besides its bytes is as after reads that were Ok, and then no byte was lost;
@@ -198,40 +220,45 @@ module _ {options : PlainOptions} {first : EditorState} {before now : Told} (cou
 
 -- ---- a whole run
 
--- no session was opened, for want of memory: nothing was read or written, the map of the files is as before, and their counts
--- haven't fallen
-pub record NotOpened (status : Status) (before now : Told) (files_before files_now : PlainFiles) (after_reads : Type 0) : Type 0 where
+-- no session was opened, for want of memory: nothing was read or written, the map of the files is as before, their counts
+-- haven't fallen, and no shot was shown
+pub record NotOpened (status : Status) (before now : Told) (after_reads : Type 0) : Type 0 where
   pub wanted : status ≡ NoMemory
-  pub same : now ≡ before
+  pub same : now.streams ≡ before.streams
   pub source : after_reads
-  pub stored : files_now.stored ≡ files_before.stored
-  pub faults : files_before.faults ≤ files_now.faults
-  pub wants : files_before.wants ≤ files_now.wants
+  pub stored : now.files.stored ≡ before.files.stored
+  pub faults : before.files.faults ≤ now.files.faults
+  pub wants : before.files.wants ≤ now.files.wants
+  pub counts : CountsFor [] before.counts now.counts
 
 -- a session was opened: the run did this, and stopped, left its source and saved as its status says
-pub record Ran (status : Status) (options : PlainOptions) (before now : Told) (files_before files_now : PlainFiles)
-    (after_reads after_fault : Type 0) : Type 0 where
+pub record Ran (status : Status) (options : PlainOptions) (before now : Told) (after_reads after_fault : Type 0) : Type 0 where
   -- what the files did in the loads before the first screen
   pub loads : PlainFirstLoads
-  pub can_load : CanLoad options files_before.stored loads
+  pub can_load : CanLoad options before.files.stored loads
   -- what was done from the first screen on, why it stopped, and how many wants the files had counted then
-  pub course : Course options (first_state options files_before.stored loads) before now
+  pub course : Course options (first_state options before.files.stored loads) before.streams now.streams
   pub wants : ℕ
-  pub wants_later : files_before.wants ≤ wants
-  pub stopped : Stopped course files_before.wants wants status
+  pub wants_later : before.files.wants ≤ wants
+  pub stopped : Stopped course before.files.wants wants status
   pub source : LeavesSource course after_reads after_fault
   -- what was saved at the end
   pub rescue : Rescue
   pub rescued : IsRescue status rescue
-  pub wants_now : CountsRescueWant rescue wants files_now.wants
+  pub wants_now : CountsRescueWant rescue wants now.files.wants
   -- the map of the files as the keys and what was saved make it, and at least as many faults of theirs as
   -- failures
-  pub files : IsToldAs (files_with rescue (state_after course)) files_now.stored
+  pub files : IsToldAs (files_with rescue (state_after course)) now.files.stored
   pub faults : RoseBy (load_failures loads + failures course.pressed + rescue_failure rescue)
-      files_before.faults files_now.faults
+      before.files.faults now.files.faults
+  -- what was counted: for the shot of the opening screen and for those of the keys
+  pub counts : CountsFor (all_shots course) before.counts now.counts
 
 -- the editor ended so: no session was opened, or the run went to its end
-abbrev pub Ended : Status → PlainOptions → (before now : Told) → (files_before files_now : PlainFiles) → (after_reads after_fault : Type 0) → Type 0
-Ended status options before now files_before files_now after_reads after_fault =
-    NotOpened status before now files_before files_now after_reads
-    ⊎ Ran status options before now files_before files_now after_reads after_fault
+abbrev pub Ended : Status → PlainOptions → (before now : Told) → (after_reads after_fault : Type 0) → Type 0
+Ended status options before now after_reads after_fault =
+    NotOpened status before now after_reads ⊎ Ran status options before now after_reads after_fault
+
+-- a task ended so
+abbrev pub TaskEnded : PlainTask → Status → (before now : Told) → (after_reads after_fault : Type 0) → Type 0
+TaskEnded (Edit options) status before now after_reads after_fault = Ended status options before now after_reads after_fault

@@ -1,26 +1,27 @@
 //! The run: keys come in byte by byte, are pressed in their order, and their screens go out.
 
-ghost use Rattle.std.specs.Prelude.{◌≡◌, ◌≤◌, ◌∷◌, [], option_to_list, IfOk, OnOk, OnErr};
+ghost use Rattle.std.specs.Prelude.{◌≡◌, ◌∷◌, [], option_to_list, IfOk, OnOk, OnErr};
 ghost use Rattle.plcs_base.specs.Count.{raised};
+ghost use Rattle.plcs_base.specs.PlainCounts.{ChecksAtMost, LaysAtMost};
 ghost use Rattle.screen_window.specs.Paint.{Paint};
 ghost use Rattle.screen_window.specs.PlainGrid.{blank_grid};
+ghost use Rattle.screen_window.specs.Screen.{window_rows};
 ghost use Rattle.screen_window.specs.Writes.{Writes};
 ghost use Rattle.synth_outside.specs.Cause.{HasCause};
 ghost use Rattle.synth_outside.specs.Source.{LosesAtMost};
 ghost use Rattle.synth_session.specs.SessionScreen.{grid};
 ghost use Rattle.synth_session.specs.SessionView.{plain_session, shown_grid};
 ghost use Rattle.synth_top.specs.Keys.{keys, listed_keys};
-ghost use Rattle.synth_top.specs.Laid.{LaysFor};
-ghost use Rattle.synth_top.specs.Loads.{loaded_input, refusal_told};
+ghost use Rattle.synth_top.specs.Loads.{opening_checks, refusal_told};
 ghost use Rattle.synth_top.specs.Private.Loading.{IsInputIfLoaded, IsTreeIfLoaded};
-ghost use Rattle.synth_top.specs.Private.PlainForms.{input_reply, plain_first_loads, plain_options};
+ghost use Rattle.synth_top.specs.Private.PlainForms.{plain_first_loads, plain_options};
 ghost use Rattle.synth_top.specs.Private.Pressing.{IsOpened, IsReady, IsUnshown, PressesKeys, ReadsByte, ended_as, moment_of};
 ghost use Rattle.synth_top.specs.Private.EditorRuns.{Rescues, EditorRuns};
 ghost use Rattle.synth_top.specs.WholeRun.{opening};
 ghost use Rattle.synth_top.specs.Status.{CausedBy, LeftAs};
 
 use crate::key::{KeyReader, Keys};
-use crate::loading::{FileLoad, FirstLoads};
+use crate::loading::FirstLoads;
 use crate::options::Options;
 use crate::status::Status;
 use file_store::FileRefusal;
@@ -70,13 +71,11 @@ impl<W: Work> Editor<W> {
         requires tree { IsTreeIfLoaded loads.program }
         requires within { IsInputIfLoaded loads.input }
         ensures opened { IfOk result (λ e. IsOpened (plain_options options.now) (plain_first_loads loads) e) }
-        ensures checks { W.checked work.old ≤ W.checked work.new }
-        ensures emitted { W.emitted work.new ≡ W.emitted work.old }
-        ensures fetched { W.fetched work.new ≡ W.fetched work.old }
-        ensures laid { W.laid work.new ≡ W.laid work.old }
+        ensures counts { ChecksAtMost (opening_checks (plain_first_loads loads))
+            (W.counts work.old) (W.counts work.new) }
     {
         let refusal = loads.first_refusal();
-        let input = bytes_or_none(alloc, loads.input);
+        let input = loads.input.bytes(alloc);
         let session = Session::open(alloc, options.size, loads.program.loaded(), input, work)?;
         let mut editor = Editor {
             session,
@@ -103,8 +102,7 @@ impl<W: Work> Editor<W> {
     pub fn rescue<F: Files>(&self, status: Status, files: &mut F)
         requires { IsReady self.now }
         ensures { Rescues status (plain_session self.now.session)
-            (record { stored = F.stored files.old; faults = F.faults files.old; wants = F.wants files.old })
-            (record { stored = F.stored files.new; faults = F.faults files.new; wants = F.wants files.new }) }
+            (F.told files.old) (F.told files.new) }
     {
         if let Status::NoMemory = status {
             let _ = self.session.rescue(files);
@@ -123,11 +121,18 @@ impl<W: Work> Editor<W> {
         work: &mut W,
     ) -> Status
         requires { IsUnshown self.old }
-        ensures runs { EditorRuns result (plain_options options.now) (record { session = plain_session self.old.session; files = F.stored files.old })
-            (record { left = S.left keys.old; reads = S.reads keys.old; taken = K.taken screen.old; laid = W.laid work.old })
-            (record { left = S.left keys.new; reads = S.reads keys.new; taken = K.taken screen.new; laid = W.laid work.new })
-            (record { stored = F.stored files.old; faults = F.faults files.old; wants = F.wants files.old })
-            (record { stored = F.stored files.new; faults = F.faults files.new; wants = F.wants files.new })
+        ensures runs { EditorRuns result (plain_options options.now)
+            (record { session = plain_session self.old.session; files = (F.told files.old).stored })
+            (record {
+              streams = record { left = S.left keys.old; reads = S.reads keys.old; taken = K.taken screen.old; wants = K.wants screen.old };
+              files = F.told files.old;
+              counts = W.counts work.old;
+            })
+            (record {
+              streams = record { left = S.left keys.new; reads = S.reads keys.new; taken = K.taken screen.new; wants = K.wants screen.new };
+              files = F.told files.new;
+              counts = W.counts work.new;
+            })
             (S.leads_to keys.old keys.new) (S.breaks_at keys.old keys.new) (plain_session self.new.session) }
         ensures ready { IsReady self.new }
         ensures read { CausedBy (result ≡ Status.ReadFault) (S.faults keys.old) (S.faults keys.new) }
@@ -135,9 +140,6 @@ impl<W: Work> Editor<W> {
             (K.faults screen.old) (K.faults screen.new) }
         ensures source { LeftAs result
             (S.leads_to keys.old keys.new) (S.breaks_at keys.old keys.new) }
-        ensures emitted { W.emitted work.new ≡ W.emitted work.old }
-        ensures checks { W.checked work.old ≤ W.checked work.new }
-        ensures fetched { W.fetched work.new ≡ W.fetched work.old }
     {
         match self.start(screen, work) {
             Ok(()) => {}
@@ -166,21 +168,21 @@ impl<W: Work> Editor<W> {
     }
 
     /// Clears the screen and paints the opening screen.
-    #[tactic(auto, unfolding(crate::specs::Run::opening))]
+    #[tactic(auto, unfolding(crate::specs::WholeRun::opening))]
     fn start<K: Sink>(&mut self, screen: &mut K, work: &mut W) -> Result<(), SinkFault>
         requires ready { IsReady self.old }
-        requires painted { shown_grid self.old.session ≡ blank_grid (plain_session self.old.session).size.rows (plain_session self.old.session).size.cols }
+        requires painted { shown_grid self.old.session
+            ≡ blank_grid (plain_session self.old.session).size.rows (plain_session self.old.session).size.cols }
         ensures wrote { Writes (opening (plain_session self.old.session)) result
-            (K.taken screen.old) (K.taken screen.new) (K.faults screen.old) (K.faults screen.new) }
+            (K.taken screen.old) (K.taken screen.new)
+            (K.faults screen.old) (K.faults screen.new) (K.wants screen.old) (K.wants screen.new) }
         ensures ready { IsReady self.new }
         ensures shown { OnOk result
             (shown_grid self.new.session ≡ grid (plain_session self.old.session)) }
         ensures session { plain_session self.new.session ≡ plain_session self.old.session }
         ensures reader { self.new.reader ≡ self.old.reader }
-        ensures laid { LaysFor (grid (plain_session self.old.session) ∷ []) (W.laid work.old) (W.laid work.new) }
-        ensures emitted { W.emitted work.new ≡ W.emitted work.old }
-        ensures checked { W.checked work.new ≡ W.checked work.old }
-        ensures fetched { W.fetched work.new ≡ W.fetched work.old }
+        ensures counts { LaysAtMost (window_rows (plain_session self.old.session).size.rows)
+            (W.counts work.old) (W.counts work.new) }
     {
         write_piece(screen, b"\x1b[0m\x1b[2J")?;
         self.show(screen, work)
@@ -196,12 +198,9 @@ impl<W: Work> Editor<W> {
     ) -> Going
         requires { IsReady self.old }
         ensures presses { PressesKeys result (keys self.old.reader)
-            (moment_of self.old (K.taken screen.old) (record { stored = F.stored files.old; faults = F.faults files.old; wants = F.wants files.old }) (W.laid work.old))
-            (moment_of self.new (K.taken screen.new) (record { stored = F.stored files.new; faults = F.faults files.new; wants = F.wants files.new }) (W.laid work.new))
+            (moment_of self.old (K.taken screen.old) (K.wants screen.old) (F.told files.old) (W.counts work.old))
+            (moment_of self.new (K.taken screen.new) (K.wants screen.new) (F.told files.new) (W.counts work.new))
             (K.faults screen.old) (K.faults screen.new) self.new }
-        ensures emitted { W.emitted work.new ≡ W.emitted work.old }
-        ensures checks { W.checked work.old ≤ W.checked work.new }
-        ensures fetched { W.fetched work.new ≡ W.fetched work.old }
     {
         let key = self.reader.end();
         self.press_if(alloc, key, screen, files, work)
@@ -218,13 +217,10 @@ impl<W: Work> Editor<W> {
     ) -> Going
         requires { IsReady self.old }
         ensures presses { PressesKeys result (listed_keys keys)
-            (moment_of self.old (K.taken screen.old) (record { stored = F.stored files.old; faults = F.faults files.old; wants = F.wants files.old }) (W.laid work.old))
-            (moment_of self.new (K.taken screen.new) (record { stored = F.stored files.new; faults = F.faults files.new; wants = F.wants files.new }) (W.laid work.new))
+            (moment_of self.old (K.taken screen.old) (K.wants screen.old) (F.told files.old) (W.counts work.old))
+            (moment_of self.new (K.taken screen.new) (K.wants screen.new) (F.told files.new) (W.counts work.new))
             (K.faults screen.old) (K.faults screen.new) self.new }
         ensures reader { self.new.reader ≡ self.old.reader }
-        ensures emitted { W.emitted work.new ≡ W.emitted work.old }
-        ensures checks { W.checked work.old ≤ W.checked work.new }
-        ensures fetched { W.fetched work.new ≡ W.fetched work.old }
     {
         if let Going::Over(status) = self.press_if(alloc, keys.first, screen, files, work) {
             return Going::Over(status);
@@ -243,13 +239,10 @@ impl<W: Work> Editor<W> {
     ) -> Going
         requires { IsReady self.old }
         ensures presses { PressesKeys result (option_to_list key)
-            (moment_of self.old (K.taken screen.old) (record { stored = F.stored files.old; faults = F.faults files.old; wants = F.wants files.old }) (W.laid work.old))
-            (moment_of self.new (K.taken screen.new) (record { stored = F.stored files.new; faults = F.faults files.new; wants = F.wants files.new }) (W.laid work.new))
+            (moment_of self.old (K.taken screen.old) (K.wants screen.old) (F.told files.old) (W.counts work.old))
+            (moment_of self.new (K.taken screen.new) (K.wants screen.new) (F.told files.new) (W.counts work.new))
             (K.faults screen.old) (K.faults screen.new) self.new }
         ensures reader { self.new.reader ≡ self.old.reader }
-        ensures emitted { W.emitted work.new ≡ W.emitted work.old }
-        ensures checks { W.checked work.old ≤ W.checked work.new }
-        ensures fetched { W.fetched work.new ≡ W.fetched work.old }
     {
         match key {
             Some(key) => self.press(alloc, key, screen, files, work),
@@ -269,13 +262,10 @@ impl<W: Work> Editor<W> {
     ) -> Going
         requires { IsReady self.old }
         ensures presses { PressesKeys result (key ∷ [])
-            (moment_of self.old (K.taken screen.old) (record { stored = F.stored files.old; faults = F.faults files.old; wants = F.wants files.old }) (W.laid work.old))
-            (moment_of self.new (K.taken screen.new) (record { stored = F.stored files.new; faults = F.faults files.new; wants = F.wants files.new }) (W.laid work.new))
+            (moment_of self.old (K.taken screen.old) (K.wants screen.old) (F.told files.old) (W.counts work.old))
+            (moment_of self.new (K.taken screen.new) (K.wants screen.new) (F.told files.new) (W.counts work.new))
             (K.faults screen.old) (K.faults screen.new) self.new }
         ensures reader { self.new.reader ≡ self.old.reader }
-        ensures emitted { W.emitted work.new ≡ W.emitted work.old }
-        ensures checks { W.checked work.old ≤ W.checked work.new }
-        ensures fetched { W.fetched work.new ≡ W.fetched work.old }
     {
         let Ok(answer) = self.session.press(alloc, key, files, work) else {
             return Going::Over(Status::NoMemory);
@@ -295,29 +285,18 @@ impl<W: Work> Editor<W> {
         requires { IsReady self.old }
         ensures wrote { Writes
             (Paint (shown_grid self.old.session) (grid (plain_session self.old.session))) result
-            (K.taken screen.old) (K.taken screen.new) (K.faults screen.old) (K.faults screen.new) }
+            (K.taken screen.old) (K.taken screen.new)
+            (K.faults screen.old) (K.faults screen.new) (K.wants screen.old) (K.wants screen.new) }
         ensures ready { IsReady self.new }
         ensures shown { OnOk result
             (shown_grid self.new.session ≡ grid (plain_session self.old.session)) }
         ensures session { plain_session self.new.session ≡ plain_session self.old.session }
         ensures reader { self.new.reader ≡ self.old.reader }
-        ensures laid { LaysFor (grid (plain_session self.old.session) ∷ []) (W.laid work.old) (W.laid work.new) }
-        ensures emitted { W.emitted work.new ≡ W.emitted work.old }
-        ensures checked { W.checked work.new ≡ W.checked work.old }
-        ensures fetched { W.fetched work.new ≡ W.fetched work.old }
+        ensures counts { LaysAtMost (window_rows (plain_session self.old.session).size.rows)
+            (W.counts work.old) (W.counts work.new) }
     {
         self.session.draw(work);
         self.session.paint(screen)
-    }
-}
-
-/// The bytes of the input with which an editor is opened: those that were loaded, and else none.
-fn bytes_or_none(alloc: Global, input: FileLoad<Vec<u8>>) -> Vec<u8>
-    ensures { result.items ≡ loaded_input (input_reply input) }
-{
-    match input {
-        FileLoad::Loaded(bytes) => bytes,
-        _ => Vec::new(alloc),
     }
 }
 

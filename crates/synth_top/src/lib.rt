@@ -1,30 +1,32 @@
 //! The editor as a whole: words and key bytes come in, screens go out.
 #![tactic(auto)]
 
-ghost use Rattle.std.specs.Prelude.{◌≡◌, ◌⊎◌, ◌≤◌, None, map, IfSome, string_bytes};
+ghost use Rattle.std.specs.Prelude.{◌≡◌, ◌⊎◌, None, map, IfSome, string_bytes};
 ghost use Rattle.synth_top.specs.Private.PlainForms.{plain_options};
-ghost use Rattle.synth_top.specs.WholeRun.{Ended};
+ghost use Rattle.synth_top.specs.WholeRun.{Ended, TaskEnded};
 ghost use Rattle.synth_top.specs.Status.{CausedBy, LeftAs};
-ghost use Rattle.synth_top.specs.Options.{options_of};
+ghost use Rattle.synth_top.specs.Task.{task_of};
 
 mod command;
+mod editor;
 mod key;
 mod loading;
 mod number;
 mod options;
-mod editor;
 mod status;
+mod task;
 mod words;
 
+use editor::Editor;
 pub use key::{KeyReader, Keys};
 use loading::load_first;
 use options::Options;
 use plcs_base::{OutOfMemory, Work};
-use editor::Editor;
 pub use status::Status;
 use std::alloc::Global;
 use synth_outside::{Files, Sink, Source};
 pub use synth_session::Key;
+use task::{Task, task_of};
 pub use words::words_of;
 
 /// Edits a program: reads the words that follow the program's name, loads the files that they name, and then
@@ -50,17 +52,23 @@ pub fn synth<S: Source, K: Sink, F: Files, W: Work>(
     work: &mut W,
 ) -> Status
     // Words that aren't of the command are refused before anything is read or written, unless memory runs out.
-    ensures bad_words { options_of (map string_bytes words.now) ≡ None →
+    ensures bad_words { task_of (map string_bytes words.now) ≡ None →
         ((result ≡ Status.BadWords) ⊎ (result ≡ Status.NoMemory))
         × (keys.new ≡ keys.old) × (screen.new ≡ screen.old) × (files.new ≡ files.old) × (work.new ≡ work.old) }
 
-    // With words of the command the run did what its record says, and stopped as the status says.
-    ensures ended { IfSome (options_of (map string_bytes words.now)) (λ options.
-        Ended result options
-        (record { left = S.left keys.old; reads = S.reads keys.old; taken = K.taken screen.old; laid = W.laid work.old })
-        (record { left = S.left keys.new; reads = S.reads keys.new; taken = K.taken screen.new; laid = W.laid work.new })
-        (record { stored = F.stored files.old; faults = F.faults files.old; wants = F.wants files.old })
-        (record { stored = F.stored files.new; faults = F.faults files.new; wants = F.wants files.new })
+    // With words of the command the task that they ask for was done as its record says, and ended as the status says.
+    ensures ended { IfSome (task_of (map string_bytes words.now)) (λ task.
+        TaskEnded task result
+        (record {
+          streams = record { left = S.left keys.old; reads = S.reads keys.old; taken = K.taken screen.old; wants = K.wants screen.old };
+          files = F.told files.old;
+          counts = W.counts work.old;
+        })
+        (record {
+          streams = record { left = S.left keys.new; reads = S.reads keys.new; taken = K.taken screen.new; wants = K.wants screen.new };
+          files = F.told files.new;
+          counts = W.counts work.new;
+        })
         (S.leads_to keys.old keys.new) (S.breaks_at keys.old keys.new)) }
 
     // A fault is answered exactly where the count of its own cause rose.
@@ -70,14 +78,9 @@ pub fn synth<S: Source, K: Sink, F: Files, W: Work>(
 
     // Of what the source keeps besides its bytes, its own relations hold.
     ensures source { LeftAs result (S.leads_to keys.old keys.new) (S.breaks_at keys.old keys.new) }
-
-    // Nothing is counted but lines laid and phrases checked.
-    ensures emitted { W.emitted work.new ≡ W.emitted work.old }
-    ensures checks { W.checked work.old ≤ W.checked work.new }
-    ensures fetched { W.fetched work.new ≡ W.fetched work.old }
 {
-    match options::options_of(alloc, words) {
-        Ok(options) => edit(alloc, &options, keys, screen, files, work),
+    match task_of(alloc, words) {
+        Ok(Task::Edit(options)) => edit(alloc, &options, keys, screen, files, work),
         Err(status) => status,
     }
 }
@@ -92,18 +95,21 @@ fn edit<S: Source, K: Sink, F: Files, W: Work>(
     work: &mut W,
 ) -> Status
     ensures ended { Ended result (plain_options options.now)
-        (record { left = S.left keys.old; reads = S.reads keys.old; taken = K.taken screen.old; laid = W.laid work.old })
-        (record { left = S.left keys.new; reads = S.reads keys.new; taken = K.taken screen.new; laid = W.laid work.new })
-        (record { stored = F.stored files.old; faults = F.faults files.old; wants = F.wants files.old })
-        (record { stored = F.stored files.new; faults = F.faults files.new; wants = F.wants files.new })
+        (record {
+          streams = record { left = S.left keys.old; reads = S.reads keys.old; taken = K.taken screen.old; wants = K.wants screen.old };
+          files = F.told files.old;
+          counts = W.counts work.old;
+        })
+        (record {
+          streams = record { left = S.left keys.new; reads = S.reads keys.new; taken = K.taken screen.new; wants = K.wants screen.new };
+          files = F.told files.new;
+          counts = W.counts work.new;
+        })
         (S.leads_to keys.old keys.new) (S.breaks_at keys.old keys.new) }
     ensures read { CausedBy (result ≡ Status.ReadFault) (S.faults keys.old) (S.faults keys.new) }
     ensures write { CausedBy (result ≡ Status.WriteFault)
         (K.faults screen.old) (K.faults screen.new) }
     ensures source { LeftAs result (S.leads_to keys.old keys.new) (S.breaks_at keys.old keys.new) }
-    ensures emitted { W.emitted work.new ≡ W.emitted work.old }
-    ensures checks { W.checked work.old ≤ W.checked work.new }
-    ensures fetched { W.fetched work.new ≡ W.fetched work.old }
 {
     let loads = match load_first(alloc, options, files) {
         Ok(loads) => loads,

@@ -1,7 +1,7 @@
 //! The files that are loaded before the first screen: the program, and then its input.
 
 ghost use Rattle.std.specs.Prelude.{◌≡◌, IfErr, IfOk, option_map};
-ghost use Rattle.synth_top.specs.Loads.{first_refusal};
+ghost use Rattle.synth_top.specs.Loads.{first_refusal, loaded_input};
 ghost use Rattle.synth_top.specs.Private.Loading.{BothLoad, InputLoads, IsInputIfLoaded, IsTreeIfLoaded, LoadsNothing, ProgramLoads, load_content, load_refusal};
 ghost use Rattle.synth_top.specs.Private.PlainForms.{input_reply, plain_first_loads, plain_options, program_reply};
 
@@ -45,6 +45,18 @@ impl<T: Drop> FileLoad<T> {
     }
 }
 
+impl FileLoad<Vec<u8>> {
+    /// The bytes with which an editor is opened: those that were loaded, and else none.
+    pub fn bytes(self, alloc: Global) -> Vec<u8>
+        ensures { result.items ≡ loaded_input (input_reply self) }
+    {
+        match self {
+            FileLoad::Loaded(bytes) => bytes,
+            _ => Vec::new(alloc),
+        }
+    }
+}
+
 /// What came of the first loads, of the program and of its input.
 #[derive(Drop)]
 pub struct FirstLoads {
@@ -74,13 +86,10 @@ pub fn load_first<F: Files>(
     files: &mut F,
 ) -> Result<FirstLoads, OutOfMemory>
     ensures loads { IfOk result (λ loads. BothLoad (plain_options options.now) (plain_first_loads loads)
-        (record { stored = F.stored files.old; faults = F.faults files.old; wants = F.wants files.old })
-        (record { stored = F.stored files.new; faults = F.faults files.new; wants = F.wants files.new })) }
+        (F.told files.old) (F.told files.new)) }
     ensures tree { IfOk result (λ loads. IsTreeIfLoaded loads.program) }
     ensures within { IfOk result (λ loads. IsInputIfLoaded loads.input) }
-    ensures wanted { IfErr result (λ _. LoadsNothing
-        (record { stored = F.stored files.old; faults = F.faults files.old; wants = F.wants files.old })
-        (record { stored = F.stored files.new; faults = F.faults files.new; wants = F.wants files.new })) }
+    ensures wanted { IfErr result (λ _. LoadsNothing (F.told files.old) (F.told files.new)) }
 {
     let program = load_program(alloc, options.program, files)?;
     let input = load_program_input(alloc, options.input, files)?;
@@ -94,12 +103,9 @@ fn load_program<F: Files>(
     files: &mut F,
 ) -> Result<FileLoad<Tree>, OutOfMemory>
     ensures loads { IfOk result (λ load. ProgramLoads (option_map (λ name. name.now) name.entry) (program_reply load)
-        (record { stored = F.stored files.old; faults = F.faults files.old; wants = F.wants files.old })
-        (record { stored = F.stored files.new; faults = F.faults files.new; wants = F.wants files.new })) }
+        (F.told files.old) (F.told files.new)) }
     ensures tree { IfOk result IsTreeIfLoaded }
-    ensures wanted { IfErr result (λ _. LoadsNothing
-        (record { stored = F.stored files.old; faults = F.faults files.old; wants = F.wants files.old })
-        (record { stored = F.stored files.new; faults = F.faults files.new; wants = F.wants files.new })) }
+    ensures wanted { IfErr result (λ _. LoadsNothing (F.told files.old) (F.told files.new)) }
 {
     room_is_not_shown();
     let Some(name) = name else {
@@ -121,12 +127,9 @@ fn load_program_input<F: Files>(
     files: &mut F,
 ) -> Result<FileLoad<Vec<u8>>, OutOfMemory>
     ensures loads { IfOk result (λ load. InputLoads (option_map (λ name. name.now) name.entry) (input_reply load)
-        (record { stored = F.stored files.old; faults = F.faults files.old; wants = F.wants files.old })
-        (record { stored = F.stored files.new; faults = F.faults files.new; wants = F.wants files.new })) }
+        (F.told files.old) (F.told files.new)) }
     ensures within { IfOk result IsInputIfLoaded }
-    ensures wanted { IfErr result (λ _. LoadsNothing
-        (record { stored = F.stored files.old; faults = F.faults files.old; wants = F.wants files.old })
-        (record { stored = F.stored files.new; faults = F.faults files.new; wants = F.wants files.new })) }
+    ensures wanted { IfErr result (λ _. LoadsNothing (F.told files.old) (F.told files.new)) }
 {
     let Some(name) = name else {
         return Ok(FileLoad::NotAsked);

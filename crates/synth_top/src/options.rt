@@ -1,16 +1,13 @@
-//! What the words that follow the program's name ask for: the options.
+//! The options of a whole run that edits, as the words ask for them.
 
-ghost use Rattle.std.specs.Prelude.{◌≡◌, ◌⊎◌, ◌≤◌, None, Some, map, option_map, IfErr, IfOk, IfSome};
-ghost use Rattle.std.specs.String.{string_bytes};
-ghost use Rattle.synth_top.specs.Options.{count_between, count_given, is_name_given, options_of, options_with};
+ghost use Rattle.std.specs.Prelude.{◌≡◌, ◌≤◌, option_map, IfSome};
+ghost use Rattle.synth_top.specs.Options.{count_between, count_given, is_name_given, options_with};
 ghost use Rattle.synth_top.specs.Private.PlainForms.{plain_given, plain_options};
 
-use crate::command::{Given, read_words};
+use crate::command::Given;
 use crate::number::number_in_digits;
-use crate::status::Status;
 use screen_window::{FEWEST_COLS, FEWEST_ROWS, MOST_COLS, MOST_ROWS};
 use session_words::is_file_name;
-use std::alloc::Global;
 use synth_session::ScreenSize;
 
 /// The least number of bytes of keys that words can ask for.
@@ -38,26 +35,9 @@ pub struct Options<'a> {
     pub input: Option<&'a str>,
 }
 
-/// The options that the words after the program's name ask for. Words that aren't of the command are
-/// `BadWords`, and it is `NoMemory` where memory ran out.
-#[tactic(auto, unfolding(crate::specs::Options::options_of))]
-pub fn options_of<'a>(alloc: Global, words: &'a [String]) -> Result<Options<'a>, Status>
-    ensures options { IfOk result (λ options. options_of (map string_bytes words.entry.now) ≡ Some (plain_options options)) }
-    ensures bad { IfErr result (λ status. (status ≡ Status.NoMemory)
-        ⊎ ((status ≡ Status.BadWords) × (options_of (map string_bytes words.entry.now) ≡ None))) }
-{
-    match read_words(alloc, words) {
-        Ok(given) => match options_with(&given) {
-            Some(options) => Ok(options),
-            None => Err(Status::BadWords),
-        },
-        Err(status) => Err(status),
-    }
-}
-
 /// The options that are asked for by what the words give, if each number is in its range and each name one
 /// that a file may have.
-fn options_with<'a>(given: &Given<'a>) -> Option<Options<'a>>
+pub fn options_with<'a>(given: &Given<'a>) -> Option<Options<'a>>
     ensures { option_map plain_options result ≡ options_with (plain_given given.now) }
 {
     let rows = count_given(

@@ -4,21 +4,23 @@ use Rattle.plcs_base.specs.Count.{RoseBy}
 use Rattle.synth_outside.specs.Files.{PlainFiles}
 use Rattle.synth_session.specs.PlainSession.{PlainSession}
 use Rattle.synth_top.specs.declared.status.Status.{Status}
+use Rattle.synth_top.specs.Counted.{CountsFor}
 use Rattle.synth_top.specs.Options.{PlainOptions}
 use Rattle.synth_top.specs.Rescue.{CountsRescueWant, IsRescue, Rescue, files_with, rescue_failure}
-use Rattle.synth_top.specs.WholeRun.{Course, LeavesSource, Stopped, Told, state_after}
+use Rattle.synth_top.specs.WholeRun.{Course, LeavesSource, Stopped, Told, all_shots, state_after}
 use Rattle.synth_top.specs.Turn.{IsToldAs, EditorState, failures}
 
 -- a run from this state of the opening screen did this, stopped so, and left source, files and session so
-pub record EditorRuns (status : Status) (options : PlainOptions) (first : EditorState) (before now : Told) (files_before files_now : PlainFiles)
+pub record EditorRuns (status : Status) (options : PlainOptions) (first : EditorState) (before now : Told)
     (after_reads after_fault : Type 0) (session : PlainSession) : Type 0 where
-  pub course : Course options first before now
-  pub stopped : Stopped course files_before.wants files_now.wants status
+  pub course : Course options first before.streams now.streams
+  pub stopped : Stopped course before.files.wants now.files.wants status
   pub source : LeavesSource course after_reads after_fault
   pub session_is : session ≡ (state_after course).session
-  pub files : IsToldAs (state_after course).files files_now.stored
-  pub faults : RoseBy (failures course.pressed) files_before.faults files_now.faults
-  pub wants : files_before.wants ≤ files_now.wants
+  pub files : IsToldAs (state_after course).files now.files.stored
+  pub faults : RoseBy (failures course.pressed) before.files.faults now.files.faults
+  pub wants : before.files.wants ≤ now.files.wants
+  pub counts : CountsFor (all_shots course) before.counts now.counts
 
 -- the program of a session was saved so, where a run ended with this status
 pub record Rescues (status : Status) (session : PlainSession) (before now : PlainFiles) : Type 0 where

@@ -1,4 +1,4 @@
--- The plain forms of the types of this crate: of what words give, of options, and of the first loads.
+-- The plain forms of the types of this crate: of what words give, of options and tasks, and of the first loads.
 use Rattle.std.specs.Prelude.{ℕ, Vec, option_map}
 use Rattle.std.specs.declared.alloc.Global.{Global}
 use Rattle.template_tree.specs.PlainTree.{PlainTree, roomless_tree}
@@ -7,9 +7,11 @@ use Rattle.synth_top.specs.declared.command.Given.{Given}
 use Rattle.synth_top.specs.declared.loading.FileLoad.{FileLoad}
 use Rattle.synth_top.specs.declared.loading.FirstLoads.{FirstLoads}
 use Rattle.synth_top.specs.declared.options.Options.{Options}
+use Rattle.synth_top.specs.declared.task.Task.{Task}
 use Rattle.synth_top.specs.Given.{PlainGiven}
 use Rattle.synth_top.specs.Loads.{InputReply, PlainFirstLoads}
 use Rattle.synth_top.specs.Options.{PlainOptions}
+use Rattle.synth_top.specs.Task.{PlainTask}
 
 -- the plain form of what words give
 abbrev pub plain_given : Given → PlainGiven
@@ -29,6 +31,10 @@ plain_options o = record {
   program = option_map (λ name. name.now) o.program;
   input = option_map (λ name. name.now) o.input;
 }
+
+-- the plain form of a task
+abbrev pub plain_task : Task → PlainTask
+plain_task (Task.Edit options) = PlainTask.Edit (plain_options options)
 
 -- the plain form of what came of loading the program: a tree without its room
 abbrev pub program_reply : FileLoad PlainTree → Reply

@@ -1,7 +1,8 @@
 -- What pressing some keys does, between two moments of a run.
 use Rattle.std.specs.Prelude.{◌≡◌, ◌⊎◌, ℕ, ◌≤◌, true, false, IsTrue, List, [], ◌∷◌, ◌++◌, length, take, Option, Some, None}
 use Rattle.std.specs.Io.KnownBytes.{Appends, Consumes, IsAtEnd}
-use Rattle.plcs_base.specs.Count.{RoseBy}
+use Rattle.plcs_base.specs.Count.{Rose, RoseBy}
+use Rattle.plcs_base.specs.PlainCounts.{PlainCounts}
 use Rattle.synth_outside.specs.Files.{PlainFiles}
 use Rattle.screen_window.specs.PlainGrid.{PlainGrid, blank_grid}
 use Rattle.synth_session.specs.declared.answer.Answer.{Answer}
@@ -17,12 +18,12 @@ use Rattle.synth_top.specs.declared.editor.Going.{Going}
 use Rattle.synth_top.specs.declared.editor.Going.TheVariants.{On, Over}
 use Rattle.synth_top.specs.declared.status.Status.{Status}
 use Rattle.synth_top.specs.declared.status.Status.TheVariants.{Done, ReadFault, WriteFault, NoMemory, BadWords, KeyLimit}
-use Rattle.synth_top.specs.Laid.{LaysFor}
+use Rattle.synth_top.specs.Counted.{CountsFor}
 use Rattle.synth_top.specs.Loads.{PlainFirstLoads, first_session}
 use Rattle.synth_top.specs.Options.{PlainOptions}
 use Rattle.synth_top.specs.WholeRun.{painted_over}
 use Rattle.synth_top.specs.Status.{CausedBy}
-use Rattle.synth_top.specs.Turn.{HaveReplies, IsToldAs, PressedKey, EditorState, state_after_keys, ends, failures, grids, keys_pressed}
+use Rattle.synth_top.specs.Turn.{HaveReplies, IsToldAs, PressedKey, EditorState, state_after_keys, ends, failures, grids, keys_pressed, shots}
 use Rattle.synth_top.specs.Keys.{IsFront}
 
 -- ---- an editor
@@ -59,22 +60,24 @@ pub record IsPressed (key : Key) (answer : Answer) (before now : PlainSession) (
 -- ---- some keys
 
 -- what is seen of a run at a moment: its session, the screen that is shown, the bytes that the sink
--- took, the files, and how many lines were counted as laid
+-- took and its count of wants, the files, and what was counted
 pub record Moment : Type 0 where
   pub session : PlainSession
   pub shown : PlainGrid
   pub taken : Option (List ℕ)
+  pub wanted : ℕ
   pub files : PlainFiles
-  pub laid : ℕ
+  pub counts : PlainCounts
 
--- what is seen of an editor, a sink, files and a count of lines laid
-abbrev pub moment_of : {W : Type 0} → Editor W → Option (List ℕ) → PlainFiles → ℕ → Moment
-moment_of e taken files laid = record {
+-- what is seen of an editor, a sink, files and counts
+abbrev pub moment_of : {W : Type 0} → Editor W → Option (List ℕ) → ℕ → PlainFiles → PlainCounts → Moment
+moment_of e taken wanted files counts = record {
   session = plain_session e.session;
   shown = shown_grid e.session;
   taken = taken;
+  wanted = wanted;
   files = files;
-  laid = laid;
+  counts = counts;
 }
 
 -- the state that is seen at a moment: the map is claimed that the files tell
@@ -94,8 +97,9 @@ pub record AllShown (before now : Moment) (pressed : List PressedKey) : Type 0 w
   pub files : IsToldAs (state_after_keys (state_at before) pressed).files now.files.stored
   pub shown : now.shown ≡ last_shown before.shown (grids (state_at before) pressed)
   pub wrote : Appends before.taken now.taken (painted_over before.shown (grids (state_at before) pressed))
+  pub unwanted : now.wanted ≡ before.wanted
   pub faults : RoseBy (failures pressed) before.files.faults now.files.faults
-  pub laid : LaysFor (grids (state_at before) pressed) before.laid now.laid
+  pub counts : CountsFor (shots (state_at before) pressed) before.counts now.counts
 
 -- these keys were pressed up to a last one: none before it ended the session, all screens before its
 -- own were written, and of its own so much that `count` bytes were written in all
@@ -110,7 +114,7 @@ pub record UpToLast (before now : Moment) (earlier : List PressedKey) (last : Pr
   pub whole : length (painted_over before.shown (grids (state_at before) earlier)) ≤ count
   pub faults : RoseBy (failures (earlier ++ last ∷ [])) before.files.faults now.files.faults
   pub wants : now.files.wants ≡ before.files.wants
-  pub laid : LaysFor (grids (state_at before) (earlier ++ last ∷ [])) before.laid now.laid
+  pub counts : CountsFor (shots (state_at before) (earlier ++ last ∷ [])) before.counts now.counts
 
 -- all of these keys were pressed
 pub record KeysShown (keys : List Key) (before now : Moment) : Type 0 where
@@ -152,7 +156,8 @@ abbrev pub Pressed : Going → List Key → Moment → Moment → Type 0
 Pressed On keys before now = KeysShown keys before now
 Pressed (Over Done) keys before now = KeysQuit keys before now
 Pressed (Over WriteFault) keys before now = KeysCut keys before now
-Pressed (Over NoMemory) keys before now = KeysCut keys before now ⊎ KeysWanted keys before now
+Pressed (Over NoMemory) keys before now =
+    (KeysCut keys before now × Rose before.wanted now.wanted) ⊎ KeysWanted keys before now
 Pressed (Over ReadFault) keys before now = ⊥
 Pressed (Over BadWords) keys before now = ⊥
 Pressed (Over KeyLimit) keys before now = ⊥

@@ -1,20 +1,11 @@
-use Rattle.synth_outside.specs.Files.{PlainFiles}
 use Rattle.synth_top.proofs.FirstLoads.{program_loaded}
 use Rattle.synth_top.proofs.loading.load_program.Goals as goal
 
 -- what was loaded is taken without its room
 pub returns-in-Ok-clause-loads : goal.returns-in-Ok-clause-loads
 returns-in-Ok-clause-loads g c =
-    let before : PlainFiles = record {
-      stored = g.F.Files.stored c.args.files.now;
-      faults = g.F.Files.faults c.args.files.now;
-      wants = g.F.Files.wants c.args.files.now;
-    } in
-    let now : PlainFiles = record {
-      stored = g.F.Files.stored c.load.new.files;
-      faults = g.F.Files.faults c.load.new.files;
-      wants = g.F.Files.wants c.load.new.files;
-    } in
+    let before = g.F.Files.told c.args.files.now in
+    let now = g.F.Files.told c.load.new.files in
     let laws = c.room_is_not_shown.ensures in
     let loads = program_loaded laws.trees laws.counts laws.listing c.as_bytes.result.now (g.F.Files.begun c.args.files.now)
     (g.F.Files.begun c.load.new.files) c.in-Ok.tree c.in-Ok.tree before now c.in-Ok.ensures.tree c.in-Ok.ensures.says c.in-Ok.ensures.files in

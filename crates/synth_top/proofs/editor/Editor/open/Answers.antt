@@ -1,8 +1,10 @@
-use Rattle.std.proofs.Common.{◌≡◌, Option, Some, None, refl, sym, ap, ◌∙◌, List, ℕ, option_map}
+use Rattle.std.proofs.Common.{◌≡◌, Option, Some, None, refl, sym, ap, subst, ◌∙◌, List, ℕ, option_map}
+use Rattle.plcs_base.specs.PlainCounts.{ChecksAtMost}
 use Rattle.template_tree.specs.PlainTree.{PlainTree, roomless_tree}
 use Rattle.file_store.specs.declared.refusal.FileRefusal.{FileRefusal}
 use Rattle.screen_window.specs.PlainGrid.{blank_grid}
-use Rattle.synth_session.specs.OpenedSession.{opened_session}
+use Rattle.synth_session.specs.CheckedPhrases.{phrase_count}
+use Rattle.synth_session.specs.OpenedSession.{opened_session, tree_at_first}
 use Rattle.synth_session.specs.PlainScreenSize.{PlainScreenSize}
 use Rattle.synth_session.specs.PlainSession.{PlainSession}
 use Rattle.synth_session.specs.SessionView.{plain_session}
@@ -37,9 +39,9 @@ returns-clause-opened g c =
     ∙ ap (λ (r : Option FileRefusal). refusal_told r (plain_session c.in_ok-session.session)) c.first_refusal-refusal.ensures
     ∙ ap (λ (s : PlainSession). refusal_told (first_refusal loads) s)
     (c.in_ok-session.ensures.opened
-    ∙ ap (λ (t : Option PlainTree). opened_session size (option_map roomless_tree t) c.bytes_or_none-input.result.items) c.loaded.ensures
-    ∙ ap (λ (t : Option PlainTree). opened_session size t c.bytes_or_none-input.result.items) (same_program c.args.loads.program)
-    ∙ ap (λ (i : List ℕ). opened_session size (loaded_program loads.program) i) c.bytes_or_none-input.ensures) in
+    ∙ ap (λ (t : Option PlainTree). opened_session size (option_map roomless_tree t) c.bytes-input.result.items) c.loaded.ensures
+    ∙ ap (λ (t : Option PlainTree). opened_session size t c.bytes-input.result.items) (same_program c.args.loads.program)
+    ∙ ap (λ (i : List ℕ). opened_session size (loaded_program loads.program) i) c.bytes-input.ensures) in
     let sized : (plain_session c.tell.new.self.session).size ≡ size =
     ap (λ (s : PlainSession). s.size) told ∙ size_told (first_refusal loads) _ ∙ size_opened size (loaded_program loads.program) (loaded_input loads.input) in
     record {
@@ -50,3 +52,14 @@ returns-clause-opened g c =
       };
       session = told;
     }
+
+-- each phrase of the program that was loaded was checked at most, or of the new one
+pub returns-clause-counts : goal.returns-clause-counts
+returns-clause-counts g c =
+    subst (λ (tree : Option PlainTree). ChecksAtMost (phrase_count (tree_at_first tree)) (g.W.Work.counts c.args.work.now) (g.W.Work.counts c.open.new.work))
+    (ap (λ (tree : Option PlainTree). option_map roomless_tree tree) c.loaded.ensures ∙ same_program c.args.loads.program) c.in_ok-session.ensures.counts
+
+pub returns-in_err-session-clause-counts : goal.returns-in_err-session-clause-counts
+returns-in_err-session-clause-counts g c =
+    subst (λ (tree : Option PlainTree). ChecksAtMost (phrase_count (tree_at_first tree)) (g.W.Work.counts c.args.work.now) (g.W.Work.counts c.open.new.work))
+    (ap (λ (tree : Option PlainTree). option_map roomless_tree tree) c.loaded.ensures ∙ same_program c.args.loads.program) c.in_err-session.ensures.counts

@@ -1,6 +1,8 @@
+-- The session does what the key's outcome says, by what the files replied; so by whether it wanted memory, whether the key ended the
+-- session, and whether its screen was written, the one key was wanted, quit, cut or shown, as a list of one.
 use Rattle.std.proofs.Common.{ap, refl, arith, inl, inr, Err}
 use Rattle.synth_session.specs.PlainScreens.{PlainScreens}
-use Rattle.synth_top.proofs.LaidInTurn.{lays_from}
+use Rattle.synth_top.proofs.CountsInTurn.{counts_checks, counts_turn}
 use Rattle.synth_top.proofs.OneKey.{one_shown, one_quit, one_cut, one_wanted}
 use Rattle.synth_top.proofs.editor.Editor.press.Goals as goal
 
@@ -11,8 +13,8 @@ returns-in_default-clause-presses g c =
     record {
       ends = tt;
       pressed = inr
-          (one_wanted c.args.key _ _ pressed.does.met.0 pressed.files pressed.does.met.1 (ap (λ (z : PlainScreens). z.shown) pressed.does.screens) refl
-          c.press.ensures.laid);
+          (one_wanted c.args.key _ _ pressed.does.met.0 pressed.files pressed.does.met.1 (ap (λ (z : PlainScreens). z.shown) pressed.does.screens) refl refl
+          (counts_checks _ _ _ pressed.counts));
       cause = record { later = omega arith; rose = λ e. absurd (cc); same = λ other. refl; last = λ e. refl };
       ready = pressed.does.session;
     }
@@ -25,7 +27,7 @@ returns-in-Quit-clause-presses g c =
       ends = tt;
       pressed = one_quit c.args.key c.in-Ok.answer _ _ _
           (record { reply = pressed.reply; files = pressed.files; session = pressed.does.met.0; answered = pressed.does.met.1 }) refl c.in-Quit.is refl
-          c.press.ensures.laid;
+          (counts_checks _ _ _ pressed.counts);
       cause = record { later = omega arith; rose = λ e. absurd (cc); same = λ other. refl; last = λ e. refl };
       ready = pressed.does.session;
     }
@@ -40,7 +42,7 @@ returns-in-Ok-show-clause-presses g c =
       pressed = one_shown c.args.key c.in-Ok.answer _ _ _
           (record { reply = pressed.reply; files = pressed.files; session = pressed.does.met.0; answered = pressed.does.met.1 }) c.show.ensures.session
           c.in_default-answer.not-Quit _ (ap (λ (z : PlainScreens). z.shown) pressed.does.screens) wrote.all c.in-Ok-show.ensures.shown
-          (lays_from _ _ _ _ c.press.ensures.laid c.show.ensures.laid);
+          (wrote.want.same (λ e. absurd (cc))) (counts_turn _ _ _ _ _ pressed.counts c.show.ensures.counts);
       cause = record {
         later = wrote.cause.later;
         rose = λ e. absurd (cc);
@@ -60,7 +62,7 @@ returns-in-Err-Failed-clause-presses g c =
       pressed = one_cut c.args.key c.in-Ok.answer _ _ _
           (record { reply = pressed.reply; files = pressed.files; session = pressed.does.met.0; answered = pressed.does.met.1 }) c.show.ensures.session
           c.in_default-answer.not-Quit _ (ap (λ (z : PlainScreens). z.shown) pressed.does.screens) wrote.front
-          (lays_from _ _ _ _ c.press.ensures.laid c.show.ensures.laid);
+          (counts_turn _ _ _ _ _ pressed.counts c.show.ensures.counts);
       cause = record {
         later = wrote.cause.later;
         rose = λ e. wrote.cause.rose (ap Err c.in-Err-Failed.field-0-is);
@@ -77,11 +79,13 @@ returns-in-Err-OutOfMemory-clause-presses g c =
     let wrote = c.in-Err-OutOfMemory.ensures.wrote in
     record {
       ends = tt;
-      pressed = inl
-          (one_cut c.args.key c.in-Ok.answer _ _ _
-          (record { reply = pressed.reply; files = pressed.files; session = pressed.does.met.0; answered = pressed.does.met.1 }) c.show.ensures.session
-          c.in_default-answer.not-Quit _ (ap (λ (z : PlainScreens). z.shown) pressed.does.screens) wrote.front
-          (lays_from _ _ _ _ c.press.ensures.laid c.show.ensures.laid));
+      pressed = inl (
+        one_cut c.args.key c.in-Ok.answer _ _ _
+            (record { reply = pressed.reply; files = pressed.files; session = pressed.does.met.0; answered = pressed.does.met.1 }) c.show.ensures.session
+            c.in_default-answer.not-Quit _ (ap (λ (z : PlainScreens). z.shown) pressed.does.screens) wrote.front
+            (counts_turn _ _ _ _ _ pressed.counts c.show.ensures.counts),
+        wrote.want.rose (ap Err c.in-Err-OutOfMemory.field-0-is),
+      );
       cause = record {
         later = wrote.cause.later;
         rose = λ e. absurd (cc);

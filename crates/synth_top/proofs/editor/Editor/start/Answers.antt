@@ -8,10 +8,10 @@ pub returns-in_err-write_piece-clause-wrote : goal.returns-in_err-write_piece-cl
 unfolding opening
 returns-in_err-write_piece-clause-wrote g c =
     let p = err_from_is_err_and c.from_residual.result c.from_residual.ensures.1 in
-    rw (p.1, p.2) (writes_first _ _ _ _ _ _ _ c.in_err-write_piece.ensures)
+    rw (p.1, p.2) (writes_first _ _ _ _ _ _ _ _ _ c.in_err-write_piece.ensures)
 
 -- the first piece was taken, and then the screen or some of it
 pub returns-clause-wrote : goal.returns-clause-wrote
 unfolding opening
 returns-clause-wrote g c =
-    rw (← c.requires.painted) (writes_both _ _ _ _ _ _ _ _ _ _ c.in_ok-write_piece.ensures c.show.ensures.wrote)
+    rw (← c.requires.painted) (writes_both _ _ _ _ _ _ _ _ _ _ _ _ _ c.in_ok-write_piece.ensures c.show.ensures.wrote)
