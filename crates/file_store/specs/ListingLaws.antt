@@ -22,12 +22,15 @@ OneRefusal = (x : List ℕ) (a b : FileRefusal) → Refused x a → Refused x b 
 -- the listing of a program within the limits is refused for no reason
 abbrev pub ListingsAreNotRefused : Type 0
 ListingsAreNotRefused =
-    (items : Forest) (x : List ℕ) (refusal : FileRefusal) → Spells items x → depth items ≤ deepest_path → count items ≤ most_slots
+    (items : Forest) (x : List ℕ) (refusal : FileRefusal) → Spells items x → depth items ≤ deepest_path
+    → count items ≤ most_slots
     → ¬ (Refused x refusal)
 
 -- the listing of a program within the limits is no longer than a listing file may be
 abbrev pub ListingsAreShort : Type 0
-ListingsAreShort = (items : Forest) → IsProgram items → depth items ≤ deepest_path → count items ≤ most_slots → length (Listing items) ≤ longest_listing
+ListingsAreShort =
+    (items : Forest) → IsProgram items → depth items ≤ deepest_path → count items ≤ most_slots
+    → length (Listing items) ≤ longest_listing
 
 -- the lines of which it is told whether a node begins in them are those of the listing
 abbrev pub ListedLinesAreLines : Type 0

@@ -22,7 +22,8 @@ pub record IsListingOf (x : List ℕ) (tree : PlainTree) : Type 0 where
 
 -- the listing of some program, of any size and any depth, begins with the lines
 abbrev pub BeginsListing : List ListedLine → Type 0
-BeginsListing rows = (items : Forest) × (more : List ListedLine) × IsProgram items × (listed_program items ≡ rows ++ more)
+BeginsListing rows =
+    (items : Forest) × (more : List ListedLine) × IsProgram items × (listed_program items ≡ rows ++ more)
 
 -- in how many of these lines a node begins; bytes are refused where such lines are too many
 abbrev pub opened : List ListedLine → ℕ

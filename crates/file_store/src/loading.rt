@@ -28,8 +28,8 @@ pub fn load<F: Files>(alloc: Global, name: &[u8], files: &mut F) -> Result<Tree,
     // isn't there, unless a call failed or memory ran out.
     ensures only { (x : List ℕ) (items : Forest) → HasContent (F.told files.old).stored name.now x → Spells items x
         → depth items ≤ deepest_path → count items ≤ most_slots → LoadsOnly result items }
-    ensures refused { (x : List ℕ) (refusal : FileRefusal) → HasContent (F.told files.old).stored name.now x → Refused x refusal
-        → RefusesLoad result refusal }
+    ensures refused { (x : List ℕ) (refusal : FileRefusal) → HasContent (F.told files.old).stored name.now x
+        → Refused x refusal → RefusesLoad result refusal }
     ensures missing { HasNoContent (F.told files.old).stored name.now → RefusesLoad result FileRefusal.NoFile }
     ensures tree { IfOk result IsTree }
     ensures files { OnlyReads result (F.told files.old) (F.told files.new) (F.begun files.old) (F.begun files.new) }

@@ -6,8 +6,8 @@ use Rattle.synth_outside.specs.Files.{NewContent, PlainFiles, begun_bytes, begun
 use Rattle.synth_outside.specs.declared.faults.FilesFault.{FilesFault}
 use Rattle.synth_outside.specs.declared.faults.FilesFault.TheVariants.{NoFile, Failed, OutOfMemory}
 
--- what a sink that passes bytes on is seen as: what its files tell, what is begun, the bytes that wait, and the fault that
--- came, if one did
+-- what a sink that passes bytes on is seen as: what its files tell, what is begun, the bytes that wait, and the fault
+-- that came, if one did
 pub record Desk : Type 0 where
   pub told : PlainFiles
   pub begun : Option NewContent

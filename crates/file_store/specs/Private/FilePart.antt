@@ -13,9 +13,11 @@ IsPartRead (Some map) name (Some rest) bytes = get map name ≡ Some (bytes ++ r
 
 -- a piece of a file was read: some bytes came behind the others, or none is left; or there are too many
 abbrev pub IsChunk : ℕ → Option (List ℕ) → Option (List ℕ) → List ℕ → List ℕ → Result Bool FileRefusal → Type 0
-IsChunk most before now old new (Ok true) = (piece : List ℕ) × (new ≡ old ++ piece) × Consumes before now piece × (0 < length piece) × (length new ≤ most)
+IsChunk most before now old new (Ok true) =
+    (piece : List ℕ) × (new ≡ old ++ piece) × Consumes before now piece × (0 < length piece) × (length new ≤ most)
 IsChunk most before now old new (Ok false) = (new ≡ old) × IsAtEnd before
-IsChunk most before now old new (Err FileRefusal.TooLong) = (piece : List ℕ) × Consumes before now piece × (most < length (old ++ piece))
+IsChunk most before now old new (Err FileRefusal.TooLong) =
+    (piece : List ℕ) × Consumes before now piece × (most < length (old ++ piece))
 IsChunk most before now old new (Err FileRefusal.FileFault) = Unit {0}
 IsChunk most before now old new (Err FileRefusal.OutOfMemory) = Unit {0}
 IsChunk most before now old new (Err refusal) = ⊥

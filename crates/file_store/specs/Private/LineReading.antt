@@ -33,11 +33,13 @@ IsSegmentsText segments x parts = AreParts (parts_of segments) parts × (segment
 
 -- the text is read as no parts of the segments
 abbrev pub AreNoSegments : List PlainSegment → List ℕ → Type 0
-AreNoSegments segments x = (parts : List (Option PlainPhrase)) → AreParts (parts_of segments) parts → segments_text segments parts ≢ x
+AreNoSegments segments x =
+    (parts : List (Option PlainPhrase)) → AreParts (parts_of segments) parts → segments_text segments parts ≢ x
 
 -- the parts that the text is read as, behind these that were read before, are all
 abbrev pub AreReadAfter : List PlainSegment → List ℕ → List (Option PlainPhrase) → List (Option PlainPhrase) → Type 0
-AreReadAfter segments x parts all = (more : List (Option PlainPhrase)) × (all ≡ parts ++ more) × IsSegmentsText segments x more
+AreReadAfter segments x parts all =
+    (more : List (Option PlainPhrase)) × (all ≡ parts ++ more) × IsSegmentsText segments x more
 
 -- each part of a line that is read ends where the words behind it begin
 abbrev pub IsCut : List PlainSegment → Type 0
@@ -46,13 +48,15 @@ IsCut (PlainSegment.words w ∷ segments) = IsCut segments
 IsCut (PlainSegment.part category ∷ []) = ⊥
 IsCut (PlainSegment.part category ∷ (PlainSegment.part other ∷ segments)) = ⊥
 IsCut (PlainSegment.part category ∷ (PlainSegment.words w ∷ [])) = Unit {0}
-IsCut (PlainSegment.part category ∷ (PlainSegment.words w ∷ (segment ∷ segments))) = Divides category w × IsCut (segment ∷ segments)
+IsCut (PlainSegment.part category ∷ (PlainSegment.words w ∷ (segment ∷ segments))) =
+    Divides category w × IsCut (segment ∷ segments)
 
 -- a part is read at the front of a text for these segments: what is left for those that are left makes the whole, and
 -- nothing else does
 pub record IsLineFront (category : Category) (segments : List PlainSegment) (x : List ℕ) (part : Option PlainPhrase)
     (later : List PlainSegment) (rest : List ℕ) : Type 0 where
-  pub whole : (parts : List (Option PlainPhrase)) → IsSegmentsText later rest parts → IsSegmentsText (PlainSegment.part category ∷ segments) x (part ∷ parts)
+  pub whole : (parts : List (Option PlainPhrase)) → IsSegmentsText later rest parts →
+      IsSegmentsText (PlainSegment.part category ∷ segments) x (part ∷ parts)
   pub only : AreNoSegments later rest → AreNoSegments (PlainSegment.part category ∷ segments) x
   pub cut : IsCut later
   pub fewer : length later ≤ length segments

@@ -30,7 +30,8 @@ IsTaken line before now = (said : Said) × Taken line before now said
 
 -- the line says something with which a listing may go on from where the reader had come, and a node begins in it
 abbrev pub GoesOn : List ℕ → Come → Said → Type 0
-GoesOn line before said = (after : OpenNodes) × Says line said × (line_taken before.stack said ≡ Some after) × (opens said.saying ≡ true)
+GoesOn line before said =
+    (after : OpenNodes) × Says line said × (line_taken before.stack said ≡ Some after) × (opens said.saying ≡ true)
 
 -- why the reader refuses the line where it had come
 abbrev pub IsLineRefused : List ℕ → Come → FileRefusal → Type 0

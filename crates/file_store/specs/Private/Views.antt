@@ -38,7 +38,8 @@ open_list_of list = record { items = roomless (forest list.items.items); filling
 
 -- what the reader's open node stands for
 abbrev pub open_node_of : OpenNode → machine.OpenNode
-open_node_of frame = record { kind = frame.kind; parts = map plain_phrase_place frame.parts.items; around = open_list_of frame.around }
+open_node_of frame =
+    record { kind = frame.kind; parts = map plain_phrase_place frame.parts.items; around = open_list_of frame.around }
 
 -- what the reader's open nodes stand for, of which the innermost stands last
 abbrev pub open_nodes_on : List machine.OpenNode → List OpenNode → List machine.OpenNode

@@ -86,7 +86,8 @@ fn read_head(alloc: Global, kinds: &[NodeKind], text: &[u8]) -> Result<Saying, R
 
 /// Reads a whole line as the first one of a node of the kind, if it is such a line: its parts.
 fn read_parts(alloc: Global, kind: NodeKind, text: &[u8]) -> Result<Vec<PhrasePlace>, ReadFault>
-    ensures { Finds (λ parts. IsSegmentsText (row_of kind).line text.now (map plain_phrase_place parts.items)) (AreNoSegments (row_of kind).line text.now) result }
+    ensures { Finds (λ parts. IsSegmentsText (row_of kind).line text.now (map plain_phrase_place parts.items))
+        (AreNoSegments (row_of kind).line text.now) result }
 {
     read_segments(alloc, kind.row().line, text, Vec::new(alloc))
 }

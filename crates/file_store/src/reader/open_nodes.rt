@@ -232,7 +232,8 @@ fn led(stack: OpenNodes) -> Result<OpenNodes, ReadFault>
 /// The open lists behind the last line of the innermost node, if that may end.
 #[tactic(auto, using(crate::proofs::OpenNodes::frames_push))]
 fn ended(stack: OpenNodes) -> Result<OpenNodes, ReadFault>
-    ensures { Gives open_nodes_of result (ended_in (codes "END;") (open_nodes_of stack).own (open_nodes_of stack).outer) }
+    ensures { Gives open_nodes_of result
+        (ended_in (codes "END;") (open_nodes_of stack).own (open_nodes_of stack).outer) }
 {
     let OpenNodes { own, frames } = stack;
     let mut frames = frames;

@@ -27,7 +27,8 @@ pub(crate) fn read_segments(
     parts: Vec<PhrasePlace>,
 ) -> Result<Vec<PhrasePlace>, ReadFault>
     requires cut { IsCut (map plain_segment segments.now) }
-    ensures { Finds (λ all. AreReadAfter (map plain_segment segments.now) text.now (map plain_phrase_place parts.items) (map plain_phrase_place all.items))
+    ensures { Finds (λ all. AreReadAfter (map plain_segment segments.now) text.now
+        (map plain_phrase_place parts.items) (map plain_phrase_place all.items))
         (AreNoSegments (map plain_segment segments.now) text.now) result }
 {
     match next_segment(segments) {
@@ -138,7 +139,8 @@ fn read_last(
     words: &[u8],
     text: &[u8],
 ) -> Result<PhrasePlace, ReadFault>
-    ensures { Finds (λ place. IsLineFront category (PlainSegment.words words.now ∷ []) text.now (plain_phrase_place place) [] [])
+    ensures { Finds (λ place. IsLineFront category (PlainSegment.words words.now ∷ []) text.now
+        (plain_phrase_place place) [] [])
         (AreNoSegments (PlainSegment.part category ∷ (PlainSegment.words words.now ∷ [])) text.now) result }
 {
     let Some(part) = before(text, words) else {
@@ -158,9 +160,11 @@ fn read_divided<'a, 'b>(
     requires some { map plain_segment later.now ≢ [] }
     requires cut { IsCut (PlainSegment.part category ∷ (PlainSegment.words words.now ∷ map plain_segment later.now)) }
     ensures { Finds
-        (λ front. IsLineFront category (PlainSegment.words words.now ∷ map plain_segment later.now) text.now (plain_phrase_place front.place)
+        (λ front. IsLineFront category (PlainSegment.words words.now ∷ map plain_segment later.now) text.now
+        (plain_phrase_place front.place)
         (map plain_segment front.later.now) front.rest.now)
-        (AreNoSegments (PlainSegment.part category ∷ (PlainSegment.words words.now ∷ map plain_segment later.now)) text.now) result }
+        (AreNoSegments (PlainSegment.part category ∷ (PlainSegment.words words.now ∷ map plain_segment later.now))
+        text.now) result }
 {
     line_laws();
     let Some((part, rest)) = cut_at(text, words) else {
@@ -174,7 +178,8 @@ fn read_divided<'a, 'b>(
 
 /// Reads a part of the category: its placeholder or a phrase, if the text is one.
 fn read_part(alloc: Global, category: Category, text: &[u8]) -> Result<PhrasePlace, ReadFault>
-    ensures { Finds (λ place. IsPartText category text.now (plain_phrase_place place)) (IsNoPart category text.now) result }
+    ensures { Finds (λ place. IsPartText category text.now (plain_phrase_place place))
+        (IsNoPart category text.now) result }
 {
     if is_placeholder(category, text) {
         return Ok(PhrasePlace::Empty);
@@ -220,7 +225,8 @@ struct Awaited<'a> {
 }
 
 impl ByteOut for Awaited<'_> {
-    ghost puts = { λ before byte after. option_map (λ text. text.now) after.left ≡ taken_off byte (option_map (λ text. text.now) before.left) };
+    ghost puts = { λ before byte after. option_map (λ text. text.now) after.left ≡
+        taken_off byte (option_map (λ text. text.now) before.left) };
 
     fn put(&mut self, byte: u8) {
         let Some(text) = self.left else {
@@ -236,14 +242,16 @@ impl ByteOut for Awaited<'_> {
 
 /// What stands behind the words in the text of a line, if it begins with them.
 pub(crate) fn behind<'a>(text: &'a [u8], words: &[u8]) -> Option<&'a [u8]>
-    ensures { MatchOption result ((rest : List ℕ) → text.now ≢ words.now ++ rest) (λ rest. text.now ≡ words.now ++ rest.now) }
+    ensures { MatchOption result ((rest : List ℕ) → text.now ≢ words.now ++ rest)
+        (λ rest. text.now ≡ words.now ++ rest.now) }
 {
     text.strip_prefix(words)
 }
 
 /// What stands before the words in the text of a line, if it ends with them.
 fn before<'a>(text: &'a [u8], words: &[u8]) -> Option<&'a [u8]>
-    ensures { MatchOption result ((front : List ℕ) → text.now ≢ front ++ words.now) (λ front. text.now ≡ front.now ++ words.now) }
+    ensures { MatchOption result ((front : List ℕ) → text.now ≢ front ++ words.now)
+        (λ front. text.now ≡ front.now ++ words.now) }
 {
     text.strip_suffix(words)
 }

@@ -13,7 +13,8 @@ pub torn_written : (at : ℕ) (piece bytes : List ℕ) → at ≤ length bytes �
 torn_written at piece bytes within =
     let front_length : length (take at bytes) ≡ at = grind (arith, common_steps) in
     let both_length : length (take at bytes ++ piece) ≡ at + length piece = grind (arith, common_steps) in
-    let whole_length : length (overwritten bytes at piece) ≡ at + length piece + (length bytes - (at + length piece)) = grind (arith, common_steps) in
+    let whole_length : length (overwritten bytes at piece) ≡ at + length piece + (length bytes - (at + length piece)) =
+    grind (arith, common_steps) in
     record {
       front = grind (arith, common_steps);
       back = grind (arith, common_steps);

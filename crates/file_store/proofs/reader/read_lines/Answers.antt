@@ -1,3 +1,5 @@
+-- What the reader has taken so far is the front of a listing, and the loop keeps this. At the end no byte is left, or
+-- what is left is no whole line, so the answer is that of the lines taken: their program, or the line after them.
 use Rattle.std.proofs.Common.{arith, refl}
 use Rattle.file_store.specs.Private.Come.{come_of}
 use Rattle.file_store.specs.Private.Reader.{program_of}
