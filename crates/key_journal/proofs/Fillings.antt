@@ -27,7 +27,7 @@ reads_more at count more buf rest past_end (state ∷ past) within many front so
       more_bytes count more buf rest past_end within many
       ∙ ap (λ (bytes : List ℕ). bytes ++ take more rest) front.same
       ∙ ap (λ (bytes : List ℕ). take count (drop at state.bytes) ++ bytes)
-          (some.front.same ∙ ap (λ (bytes : List ℕ). take more bytes) (sym (drop-drop count at state.bytes)))
+      (some.front.same ∙ ap (λ (bytes : List ℕ). take more bytes) (sym (drop-drop count at state.bytes)))
       ∙ sym (take-add count more (drop at state.bytes));
 }
 
