@@ -9,16 +9,21 @@ pub returns-in-Ok : goal.returns-in-Ok
 returns-in-Ok g c =
     let laws = c.room_is_not_shown.ensures in
     record {
-      reply = Reply.Loaded (roomless_tree c.in-Ok.tree);
-      files = loaded_files laws.trees laws.counts laws.listing _ _ _ c.in-Ok.tree _ _ c.in-Ok.ensures.tree c.in-Ok.ensures.says c.in-Ok.ensures.files c.take_program.result;
-      does = c.take_program.ensures.does;
-      counts = c.take_program.ensures.counts;
+      does = record {
+        reply = Reply.Loaded (roomless_tree c.in-Ok.tree);
+        files = loaded_files laws.trees laws.counts laws.listing _ _ _ c.in-Ok.tree _ _ c.in-Ok.ensures.tree c.in-Ok.ensures.says
+            c.in-Ok.ensures.files c.take_program.result;
+        does = c.take_program.ensures.does;
+        counts = c.take_program.ensures.counts;
+      };
     }
 
 pub returns-in_default : goal.returns-in_default
 returns-in_default g c = record {
-  reply = Reply.Refused c.in-Err.refusal;
-  files = refused_load _ _ _ c.in-Err.refusal _ _ c.in-Err.ensures.says c.in-Err.ensures.files c.in_default.not-OutOfMemory;
-  does = search rules;
-  counts = checks_free 0;
+  does = record {
+    reply = Reply.Refused c.in-Err.refusal;
+    files = refused_load _ _ _ c.in-Err.refusal _ _ c.in-Err.ensures.says c.in-Err.ensures.files c.in_default.not-OutOfMemory;
+    does = search rules;
+    counts = checks_free 0;
+  };
 }
