@@ -1,0 +1,11 @@
+-- The tables of the definitions at work: each row is a value beside the one that is computed.
+pub mod Row
+mod Numbers
+mod Truth
+mod Comparisons
+mod Texts
+mod Builtins
+mod Variables
+mod Input
+mod Output
+mod Steps

@@ -1,0 +1,83 @@
+-- Items of the input, each with how many bytes it takes.
+use Rattle.std.specs.Prelude.{refl, List, [], ◌∷◌, ◌++◌, true, false, codes, replicate, Result, Ok, Err}
+use Rattle.plcs_base.specs.declared.declared.ItemType.{ItemType}
+use Rattle.plcs_store.specs.declared.input_item.ItemFault.{ItemFault}
+use Rattle.plcs_store.specs.InputItem.{next_item}
+use Rattle.plcs_store.proofs.Examples.Row.{Rows, bit, long, neg, num, text}
+
+numbers : Rows
+    ((next_item ItemType.Fixed (codes "7"), Ok (num 7, 1))
+    ∷ (next_item ItemType.Fixed (codes "007"), Ok (num 7, 3))
+    ∷ (next_item ItemType.Fixed (codes "-7"), Ok (neg 7, 2))
+    ∷ (next_item ItemType.Fixed (codes "+7"), Ok (num 7, 2))
+    ∷ (next_item ItemType.Fixed (codes "-0"), Ok (num 0, 2))
+    ∷ (next_item ItemType.Fixed (codes "2147483647"), Ok (num 2147483647, 10))
+    ∷ (next_item ItemType.Fixed (codes "2147483648"), Err ItemFault.Conversion)
+    ∷ (next_item ItemType.Fixed (codes "-2147483648"), Ok (neg 2147483648, 11))
+    ∷ (next_item ItemType.Fixed (codes "-2147483649"), Err ItemFault.Conversion)
+    ∷ (next_item ItemType.Fixed (codes "99999999999999999999999"), Err ItemFault.Conversion)
+    ∷ (next_item ItemType.Fixed (codes "-"), Err ItemFault.Conversion)
+    ∷ (next_item ItemType.Fixed (codes "+"), Err ItemFault.Conversion)
+    ∷ (next_item ItemType.Fixed (codes "--7"), Err ItemFault.Conversion)
+    ∷ (next_item ItemType.Fixed (codes "+-7"), Err ItemFault.Conversion)
+    ∷ (next_item ItemType.Fixed (codes "7x"), Err ItemFault.Conversion)
+    ∷ (next_item ItemType.Fixed (codes "x"), Err ItemFault.Conversion)
+    ∷ (next_item ItemType.Fixed (codes "'7'"), Err ItemFault.Conversion)
+    ∷ (next_item ItemType.Fixed ([]), Err ItemFault.Wanted)
+    ∷ (next_item ItemType.Fixed (codes "   "), Err ItemFault.Wanted)
+    ∷ (next_item ItemType.Fixed (9 ∷ (10 ∷ (13 ∷ (32 ∷ [])))), Err ItemFault.Wanted)
+    ∷ (next_item ItemType.Fixed (9 ∷ (10 ∷ (13 ∷ (32 ∷ (55 ∷ []))))), Ok (num 7, 5))
+    ∷ (next_item ItemType.Fixed (codes "7 8"), Ok (num 7, 2))
+    ∷ (next_item ItemType.Fixed (codes "7,8"), Ok (num 7, 2))
+    ∷ (next_item ItemType.Fixed (codes "7 , 8"), Ok (num 7, 4))
+    ∷ (next_item ItemType.Fixed (codes "7,,8"), Ok (num 7, 2))
+    ∷ (next_item ItemType.Fixed (codes ",8"), Err ItemFault.Conversion)
+    ∷ (next_item ItemType.Fixed (codes "  ,8"), Err ItemFault.Conversion)
+    ∷ (next_item ItemType.Fixed (codes "7  "), Ok (num 7, 3))
+    ∷ (next_item ItemType.Fixed (codes "7,"), Ok (num 7, 2))
+    ∷ (next_item ItemType.Fixed (codes "7 ,  "), Ok (num 7, 5))
+    ∷ (next_item ItemType.Fixed (55 ∷ (10 ∷ (44 ∷ (13 ∷ (9 ∷ (56 ∷ [])))))), Ok (num 7, 5))
+    ∷ (next_item ItemType.Fixed (codes "7 x"), Ok (num 7, 2))
+    ∷ (next_item ItemType.Fixed (codes "'7"), Err ItemFault.Wanted) ∷ [])
+numbers = refl
+
+truth_values : Rows
+    ((next_item ItemType.Bit (codes "0"), Ok (bit false, 1))
+    ∷ (next_item ItemType.Bit (codes "1"), Ok (bit true, 1))
+    ∷ (next_item ItemType.Bit (codes "'0'B"), Ok (bit false, 4))
+    ∷ (next_item ItemType.Bit (codes "'1'B"), Ok (bit true, 4))
+    ∷ (next_item ItemType.Bit (codes "'1'B,1"), Ok (bit true, 5))
+    ∷ (next_item ItemType.Bit (codes "'1'"), Err ItemFault.Conversion)
+    ∷ (next_item ItemType.Bit (codes "'1'b"), Err ItemFault.Conversion)
+    ∷ (next_item ItemType.Bit (codes "01"), Err ItemFault.Conversion)
+    ∷ (next_item ItemType.Bit (codes "2"), Err ItemFault.Conversion)
+    ∷ (next_item ItemType.Bit (codes "'1"), Err ItemFault.Wanted)
+    ∷ (next_item ItemType.Bit (codes "'"), Err ItemFault.Wanted) ∷ [])
+truth_values = refl
+
+texts : Rows
+    ((next_item (ItemType.Text 3) (codes "'ab'"), Ok (text (codes "ab"), 4))
+    ∷ (next_item (ItemType.Text 3) (codes "'abcdef'"), Ok (text (codes "abcdef"), 8))
+    ∷ (next_item (ItemType.Text 3) (codes "''"), Ok (text [], 2))
+    ∷ (next_item (ItemType.Text 3) (codes "''''"), Ok (text (codes "'"), 4))
+    ∷ (next_item (ItemType.Text 3) (codes "'''"), Err ItemFault.Wanted)
+    ∷ (next_item (ItemType.Text 3) (codes "'a''b'"), Ok (text (codes "a'b"), 6))
+    ∷ (next_item (ItemType.Text 3) (codes "'a b' c"), Ok (text (codes "a b"), 6))
+    ∷ (next_item (ItemType.Text 3) (codes "'a,b',c"), Ok (text (codes "a,b"), 6))
+    ∷ (next_item (ItemType.Text 3) (codes "'ab'x"), Err ItemFault.Conversion)
+    ∷ (next_item (ItemType.Text 3) (codes "'ab'B"), Err ItemFault.Conversion)
+    ∷ (next_item (ItemType.Text 3) (codes "'ab"), Err ItemFault.Wanted)
+    ∷ (next_item (ItemType.Text 3) (codes "ab"), Ok (text (codes "ab"), 2))
+    ∷ (next_item (ItemType.Text 3) (codes "ab cd"), Ok (text (codes "ab"), 3))
+    ∷ (next_item (ItemType.Text 3) (codes "a'b"), Ok (text (codes "a'b"), 3))
+    ∷ (next_item (ItemType.Text 3) (codes "a'b c'"), Ok (text (codes "a'b"), 4))
+    ∷ (next_item (ItemType.Text 3) (39 ∷ (10 ∷ (39 ∷ []))), Err ItemFault.Conversion)
+    ∷ (next_item (ItemType.Text 3) (39 ∷ (10 ∷ [])), Err ItemFault.Wanted)
+    ∷ (next_item (ItemType.Text 3) (127 ∷ []), Err ItemFault.Conversion)
+    ∷ (next_item (ItemType.Text 3) (1 ∷ []), Err ItemFault.Conversion)
+    ∷ (next_item (ItemType.Text 3) (replicate 256 120), Ok (long 256, 256))
+    ∷ (next_item (ItemType.Text 3) (replicate 257 120), Err ItemFault.Conversion)
+    ∷ (next_item (ItemType.Text 3) (39 ∷ (replicate 256 120 ++ (39 ∷ []))), Ok (long 256, 258))
+    ∷ (next_item (ItemType.Text 3) (39 ∷ (replicate 257 120 ++ (39 ∷ []))), Err ItemFault.Conversion)
+    ∷ (next_item (ItemType.Text 3) (39 ∷ (replicate 257 120)), Err ItemFault.Wanted) ∷ [])
+texts = refl

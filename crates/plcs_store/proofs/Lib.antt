@@ -1,0 +1,10 @@
+-- the definitions at work, row by row; no clause needs them
+mod Examples
+-- `new_runs_fit`: the first place of main
+pub mod FirstPlace
+-- `new_runs_fit`: the cells of a new frame
+pub mod NewCells
+-- `new_runs_fit`
+pub mod NewRuns
+-- `write_items`: what doesn't fit
+pub mod WrittenItems

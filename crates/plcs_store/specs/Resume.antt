@@ -1,0 +1,68 @@
+-- When a suspended run may be resumed in a program that was edited.
+use Rattle.std.specs.Prelude.{◌≡◌, ◌≢◌, ◌⊎◌, ℕ, List, [], ◌∷◌, Option, Some, None, option_map}
+use Rattle.plcs_base.specs.declared.declared.Declared.{Declared}
+use Rattle.plcs_base.specs.declared.place.Slot.{Slot}
+use Rattle.plcs_grammar.specs.declared.node_kind.NodeKind.{NodeKind}
+use Rattle.plcs_grammar.specs.PlainPhrase.{PlainPhrase}
+use Rattle.template_tree.specs.Environment.{Items, procedure_at}
+use Rattle.template_tree.specs.Place.{site}
+use Rattle.template_tree.specs.PlainTree.{Forest}
+use Rattle.plcs_store.specs.declared.frame.Frame.{Frame}
+use Rattle.plcs_store.specs.declared.held_template.HeldTemplate.{HeldTemplate}
+use Rattle.plcs_store.specs.declared.kept.Kept.{Kept}
+use Rattle.plcs_store.specs.declared.refusal.ResumeRefusal.{ResumeRefusal}
+use Rattle.plcs_store.specs.Configuration.{PlainConfiguration}
+
+-- the parts of a heading, which is main's, a procedure's or a hole's
+abbrev pub Parts : Type 0
+Parts = List (Option PlainPhrase)
+
+-- the parts of the heading of the procedure in the slot, if it stands
+abbrev pub heading_parts : (program : Forest) → (slot : ℕ) → Option Parts
+heading_parts program slot = option_map (λ node. node.label.parts) (procedure_at program slot)
+
+-- the kind and the parts of what stands in the slot, if it is live
+abbrev pub template_held : (program : Forest) → (slot : ℕ) → Option HeldTemplate
+template_held program slot = option_map (λ found. record { kind = found.label.kind; parts = found.label.parts }) (site program slot)
+
+-- ---- the three questions, asked of a frame
+
+-- the frame's procedure is gone, or the phrases of its heading are others
+abbrev pub HeadingDiffers : (program : Forest) → Frame → Parts → Type 0
+HeadingDiffers program frame kept = heading_parts program frame.procedure.0 ≢ Some kept
+
+-- the effective items of its procedure are others
+abbrev pub ItemsDiffer : (program : Forest) → Frame → List Declared → Type 0
+ItemsDiffer program frame kept = Items program frame.procedure.0 ≢ kept
+
+-- the slot of its place is gone, or its point isn't the start and what stands in the slot is another template
+abbrev pub TemplateDiffers : (program : Forest) → Frame → HeldTemplate → Type 0
+TemplateDiffers program frame kept =
+    (site program frame.place.slot.0 ≡ None)
+    ⊎ ((frame.place.point.0 ≢ 0) × (template_held program frame.place.slot.0 ≢ Some kept))
+
+-- ---- the answer
+
+-- a question, with the refusal where it holds, before more questions
+abbrev pub Asks : (question : Type 0) → ResumeRefusal → (more : Option ResumeRefusal → Type 0) → Option ResumeRefusal → Type 0
+Asks question refusal more answer = (question × (answer ≡ Some refusal)) ⊎ ((¬ question) × more answer)
+
+-- the answer of the questions for one frame, before those for the frames above it
+abbrev pub AsksFrame : (program : Forest) → Frame → Parts → List Declared → HeldTemplate → (more : Option ResumeRefusal → Type 0) → Option ResumeRefusal → Type 0
+AsksFrame program frame heading items template more =
+    Asks (HeadingDiffers program frame heading) (ResumeRefusal.HeadingChanged frame.procedure)
+    (Asks (ItemsDiffer program frame items) (ResumeRefusal.DeclarationChanged frame.procedure)
+    (Asks (TemplateDiffers program frame template) (ResumeRefusal.TemplateChanged frame.place.slot) more))
+
+-- the answer for the frames from main upward, each with what is kept for it: the first refusal that holds, or none
+abbrev pub AsksFrames : (program : Forest) → List Frame → List Parts → List (List Declared) → List HeldTemplate → Option ResumeRefusal → Type 0
+AsksFrames program [] headings declared held answer = answer ≡ None
+AsksFrames program (frame ∷ frames) [] declared held answer = ⊥
+AsksFrames program (frame ∷ frames) (heading ∷ headings) [] held answer = ⊥
+AsksFrames program (frame ∷ frames) (heading ∷ headings) (items ∷ declared) [] answer = ⊥
+AsksFrames program (frame ∷ frames) (heading ∷ headings) (items ∷ declared) (template ∷ held) answer =
+    AsksFrame program frame heading items template (AsksFrames program frames headings declared held) answer
+
+-- whether a run may be resumed in the program, by what is kept for its frames: none is a yes, and else it is the refusal
+abbrev pub MayResume : Kept → PlainConfiguration → (program : Forest) → Option ResumeRefusal → Type 0
+MayResume kept c program answer = AsksFrames program c.frames kept.headings kept.declared kept.held answer

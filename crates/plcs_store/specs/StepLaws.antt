@@ -1,0 +1,23 @@
+-- The laws of steps: a new run fits, what fits has a step, and what that leads to fits again.
+use Rattle.std.specs.Prelude.{◌≡◌, ℕ, List, Some, IsSome}
+use Rattle.template_tree.specs.PlainTree.{PlainTree}
+use Rattle.template_tree.specs.Tree.{IsTree}
+use Rattle.plcs_store.specs.Configuration.{PlainConfiguration}
+use Rattle.plcs_store.specs.Fits.{Fits}
+use Rattle.plcs_store.specs.NewFrame.{First}
+use Rattle.plcs_store.specs.Step.{PlainStepAnswer, Step}
+
+-- a new run of a tree fits it
+abbrev pub NewRunsFit : Type 0
+NewRunsFit = (tree : PlainTree) → IsTree tree → Fits tree.items (First tree.items)
+
+-- what fits a tree has a step there
+abbrev pub FittingRunsStep : Type 0
+FittingRunsStep =
+    (tree : PlainTree) (input : List ℕ) (c : PlainConfiguration) → IsTree tree → Fits tree.items c → IsSome (Step tree.items input c)
+
+-- what a run that fits a tree steps to fits it again
+abbrev pub StepsKeepFit : Type 0
+StepsKeepFit =
+    (tree : PlainTree) (input : List ℕ) (c d : PlainConfiguration) → IsTree tree → Fits tree.items c
+    → Step tree.items input c ≡ Some (PlainStepAnswer.stepped d) → Fits tree.items d

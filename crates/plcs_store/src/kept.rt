@@ -1,0 +1,177 @@
+//! What is kept of the program when a suspended run stands and the program is edited.
+ghost use Rattle.std.specs.Prelude.{◌≡◌};
+
+use crate::copied_parts::CopiedParts;
+use crate::held_template::HeldTemplate;
+use plcs_base::Declared;
+use std::marker::Model;
+
+/// The parts of the heading of each frame's procedure, which contracts see as a list.
+#[derive(Drop)]
+pub struct Headings {
+    headings: Vec<CopiedParts>,
+}
+
+impl Model for Headings {
+    ghost use Rattle.std.specs.Prelude.{List, Option};
+    ghost use Rattle.plcs_grammar.specs.PlainPhrase.{PlainPhrase};
+    ghost use Rattle.plcs_store.specs.Private.PartsCode.{headings_code};
+
+    ghost Value = { List (List (Option PlainPhrase)) };
+
+    ghost coded = { headings_code };
+
+    ghost view = { λ a. a.headings.items };
+}
+
+impl Headings {
+    /// These in order. It takes no memory.
+    pub fn from_vec(headings: Vec<CopiedParts>) -> Headings
+        ensures { result ≡ headings.items }
+    {
+        Headings { headings }
+    }
+
+    /// Gives them back. It takes no memory.
+    pub fn into_vec(self) -> Vec<CopiedParts>
+        ensures { result.items ≡ self }
+    {
+        self.headings
+    }
+
+    /// Them in order.
+    pub fn as_slice(&self) -> &[CopiedParts]
+        ensures { result.now ≡ self.now }
+    {
+        self.headings.as_slice()
+    }
+}
+
+/// The effective items of a procedure, which contracts see as a list.
+#[derive(Drop)]
+pub struct DeclaredList {
+    items: Vec<Declared>,
+}
+
+impl Model for DeclaredList {
+    ghost use Rattle.std.specs.Prelude.{List};
+    ghost use Rattle.plcs_base.specs.declared.declared.Declared.{Declared};
+
+    ghost Value = { List Declared };
+
+    ghost view = { λ a. a.items.items };
+}
+
+impl DeclaredList {
+    /// These in order. It takes no memory.
+    pub fn from_vec(items: Vec<Declared>) -> DeclaredList
+        ensures { result ≡ items.items }
+    {
+        DeclaredList { items }
+    }
+
+    /// Gives them back. It takes no memory.
+    pub fn into_vec(self) -> Vec<Declared>
+        ensures { result.items ≡ self }
+    {
+        self.items
+    }
+
+    /// Them in order.
+    pub fn as_slice(&self) -> &[Declared]
+        ensures { result.now ≡ self.now }
+    {
+        self.items.as_slice()
+    }
+}
+
+/// The effective items of each frame's procedure, which contracts see as a list of lists.
+#[derive(Drop)]
+pub struct DeclaredLists {
+    lists: Vec<DeclaredList>,
+}
+
+impl Model for DeclaredLists {
+    ghost use Rattle.std.specs.Prelude.{List};
+    ghost use Rattle.plcs_base.specs.declared.declared.Declared.{Declared};
+
+    ghost Value = { List (List Declared) };
+
+    ghost view = { λ a. a.lists.items };
+}
+
+impl DeclaredLists {
+    /// These in order. It takes no memory.
+    pub fn from_vec(lists: Vec<DeclaredList>) -> DeclaredLists
+        ensures { result ≡ lists.items }
+    {
+        DeclaredLists { lists }
+    }
+
+    /// Gives them back. It takes no memory.
+    pub fn into_vec(self) -> Vec<DeclaredList>
+        ensures { result.items ≡ self }
+    {
+        self.lists
+    }
+
+    /// Them in order.
+    pub fn as_slice(&self) -> &[DeclaredList]
+        ensures { result.now ≡ self.now }
+    {
+        self.lists.as_slice()
+    }
+}
+
+/// What stood in the slot of each frame's place, which contracts see as a list.
+#[derive(Drop)]
+pub struct HeldTemplates {
+    templates: Vec<HeldTemplate>,
+}
+
+impl Model for HeldTemplates {
+    ghost use Rattle.std.specs.Prelude.{List};
+    ghost use Rattle.plcs_store.specs.declared.held_template.HeldTemplate.{HeldTemplate};
+    ghost use Rattle.plcs_store.specs.Private.HeldCode.{held_code};
+
+    ghost Value = { List HeldTemplate };
+
+    ghost coded = { held_code };
+
+    ghost view = { λ a. a.templates.items };
+}
+
+impl HeldTemplates {
+    /// These in order. It takes no memory.
+    pub fn from_vec(templates: Vec<HeldTemplate>) -> HeldTemplates
+        ensures { result ≡ templates.items }
+    {
+        HeldTemplates { templates }
+    }
+
+    /// Gives them back. It takes no memory.
+    pub fn into_vec(self) -> Vec<HeldTemplate>
+        ensures { result.items ≡ self }
+    {
+        self.templates
+    }
+
+    /// Them in order.
+    pub fn as_slice(&self) -> &[HeldTemplate]
+        ensures { result.now ≡ self.now }
+    {
+        self.templates.as_slice()
+    }
+}
+
+/// What is kept of the program as it was when the run was suspended: three lists with an entry for each
+/// frame, from main upward.
+#[derive(Drop)]
+pub struct Kept {
+    /// The phrases of the heading.
+    pub headings: Headings,
+    /// The effective items.
+    pub declared: DeclaredLists,
+    /// What stood in the slot of the place.
+    pub held: HeldTemplates,
+}

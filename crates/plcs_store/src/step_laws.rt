@@ -1,0 +1,12 @@
+//! The laws of steps, each a function that does nothing and whose contract states it.
+ghost use Rattle.plcs_store.specs.StepLaws.{NewRunsFit};
+
+use tree_steps::{sites_stand, slots_stand};
+
+/// A new run of a tree fits it: it stands at main's first statement, with no cell set and in no loop.
+pub fn new_runs_fit()
+    ensures { NewRunsFit }
+{
+    sites_stand();
+    slots_stand();
+}

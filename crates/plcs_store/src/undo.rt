@@ -1,0 +1,42 @@
+//! The records of steps.
+ghost use Rattle.std.specs.Prelude.{◌≡◌};
+ghost use Rattle.plcs_store.specs.declared.undo.Undo.{Undo};
+
+use crate::cell::{Cell, Location};
+use crate::frame::Frame;
+use crate::kept_loop::KeptLoop;
+use plcs_base::Place;
+
+/// The record of one step: from it and the state after the step the whole state before it can be had.
+///
+/// The place in it is the one at which the step was made.
+#[derive(Drop)]
+pub enum Undo {
+    /// No step.
+    Empty,
+    /// A step that changed the place alone.
+    Moved(Place),
+    /// A cell was set, which held this before.
+    Stored(Place, Location, Cell),
+    /// A cell was set, and the body of a loop entered.
+    Entered(Place, Location, Cell),
+    /// A cell was set, and this loop left.
+    Finished(Place, Location, Cell, KeptLoop),
+    /// A cell was set from the input, of which so many bytes were taken before.
+    Read(Place, Location, Cell, u32),
+    /// Something was written behind so many bytes.
+    Wrote(Place, u32),
+    /// A procedure was called.
+    Called(Place),
+    /// The frame was left; the place is that of the caller.
+    Left(Place, Frame),
+}
+
+impl Undo {
+    /// An empty record. It takes no memory.
+    pub fn new() -> Undo
+        ensures { result ≡ Undo.Empty }
+    {
+        Undo::Empty
+    }
+}
