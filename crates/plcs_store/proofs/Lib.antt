@@ -1,3 +1,5 @@
+-- the values of the limits, which the definitions take from the code
+mod Limits
 -- the definitions at work, row by row; no clause needs them
 mod Examples
 -- `new_runs_fit`: the first place of main

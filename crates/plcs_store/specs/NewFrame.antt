@@ -6,6 +6,7 @@ use Rattle.plcs_base.specs.declared.declared.ItemType.{ItemType}
 use Rattle.plcs_base.specs.declared.value.Value.{Value}
 use Rattle.template_tree.specs.Environment.{item_named, items_inside, kind_of_type}
 use Rattle.template_tree.specs.KindTable.{same_kind}
+use Rattle.template_tree.specs.ParameterItem.{scalar_item}
 use Rattle.template_tree.specs.Place.{PlainPlace}
 use Rattle.template_tree.specs.PlainTree.{Forest, Label, PlainNode}
 use Rattle.plcs_store.specs.declared.argument.Argument.{Argument}
@@ -50,10 +51,6 @@ abbrev pub parameter_of : List Frame → ItemType → Argument → Option Variab
 parameter_of frames ty (Argument.Reference location) =
     option_and_then (reference_parameter ty location) (variable_at frames location.frame location.name)
 parameter_of frames ty (Argument.Dummy value) = option_map (λ kept. scalar_variable ty (Cell.Held kept)) (kept_value ty value)
-
--- a declared item that is a scalar
-abbrev pub scalar_item : Declared → Option Declared
-scalar_item item = if item.size == 0 then Some item else None
 
 -- the parameter of the name for an argument
 abbrev pub parameter_named : List Frame → List Declared → List ℕ → Argument → Option (List ℕ × Variable)
