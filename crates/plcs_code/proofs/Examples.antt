@@ -1,0 +1,167 @@
+-- The definitions at work: the code of an expression, of a call of a procedure, and of a While before and after the PUT in
+-- it grew.
+use Rattle.std.specs.Prelude.{◌≡◌, refl, ℕ, pos, negsuc, true, false, List, [], ◌∷◌, codes, Option, Some, None}
+use Rattle.std.specs.FinMap.{empty, from_entries, gets}
+use Rattle.plcs_base.specs.Mark.{MarkMap}
+use Rattle.plcs_base.specs.Scope.{ItemMap}
+use Rattle.plcs_base.specs.declared.declared.ItemType.{ItemType}
+use Rattle.plcs_grammar.specs.declared.node_kind.NodeKind.{NodeKind}
+use Rattle.plcs_grammar.specs.declared.operator.InfixOp.{InfixOp}
+use Rattle.plcs_grammar.specs.declared.template.Template.{Template}
+use Rattle.plcs_grammar.specs.Builtin.{is_builtin_name}
+use Rattle.plcs_grammar.specs.PlainPhrase.{PlainExpr, PlainExprs, PlainPhrase, PlainVarRef}
+use Rattle.template_tree.specs.Place.{place_at}
+use Rattle.template_tree.specs.PlainTree.{Forest, Label}
+use Rattle.plcs_code.specs.Gen.{Gen, heading_entries}
+use Rattle.plcs_code.specs.InstrText.{instr_text}
+use Rattle.plcs_code.specs.Pieces.{suspension}
+use Rattle.plcs_code.specs.PlainInstr.{PlainInstr}
+
+-- a label of the template in the slot, with these parts
+abbrev filled : ℕ → Template → List (Option PlainPhrase) → Label
+filled slot template parts = record { slot = slot; kind = NodeKind.Filled template; parts = parts; elided = false; spare = 0 }
+
+-- a label without parts, of a node of the kind in the slot
+abbrev empty_label : ℕ → NodeKind → Label
+empty_label slot kind = record { slot = slot; kind = kind; parts = []; elided = false; spare = 0 }
+
+-- a node with nothing inside
+abbrev leaf : Label → Forest → Forest
+leaf label rest = Forest.cons label Forest.nil rest
+
+-- a program of main with a hole for a declaration, and with this statement, and of this procedure
+abbrev main_with : Forest → Forest → Forest
+main_with statement procedure =
+    Forest.cons (empty_label 0 NodeKind.Main) (leaf (empty_label 1 NodeKind.DeclarationHole) statement) procedure
+
+-- a hole for a procedure
+abbrev no_procedure : Forest
+no_procedure = leaf (empty_label 3 NodeKind.ProcedureHole) Forest.nil
+
+-- no marks, and no items of main
+abbrev no_marks : MarkMap
+no_marks = empty
+
+abbrev no_items : ItemMap
+no_items = from_entries ((0, []) ∷ [])
+
+-- numbers as expressions
+abbrev one : PlainExpr
+one = PlainExpr.number (pos 1)
+
+abbrev two : PlainExpr
+two = PlainExpr.number (pos 2)
+
+-- one expression as a list
+abbrev single : PlainExpr → PlainExprs
+single e = PlainExprs.cons e PlainExprs.nil
+
+-- `1 + 2 * 3`, put on a new line
+abbrev put_sum : Forest
+put_sum =
+    main_with
+    (leaf
+    (filled 2 Template.PutSkip
+    (Some
+    (PlainPhrase.expression_list
+    (single (PlainExpr.binary InfixOp.Plus one (PlainExpr.binary InfixOp.Times two (PlainExpr.number (pos 3))))))
+    ∷ []))
+    Forest.nil)
+    no_procedure
+
+-- its instructions: the sum, and main's end
+sum_is_put :
+    (Gen no_marks no_items put_sum).instrs
+    ≡ PlainInstr.place (place_at 2 0)
+    ∷ PlainInstr.push_number (pos 1)
+    ∷ PlainInstr.push_number (pos 2)
+    ∷ PlainInstr.push_number (pos 3)
+    ∷ PlainInstr.binary InfixOp.Times
+    ∷ PlainInstr.binary InfixOp.Plus
+    ∷ PlainInstr.put_skip 1
+    ∷ PlainInstr.place (place_at 0 1)
+    ∷ PlainInstr.leave
+    ∷ []
+sum_is_put = simp gets
+
+-- the procedure p with the parameter a, a declared number, which puts `a + 1`
+abbrev procedure_p : Forest
+procedure_p =
+    Forest.cons
+    (filled 3 Template.ProcP (Some (PlainPhrase.procedure_name (codes "p")) ∷ (Some (PlainPhrase.name_list (codes "a" ∷ [])) ∷ [])))
+    (leaf (filled 4 Template.Fixed (Some (PlainPhrase.declared_list (record { name = codes "a"; size = None } ∷ [])) ∷ []))
+    (leaf
+    (filled 5 Template.Put
+    (Some
+    (PlainPhrase.expression_list
+    (single (PlainExpr.binary InfixOp.Plus (PlainExpr.variable (PlainVarRef.simple (codes "a"))) one)))
+    ∷ []))
+    Forest.nil))
+    Forest.nil
+
+-- a call of p with a number
+abbrev call_p : Forest
+call_p = main_with (leaf (filled 2 Template.Call (Some (PlainPhrase.call (codes "p") (single one)) ∷ [])) Forest.nil) procedure_p
+
+-- p declares a
+abbrev items_of_p : ItemMap
+items_of_p = from_entries ((0, []) ∷ ((3, record { name = codes "a"; ty = ItemType.Fixed; size = 0 } ∷ []) ∷ []))
+
+-- the call passes a dummy, and p makes its parameter first
+call_is_laid :
+    (Gen no_marks items_of_p call_p).instrs
+    ≡ PlainInstr.place (place_at 2 0)
+    ∷ PlainInstr.push_number (pos 1)
+    ∷ PlainInstr.dummy
+    ∷ PlainInstr.call (codes "p") 1
+    ∷ PlainInstr.place (place_at 0 1)
+    ∷ PlainInstr.leave
+    ∷ PlainInstr.parameter (codes "a") ItemType.Fixed
+    ∷ PlainInstr.place (place_at 5 0)
+    ∷ PlainInstr.load (codes "a")
+    ∷ PlainInstr.push_number (pos 1)
+    ∷ PlainInstr.binary InfixOp.Plus
+    ∷ PlainInstr.put 1
+    ∷ PlainInstr.place (place_at 3 1)
+    ∷ PlainInstr.leave
+    ∷ []
+call_is_laid = simp gets
+
+-- p is entered at address 6
+p_is_entered : heading_entries no_marks items_of_p 0 call_p ≡ (codes "p", record { address = 6; slot = 3 }) ∷ []
+unfolding is_builtin_name
+p_is_entered = simp gets
+
+-- the parameter as it is shown
+parameter_is_shown : instr_text (PlainInstr.parameter (codes "a") ItemType.Fixed) ≡ codes "Param a FIXED"
+parameter_is_shown = refl
+
+-- a While whose condition is true, around a PUT of this expression
+abbrev while_with : PlainExpr → Forest
+while_with e =
+    main_with
+    (Forest.cons (filled 2 Template.While (Some (PlainPhrase.condition (PlainExpr.bit true)) ∷ []))
+    (leaf (filled 4 Template.Put (Some (PlainPhrase.expression_list (single e)) ∷ [])) Forest.nil)
+    Forest.nil)
+    no_procedure
+
+-- before the PUT grows
+while_before :
+    (Gen no_marks no_items (while_with one)).instrs
+    ≡ PlainInstr.place (place_at 2 0) ∷ PlainInstr.push_bit true ∷ PlainInstr.jump_false (pos 4)
+    ∷ PlainInstr.place (place_at 4 0) ∷ PlainInstr.push_number (pos 1) ∷ PlainInstr.put 1
+    ∷ PlainInstr.jump (negsuc 6) ∷ PlainInstr.place (place_at 0 1) ∷ PlainInstr.leave ∷ []
+while_before = simp gets
+
+-- and after it: both jumps are longer
+while_after :
+    (Gen no_marks no_items (while_with (PlainExpr.binary InfixOp.Plus one two))).instrs
+    ≡ PlainInstr.place (place_at 2 0) ∷ PlainInstr.push_bit true ∷ PlainInstr.jump_false (pos 6)
+    ∷ PlainInstr.place (place_at 4 0) ∷ PlainInstr.push_number (pos 1) ∷ PlainInstr.push_number (pos 2)
+    ∷ PlainInstr.binary InfixOp.Plus ∷ PlainInstr.put 1
+    ∷ PlainInstr.jump (negsuc 8) ∷ PlainInstr.place (place_at 0 1) ∷ PlainInstr.leave ∷ []
+while_after = simp gets
+
+-- an empty part comes before a marked one
+empty_first : suspension no_marks 2 (None ∷ []) ≡ Some PlainInstr.suspend_placeholder
+empty_first = refl

@@ -1,0 +1,85 @@
+-- Several instructions laid in turn. All that lays code does so one instruction after the other, whatever it lays them into: so
+-- what is laid is joined by one lemma, and what that makes of a draft or of a tally is found by one induction each.
+use Rattle.std.proofs.Common.{ℕ, ◌+◌, ◌≤◌, Bool, false, List, [], ◌∷◌, ◌++◌, length, ◌≡◌, refl, subst, ap, sym, ◌∙◌, arith, append_assoc}
+use Rattle.std.proofs.lemmas.List.{append-nil, length-append}
+use Rattle.plcs_base.specs.PlainCounts.{PlainCounts, CountsNothing}
+use Rattle.plcs_code.specs.Counts.{EmitsAtMost}
+use Rattle.plcs_code.specs.PlainInstr.{PlainInstr}
+use Rattle.plcs_code.specs.Private.LaysAll.{LaysAll, lays_nothing, lays_next}
+use Rattle.plcs_code.specs.Private.PlainDraft.{DraftsOne, PlainDraft, PlainTally, TalliesOne}
+
+-- laying some instructions and then some more lays the ones followed by the others
+pub lays_append : {Out : Type 0} {lays : Out → PlainCounts → PlainInstr → Out → PlainCounts → Type 0} {a b c : Out} {u v w : PlainCounts} {first second : List PlainInstr}
+    → LaysAll lays a u first b v → LaysAll lays b v second c w → LaysAll lays a u (first ++ second) c w
+lays_append lays_nothing more = more
+lays_append (lays_next one rest) more = lays_next one (lays_append rest more)
+
+-- laying an instruction lays the list of that instruction
+pub lays_one : {Out : Type 0} {lays : Out → PlainCounts → PlainInstr → Out → PlainCounts → Type 0} {a b : Out} {u v : PlainCounts} {instr : PlainInstr}
+    → lays a u instr b v → LaysAll lays a u (instr ∷ []) b v
+lays_one one = lays_next one lays_nothing
+
+-- laying instructions lays each list that is equal to them
+pub lays_same : {Out : Type 0} {lays : Out → PlainCounts → PlainInstr → Out → PlainCounts → Type 0} {a b : Out} {u v : PlainCounts} {code same : List PlainInstr}
+    → code ≡ same → LaysAll lays a u code b v → LaysAll lays a u same b v
+lays_same {lays = lays} {a = a} {b = b} {u = u} {v = v} e done = subst (λ (code : List PlainInstr). LaysAll lays a u code b v) e done
+
+-- laying instructions and then one more
+pub lays_behind : {Out : Type 0} {lays : Out → PlainCounts → PlainInstr → Out → PlainCounts → Type 0} {a b c : Out} {u v w : PlainCounts} {code : List PlainInstr} {instr : PlainInstr}
+    → LaysAll lays a u code b v → lays b v instr c w → LaysAll lays a u (code ++ (instr ∷ [])) c w
+lays_behind done one = lays_append done (lays_one one)
+
+-- what is laid into a draft, unless memory runs out, and how it is counted
+pub record Drafted (before : PlainDraft) (u : PlainCounts) (code : List PlainInstr) (after : PlainDraft) (v : PlainCounts) : Type 0 where
+  pub failed : after.failed ≡ false → before.failed ≡ false
+  pub instrs : after.failed ≡ false → after.instrs ≡ before.instrs ++ code
+  pub counts : EmitsAtMost (length code) u v
+
+-- nothing is counted where nothing is done
+pub emits_none : (n : ℕ) (u : PlainCounts) → EmitsAtMost n u u
+emits_none n u = record { most = omega arith; later = omega arith; others = refl }
+
+-- bounds on what is emitted add up
+pub emits_then : (m n k : ℕ) (u v w : PlainCounts) → m + n ≤ k → EmitsAtMost m u v → EmitsAtMost n v w → EmitsAtMost k u w
+emits_then m n k u v w less one other =
+    let e = one.most in
+    let f = other.most in
+    let g = one.later in
+    let h = other.later in
+    record {
+      most = omega arith;
+      later = omega arith;
+      others = other.others ∙ ap (λ (x : PlainCounts). let y : PlainCounts = record x { emitted = w.emitted } in y) one.others;
+    }
+
+-- instructions laid into a draft stand behind the others
+pub drafted : {a b : PlainDraft} {u v : PlainCounts} {code : List PlainInstr} → LaysAll DraftsOne a u code b v → Drafted a u code b v
+drafted {a = a} {u = u} lays_nothing = record {
+  failed = λ h. h;
+  instrs = λ h. sym (append-nil a.instrs);
+  counts = emits_none 0 u;
+}
+drafted {a = a} {b = c} {u = u} {v = w} (lays_next {between = b} {second = v} {instr = instr} {code = code} one rest) =
+    let more = drafted rest in
+    record {
+      failed = λ h. one.failed (more.failed h);
+      instrs = λ h. more.instrs h ∙ ap (λ xs. xs ++ code) (one.instrs (more.failed h)) ∙ append_assoc a.instrs (instr ∷ []) code;
+      counts = emits_then 1 (length code) (length (instr ∷ code)) u v w (omega arith) one.counts more.counts;
+    }
+
+-- what a tally tells of instructions, unless there are too many; they are no work
+pub record Tallied (before : PlainTally) (u : PlainCounts) (code : List PlainInstr) (after : PlainTally) (v : PlainCounts) : Type 0 where
+  pub failed : after.failed ≡ false → before.failed ≡ false
+  pub count : after.failed ≡ false → after.count ≡ before.count + length code
+  pub counts : v ≡ u
+
+-- instructions laid into a tally are counted ahead
+pub tallied : {a b : PlainTally} {u v : PlainCounts} {code : List PlainInstr} → LaysAll TalliesOne a u code b v → Tallied a u code b v
+tallied {a = a} lays_nothing = record { failed = λ h. h; count = λ h. omega arith; counts = refl }
+tallied {a = a} {b = c} (lays_next {between = b} {code = code} one rest) =
+    let more = tallied rest in
+    record {
+      failed = λ h. one.failed (more.failed h);
+      count = λ h. let e = more.count h in let f = one.count (more.failed h) in omega arith;
+      counts = more.counts ∙ one.counts;
+    }

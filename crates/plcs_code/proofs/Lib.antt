@@ -1,0 +1,15 @@
+-- the definitions at work, on small programs
+mod Examples
+-- `show_instr`: texts of instructions that are known in another way
+pub mod ShownInstrs
+-- each clause on what is laid: instructions laid in turn, into a draft or into a tally, lists of phrases, and each kind of
+-- expression
+pub mod Laying
+pub mod LaidLists
+pub mod ExprCases
+-- `suspension`: the parts of a node, one after the other
+pub mod ReadParts
+-- the pieces of a statement, and the cells of a procedure
+pub mod LaidPieces
+-- the law `lengths_are_told`: how long pieces and codes are
+pub mod CodeLengths

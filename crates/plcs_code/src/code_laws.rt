@@ -1,0 +1,7 @@
+//! The laws of code, each a function that does nothing and whose contract states it.
+ghost use Rattle.plcs_code.specs.CodeLaws.{LengthsAreTold};
+
+/// How many instructions the code of each node has is told without that code: jumps don't change it.
+pub fn lengths_are_told()
+    ensures { LengthsAreTold }
+{}

@@ -1,0 +1,120 @@
+//! What stands in a node's own code before that of the nodes inside it, laid.
+ghost use Rattle.std.specs.Prelude.{◌≡◌, ◌+◌, ◌<◌, ◌≤◌, ◌++◌, ◌∷◌, [], None, flat_map, length, option_map, unwrap_or};
+ghost use Rattle.template_tree.specs.Environment.{parameters_given};
+ghost use Rattle.plcs_code.specs.BlockLimit.{most_instrs};
+ghost use Rattle.plcs_code.specs.Pieces.{cell_instr, own_pieces, parameters_instrs, piece_at, template_pieces};
+ghost use Rattle.plcs_code.specs.PlainInstr.{plain_instr};
+ghost use Rattle.plcs_code.specs.Private.LaysAll.{LaysAll};
+
+use crate::instr::Instr;
+use crate::instr_out::InstrOut;
+use crate::lay_cells::{lay_cells, lay_parameters};
+use crate::lay_pieces::{lay_enter, lay_first, lay_get, lay_put, lay_test};
+use crate::suspension::suspension;
+use plcs_base::{Declared, Marked, Name, Place, Point, Slot, Work};
+use plcs_grammar::{NodeKind, Template};
+use std::alloc::Global;
+use template_tree::{Node, parameters_given};
+
+/// Lays what stands in the own code of a node before that of the nodes inside it, of which the first has
+/// code of one length, and the others together of another.
+pub(crate) fn lay_before<W: Work, O: InstrOut<W>, M: Marked>(
+    alloc: Global,
+    node: &Node,
+    marks: &M,
+    items: &[Declared],
+    first: u32,
+    others: u32,
+    out: &mut O,
+    work: &mut W,
+)
+    requires few { length node.now.label.parts < 256 }
+    requires short { first + others + 2 ≤ most_instrs }
+    ensures { LaysAll O.lays out.old (W.counts work.old)
+        (own_pieces (M.marks marks.now) items.now node.now.label first others).before
+        out.new (W.counts work.new) }
+{
+    let stop = suspension(node, marks);
+    match node.kind() {
+        NodeKind::DeclarationHole => {}
+        NodeKind::StatementHole => lay_alone(node.slot(), Instr::SuspendPlaceholder, out, work),
+        NodeKind::ProcedureHole => {}
+        NodeKind::Main => lay_items_of(items, &[], out, work),
+        NodeKind::Assign => lay_first(alloc, node, stop, out, work),
+        NodeKind::Filled(template) => {
+            lay_template(alloc, node, template, stop, items, first, others, out, work);
+        }
+    }
+}
+
+/// Lays what stands in the own code of a node of the template before that of the nodes inside it.
+fn lay_template<W: Work, O: InstrOut<W>>(
+    alloc: Global,
+    node: &Node,
+    template: Template,
+    stop: Option<Instr>,
+    items: &[Declared],
+    first: u32,
+    others: u32,
+    out: &mut O,
+    work: &mut W,
+)
+    requires short { first + others + 2 ≤ most_instrs }
+    ensures { LaysAll O.lays out.old (W.counts work.old)
+        (template_pieces node.now.label.slot (option_map plain_instr stop) None node.now.label.parts items.now first others template).before
+        out.new (W.counts work.new) }
+{
+    match template {
+        Template::Fixed => {}
+        Template::Bit => {}
+        Template::Char => {}
+        Template::If => lay_test(alloc, node, stop, first + others, out, work),
+        Template::IfElse => lay_test(alloc, node, stop, first + 1, out, work),
+        Template::While => lay_test(alloc, node, stop, first + others + 1, out, work),
+        Template::For => lay_enter(alloc, node, stop, first + others + 2, out, work),
+        Template::Group => {}
+        Template::Get => lay_get(alloc, node, stop, out, work),
+        Template::Put => lay_put(alloc, node, stop, false, out, work),
+        Template::PutSkip => lay_put(alloc, node, stop, true, out, work),
+        Template::Call => lay_first(alloc, node, stop, out, work),
+        Template::Return => lay_alone(node.slot(), Instr::Leave, out, work),
+        Template::Comment => {}
+        Template::Proc => lay_items_of(items, &[], out, work),
+        Template::ProcP => lay_items_of(items, parameters_of(node), out, work),
+    }
+}
+
+/// Lays the piece of one instruction alone, at the start of a slot.
+fn lay_alone<W: Work, O: InstrOut<W>>(slot: Slot, instr: Instr, out: &mut O, work: &mut W)
+    ensures { LaysAll O.lays out.old (W.counts work.old) (piece_at slot.0 0 None (plain_instr instr ∷ []))
+        out.new (W.counts work.new) }
+{
+    let point = Point(0);
+    out.put(Instr::At(Place { slot, point }), work);
+    out.put(instr, work);
+}
+
+/// Lays the instructions that make the cells of a procedure with these parameters.
+fn lay_items_of<W: Work, O: InstrOut<W>>(
+    items: &[Declared],
+    names: &[Name],
+    out: &mut O,
+    work: &mut W,
+)
+    ensures { LaysAll O.lays out.old (W.counts work.old)
+        (parameters_instrs items.now [] names.now ++ flat_map (cell_instr names.now) items.now)
+        out.new (W.counts work.new) }
+{
+    lay_parameters(items, names, out, work);
+    lay_cells(items, names, out, work);
+}
+
+/// The parameters in the heading of a procedure: none where no list of them stands there.
+fn parameters_of(node: &Node) -> &[Name]
+    ensures { result.now ≡ unwrap_or (parameters_given node.now.label.parts) [] }
+{
+    match parameters_given(node) {
+        Some(names) => names,
+        None => &[],
+    }
+}

@@ -1,0 +1,25 @@
+//! The code of programs: what it is, its instructions, how they are shown, and how they are laid.
+#![tactic(auto)]
+
+mod block;
+mod code_laws;
+mod code_view;
+mod instr;
+mod instr_out;
+mod instr_text;
+mod lay_before;
+mod lay_cells;
+mod lay_expr;
+mod lay_phrase;
+mod lay_pieces;
+mod limit;
+mod names;
+mod statement_parts;
+mod suspension;
+
+pub use block::{Block, Emitted};
+pub use code_laws::lengths_are_told;
+pub use code_view::CodeView;
+pub use instr::Instr;
+pub use instr_text::show_instr;
+pub use limit::MOST_INSTRS;

@@ -1,0 +1,90 @@
+//! What stops a run at a node: a phrase that is missing or marked.
+ghost use Rattle.std.specs.Prelude.{◌≡◌, ◌<◌, is_none, is_some, length, option_map, take};
+ghost use Rattle.std.specs.FinMap.{get};
+ghost use Rattle.template_tree.specs.Mention.{phrase_at};
+ghost use Rattle.template_tree.specs.PlainPhrasePlace.{plain_phrase_place};
+ghost use Rattle.plcs_code.specs.Pieces.{has_empty, has_mark, suspension};
+ghost use Rattle.plcs_code.specs.PlainInstr.{plain_instr};
+
+use crate::instr::Instr;
+use plcs_base::{Marked, PhraseAt};
+use template_tree::{Node, PhrasePlace};
+
+/// What stops a run that needs all parts of the node: one that is empty, or else one that is marked.
+pub(crate) fn suspension<M: Marked>(node: &Node, marks: &M) -> Option<Instr>
+    requires few { length node.now.label.parts < 256 }
+    ensures { option_map plain_instr result ≡ suspension (M.marks marks.now) node.now.label.slot node.now.label.parts }
+{
+    if has_empty(node) {
+        return Some(Instr::SuspendPlaceholder);
+    }
+    if has_mark(node, marks) {
+        return Some(Instr::SuspendMarked);
+    }
+    None
+}
+
+/// What stops a run that needs the first part of the node alone.
+pub(crate) fn first_suspension<M: Marked>(node: &Node, marks: &M) -> Option<Instr>
+    ensures { option_map plain_instr result ≡ suspension (M.marks marks.now) node.now.label.slot
+        (take 1 node.now.label.parts) }
+{
+    let Some(place) = node.part(0) else {
+        return None;
+    };
+    let PhrasePlace::Filled(_) = place else {
+        return Some(Instr::SuspendPlaceholder);
+    };
+    if is_marked(node, 0, marks) {
+        return Some(Instr::SuspendMarked);
+    }
+    None
+}
+
+/// Whether one of the parts of the node is empty.
+fn has_empty(node: &Node) -> bool
+    requires few { length node.now.label.parts < 256 }
+    ensures { result ≡ has_empty node.now.label.parts }
+{
+    let mut part = 0;
+    while let Some(place) = node.part(part) {
+        if is_empty(place) {
+            return true;
+        }
+        part += 1;
+    }
+    false
+}
+
+/// Whether nothing stands in a part, so that a run stops at it.
+fn is_empty(place: &PhrasePlace) -> bool
+    ensures { result ≡ is_none (plain_phrase_place place.now) }
+{
+    match place {
+        PhrasePlace::Empty => true,
+        PhrasePlace::Filled(_) => false,
+    }
+}
+
+/// Whether one of the parts of the node is marked.
+fn has_mark<M: Marked>(node: &Node, marks: &M) -> bool
+    requires few { length node.now.label.parts < 256 }
+    ensures { result ≡ has_mark (M.marks marks.now) node.now.label.slot 0 node.now.label.parts }
+{
+    let mut part = 0;
+    while let Some(_place) = node.part(part) {
+        if is_marked(node, part, marks) {
+            return true;
+        }
+        part += 1;
+    }
+    false
+}
+
+/// Whether what stands in the part of the node is marked.
+fn is_marked<M: Marked>(node: &Node, part: u8, marks: &M) -> bool
+    ensures { result ≡ is_some (get (M.marks marks.now) (phrase_at node.now.label.slot part)) }
+{
+    let slot = node.slot();
+    marks.mark(PhraseAt { slot, part }).is_some()
+}
