@@ -1,3 +1,5 @@
+-- the value of the limit, which the definitions take from the code
+mod Limits
 -- the definitions at work, on small programs
 mod Examples
 -- `show_instr`: texts of instructions that are known in another way

@@ -6,7 +6,7 @@ use Rattle.std.proofs.Math.ListN.{drop_of_length-le}
 use Rattle.plcs_base.specs.Mark.{MarkMap}
 use Rattle.plcs_grammar.specs.PlainPhrase.{PlainPhrase}
 use Rattle.template_tree.specs.Mention.{phrase_at}
-use Rattle.plcs_code.specs.Pieces.{has_empty, has_mark}
+use Rattle.plcs_code.specs.Pieces.{has_empty, has_marked_part}
 
 -- what is left of a list begins with the item that is found
 pub left_with : {X : Type 0} (items : List X) (k : ℕ) (x : X) → slice_get items k ≡ Some x → drop k items ≡ x ∷ drop (k + 1) items
@@ -28,5 +28,5 @@ empty_next parts k place there = ap has_empty (left_with parts k place there)
 
 -- a part that is found is marked, or one of those behind it is
 pub mark_next : (marks : MarkMap) (slot k : ℕ) (parts : List (Option PlainPhrase)) (place : Option PlainPhrase) → slice_get parts k ≡ Some place
-    → has_mark marks slot k (drop k parts) ≡ is_some (get marks (phrase_at slot k)) || has_mark marks slot (k + 1) (drop (k + 1) parts)
-mark_next marks slot k parts place there = ap (has_mark marks slot k) (left_with parts k place there)
+    → has_marked_part marks slot k (drop k parts) ≡ is_some (get marks (phrase_at slot k)) || has_marked_part marks slot (k + 1) (drop (k + 1) parts)
+mark_next marks slot k parts place there = ap (has_marked_part marks slot k) (left_with parts k place there)

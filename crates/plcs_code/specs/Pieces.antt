@@ -25,15 +25,15 @@ has_empty [] = false
 has_empty (place ∷ parts) = not (is_some place) || has_empty parts
 
 -- whether one of the parts of the node in the slot is marked, of which the first has this number
-abbrev pub has_mark : MarkMap → (slot part : ℕ) → List (Option PlainPhrase) → Bool
-has_mark marks slot part [] = false
-has_mark marks slot part (place ∷ parts) = is_some (get marks (phrase_at slot part)) || has_mark marks slot (part + 1) parts
+abbrev pub has_marked_part : MarkMap → (slot part : ℕ) → List (Option PlainPhrase) → Bool
+has_marked_part marks slot part [] = false
+has_marked_part marks slot part (place ∷ parts) = is_some (get marks (phrase_at slot part)) || has_marked_part marks slot (part + 1) parts
 
 -- what stops a run that needs the first parts of the node in the slot: one that is empty, or else one that is marked
 abbrev pub suspension : MarkMap → (slot : ℕ) → List (Option PlainPhrase) → Option PlainInstr
 suspension marks slot parts =
     if has_empty parts then Some PlainInstr.suspend_placeholder
-    else (if has_mark marks slot 0 parts then Some PlainInstr.suspend_marked else None)
+    else (if has_marked_part marks slot 0 parts then Some PlainInstr.suspend_marked else None)
 
 -- the code, or what stops a run in its place
 abbrev pub unless_stopped : Option PlainInstr → List PlainInstr → List PlainInstr

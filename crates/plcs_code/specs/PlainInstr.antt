@@ -39,17 +39,13 @@ pub data PlainInstr : Type 0 where
   cell : List ℕ → ItemType → ℕ → PlainInstr
   leave : PlainInstr
 
--- the plain form of a place of a run
-abbrev pub plain_place : Place → PlainPlace
-plain_place at = place_at at.slot.0 at.point.0
-
 -- the place of a run that has this plain form
 abbrev pub place_of : PlainPlace → Place
 place_of at = record { slot = record { 0 = at.slot }; point = record { 0 = at.point } }
 
 -- the plain form of an instruction
 abbrev pub plain_instr : Instr → PlainInstr
-plain_instr (Instr.At at) = PlainInstr.place (plain_place at)
+plain_instr (Instr.At at) = PlainInstr.place (place_at at.slot.0 at.point.0)
 plain_instr Instr.SuspendPlaceholder = PlainInstr.suspend_placeholder
 plain_instr Instr.SuspendMarked = PlainInstr.suspend_marked
 plain_instr (Instr.PushNumber z) = PlainInstr.push_number z

@@ -3,7 +3,7 @@ ghost use Rattle.std.specs.Prelude.{◌≡◌, ◌<◌, is_none, is_some, length
 ghost use Rattle.std.specs.FinMap.{get};
 ghost use Rattle.template_tree.specs.Mention.{phrase_at};
 ghost use Rattle.template_tree.specs.PlainPhrasePlace.{plain_phrase_place};
-ghost use Rattle.plcs_code.specs.Pieces.{has_empty, has_mark, suspension};
+ghost use Rattle.plcs_code.specs.Pieces.{has_empty, has_marked_part, suspension};
 ghost use Rattle.plcs_code.specs.PlainInstr.{plain_instr};
 
 use crate::instr::Instr;
@@ -18,7 +18,7 @@ pub(crate) fn suspension<M: Marked>(node: &Node, marks: &M) -> Option<Instr>
     if has_empty(node) {
         return Some(Instr::SuspendPlaceholder);
     }
-    if has_mark(node, marks) {
+    if has_marked_part(node, marks) {
         return Some(Instr::SuspendMarked);
     }
     None
@@ -67,9 +67,9 @@ fn is_empty(place: &PhrasePlace) -> bool
 }
 
 /// Whether one of the parts of the node is marked.
-fn has_mark<M: Marked>(node: &Node, marks: &M) -> bool
+fn has_marked_part<M: Marked>(node: &Node, marks: &M) -> bool
     requires few { length node.now.label.parts < 256 }
-    ensures { result ≡ has_mark (M.marks marks.now) node.now.label.slot 0 node.now.label.parts }
+    ensures { result ≡ has_marked_part (M.marks marks.now) node.now.label.slot 0 node.now.label.parts }
 {
     let mut part = 0;
     while let Some(_place) = node.part(part) {

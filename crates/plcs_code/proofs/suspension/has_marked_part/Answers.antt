@@ -4,9 +4,9 @@ use Rattle.std.proofs.Common.{arith, ap, sym, ◌∙◌}
 use Rattle.std.proofs.lemmas.Option.{slice_get_within}
 use Rattle.template_tree.specs.Mention.{phrase_at}
 use Rattle.template_tree.specs.PlainPhrasePlace.{plain_phrase_place}
-use Rattle.plcs_code.specs.Pieces.{has_mark}
+use Rattle.plcs_code.specs.Pieces.{has_marked_part}
 use Rattle.plcs_code.proofs.ReadParts.{left_none, mark_next}
-use Rattle.plcs_code.proofs.suspension.has_mark.Goals as goal
+use Rattle.plcs_code.proofs.suspension.has_marked_part.Goals as goal
 
 pub returns-then-is_marked : goal.returns-then-is_marked
 returns-then-is_marked g c =
@@ -17,7 +17,7 @@ returns-then-is_marked g c =
     sym
     (sym c.loop-part.invariant.left
     ∙ mark_next marks label.slot k label.parts _ (sym c.in-Some.ensures)
-    ∙ ap (λ b. b || has_mark marks label.slot (k + 1) (drop (k + 1) label.parts)) is)
+    ∙ ap (λ b. b || has_marked_part marks label.slot (k + 1) (drop (k + 1) label.parts)) is)
 
 pub overflow_add-part : goal.overflow_add-part
 overflow_add-part g c =
@@ -40,7 +40,7 @@ loop-part-preserved g c =
       left =
           sym
           (mark_next marks label.slot k label.parts _ (sym c.in-Some.ensures)
-          ∙ ap (λ b. b || has_mark marks label.slot (k + 1) (drop (k + 1) label.parts)) is)
+          ∙ ap (λ b. b || has_marked_part marks label.slot (k + 1) (drop (k + 1) label.parts)) is)
           ∙ c.loop-part.invariant.left;
       within = omega (arith, within);
     }
@@ -50,4 +50,4 @@ returns g c =
     let label = c.args.node.now.label in
     let marks = g.M.Marked.marks c.args.marks.now in
     let k = c.loop-part.part in
-    sym (sym c.loop-part.invariant.left ∙ ap (has_mark marks label.slot k) (left_none label.parts k (sym c.in_default.ensures)))
+    sym (sym c.loop-part.invariant.left ∙ ap (has_marked_part marks label.slot k) (left_none label.parts k (sym c.in_default.ensures)))
