@@ -1,6 +1,6 @@
 -- As many verdicts are made of a program as it has phrases, and room plays no part in that; an edit checks what its
 -- outcome says.
-use Rattle.std.proofs.Common.{◌≡◌, ◌+◌, ℕ, Bool, true, false, if◌then◌else◌, List, [], ◌∷◌, ◌++◌, length, Option, Some, None, refl, sym, ap, arith, subst, ◌∙◌}
+use Rattle.std.proofs.Common.{◌≡◌, ◌+◌, ℕ, suc, Bool, true, false, if◌then◌else◌, List, [], ◌∷◌, ◌++◌, length, Option, Some, None, refl, sym, ap, arith, subst, ◌∙◌}
 use Rattle.std.proofs.lemmas.List.{length-append}
 use Rattle.plcs_base.specs.PlainCounts.{ChecksAtMost, PlainCounts}
 use Rattle.plcs_grammar.specs.PlainPhrase.{PlainPhrase}
@@ -21,12 +21,17 @@ use Rattle.synth_session.specs.PlainSession.{PlainSession}
 use Rattle.synth_session.specs.Private.EditFault.{edit_checks}
 use Rattle.synth_session.proofs.ClipFragments.{fragment_stands}
 
+-- one more
+one_more : (n : ℕ) → suc n ≡ 1 + n
+one_more n = omega arith
+
 -- a verdict for each part that is filled
 part_verdicts_counted : (s : Surroundings) (slot part : ℕ) (parts : List (Option PlainPhrase))
     → length (part_verdicts s slot part parts) ≡ filled_parts parts
 part_verdicts_counted s slot part [] = refl
 part_verdicts_counted s slot part (None ∷ parts) = part_verdicts_counted s slot (part + 1) parts
-part_verdicts_counted s slot part (Some phrase ∷ parts) = ap (λ n. 1 + n) (part_verdicts_counted s slot (part + 1) parts)
+part_verdicts_counted s slot part (Some phrase ∷ parts) =
+    ap suc (part_verdicts_counted s slot (part + 1) parts) ∙ one_more (filled_parts parts)
 
 -- so for nodes
 node_verdicts_counted : (program : Forest) (procedure : PlainNode) (items : Forest)

@@ -70,7 +70,7 @@ phrase_at_part : (tree : PlainTree) (stop : PlainStop) (part : Option ℕ) → I
     → option_map_or (can_take part) (node_at tree.items stop.path) false ≡ true
     → None ≡ option_and_then (λ node. option_and_then (λ part. part_at node.label.parts part) (cursor_part node.label.kind part))
     (node_at tree.items stop.path) → ⊥
-phrase_at_part tree stop None some takes none = absurd some
+phrase_at_part tree stop None some takes none = absurd (let gone : false ≡ true = some in cc)
 phrase_at_part tree stop (Some part) some takes none = phrase_in part (node_at tree.items stop.path) takes none
 
 pub phrase_there : (tree : PlainTree) (stop : PlainStop) → IsSome stop.part → takes_at tree stop ≡ true
@@ -91,7 +91,7 @@ fragment_by : (tree : PlainTree) (stop : PlainStop) (part : Option ℕ) → stop
     → None ≡ fragment_there tree stop part → ⊥
 fragment_by tree stop None is takes none = node_there tree stop is takes (no_node (node_at tree.items stop.path) none)
 fragment_by tree stop (Some part) is takes none =
-    phrase_there tree stop (subst (λ (p : Option ℕ). IsSome p) (sym is) tt) takes (no_phrase (cursor_phrase tree stop) none)
+    phrase_there tree stop (subst (λ (p : Option ℕ). IsSome p) (sym is) refl) takes (no_phrase (cursor_phrase tree stop) none)
 
 -- a fragment that can be taken out stands there
 pub fragment_stands : (tree : PlainTree) (stop : PlainStop) → takes_at tree stop ≡ true
