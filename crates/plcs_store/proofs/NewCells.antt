@@ -1,8 +1,8 @@
 -- The variables of a new frame are those of the effective items: these have different names, and no cell is set.
-use Rattle.std.specs.Prelude.{◌≡◌, refl, ℕ, ◌+◌, ◌<◌, ◌==◌, Bool, true, false, cond, ◌||◌, bytes_eq, if◌then◌else◌, nat_lt, List, [], ◌∷◌, ◌++◌, length, map, replicate, slice_get, get_or, find, Option, Some, None, is_some, option_map, unwrap_or}
+use Rattle.std.specs.Prelude.{◌≡◌, refl, ℕ, ◌+◌, ◌<◌, Bool, true, false, cond, ◌||◌, bytes_eq, if◌then◌else◌, nat_lt, List, [], ◌∷◌, ◌++◌, length, map, replicate, slice_get, Option, Some, None, is_some, option_map, unwrap_or}
 use Rattle.std.specs.List.{AllByRecursion, IsDistinct, list_any}
-use Rattle.std.specs.Map.{keys_of, lookup}
-use Rattle.std.proofs.Common.{ap, sym, ◌∙◌, subst, arith}
+use Rattle.std.specs.Map.{keys_of}
+use Rattle.std.proofs.Common.{ap, sym, ◌∙◌, subst}
 use Rattle.std.proofs.Math.Bool.{false≢true}
 use Rattle.std.proofs.lemmas.List.{get_or-replicate, length-replicate}
 use Rattle.std.proofs.lemmas.Option.{get_or_from_slice_get, none-some, slice_get_within}
@@ -15,7 +15,7 @@ use Rattle.template_tree.specs.Limit.{most_cells}
 use Rattle.template_tree.specs.PlainTree.{Forest}
 use Rattle.plcs_store.specs.declared.cell.Cell.{Cell}
 use Rattle.plcs_store.specs.declared.variable.Variable.{Variable}
-use Rattle.plcs_store.specs.CellAt.{Variables, unset_named, unset_variable, variable_named}
+use Rattle.plcs_store.specs.CellAt.{unset_named, unset_variable, variable_named}
 use Rattle.plcs_store.specs.Fits.{AreVariables, cell_count, declared_part, variable_part}
 
 -- ---- different names

@@ -1,5 +1,5 @@
 -- A new run of a tree fits it: its one frame is of main, at the first statement there.
-use Rattle.std.specs.Prelude.{◌≡◌, refl, ℕ, zero, suc, ◌+◌, ◌<◌, ◌≤◌, ◌==◌, ◌&&◌, ◌||◌, Bool, true, false, bytes_eq, if◌then◌else◌, List, [], ◌∷◌, ◌++◌, length, map, slice_get, slice_index_or, IsTrue, Option, Some, None, option_map, unwrap_or, All}
+use Rattle.std.specs.Prelude.{◌≡◌, refl, ℕ, zero, suc, ◌≤◌, ◌==◌, ◌&&◌, ◌||◌, Bool, true, false, if◌then◌else◌, List, [], ◌∷◌, ◌++◌, map, slice_get, IsTrue, Option, Some, option_map, unwrap_or, All}
 use Rattle.std.proofs.Common.{ap, sym, ◌∙◌, subst, arith, inl, inr}
 use Rattle.std.proofs.Math.Bool.{false≢true}
 use Rattle.std.proofs.lemmas.Bool.{eq-eqb}
@@ -8,13 +8,12 @@ use Rattle.plcs_base.specs.declared.declared.Declared.{Declared}
 use Rattle.plcs_grammar.specs.declared.node_kind.NodeKind.{NodeKind}
 use Rattle.plcs_grammar.specs.declared.node_kind.Sort.{Sort}
 use Rattle.plcs_grammar.specs.declared.template.Template.{Template}
-use Rattle.plcs_grammar.specs.Template.{PlainSection, procedure_sections, program_sections, row_of}
+use Rattle.plcs_grammar.specs.Template.{program_sections, row_of}
 use Rattle.template_tree.specs.Environment.{Items, items_inside, kind_of_type, procedure_at}
-use Rattle.template_tree.specs.Place.{PlainPlace, Site, Start, begin, has_point, is_statement, place_at, place_exists_at, site}
-use Rattle.template_tree.specs.PlainTree.{Forest, Label, PlainNode, PlainTree}
-use Rattle.template_tree.specs.Program.{AreNodes, Fill, IsProgram, sort_of, sorts}
+use Rattle.template_tree.specs.Place.{PlainPlace, Site, begin, has_point, is_statement, place_at, place_exists_at}
+use Rattle.template_tree.specs.PlainTree.{Forest, Label, PlainNode}
+use Rattle.template_tree.specs.Program.{Fill, IsProgram, sort_of, sorts}
 use Rattle.template_tree.specs.Slots.{times}
-use Rattle.template_tree.specs.Tree.{IsTree}
 use Rattle.tree_steps.specs.AgreementLaws.{SlotsStandOnce}
 use Rattle.tree_steps.specs.PlaceLaws.{OthersBeginThemselves, SitesStand, StandingSlotsHaveSites}
 use Rattle.tree_steps.specs.RunPlace.{HasPlace, is_first_marked}
@@ -22,11 +21,9 @@ use Rattle.tree_steps.specs.StandingSlot.{Around, StandsInside, loop_by_kind, lo
 use Rattle.plcs_store.specs.declared.cell.Cell.{Cell}
 use Rattle.plcs_store.specs.declared.frame.Frame.{Frame}
 use Rattle.plcs_store.specs.declared.variable.Variable.{Variable}
-use Rattle.plcs_store.specs.CellAt.{unset_named, unset_variable, variable_at, variable_named}
-use Rattle.plcs_store.specs.Configuration.{frame_place}
-use Rattle.plcs_store.specs.Fits.{AreVariables, CellsFit, Fits, FramesStand, HasLoops, HoldsRight, LoopsFit, ValuesFit, is_waiting_place, loops_at}
-use Rattle.plcs_store.specs.NewFrame.{First, first_frames, new_frame}
-use Rattle.plcs_store.specs.Spot.{procedure_start}
+use Rattle.plcs_store.specs.CellAt.{unset_named, variable_named}
+use Rattle.plcs_store.specs.Fits.{AreVariables, Fits, HasLoops, HoldsRight, ValuesFit, is_waiting_place, loops_at}
+use Rattle.plcs_store.specs.NewFrame.{First, new_frame}
 use Rattle.plcs_store.specs.StepLaws.{NewRunsFit}
 use Rattle.plcs_store.proofs.FirstPlace.{BeginsIn, begins_in, procedure_has}
 use Rattle.plcs_store.proofs.NewCells.{names_distinct, unset_cell, unset_found, unset_variables}

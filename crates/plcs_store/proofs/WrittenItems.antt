@@ -6,7 +6,7 @@ use Rattle.std.proofs.Math.Bool.{false≢true}
 use Rattle.std.proofs.Math.Seq.{take-append_seam}
 use Rattle.std.proofs.lemmas.Option.{none-some}
 use Rattle.plcs_base.specs.declared.value.Value.{Value}
-use Rattle.plcs_store.specs.OutputItem.{at_line_start, item_gap, output_with, value_bytes, with_item_written, with_items_written, with_line_ended}
+use Rattle.plcs_store.specs.OutputItem.{at_line_start, item_gap, value_bytes, with_item_written, with_items_written, with_line_ended}
 
 -- an item makes the output no shorter
 pub item_longer : (output : List ℕ) (value : Value) → length output ≤ length (with_item_written output value)

@@ -1,5 +1,5 @@
 -- The cells of frames: where they are, what is read from them, and what is stored.
-use Rattle.std.specs.Prelude.{◌≡◌, ℕ, ◌-◌, ℤ, pos, nat_abs, int_le, ◌&&◌, if◌then◌else◌, bytes_eq, List, [], ◌∷◌, length, replicate, take, slice_get, slice_set, Option, Some, None, option_and_then, option_map}
+use Rattle.std.specs.Prelude.{ℕ, ◌-◌, ℤ, pos, nat_abs, int_le, ◌&&◌, if◌then◌else◌, bytes_eq, List, length, replicate, take, slice_get, slice_set, Option, Some, None, option_and_then, option_map}
 use Rattle.std.specs.Map.{lookup, set_value}
 use Rattle.std.specs.Option.{option_map_or}
 use Rattle.plcs_base.specs.declared.declared.Declared.{Declared}

@@ -1,5 +1,5 @@
 -- Which configurations fit a program.
-use Rattle.std.specs.Prelude.{◌≡◌, ℕ, ◌+◌, ◌<◌, ◌≤◌, ◌==◌, Bool, true, false, ◌&&◌, if◌then◌else◌, bytes_eq, List, [], ◌∷◌, ◌++◌, length, map, All, slice_get, Option, Some, None, option_map}
+use Rattle.std.specs.Prelude.{◌≡◌, ℕ, ◌<◌, ◌≤◌, ◌==◌, Bool, true, false, if◌then◌else◌, bytes_eq, List, [], ◌∷◌, ◌++◌, length, map, All, slice_get, Some, option_map}
 use Rattle.std.specs.List.{IsDistinct}
 use Rattle.std.specs.Map.{keys_of}
 use Rattle.plcs_base.specs.declared.declared.Declared.{Declared}
@@ -8,17 +8,16 @@ use Rattle.plcs_base.specs.declared.value.Kind.{Kind}
 use Rattle.plcs_base.specs.declared.value.Value.{Value}
 use Rattle.plcs_grammar.specs.declared.node_kind.NodeKind.{NodeKind}
 use Rattle.plcs_grammar.specs.declared.template.Template.{Template}
-use Rattle.template_tree.specs.Environment.{Items, cells_of, item_named, kind_of_type}
+use Rattle.template_tree.specs.Environment.{Items, item_named, kind_of_type}
 use Rattle.template_tree.specs.Place.{PlainPlace, Start}
-use Rattle.template_tree.specs.PlainTree.{Forest, Label}
+use Rattle.template_tree.specs.PlainTree.{Forest}
 use Rattle.tree_steps.specs.RunPlace.{HasPlace}
 use Rattle.tree_steps.specs.StandingSlot.{Around, StandsInside, loop_by_kind, loops_around, outermost_slot}
 use Rattle.plcs_store.specs.declared.cell.Cell.{Cell}
 use Rattle.plcs_store.specs.declared.cell.Location.{Location}
 use Rattle.plcs_store.specs.declared.frame.Frame.{Frame}
-use Rattle.plcs_store.specs.declared.kept_loop.KeptLoop.{KeptLoop}
 use Rattle.plcs_store.specs.declared.variable.Variable.{Variable}
-use Rattle.plcs_store.specs.CellAt.{Variables, cell_at, variable_at, variable_named}
+use Rattle.plcs_store.specs.CellAt.{Variables, variable_at, variable_named}
 use Rattle.plcs_store.specs.Configuration.{PlainConfiguration, frame_place}
 use Rattle.plcs_store.specs.Limit.{most_frames}
 

@@ -1,11 +1,11 @@
 -- How items of the input are read.
-use Rattle.std.specs.Prelude.{ℕ, suc, ◌+◌, ◌^◌, ◌==◌, nat_le, nat_lt, ℤ, pos, neg_ℤ, Bool, true, false, not, ◌&&◌, ◌||◌, if◌then◌else◌, bytes_eq, List, [], ◌∷◌, codes, drop, length, take, Option, Some, None, ok_or, option_map, option_and_then, Result, Ok, Err}
+use Rattle.std.specs.Prelude.{ℕ, ◌+◌, ◌==◌, nat_le, ℤ, pos, neg_ℤ, Bool, true, false, not, ◌&&◌, ◌||◌, if◌then◌else◌, bytes_eq, List, [], ◌∷◌, codes, drop, length, take, Option, Some, None, ok_or, option_map, option_and_then, Result, Ok, Err}
 use Rattle.std.specs.List.{list_all, prefix_len}
 use Rattle.plcs_base.specs.Byte.{is_digit, is_printable}
 use Rattle.plcs_base.specs.Text.{longest_text}
 use Rattle.plcs_base.specs.declared.declared.ItemType.{ItemType}
 use Rattle.plcs_base.specs.declared.value.Value.{Value}
-use Rattle.plcs_grammar.specs.Token.{is_quote, numeral_value, quote}
+use Rattle.plcs_grammar.specs.Token.{is_quote, numeral_value}
 use Rattle.plcs_store.specs.declared.input_item.ItemFault.{ItemFault}
 use Rattle.plcs_store.specs.Operator.{is_fixed}
 

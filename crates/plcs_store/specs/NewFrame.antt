@@ -1,14 +1,13 @@
 -- New frames: that of a new run, and those that calls make.
-use Rattle.std.specs.Prelude.{ℕ, ◌==◌, not, if◌then◌else◌, bytes_eq, List, [], ◌∷◌, map, Option, Some, None, option_and_then, option_map}
+use Rattle.std.specs.Prelude.{ℕ, not, if◌then◌else◌, bytes_eq, List, [], ◌∷◌, map, Option, Some, None, option_and_then, option_map}
 use Rattle.std.specs.List.{filter, list_any}
 use Rattle.plcs_base.specs.declared.declared.Declared.{Declared}
 use Rattle.plcs_base.specs.declared.declared.ItemType.{ItemType}
-use Rattle.plcs_base.specs.declared.value.Value.{Value}
 use Rattle.template_tree.specs.Environment.{item_named, items_inside, kind_of_type}
 use Rattle.template_tree.specs.KindTable.{same_kind}
 use Rattle.template_tree.specs.ParameterItem.{scalar_item}
 use Rattle.template_tree.specs.Place.{PlainPlace}
-use Rattle.template_tree.specs.PlainTree.{Forest, Label, PlainNode}
+use Rattle.template_tree.specs.PlainTree.{Forest}
 use Rattle.plcs_store.specs.declared.argument.Argument.{Argument}
 use Rattle.plcs_store.specs.declared.cell.Cell.{Cell}
 use Rattle.plcs_store.specs.declared.cell.Location.{Location}
@@ -16,7 +15,7 @@ use Rattle.plcs_store.specs.declared.frame.Frame.{Frame}
 use Rattle.plcs_store.specs.declared.variable.Variable.{Variable}
 use Rattle.plcs_store.specs.CellAt.{Variables, kept_value, unset_named, variable_at}
 use Rattle.plcs_store.specs.Configuration.{PlainConfiguration, place_of_plain}
-use Rattle.plcs_store.specs.Spot.{Callee, procedure_start}
+use Rattle.plcs_store.specs.Spot.{procedure_start}
 
 -- a new frame of the procedure in the slot, with these variables
 abbrev pub new_frame : (procedure : ℕ) → PlainPlace → Variables → Frame

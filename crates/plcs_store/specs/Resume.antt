@@ -1,8 +1,6 @@
 -- When a suspended run may be resumed in a program that was edited.
 use Rattle.std.specs.Prelude.{◌≡◌, ◌≢◌, ◌⊎◌, ℕ, List, [], ◌∷◌, Option, Some, None, option_map}
 use Rattle.plcs_base.specs.declared.declared.Declared.{Declared}
-use Rattle.plcs_base.specs.declared.place.Slot.{Slot}
-use Rattle.plcs_grammar.specs.declared.node_kind.NodeKind.{NodeKind}
 use Rattle.plcs_grammar.specs.PlainPhrase.{PlainPhrase}
 use Rattle.template_tree.specs.Environment.{Items, procedure_at}
 use Rattle.template_tree.specs.Place.{site}

@@ -12,7 +12,7 @@ use Rattle.plcs_store.specs.declared.kept_loop.KeptLoop.{KeptLoop}
 use Rattle.plcs_store.specs.declared.input_item.ItemFault.{ItemFault}
 use Rattle.plcs_store.specs.declared.reason.Reason.{Reason}
 use Rattle.plcs_store.specs.Act.{Act, done}
-use Rattle.plcs_store.specs.CellAt.{kept_at, kept_value, located, newest, value_at, variable_at}
+use Rattle.plcs_store.specs.CellAt.{kept_at, located, newest, value_at, variable_at}
 use Rattle.plcs_store.specs.Configuration.{PlainConfiguration, frame_place, top_place}
 use Rattle.plcs_store.specs.ExpressionValue.{argument_values, expression_value, expression_values, name_of_reference, reference_location, subscript_value}
 use Rattle.plcs_store.specs.InputItem.{next_item}

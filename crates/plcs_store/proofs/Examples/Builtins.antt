@@ -1,5 +1,5 @@
 -- Built-in functions.
-use Rattle.std.specs.Prelude.{refl, List, [], ◌∷◌, true, codes}
+use Rattle.std.specs.Prelude.{refl, [], ◌∷◌, true, codes}
 use Rattle.plcs_grammar.specs.declared.builtin.Builtin.{Builtin}
 use Rattle.plcs_store.specs.declared.fault_kind.FaultKind.{FaultKind}
 use Rattle.plcs_store.specs.BuiltinValue.{builtin_value}

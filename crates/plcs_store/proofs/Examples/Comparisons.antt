@@ -1,5 +1,5 @@
 -- Comparisons. Texts are compared as if the shorter one were padded with blanks.
-use Rattle.std.specs.Prelude.{refl, List, [], ◌∷◌, true, false, codes}
+use Rattle.std.specs.Prelude.{refl, [], ◌∷◌, true, false, codes}
 use Rattle.plcs_grammar.specs.declared.operator.InfixOp.{InfixOp}
 use Rattle.plcs_store.specs.Operator.{infix_value}
 use Rattle.plcs_store.specs.Outcome.{Outcome}

@@ -1,5 +1,5 @@
 -- Items of the input, each with how many bytes it takes.
-use Rattle.std.specs.Prelude.{refl, List, [], ◌∷◌, ◌++◌, true, false, codes, replicate, Result, Ok, Err}
+use Rattle.std.specs.Prelude.{refl, [], ◌∷◌, ◌++◌, true, false, codes, replicate, Ok, Err}
 use Rattle.plcs_base.specs.declared.declared.ItemType.{ItemType}
 use Rattle.plcs_store.specs.declared.input_item.ItemFault.{ItemFault}
 use Rattle.plcs_store.specs.InputItem.{next_item}

@@ -1,12 +1,11 @@
 -- Operators on whole numbers, at the ends of their range too.
-use Rattle.std.specs.Prelude.{refl, ℕ, List, [], ◌∷◌, true, codes}
-use Rattle.plcs_base.specs.declared.value.Value.{Value}
+use Rattle.std.specs.Prelude.{refl, [], ◌∷◌, true, codes}
 use Rattle.plcs_grammar.specs.declared.operator.InfixOp.{InfixOp}
 use Rattle.plcs_grammar.specs.declared.operator.PrefixOp.{PrefixOp}
 use Rattle.plcs_store.specs.declared.fault_kind.FaultKind.{FaultKind}
 use Rattle.plcs_store.specs.Operator.{infix_value, prefix_value}
 use Rattle.plcs_store.specs.Outcome.{Outcome}
-use Rattle.plcs_store.proofs.Examples.Row.{Rows, bit, fault, long, neg, num, ok, text}
+use Rattle.plcs_store.proofs.Examples.Row.{Rows, bit, fault, neg, num, ok, text}
 
 prefixes : Rows
     ((prefix_value PrefixOp.Plus (num 0), ok (num 0))

@@ -1,5 +1,5 @@
 -- Values written.
-use Rattle.std.specs.Prelude.{refl, List, [], ◌∷◌, ◌++◌, true, false, codes}
+use Rattle.std.specs.Prelude.{refl, [], ◌∷◌, ◌++◌, true, false, codes}
 use Rattle.std.specs.Fmt.{digits}
 use Rattle.plcs_store.specs.OutputItem.{output_with}
 use Rattle.plcs_store.proofs.Examples.Row.{Rows, bit, neg, num, text}

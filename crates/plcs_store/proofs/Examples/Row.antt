@@ -1,5 +1,5 @@
 -- Rows of examples, and values for them written shortly.
-use Rattle.std.specs.Prelude.{◌≡◌, ℕ, ℤ, pos, neg_ℤ, Bool, List, codes, map, replicate}
+use Rattle.std.specs.Prelude.{◌≡◌, ℕ, pos, neg_ℤ, Bool, List, map, replicate}
 use Rattle.plcs_base.specs.declared.value.Value.{Value}
 use Rattle.plcs_store.specs.declared.fault_kind.FaultKind.{FaultKind}
 use Rattle.plcs_store.specs.Outcome.{Outcome, faults}

@@ -1,8 +1,7 @@
 -- What stands at the places of a program, and steps: where each goes on, what it changes, and why it stops.
-use Rattle.std.specs.Prelude.{◌≡◌, refl, ℕ, ◌==◌, ℤ, pos, neg_ℤ, Bool, true, false, ◌&&◌, List, [], ◌∷◌, ◌++◌, codes, length, replicate, Option, Some, None, option_map}
+use Rattle.std.specs.Prelude.{◌≡◌, refl, ℕ, ◌==◌, pos, Bool, true, false, ◌&&◌, List, [], ◌∷◌, ◌++◌, codes, replicate, Option, Some, None}
 use Rattle.std.specs.Fmt.{digits}
 use Rattle.plcs_base.specs.declared.declared.ItemType.{ItemType}
-use Rattle.plcs_base.specs.declared.value.Value.{Value}
 use Rattle.plcs_grammar.specs.declared.node_kind.NodeKind.{NodeKind}
 use Rattle.plcs_grammar.specs.declared.template.Template.{Template}
 use Rattle.plcs_grammar.specs.Builtin.{is_builtin_name}
@@ -10,21 +9,18 @@ use Rattle.plcs_grammar.specs.PlainPhrase.{PlainExpr, PlainExprs, PlainPhrase, P
 use Rattle.template_tree.specs.NewTree.{bare_label}
 use Rattle.template_tree.specs.Place.{PlainPlace, place_at}
 use Rattle.template_tree.specs.PlainTree.{Forest, Label}
-use Rattle.plcs_store.specs.declared.argument.Argument.{Argument}
 use Rattle.plcs_store.specs.declared.cell.Cell.{Cell}
-use Rattle.plcs_store.specs.declared.cell.Location.{Location}
 use Rattle.plcs_store.specs.declared.fault_kind.FaultKind.{FaultKind}
 use Rattle.plcs_store.specs.declared.frame.Frame.{Frame}
 use Rattle.plcs_store.specs.declared.kept_loop.KeptLoop.{KeptLoop}
 use Rattle.plcs_store.specs.declared.reason.Reason.{Reason}
 use Rattle.plcs_store.specs.declared.variable.Variable.{Variable}
-use Rattle.plcs_store.specs.Act.{Act, done}
 use Rattle.plcs_store.specs.CellAt.{Variables}
 use Rattle.plcs_store.specs.Configuration.{PlainConfiguration}
 use Rattle.plcs_store.specs.NewFrame.{First, new_frame}
-use Rattle.plcs_store.specs.Spot.{Callee, Spot, spot_by}
+use Rattle.plcs_store.specs.Spot.{Spot, spot_by}
 use Rattle.plcs_store.specs.Step.{PlainStepAnswer, step_by}
-use Rattle.plcs_store.proofs.Examples.Row.{Rows, num, text}
+use Rattle.plcs_store.proofs.Examples.Row.{Rows, num}
 
 -- ---- a program
 

@@ -1,7 +1,6 @@
 -- Texts joined, and stored in shorter cells.
-use Rattle.std.specs.Prelude.{refl, List, [], ◌∷◌, true, codes, Option, Some, None, replicate}
+use Rattle.std.specs.Prelude.{refl, [], ◌∷◌, true, codes, Some, None}
 use Rattle.plcs_base.specs.declared.declared.ItemType.{ItemType}
-use Rattle.plcs_base.specs.declared.value.Value.{Value}
 use Rattle.plcs_grammar.specs.declared.operator.InfixOp.{InfixOp}
 use Rattle.plcs_store.specs.declared.fault_kind.FaultKind.{FaultKind}
 use Rattle.plcs_store.specs.CellAt.{kept_value}

@@ -1,5 +1,5 @@
 -- Operators on truth values.
-use Rattle.std.specs.Prelude.{refl, List, [], ◌∷◌, true, false}
+use Rattle.std.specs.Prelude.{refl, [], ◌∷◌, true, false}
 use Rattle.plcs_grammar.specs.declared.operator.InfixOp.{InfixOp}
 use Rattle.plcs_grammar.specs.declared.operator.PrefixOp.{PrefixOp}
 use Rattle.plcs_store.specs.Operator.{infix_value, prefix_value}

@@ -1,10 +1,10 @@
 -- Variables read and set in frames, directly and through references, and arguments of calls.
-use Rattle.std.specs.Prelude.{refl, ℕ, ℤ, pos, neg_ℤ, List, [], ◌∷◌, true, false, codes, Option, Some, None}
+use Rattle.std.specs.Prelude.{refl, ℕ, pos, neg_ℤ, List, [], ◌∷◌, false, codes, Some}
 use Rattle.plcs_base.specs.declared.declared.ItemType.{ItemType}
 use Rattle.plcs_base.specs.declared.value.Value.{Value}
 use Rattle.plcs_grammar.specs.declared.operator.InfixOp.{InfixOp}
-use Rattle.plcs_grammar.specs.PlainPhrase.{PlainExpr, PlainExprs, PlainVarRef}
-use Rattle.template_tree.specs.Place.{PlainPlace, place_at}
+use Rattle.plcs_grammar.specs.PlainPhrase.{PlainExpr, PlainVarRef}
+use Rattle.template_tree.specs.Place.{place_at}
 use Rattle.plcs_store.specs.declared.argument.Argument.{Argument}
 use Rattle.plcs_store.specs.declared.cell.Cell.{Cell}
 use Rattle.plcs_store.specs.declared.cell.Location.{Location}
@@ -17,7 +17,7 @@ use Rattle.plcs_store.specs.NewFrame.{new_frame}
 use Rattle.plcs_store.specs.Outcome.{Outcome, faults}
 use Rattle.plcs_store.specs.Step.{assignment_act}
 use Rattle.plcs_store.specs.Act.{Act, frames_after}
-use Rattle.plcs_store.proofs.Examples.Row.{Rows, bit, fault, long, neg, num, ok, text}
+use Rattle.plcs_store.proofs.Examples.Row.{Rows, fault, num, ok, text}
 
 -- a variable of the type with these cells; the size of a scalar is 0
 abbrev variable : List ℕ → ItemType → ℕ → List Cell → List ℕ × Variable
