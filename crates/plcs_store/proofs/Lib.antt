@@ -10,3 +10,5 @@ pub mod NewCells
 pub mod NewRuns
 -- `write_items`: what doesn't fit
 pub mod WrittenItems
+-- `unedited_may_resume`
+pub mod Unedited

@@ -56,7 +56,7 @@ found_from k [] sought = 0
 found_from k (byte ∷ rest) sought =
     if starts_with nat_eq (byte ∷ rest) sought then k else found_from (k + 1) rest sought
 
--- INDEX: where a text first stands in another, counted from 1; 0 where it doesn't, or is empty
+-- INDEX: where the sought text first stands in another, counted from 1; 0 where it doesn't, or the sought text is empty
 abbrev pub found_in : (x sought : List ℕ) → ℕ
 found_in x sought = if length sought == 0 then 0 else found_from 1 x sought
 

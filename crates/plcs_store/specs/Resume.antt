@@ -1,15 +1,16 @@
 -- When a suspended run may be resumed in a program that was edited.
-use Rattle.std.specs.Prelude.{◌≡◌, ◌≢◌, ◌⊎◌, ℕ, List, [], ◌∷◌, Option, Some, None, option_map}
+use Rattle.std.specs.Prelude.{◌≡◌, ◌≢◌, ◌⊎◌, ℕ, ◌==◌, if◌then◌else◌, List, [], ◌∷◌, map, Option, Some, None, option_map, unwrap_or}
 use Rattle.plcs_base.specs.declared.declared.Declared.{Declared}
 use Rattle.plcs_grammar.specs.PlainPhrase.{PlainPhrase}
 use Rattle.template_tree.specs.Environment.{Items, procedure_at}
-use Rattle.template_tree.specs.Place.{site}
+use Rattle.template_tree.specs.Place.{PlainPlace, Start, site}
 use Rattle.template_tree.specs.PlainTree.{Forest}
 use Rattle.plcs_store.specs.declared.frame.Frame.{Frame}
 use Rattle.plcs_store.specs.declared.held_template.HeldTemplate.{HeldTemplate}
 use Rattle.plcs_store.specs.declared.kept.Kept.{Kept}
 use Rattle.plcs_store.specs.declared.refusal.ResumeRefusal.{ResumeRefusal}
-use Rattle.plcs_store.specs.Configuration.{PlainConfiguration}
+use Rattle.plcs_store.specs.Act.{with_newest}
+use Rattle.plcs_store.specs.Configuration.{PlainConfiguration, frame_at, frame_place}
 
 -- the parts of a heading, which is main's, a procedure's or a hole's
 abbrev pub Parts : Type 0
@@ -22,6 +23,15 @@ heading_parts program slot = option_map (λ node. node.label.parts) (procedure_a
 -- the kind and the parts of what stands in the slot, if it is live
 abbrev pub template_held : (program : Forest) → (slot : ℕ) → Option HeldTemplate
 template_held program slot = option_map (λ found. record { kind = found.label.kind; parts = found.label.parts }) (site program slot)
+
+-- ---- what is kept
+
+-- what is kept of the program for the frames of a configuration, from main upward: the phrases of the heading of each one's
+-- procedure, the effective items there, and the kind and the parts of what stands in the slot of its place
+pub record IsKept (program : Forest) (c : PlainConfiguration) (kept : Kept) : Type 0 where
+  pub headings : map (λ frame. heading_parts program frame.procedure.0) c.frames ≡ map Some kept.headings
+  pub declared : map (λ frame. Items program frame.procedure.0) c.frames ≡ kept.declared
+  pub held : map (λ frame. template_held program frame.place.slot.0) c.frames ≡ map Some kept.held
 
 -- ---- the three questions, asked of a frame
 
@@ -64,3 +74,22 @@ AsksFrames program (frame ∷ frames) (heading ∷ headings) (items ∷ declared
 -- whether a run may be resumed in the program, by what is kept for its frames: none is a yes, and else it is the refusal
 abbrev pub MayResume : Kept → PlainConfiguration → (program : Forest) → Option ResumeRefusal → Type 0
 MayResume kept c program answer = AsksFrames program c.frames kept.headings kept.declared kept.held answer
+
+-- what was kept of the program allows the run to be resumed as long as the program isn't edited
+abbrev pub UneditedResumes : Type 0
+UneditedResumes =
+    (program : Forest) (c : PlainConfiguration) (kept : Kept) → IsKept program c kept → MayResume kept c program None
+
+-- ---- where a resumed run goes on
+
+-- the place where a run goes on that stands at the place: with point 0 where a run begins that comes to its slot, and else there
+abbrev pub resolved_place : (program : Forest) → PlainPlace → PlainPlace
+resolved_place program place = if place.point == 0 then unwrap_or (Start program place.slot) place else place
+
+-- a frame at the place where a run goes on that stands at its place
+abbrev pub resolved_frame : (program : Forest) → Frame → Frame
+resolved_frame program frame = frame_at (resolved_place program (frame_place frame)) frame
+
+-- the configuration in which a resumed run goes on: where its newest frame stands at a place with point 0, that is resolved
+abbrev pub resolved : (program : Forest) → PlainConfiguration → PlainConfiguration
+resolved program c = record c { frames = with_newest (resolved_frame program) c.frames }

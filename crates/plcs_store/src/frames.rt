@@ -1,5 +1,5 @@
 //! The frames of a run.
-ghost use Rattle.std.specs.Prelude.{◌≡◌, ◌+◌, ◌<◌, ◌≤◌, length, vec_capacity, vec_len, slice_get, ◌++◌, [], ◌∷◌, IfOk, IfSome};
+ghost use Rattle.std.specs.Prelude.{◌≡◌, ◌+◌, ◌<◌, ◌≤◌, length, vec_capacity, vec_len, slice_get, ◌++◌, [], ◌∷◌, IfNone, IfOk, IfSome};
 ghost use Rattle.plcs_store.specs.Limit.{most_frames};
 
 use crate::frame::Frame;
@@ -54,6 +54,7 @@ impl Frames {
     /// Takes the last one off, or `None` where there is none.
     pub fn pop(&mut self) -> Option<Frame>
         ensures some { IfSome result (λ frame. self.old ≡ self.new ++ frame ∷ []) }
+        ensures none { IfNone result ((self.old ≡ []) × (self.new ≡ self.old)) }
     {
         self.frames.pop()
     }

@@ -1,5 +1,5 @@
 //! The loops that a frame keeps.
-ghost use Rattle.std.specs.Prelude.{◌≡◌, ◌+◌, ◌<◌, ◌≤◌, length, vec_capacity, vec_len, slice_get, ◌++◌, [], ◌∷◌, IfOk, IfSome};
+ghost use Rattle.std.specs.Prelude.{◌≡◌, ◌+◌, ◌<◌, ◌≤◌, length, vec_capacity, vec_len, slice_get, ◌++◌, [], ◌∷◌, IfNone, IfOk, IfSome};
 ghost use Rattle.plcs_store.specs.Limit.{most_loops};
 
 use crate::kept_loop::KeptLoop;
@@ -55,6 +55,7 @@ impl Loops {
     /// Takes the last one off, or `None` where there is none.
     pub fn pop(&mut self) -> Option<KeptLoop>
         ensures some { IfSome result (λ kept. self.old ≡ self.new ++ kept ∷ []) }
+        ensures none { IfNone result ((self.old ≡ []) × (self.new ≡ self.old)) }
     {
         self.loops.pop()
     }

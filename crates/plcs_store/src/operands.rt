@@ -1,5 +1,5 @@
 //! The room for what one step works on.
-ghost use Rattle.std.specs.Prelude.{◌≡◌, ◌+◌, ◌<◌, ◌≤◌, length, vec_capacity, ◌++◌, [], ◌∷◌, IfOk, IfSome};
+ghost use Rattle.std.specs.Prelude.{◌≡◌, ◌+◌, ◌<◌, ◌≤◌, length, vec_capacity, ◌++◌, [], ◌∷◌, IfNone, IfOk, IfSome};
 ghost use Rattle.plcs_store.specs.Limit.{most_operands};
 
 use crate::argument::Argument;
@@ -47,7 +47,8 @@ impl OperandValues {
 
     /// Takes the last one off, or `None` where there is none.
     pub fn pop(&mut self) -> Option<Value>
-        ensures { IfSome result (λ value. self.old ≡ self.new ++ value ∷ []) }
+        ensures some { IfSome result (λ value. self.old ≡ self.new ++ value ∷ []) }
+        ensures none { IfNone result ((self.old ≡ []) × (self.new ≡ self.old)) }
     {
         self.values.pop()
     }
@@ -106,7 +107,8 @@ impl Arguments {
 
     /// Takes the last one off, or `None` where there is none.
     pub fn pop(&mut self) -> Option<Argument>
-        ensures { IfSome result (λ argument. self.old ≡ self.new ++ argument ∷ []) }
+        ensures some { IfSome result (λ argument. self.old ≡ self.new ++ argument ∷ []) }
+        ensures none { IfNone result ((self.old ≡ []) × (self.new ≡ self.old)) }
     {
         self.arguments.pop()
     }

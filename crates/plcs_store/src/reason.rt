@@ -25,7 +25,8 @@ pub enum RunReason {
     Fault(FaultKind),
     /// The input has no whole item more.
     InputWanted,
-    /// The steps that were asked for are made.
+    /// Nothing hinders the next step: the run is new, the steps that were asked for are made, or a step was
+    /// taken back.
     Paused,
     /// The run is over.
     Ended,

@@ -1,4 +1,5 @@
-//! The laws of steps, each a function that does nothing and whose contract states it.
+//! The laws of steps and of resumption, each a function that does nothing and whose contract states it.
+ghost use Rattle.plcs_store.specs.Resume.{UneditedResumes};
 ghost use Rattle.plcs_store.specs.StepLaws.{NewRunsFit};
 
 use tree_steps::{sites_stand, slots_stand};
@@ -10,3 +11,8 @@ pub fn new_runs_fit()
     sites_stand();
     slots_stand();
 }
+
+/// A run may be resumed where the program is as it was when that which was kept was taken from it.
+pub fn unedited_may_resume()
+    ensures { UneditedResumes }
+{}

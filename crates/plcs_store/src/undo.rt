@@ -9,7 +9,7 @@ use plcs_base::Place;
 
 /// The record of one step: from it and the state after the step the whole state before it can be had.
 ///
-/// The place in it is the one at which the step was made.
+/// The place in it is the one at which the step was made, but in `Left` that at which the caller waited.
 #[derive(Drop)]
 pub enum Undo {
     /// No step.
@@ -28,7 +28,8 @@ pub enum Undo {
     Wrote(Place, u32),
     /// A procedure was called.
     Called(Place),
-    /// The frame was left; the place is that of the caller.
+    /// This frame was left, whose place is the one at which the step was made; the place beside it is that at
+    /// which its caller waited.
     Left(Place, Frame),
 }
 
