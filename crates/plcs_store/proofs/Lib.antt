@@ -12,3 +12,5 @@ pub mod NewRuns
 pub mod WrittenItems
 -- `unedited_may_resume`
 pub mod Unedited
+-- `steps_taken_back`
+pub mod TakenBack

@@ -1,12 +1,15 @@
--- What takes a step back.
-use Rattle.std.specs.Prelude.{List, [], ◌∷◌, ◌++◌, take}
+-- What takes a step back, and which record of a step does.
+use Rattle.std.specs.Prelude.{◌≡◌, ◌-◌, ◌≤◌, List, [], ◌∷◌, ◌++◌, length, take, slice_get, Option, Some, IsSome}
+use Rattle.std.specs.Option.{option_map_or}
 use Rattle.plcs_base.specs.declared.place.Place.{Place}
+use Rattle.template_tree.specs.Place.{PlainPlace}
 use Rattle.plcs_store.specs.declared.cell.Cell.{Cell}
 use Rattle.plcs_store.specs.declared.cell.Location.{Location}
 use Rattle.plcs_store.specs.declared.frame.Frame.{Frame}
+use Rattle.plcs_store.specs.declared.kept_loop.KeptLoop.{KeptLoop}
 use Rattle.plcs_store.specs.declared.undo.Undo.{Undo}
-use Rattle.plcs_store.specs.Act.{newest_at, with_loop, with_newest, without_loop, without_newest}
-use Rattle.plcs_store.specs.CellAt.{with_cell}
+use Rattle.plcs_store.specs.Act.{Act, done, newest_at, with_loop, with_newest, without_loop, without_newest}
+use Rattle.plcs_store.specs.CellAt.{cell_at, newest, with_cell}
 use Rattle.plcs_store.specs.Configuration.{PlainConfiguration, plain_place}
 
 -- frames of which the newest stands at the place again, and in which a cell holds what it held
@@ -28,3 +31,53 @@ step_undone (Undo.Wrote place count) c =
     record c { frames = newest_at (plain_place place) c.frames; output = take count c.output }
 step_undone (Undo.Called place) c = record c { frames = newest_at (plain_place place) (without_newest c.frames) }
 step_undone (Undo.Left place frame) c = record c { frames = newest_at (plain_place place) c.frames ++ (frame ∷ []) }
+
+-- ---- the record of a step
+
+-- the record of a step that sets a cell, by what the cell holds
+abbrev pub undo_of_cell : List Frame → Location → (Cell → Undo) → Undo
+undo_of_cell frames location make = option_map_or make (cell_at frames location) Undo.Empty
+
+-- the innermost loop of a frame, if it has one
+abbrev pub last_loop : Frame → Option KeptLoop
+last_loop frame = slice_get frame.loops (length frame.loops - 1)
+
+-- the frame below the newest, if there are two
+abbrev pub caller_of : List Frame → Option Frame
+caller_of frames = slice_get frames (newest frames - 1)
+
+-- the record of a step that does the act, by the newest frame and the configuration before
+abbrev pub undo_in_frame : Act → Frame → PlainConfiguration → Undo
+undo_in_frame Act.pass frame c = Undo.Moved frame.place
+undo_in_frame (Act.store location value) frame c = undo_of_cell c.frames location (Undo.Stored frame.place location)
+undo_in_frame (Act.enter location value kept) frame c = undo_of_cell c.frames location (Undo.Entered frame.place location)
+undo_in_frame (Act.finish location value) frame c =
+    undo_of_cell c.frames location (λ cell. option_map_or (Undo.Finished frame.place location cell) (last_loop frame) Undo.Empty)
+undo_in_frame (Act.read location value count) frame c =
+    undo_of_cell c.frames location (λ cell. Undo.Read frame.place location cell c.taken)
+undo_in_frame (Act.write output) frame c = Undo.Wrote frame.place (length c.output)
+undo_in_frame (Act.call called) frame c = Undo.Called frame.place
+undo_in_frame Act.leave frame c = option_map_or (λ caller. Undo.Left caller.place frame) (caller_of c.frames) Undo.Empty
+
+-- the record of a step that does the act to a configuration; it is empty where that doesn't have what the act changes
+abbrev pub undo_of : Act → PlainConfiguration → Undo
+undo_of act c = option_map_or (λ frame. undo_in_frame act frame c) (slice_get c.frames (newest c.frames)) Undo.Empty
+
+-- a configuration with this newest frame has what the act changes, and what is written stands behind what was
+abbrev pub HasPartsFor : Act → Frame → PlainConfiguration → Type 0
+HasPartsFor Act.pass frame c = Unit {0}
+HasPartsFor (Act.store location value) frame c = IsSome (cell_at c.frames location)
+HasPartsFor (Act.enter location value kept) frame c = IsSome (cell_at c.frames location)
+HasPartsFor (Act.finish location value) frame c = IsSome (cell_at c.frames location) × IsSome (last_loop frame)
+HasPartsFor (Act.read location value count) frame c = IsSome (cell_at c.frames location)
+HasPartsFor (Act.write output) frame c = take (length c.output) output ≡ c.output
+HasPartsFor (Act.call called) frame c = Unit {0}
+HasPartsFor Act.leave frame c = 2 ≤ length c.frames
+
+-- the configuration allows the act: it has a newest frame, and what the act changes
+abbrev pub Allows : Act → PlainConfiguration → Type 0
+Allows act c = (frame : Frame) × (slice_get c.frames (newest c.frames) ≡ Some frame) × HasPartsFor act frame c
+
+-- a step is taken back by its record, wherever it goes on
+abbrev pub StepsTakenBack : Type 0
+StepsTakenBack = (act : Act) (next : PlainPlace) (c : PlainConfiguration) → Allows act c → step_undone (undo_of act c) (done act next c) ≡ c

@@ -1,6 +1,7 @@
 //! The laws of steps and of resumption, each a function that does nothing and whose contract states it.
 ghost use Rattle.plcs_store.specs.Resume.{UneditedResumes};
 ghost use Rattle.plcs_store.specs.StepLaws.{NewRunsFit};
+ghost use Rattle.plcs_store.specs.Undone.{StepsTakenBack};
 
 use tree_steps::{sites_stand, slots_stand};
 
@@ -15,4 +16,9 @@ pub fn new_runs_fit()
 /// A run may be resumed where the program is as it was when that which was kept was taken from it.
 pub fn unedited_may_resume()
     ensures { UneditedResumes }
+{}
+
+/// The record of a step takes the step back, whatever it does and wherever it goes on.
+pub fn steps_taken_back()
+    ensures { StepsTakenBack }
 {}
