@@ -6,10 +6,9 @@ use Rattle.std.specs.Option.{option_map_or}
 use Rattle.std.proofs.Common.{ap, sym, ◌∙◌, arith}
 use Rattle.std.proofs.Math.Bool.{false≢true}
 use Rattle.std.proofs.Math.Seq.{take-append_seam}
-use Rattle.std.proofs.lemmas.List.{length-append, length-set, length-take-le}
+use Rattle.std.proofs.lemmas.List.{length-append, length-take-le}
 use Rattle.std.proofs.lemmas.Map.Steps.{set_value_same}
 use Rattle.std.proofs.lemmas.Option.{none-some, same_Some, slice_get-get_or, slice_get_within}
-use Rattle.plcs_base.specs.declared.place.Place.{Place}
 use Rattle.template_tree.specs.Place.{PlainPlace}
 use Rattle.plcs_store.specs.declared.cell.Cell.{Cell}
 use Rattle.plcs_store.specs.declared.cell.Location.{Location}
@@ -21,7 +20,7 @@ use Rattle.plcs_base.specs.declared.value.Value.{Value}
 use Rattle.plcs_store.specs.Act.{Act, done, frame_waiting, newest_at, with_loop, with_newest, without_loop, without_newest}
 use Rattle.plcs_store.specs.CellAt.{Variables, cell_at, changed_at, newest, variable_named, with_cell, with_element, with_element_named}
 use Rattle.plcs_store.specs.Configuration.{PlainConfiguration, frame_at, plain_place}
-use Rattle.plcs_store.specs.Undone.{HasPartsFor, StepsTakenBack, caller_of, last_loop, step_undone, undo_in_frame, undo_of}
+use Rattle.plcs_store.specs.Undone.{HasPartsFor, StepsTakenBack, caller_of, last_loop, step_undone, undo_in_frame}
 
 known : {A : Type 0} (found : Option A) → IsSome found → (a : A) × (found ≡ Some a)
 known None h = absurd (false≢true h)

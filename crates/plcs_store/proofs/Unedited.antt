@@ -1,16 +1,14 @@
 -- `unedited_may_resume`: what was kept of a program differs nowhere from it.
-use Rattle.std.specs.Prelude.{◌≡◌, ◌≢◌, ◌⊎◌, List, [], ◌∷◌, map, Option, Some, None, option_map}
+use Rattle.std.specs.Prelude.{◌≡◌, List, [], ◌∷◌, map, Some, None, option_map}
 use Rattle.std.proofs.Common.{ap, sym, ◌∙◌, refl, subst, inl, inr}
-use Rattle.std.proofs.lemmas.Option.{none-some, same_Some}
+use Rattle.std.proofs.lemmas.Option.{none-some}
 use Rattle.plcs_base.specs.declared.declared.Declared.{Declared}
 use Rattle.template_tree.specs.Environment.{Items}
-use Rattle.template_tree.specs.Place.{Site, site}
+use Rattle.template_tree.specs.Place.{Site}
 use Rattle.template_tree.specs.PlainTree.{Forest}
 use Rattle.plcs_store.specs.declared.frame.Frame.{Frame}
 use Rattle.plcs_store.specs.declared.held_template.HeldTemplate.{HeldTemplate}
-use Rattle.plcs_store.specs.declared.kept.Kept.{Kept}
-use Rattle.plcs_store.specs.Configuration.{PlainConfiguration}
-use Rattle.plcs_store.specs.Resume.{AsksFrames, IsKept, Parts, TemplateDiffers, UneditedResumes, heading_parts, template_held}
+use Rattle.plcs_store.specs.Resume.{AsksFrames, Parts, TemplateDiffers, UneditedResumes, heading_parts, template_held}
 
 abbrev head_or : {A : Type 0} → A → List A → A
 head_or other [] = other
