@@ -18,7 +18,8 @@ pub fn unedited_may_resume()
     ensures { UneditedResumes }
 {}
 
-/// The record of a step takes the step back, whatever it does and wherever it goes on.
+/// The record of a step takes the step back, whatever act it does and wherever it goes on, where the
+/// configuration before it has what the act changes.
 pub fn steps_taken_back()
     ensures { StepsTakenBack }
 {}

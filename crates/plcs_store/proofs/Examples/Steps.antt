@@ -15,11 +15,14 @@ use Rattle.plcs_store.specs.declared.frame.Frame.{Frame}
 use Rattle.plcs_store.specs.declared.kept_loop.KeptLoop.{KeptLoop}
 use Rattle.plcs_store.specs.declared.reason.Reason.{Reason}
 use Rattle.plcs_store.specs.declared.variable.Variable.{Variable}
+use Rattle.plcs_store.specs.Act.{Act}
 use Rattle.plcs_store.specs.CellAt.{Variables}
 use Rattle.plcs_store.specs.Configuration.{PlainConfiguration}
 use Rattle.plcs_store.specs.NewFrame.{First, new_frame}
 use Rattle.plcs_store.specs.Spot.{Spot, spot_by}
 use Rattle.plcs_store.specs.Step.{PlainStepAnswer, step_by}
+use Rattle.plcs_store.specs.Resume.{resolved_place}
+use Rattle.plcs_store.specs.Undone.{step_undone, undo_of}
 use Rattle.plcs_store.proofs.Examples.Row.{Rows, num}
 
 -- ---- a program
@@ -215,3 +218,23 @@ call_depth = refl
 first_run : First sample ≡ main_at 2 0 Cell.Unset Cell.Unset []
 unfolding is_builtin_name
 first_run = refl
+
+-- ---- steps that are taken back
+
+call_taken_back :
+    step_undone (undo_of (Act.call (called 22 0)) (main_at 14 0 (held 7) Cell.Unset [])) (within 22 0)
+    ≡ main_at 14 0 (held 7) Cell.Unset []
+call_taken_back = refl
+
+return_taken_back : step_undone (undo_of Act.leave (within 22 0)) (main_at 15 0 (held 7) Cell.Unset []) ≡ within 22 0
+return_taken_back = refl
+
+-- ---- where a resumed run goes on: at the first statement in a group or a comment, and else where it stands
+
+abbrev resumed_at : ℕ → ℕ → PlainPlace
+resumed_at slot point = resolved_place sample (place_at slot point)
+
+resumed_places : Rows
+    ((resumed_at 4 0, place_at 5 0) ∷ ((resumed_at 12 0, place_at 13 0) ∷ ((resumed_at 2 0, place_at 2 0)
+    ∷ ((resumed_at 11 1, place_at 11 1) ∷ ((resumed_at 99 0, place_at 99 0) ∷ [])))))
+resumed_places = refl
