@@ -1,14 +1,14 @@
 -- `steps_taken_back`: what an act changes in the frames is changed back. The newest frame and a cell are changed independently
 -- of each other, in whichever frame the cell is.
-use Rattle.std.specs.Prelude.{◌≡◌, refl, ℕ, zero, suc, ◌+◌, ◌-◌, ◌<◌, ◌≤◌, Bool, true, false, cond, bytes_eq, List, [], ◌∷◌, ◌++◌, length, take, get_or, slice_get, slice_set, Option, Some, None, IsSome, option_and_then}
+use Rattle.std.specs.Prelude.{◌≡◌, refl, ℕ, zero, suc, ◌+◌, ◌-◌, ◌<◌, ◌≤◌, Bool, true, false, cond, bytes_eq, List, [], ◌∷◌, ◌++◌, length, take, slice_get, slice_set, Option, Some, None, IsSome, option_and_then}
 use Rattle.std.specs.Map.{lookup, set_value}
 use Rattle.std.specs.Option.{option_map_or}
 use Rattle.std.proofs.Common.{ap, sym, ◌∙◌, arith}
 use Rattle.std.proofs.Math.Bool.{false≢true}
 use Rattle.std.proofs.Math.Seq.{take-append_seam}
-use Rattle.std.proofs.lemmas.List.{length-append, length-take-le}
+use Rattle.std.proofs.lemmas.List.{length-append}
 use Rattle.std.proofs.lemmas.Map.Steps.{set_value_same}
-use Rattle.std.proofs.lemmas.Option.{none-some, same_Some, slice_get-get_or, slice_get_within}
+use Rattle.std.proofs.lemmas.Option.{none-some, same_Some, slice_get_within}
 use Rattle.template_tree.specs.Place.{PlainPlace}
 use Rattle.plcs_store.specs.declared.cell.Cell.{Cell}
 use Rattle.plcs_store.specs.declared.cell.Location.{Location}
@@ -73,13 +73,6 @@ with_last [] k a found last = absurd (none-some a found)
 with_last {A} (x ∷ []) zero a found last = ap (λ (one : A). one ∷ []) (sym (same_Some x a found))
 with_last (x ∷ (y ∷ xs)) zero a found last = absurd (omega (arith, last))
 with_last {A} (x ∷ xs) (suc k) a found last = ap (λ (rest : List A). x ∷ rest) (with_last xs k a found (omega (arith, last)))
-
-got_before : {A : Type 0} (xs : List A) (n k : ℕ) → k < n → slice_get (take n xs) k ≡ slice_get xs k
-got_before [] zero k few = refl
-got_before [] (suc n) k few = refl
-got_before (x ∷ xs) zero k few = absurd (omega (arith, few))
-got_before (x ∷ xs) (suc n) zero few = refl
-got_before (x ∷ xs) (suc n) (suc k) few = got_before xs n k (omega (arith, few))
 
 set_back : {A : Type 0} (xs : List A) (k : ℕ) (a b : A) → slice_get xs k ≡ Some a → slice_set (slice_set xs k b) k a ≡ xs
 set_back [] k a b found = refl
@@ -265,15 +258,11 @@ call_back frame called frames top =
     (λ one found. ap (λ (other : Frame). frame_at (plain_place other.place) (frame_waiting one)) (same_Some frame one (sym top ∙ found)))
 
 leave_back : (frame caller : Frame) (next : PlainPlace) (frames : List Frame) → slice_get frames (newest frames) ≡ Some frame
-    → caller_of frames ≡ Some caller → 2 ≤ length frames
-    → newest_at (plain_place caller.place) (newest_at next (without_newest frames)) ++ frame ∷ [] ≡ frames
-leave_back frame caller next frames top below two =
-    let k : ℕ = newest frames in
-    let shorter : length (take k frames) ≡ k = length-take-le k frames (omega (arith, two)) in
-    let found : slice_get (take k frames) (newest (take k frames)) ≡ Some caller =
-    ap (λ (n : ℕ). slice_get (take k frames) (n - 1)) shorter ∙ got_before frames k (k - 1) (omega (arith, two)) ∙ below in
-    ap (λ (ys : List Frame). ys ++ frame ∷ []) (move_back caller next (take k frames) found)
-    ∙ with_last frames k frame top (omega (arith, two))
+    → caller_of frames ≡ Some caller → newest_at (plain_place caller.place) (newest_at next (without_newest frames)) ++ frame ∷ [] ≡ frames
+leave_back frame caller next frames top below =
+    let within = slice_get_within frames (newest frames) frame top in
+    ap (λ (ys : List Frame). ys ++ frame ∷ []) (move_back caller next (without_newest frames) below)
+    ∙ with_last frames (newest frames) frame top (omega (arith, within))
 
 -- ---- the law
 
@@ -305,12 +294,10 @@ in_frame (Act.write output) next frame c top parts =
     ∙ ap (λ (written : List ℕ). record c { output = written }) parts
 in_frame (Act.call called) next frame c top parts =
     ap (λ (frames : List Frame). record c { frames = frames }) (call_back frame (frame_at next called) c.frames top)
-in_frame Act.leave next frame c top two =
-    let below : caller_of c.frames ≡ Some (get_or c.frames (newest c.frames - 1) frame) =
-    slice_get-get_or c.frames (newest c.frames - 1) frame (omega (arith, two)) in
-    let caller : Frame = get_or c.frames (newest c.frames - 1) frame in
-    ap (λ (got : Option Frame). step_undone (option_map_or (λ one. Undo.Left one.place frame) got Undo.Empty) (done Act.leave next c)) below
-    ∙ ap (λ (frames : List Frame). record c { frames = frames }) (leave_back frame caller next c.frames top below two)
+in_frame Act.leave next frame c top some =
+    let below = known (caller_of c.frames) some in
+    ap (λ (got : Option Frame). step_undone (option_map_or (λ one. Undo.Left one.place frame) got Undo.Empty) (done Act.leave next c)) below.1
+    ∙ ap (λ (frames : List Frame). record c { frames = frames }) (leave_back frame below.0 next c.frames top below.1)
 
 pub steps_taken_back : StepsTakenBack
 steps_taken_back act next c (frame, top, parts) =

@@ -1,5 +1,5 @@
 -- What takes a step back, and which record of a step does.
-use Rattle.std.specs.Prelude.{◌≡◌, ◌-◌, ◌≤◌, List, [], ◌∷◌, ◌++◌, length, take, slice_get, Option, Some, IsSome}
+use Rattle.std.specs.Prelude.{◌≡◌, ◌-◌, List, [], ◌∷◌, ◌++◌, length, take, slice_get, Option, Some, IsSome}
 use Rattle.std.specs.Option.{option_map_or}
 use Rattle.plcs_base.specs.declared.place.Place.{Place}
 use Rattle.template_tree.specs.Place.{PlainPlace}
@@ -42,9 +42,13 @@ undo_of_cell frames location make = option_map_or make (cell_at frames location)
 abbrev pub last_loop : Frame → Option KeptLoop
 last_loop frame = slice_get frame.loops (length frame.loops - 1)
 
--- the frame below the newest, if there are two
+-- the newest frame, if there is one
+abbrev pub newest_frame : List Frame → Option Frame
+newest_frame frames = slice_get frames (newest frames)
+
+-- the frame below the newest, if there is one
 abbrev pub caller_of : List Frame → Option Frame
-caller_of frames = slice_get frames (newest frames - 1)
+caller_of frames = newest_frame (without_newest frames)
 
 -- the record of a step that does the act, by the newest frame and the configuration before
 abbrev pub undo_in_frame : Act → Frame → PlainConfiguration → Undo
@@ -61,7 +65,7 @@ undo_in_frame Act.leave frame c = option_map_or (λ caller. Undo.Left caller.pla
 
 -- the record of a step that does the act to a configuration; it is empty where that doesn't have what the act changes
 abbrev pub undo_of : Act → PlainConfiguration → Undo
-undo_of act c = option_map_or (λ frame. undo_in_frame act frame c) (slice_get c.frames (newest c.frames)) Undo.Empty
+undo_of act c = option_map_or (λ frame. undo_in_frame act frame c) (newest_frame c.frames) Undo.Empty
 
 -- a configuration with this newest frame has what the act changes, and what is written stands behind what was
 abbrev pub HasPartsFor : Act → Frame → PlainConfiguration → Type 0
@@ -72,11 +76,11 @@ HasPartsFor (Act.finish location value) frame c = IsSome (cell_at c.frames locat
 HasPartsFor (Act.read location value count) frame c = IsSome (cell_at c.frames location)
 HasPartsFor (Act.write output) frame c = take (length c.output) output ≡ c.output
 HasPartsFor (Act.call called) frame c = Unit {0}
-HasPartsFor Act.leave frame c = 2 ≤ length c.frames
+HasPartsFor Act.leave frame c = IsSome (caller_of c.frames)
 
 -- the configuration allows the act: it has a newest frame, and what the act changes
 abbrev pub Allows : Act → PlainConfiguration → Type 0
-Allows act c = (frame : Frame) × (slice_get c.frames (newest c.frames) ≡ Some frame) × HasPartsFor act frame c
+Allows act c = (frame : Frame) × (newest_frame c.frames ≡ Some frame) × HasPartsFor act frame c
 
 -- a step is taken back by its record, wherever it goes on
 abbrev pub StepsTakenBack : Type 0
