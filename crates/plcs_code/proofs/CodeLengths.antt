@@ -11,11 +11,11 @@ use Rattle.plcs_grammar.specs.declared.node_kind.NodeKind.{NodeKind}
 use Rattle.plcs_grammar.specs.declared.template.Template.{Template}
 use Rattle.plcs_grammar.specs.PlainPhrase.{PlainPhrase}
 use Rattle.template_tree.specs.Part.{part_at}
-use Rattle.template_tree.specs.PlainTree.{Forest, Label}
+use Rattle.template_tree.specs.PlainTree.{Forest}
 use Rattle.template_tree.specs.ProgramMaps.{items_in}
 use Rattle.plcs_code.specs.ExprCode.{counter_instrs, counter_name, part_instrs}
 use Rattle.plcs_code.specs.Gen.{code_with, codes_joined, node_codes, node_lengths}
-use Rattle.plcs_code.specs.Pieces.{CodePieces, enter_piece, first_length, iteration_piece, kind_pieces, other_lengths, piece_at, pieces, suspension, template_pieces, test_piece}
+use Rattle.plcs_code.specs.Pieces.{CodePieces, enter_piece, first_length, kind_pieces, other_lengths, piece_at, pieces, suspension, template_pieces, test_piece}
 use Rattle.plcs_code.specs.PlainInstr.{PlainInstr}
 
 -- ---- the pieces of a node

@@ -1,6 +1,6 @@
 -- The plain form of an expression, for the variants that say a value, and of a variable without a subscript; and which
 -- expressions are passed by a dummy.
-use Rattle.std.proofs.Common.{◌≡◌, ℕ, Bool, ◌++◌, [], ◌∷◌, Option, Some, None, List, refl, ap, sym, ◌∙◌}
+use Rattle.std.proofs.Common.{◌≡◌, ℕ, Bool, ◌++◌, [], ◌∷◌, Option, None, List, refl, ap, sym, ◌∙◌}
 use Rattle.std.specs.Prelude.{Box, ℤ}
 use Rattle.std.specs.declared.alloc.Global.{Global}
 use Rattle.plcs_grammar.specs.declared.expr.Expr.{Expr, map-Expr}

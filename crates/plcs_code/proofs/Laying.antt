@@ -1,8 +1,8 @@
 -- Several instructions laid in turn. All that lays code does so one instruction after the other, whatever it lays them into: so
 -- what is laid is joined by one lemma, and what that makes of a draft or of a tally is found by one induction each.
-use Rattle.std.proofs.Common.{ℕ, ◌+◌, ◌≤◌, Bool, false, List, [], ◌∷◌, ◌++◌, length, ◌≡◌, refl, subst, ap, sym, ◌∙◌, arith, append_assoc}
-use Rattle.std.proofs.lemmas.List.{append-nil, length-append}
-use Rattle.plcs_base.specs.PlainCounts.{PlainCounts, CountsNothing}
+use Rattle.std.proofs.Common.{ℕ, ◌+◌, ◌≤◌, false, List, [], ◌∷◌, ◌++◌, length, ◌≡◌, refl, subst, ap, sym, ◌∙◌, arith, append_assoc}
+use Rattle.std.proofs.lemmas.List.{append-nil}
+use Rattle.plcs_base.specs.PlainCounts.{PlainCounts}
 use Rattle.plcs_code.specs.Counts.{EmitsAtMost}
 use Rattle.plcs_code.specs.PlainInstr.{PlainInstr}
 use Rattle.plcs_code.specs.Private.LaysAll.{LaysAll, lays_nothing, lays_next}

@@ -1,8 +1,7 @@
 -- Parts of a node, read one after the other.
-use Rattle.std.specs.Prelude.{◌≡◌, refl, ℕ, zero, suc, Bool, true, false, ◌||◌, not, ◌+◌, ◌≤◌, List, [], ◌∷◌, drop, length, Option, Some, None, is_some, is_none, slice_get, option_map}
+use Rattle.std.specs.Prelude.{◌≡◌, refl, ℕ, zero, suc, ◌||◌, ◌+◌, List, [], ◌∷◌, drop, Option, Some, None, is_some, is_none, slice_get}
 use Rattle.std.specs.FinMap.{get}
-use Rattle.std.proofs.Common.{ap, sym, ◌∙◌, arith, add-one}
-use Rattle.std.proofs.Math.ListN.{drop_of_length-le}
+use Rattle.std.proofs.Common.{ap, sym, ◌∙◌, add-one}
 use Rattle.plcs_base.specs.Mark.{MarkMap}
 use Rattle.plcs_grammar.specs.PlainPhrase.{PlainPhrase}
 use Rattle.template_tree.specs.Mention.{phrase_at}

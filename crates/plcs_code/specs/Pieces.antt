@@ -1,5 +1,5 @@
 -- The table of code: what the code of a node has beside that of the nodes inside it.
-use Rattle.std.specs.Prelude.{ℕ, ◌+◌, ◌==◌, pos, neg_ℤ, Bool, false, not, ◌||◌, if◌then◌else◌, bytes_eq, List, [], ◌∷◌, ◌++◌, length, sum, take, flat_map, Option, Some, None, is_some, option_map, unwrap_or}
+use Rattle.std.specs.Prelude.{ℕ, ◌+◌, ◌==◌, pos, neg_ℤ, Bool, false, not, ◌||◌, if◌then◌else◌, bytes_eq, List, [], ◌∷◌, ◌++◌, length, sum, take, flat_map, Option, Some, None, is_some, unwrap_or}
 use Rattle.std.specs.FinMap.{get}
 use Rattle.std.specs.List.{list_any}
 use Rattle.plcs_base.specs.Mark.{MarkMap}

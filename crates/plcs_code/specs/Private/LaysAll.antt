@@ -1,5 +1,5 @@
 -- What it means to lay several instructions, one after the other.
-use Rattle.std.specs.Prelude.{ℕ, List, [], ◌∷◌}
+use Rattle.std.specs.Prelude.{List, [], ◌∷◌}
 use Rattle.plcs_base.specs.PlainCounts.{PlainCounts}
 use Rattle.plcs_code.specs.PlainInstr.{PlainInstr}
 

@@ -1,8 +1,7 @@
 -- Code while it is laid, and its length while it is counted ahead.
-use Rattle.std.specs.Prelude.{◌≡◌, ℕ, ◌+◌, ◌≤◌, ◌<◌, Bool, true, false, List, [], ◌∷◌, ◌++◌, length, refl}
+use Rattle.std.specs.Prelude.{◌≡◌, ℕ, ◌+◌, Bool, false, List, [], ◌∷◌, ◌++◌, refl}
 use Rattle.std.specs.Coded.{Coded, code_by, coded×, coded_ℕ, coded_bool}
 use Rattle.plcs_base.specs.PlainCounts.{PlainCounts, CountsNothing}
-use Rattle.plcs_code.specs.BlockLimit.{most_instrs}
 use Rattle.plcs_code.specs.Counts.{EmitsAtMost}
 use Rattle.plcs_code.specs.PlainInstr.{PlainInstr}
 use Rattle.plcs_code.specs.Private.InstrCode.{block_code}

@@ -1,4 +1,4 @@
-use Rattle.std.proofs.Common.{◌<◌, length, sym, ap, arith}
+use Rattle.std.proofs.Common.{◌<◌, length, sym, arith}
 use Rattle.plcs_code.specs.Private.LaysAll.{lays_nothing}
 use Rattle.plcs_code.proofs.LaidPieces.{parameters_next}
 use Rattle.plcs_code.proofs.Laying.{lays_append, lays_same}

@@ -1,4 +1,4 @@
-use Rattle.std.proofs.Common.{◌+◌, ◌*◌, take}
+use Rattle.std.proofs.Common.{take}
 use Rattle.plcs_grammar.specs.PlainPhrase.{plain_exprs}
 use Rattle.plcs_code.specs.ExprCode.{exprs_instrs}
 use Rattle.plcs_code.specs.Private.LaysAll.{LaysAll}

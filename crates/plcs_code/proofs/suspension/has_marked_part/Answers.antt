@@ -1,9 +1,6 @@
-use Rattle.std.specs.Prelude.{◌≡◌, ◌||◌, ◌+◌, true, false, Some, drop, is_some, slice_get}
-use Rattle.std.specs.FinMap.{get}
+use Rattle.std.specs.Prelude.{◌||◌, ◌+◌, drop}
 use Rattle.std.proofs.Common.{arith, ap, sym, ◌∙◌}
 use Rattle.std.proofs.lemmas.Option.{slice_get_within}
-use Rattle.template_tree.specs.Mention.{phrase_at}
-use Rattle.template_tree.specs.PlainPhrasePlace.{plain_phrase_place}
 use Rattle.plcs_code.specs.Pieces.{has_marked_part}
 use Rattle.plcs_code.proofs.ReadParts.{left_none, mark_next}
 use Rattle.plcs_code.proofs.suspension.has_marked_part.Goals as goal
