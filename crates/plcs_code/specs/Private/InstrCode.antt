@@ -36,12 +36,12 @@ spelled_instr (PlainInstr.parameter name ty) = (None, Instr.Param name ty)
 spelled_instr (PlainInstr.cell name ty n) = (None, Instr.Cell name ty n)
 spelled_instr PlainInstr.leave = (None, Instr.Leave)
 
--- the instruction that is spelled_instr so
+-- the instruction that is spelled so
 abbrev pub spelled_back : Option (List ℕ) → Instr → PlainInstr
 spelled_back None instr = plain_instr instr
 spelled_back (Some text) instr = PlainInstr.push_text text
 
--- an instruction that is spelled_instr is given back
+-- an instruction that is spelled is given back
 pub spelling_back : (instr : PlainInstr) → spelled_back (spelled_instr instr).0 (spelled_instr instr).1 ≡ instr
 spelling_back (PlainInstr.place at) = refl
 spelling_back PlainInstr.suspend_placeholder = refl
@@ -72,7 +72,7 @@ spelling_back (PlainInstr.parameter name ty) = refl
 spelling_back (PlainInstr.cell name ty n) = refl
 spelling_back PlainInstr.leave = refl
 
--- an instruction is told by how it is spelled_instr
+-- an instruction is told by how it is spelled
 abbrev pub instr_code : Coded PlainInstr
 instr_code =
     code_by (Option (List ℕ) × Instr) (coded× (coded_option (coded_list coded_ℕ)) instr_row.the_row.coded)
