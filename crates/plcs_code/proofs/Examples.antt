@@ -1,7 +1,7 @@
 -- The definitions at work: the code of an expression, of a call of a procedure, and of a While before and after the PUT in
--- it grew.
+-- it grew; and where a second body stands, and which of two headings of a name counts.
 use Rattle.std.specs.Prelude.{◌≡◌, refl, ℕ, pos, negsuc, true, false, List, [], ◌∷◌, codes, Option, Some, None}
-use Rattle.std.specs.FinMap.{empty, from_entries, gets}
+use Rattle.std.specs.FinMap.{empty, from_entries, get, gets}
 use Rattle.plcs_base.specs.Mark.{MarkMap}
 use Rattle.plcs_base.specs.Scope.{ItemMap}
 use Rattle.plcs_base.specs.declared.declared.ItemType.{ItemType}
@@ -165,3 +165,31 @@ while_after = simp gets
 -- an empty part comes before a marked one
 empty_first : suspension no_marks 2 (None ∷ []) ≡ Some PlainInstr.suspend_placeholder
 empty_first = refl
+
+-- ---- where everything stands
+
+-- an IF whose condition is true, around a PUT of 1, and else a PUT of 2
+abbrev if_else : Forest
+if_else =
+    main_with
+    (Forest.cons (filled 2 Template.IfElse (Some (PlainPhrase.condition (PlainExpr.bit true)) ∷ []))
+    (leaf (filled 4 Template.Put (Some (PlainPhrase.expression_list (single one)) ∷ []))
+    (leaf (filled 5 Template.Put (Some (PlainPhrase.expression_list (single two)) ∷ [])) Forest.nil))
+    Forest.nil)
+    no_procedure
+
+-- the code of its second body begins behind the jump that ends the first one
+second_body_spans : get (Gen no_marks no_items if_else).spans 5 ≡ Some (7, 3)
+second_body_spans = simp gets
+
+-- two procedures of the name p
+abbrev two_headings : Forest
+two_headings =
+    main_with (leaf (empty_label 2 NodeKind.StatementHole) Forest.nil)
+    (leaf (filled 3 Template.Proc (Some (PlainPhrase.procedure_name (codes "p")) ∷ []))
+    (leaf (filled 4 Template.Proc (Some (PlainPhrase.procedure_name (codes "p")) ∷ [])) Forest.nil))
+
+-- the first one is entered
+first_heading_counts : get (Gen no_marks no_items two_headings).headings (codes "p") ≡ Some record { address = 4; slot = 3 }
+unfolding is_builtin_name
+first_heading_counts = simp gets
