@@ -28,7 +28,7 @@ template_held program slot = option_map (λ found. record { kind = found.label.k
 
 -- what is kept of the program for the frames of a configuration, from main upward: the phrases of the heading of each one's
 -- procedure, the effective items there, and the kind and the parts of what stands in the slot of its place
-pub record IsKept (program : Forest) (c : PlainConfiguration) (kept : Kept) : Type 0 where
+pub record IsKeptOf (program : Forest) (c : PlainConfiguration) (kept : Kept) : Type 0 where
   pub headings : map (λ frame. heading_parts program frame.procedure.0) c.frames ≡ map Some kept.headings
   pub declared : map (λ frame. Items program frame.procedure.0) c.frames ≡ kept.declared
   pub held : map (λ frame. template_held program frame.place.slot.0) c.frames ≡ map Some kept.held
@@ -78,7 +78,7 @@ MayResume kept c program answer = AsksFrames program c.frames kept.headings kept
 -- what was kept of the program allows the run to be resumed as long as the program isn't edited
 abbrev pub UneditedResumes : Type 0
 UneditedResumes =
-    (program : Forest) (c : PlainConfiguration) (kept : Kept) → IsKept program c kept → MayResume kept c program None
+    (program : Forest) (c : PlainConfiguration) (kept : Kept) → IsKeptOf program c kept → MayResume kept c program None
 
 -- ---- where a resumed run goes on
 
