@@ -106,7 +106,10 @@ impl DiskFile for Stumbling {
     fn read_some(&mut self, at: u64, buf: &mut [u8]) -> io::Result<usize> {
         self.step()?;
         let most = self.most.min(buf.len());
-        done(self.disk.read_at(at, &mut buf[..most]))
+        match self.disk.read_at(at, &mut buf[..most]) {
+            Ok(count) => Ok(count),
+            Err(_) => Err(Error::from(ErrorKind::Other)),
+        }
     }
 
     fn write_whole(&mut self, at: u64, piece: &[u8]) -> io::Result<()> {
