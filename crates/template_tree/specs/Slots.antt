@@ -1,5 +1,5 @@
 -- Slots, and how many nodes there are and how deep they stand.
-use Rattle.std.specs.Prelude.{ℕ, ◌+◌, ◌<◌, max, if◌then◌else◌, ◌==◌}
+use Rattle.std.specs.Prelude.{ℕ, ◌+◌, ◌<◌, max, if◌then◌else◌, ◌==◌, Option, Some, None}
 use Rattle.template_tree.specs.PlainTree.{Forest}
 
 -- how many nodes there are, those inside others too
@@ -16,6 +16,11 @@ depth (Forest.cons label inner rest) = max (depth inner + 1) (depth rest)
 abbrev pub times : ℕ → Forest → ℕ
 times slot Forest.nil = 0
 times slot (Forest.cons label inner rest) = (if label.slot == slot then 1 else 0) + (times slot inner + times slot rest)
+
+-- the slot of the first node, if there is one: in a program that of main
+abbrev pub first_slot : Forest → Option ℕ
+first_slot Forest.nil = None
+first_slot (Forest.cons label inner rest) = Some label.slot
 
 -- each slot of the nodes, and of those inside them, is below the number
 abbrev pub AllBelow : ℕ → Forest → Type 0

@@ -141,6 +141,7 @@ new_is =
       drawn_few = omega arith;
       drawn = (omega arith, (omega arith, tt, (omega arith, tt, tt)), (omega arith, tt, tt));
       once = once_new;
+      main = refl;
       live = refl;
     }
 
@@ -161,6 +162,7 @@ added_is =
       drawn_few = omega arith;
       drawn = (omega arith, (omega arith, tt, (omega arith, tt, (omega arith, tt, tt))), (omega arith, tt, tt));
       once = once_added;
+      main = refl;
       live = refl;
     }
 
@@ -181,6 +183,7 @@ declared_is =
       drawn_few = omega arith;
       drawn = (omega arith, (omega arith, tt, (omega arith, tt, (omega arith, tt, tt))), (omega arith, tt, tt));
       once = once_declared;
+      main = refl;
       live = refl;
     }
 

@@ -6,11 +6,12 @@ use Rattle.std.proofs.Math.Bool.{false≢true}
 use Rattle.std.proofs.lemmas.Bool.{cases_lt, ne_eqb}
 use Rattle.std.proofs.lemmas.Option.{none-some}
 use Rattle.plcs_grammar.specs.declared.node_kind.NodeKind.{NodeKind}
+use Rattle.plcs_grammar.specs.declared.node_kind.Sort.{Sort}
 use Rattle.plcs_grammar.specs.Template.{PlainSection, row_of, program_sections}
 use Rattle.template_tree.specs.declared.side.Side.{Side}
-use Rattle.template_tree.specs.PlainTree.{Forest, PlainNode, PlainTree, nodes, forest}
+use Rattle.template_tree.specs.PlainTree.{Forest, Label, PlainNode, PlainTree, nodes, forest}
 use Rattle.template_tree.specs.Program.{sorts, sort_of, Fill, AreNodes, IsProgram, IsSubtree}
-use Rattle.template_tree.specs.Slots.{count, depth, times, AllBelow}
+use Rattle.template_tree.specs.Slots.{count, depth, first_slot, times, AllBelow}
 use Rattle.template_tree.specs.Path.{below, last_child_number, node_at}
 use Rattle.template_tree.specs.Limit.{most_slots, most_drawn_slots}
 use Rattle.template_tree.specs.Tree.{IsTree}
@@ -337,6 +338,26 @@ once_more slot drawn before after below once e =
       | inr new ↦ omega (arith, e, none_above slot drawn before new below, one_at_most (drawn == slot))
     ]
 
+-- the first node of a program is main
+main_first : (label : Label) (inner rest : Forest) → Fill program_sections (sorts (Forest.cons label inner rest)) → sort_of label.kind ≡ Sort.Main
+main_first label inner rest h =
+    let e : sort_of label.kind ∷ sorts rest ≡ Sort.Main ∷ h.1 = h.2 ∙ ap (λ own. own ++ h.1) h.3 in cc
+
+-- main has no hole
+no_main_hole : (sort : Sort) (kind : NodeKind) → sort ≡ Sort.Main → hole_of sort ≡ Some kind → ⊥
+no_main_hole sort kind e hole = none-some kind (sym (ap hole_of e) ∙ hole)
+
+-- where something is done to a node that may be a hole, the first one stays
+first_kept : (edit : PlainNode → List PlainNode) (items : Forest) (path : List ℕ) (node : PlainNode) (kind : NodeKind) → node_at items path ≡ Some node
+    → Fill program_sections (sorts items) → hole_of (sort_of node.label.kind) ≡ Some kind → first_slot (edit_at edit path items) ≡ first_slot items
+first_kept edit items [] node kind e filled hole = absurd (none-some node e)
+first_kept edit Forest.nil (k ∷ path) node kind e filled hole = absurd (none-some node e)
+first_kept edit (Forest.cons label inner rest) (zero ∷ []) node kind e filled hole =
+    let same : record { label = label; inner = inner } ≡ node = ap (taken node) e in
+    absurd (no_main_hole (sort_of node.label.kind) kind (subst (λ n. sort_of n.label.kind ≡ Sort.Main) same (main_first label inner rest filled)) hole)
+first_kept edit (Forest.cons label inner rest) (zero ∷ (j ∷ path)) node kind e filled hole = refl
+first_kept edit (Forest.cons label inner rest) (suc k ∷ path) node kind e filled hole = refl
+
 -- a tree is one where a hole comes beside an item of a list, and the limits hold
 pub add_keeps_tree : (tree : PlainTree) (path : List ℕ) (node : PlainNode) (side : Side) → IsTree tree → node_at tree.items path ≡ Some node
     → IsListItem tree.items path node → (Add tree node.label.slot side).live ≤ most_slots → (Add tree node.label.slot side).drawn ≤ most_drawn_slots
@@ -354,6 +375,9 @@ add_keeps_tree tree path node side t there listed few drawn_few =
         drawn_few = drawn_few;
         drawn = g.below (tree.drawn + 1) (below_more tree.drawn (tree.drawn + 1) tree.items (omega arith) t.drawn) (omega arith);
         once = λ slot. once_more slot tree.drawn tree.items (Add tree node.label.slot side).items t.drawn (t.once slot) (g.times_are slot);
+        main =
+            ap first_slot by_path
+            ∙ (first_kept (with_beside side (lone tree.drawn hole.0)) tree.items path node hole.0 there t.program.listed hole.1 ∙ t.main);
         live = refl;
       },
       omega (arith, g.count_is, t.live),
@@ -375,6 +399,9 @@ drop_keeps_tree tree path node t there spare =
         drawn_few = t.drawn_few;
         drawn = g.below tree.drawn t.drawn;
         once = λ slot. omega (arith, g.times_are slot, t.once slot);
+        main =
+            ap first_slot by_path
+            ∙ (first_kept (λ _. []) tree.items path node node.label.kind there t.program.listed (own_hole node.label.kind spare.hole) ∙ t.main);
         live = refl;
       },
       omega (arith, g.count_is, t.live, empty),

@@ -12,7 +12,7 @@ use Rattle.plcs_grammar.specs.Template.{row_of, program_sections}
 use Rattle.template_tree.specs.PlainTree.{Label, Forest, PlainNode, PlainTree}
 use Rattle.template_tree.specs.Program.{sorts, sort_of, parts_of, Fill, AreParts, IsNode, IsPartPhrase, AreNodes, IsSubtree}
 use Rattle.template_tree.specs.Part.{Takes, IsPhrasePlace, part_category, with_part}
-use Rattle.template_tree.specs.Slots.{count, depth, times, AllBelow}
+use Rattle.template_tree.specs.Slots.{count, depth, first_slot, times, AllBelow}
 use Rattle.template_tree.specs.Path.{node_at}
 use Rattle.template_tree.specs.Tree.{IsTree}
 use Rattle.template_tree.specs.Edit.{edit_at, Part, edit_slot, with_items}
@@ -35,6 +35,7 @@ pub record Alike (before after : Forest) : Type 0 where
   pub count_is : count after ≡ count before
   pub depth_is : depth after ≡ depth before
   pub times_are : (slot : ℕ) → times slot after ≡ times slot before
+  pub first_is : first_slot after ≡ first_slot before
   pub below : (number : ℕ) → AllBelow number before → AllBelow number after
   pub sound : AreNodes before → AreNodes after
 
@@ -47,6 +48,7 @@ first_alike label inner rest new r =
       count_is = ap (λ i. count i + count rest + 1) r.inner;
       depth_is = ap (λ i. max (depth i + 1) (depth rest)) r.inner;
       times_are = λ slot. λ i. (if r.slot i == slot then 1 else 0) + (times slot (r.inner i) + times slot rest);
+      first_is = ap Some r.slot;
       below = λ number h. (subst (λ s. s < number) (sym r.slot) h.0, subst (AllBelow number) (sym r.inner) h.1, h.2);
       sound = λ h. (r.sound, subst AreNodes (sym r.inner) h.1, h.2);
     }
@@ -60,6 +62,7 @@ inner_alike label before after rest a =
       count_is = ap (λ n. n + count rest + 1) a.count_is;
       depth_is = ap (λ n. max (n + 1) (depth rest)) a.depth_is;
       times_are = λ slot. ap (λ n. (if label.slot == slot then 1 else 0) + (n + times slot rest)) (a.times_are slot);
+      first_is = refl;
       below = λ number h. (h.0, a.below number h.1, h.2);
       sound = λ h. (subst (IsNode label) (sym a.sorts_are) h.0, a.sound h.1, h.2);
     }
@@ -73,6 +76,7 @@ rest_alike label inner before after a =
       count_is = ap (λ n. count inner + n + 1) a.count_is;
       depth_is = ap (λ n. max (depth inner + 1) n) a.depth_is;
       times_are = λ slot. ap (λ n. (if label.slot == slot then 1 else 0) + (times slot inner + n)) (a.times_are slot);
+      first_is = refl;
       below = λ number h. (h.0, h.1, a.below number h.2);
       sound = λ h. (h.0, h.1, a.sound h.2);
     }
@@ -103,6 +107,7 @@ kept_tree tree path node new t e r =
       drawn_few = t.drawn_few;
       drawn = a.below tree.drawn t.drawn;
       once = λ slot. omega (arith, a.times_are slot, t.once slot);
+      main = a.first_is ∙ t.main;
       live = t.live ∙ sym a.count_is;
     }
 
@@ -118,6 +123,7 @@ kept_items tree items t a = (
     drawn_few = t.drawn_few;
     drawn = a.below tree.drawn t.drawn;
     once = λ slot. omega (arith, a.times_are slot, t.once slot);
+    main = a.first_is ∙ t.main;
     live = refl;
   },
   a.count_is ∙ sym t.live,

@@ -7,7 +7,7 @@ use Rattle.std.proofs.lemmas.Option.{none-some}
 use Rattle.plcs_grammar.specs.Template.{row_of, program_sections}
 use Rattle.template_tree.specs.PlainTree.{Label, Forest, PlainNode, PlainTree}
 use Rattle.template_tree.specs.Program.{sorts, sort_of, Fill, IsNode, AreNodes, IsSubtree}
-use Rattle.template_tree.specs.Slots.{count, depth, times, AllBelow, with_slots_from}
+use Rattle.template_tree.specs.Slots.{count, depth, first_slot, times, AllBelow, with_slots_from}
 use Rattle.template_tree.specs.Path.{node_at}
 use Rattle.template_tree.specs.Limit.{deepest_path, most_slots, most_drawn_slots}
 use Rattle.template_tree.specs.Tree.{IsTree}
@@ -27,6 +27,7 @@ pub record Replaced (before after gone come : Forest) : Type 0 where
   pub sorts_are : sorts after ≡ sorts before
   pub count_is : count after + count gone ≡ count before + count come
   pub times_are : (slot : ℕ) → times slot after + times slot gone ≡ times slot before + times slot come
+  pub first_is : first_slot after ≡ first_slot before
   pub below : (number : ℕ) → AllBelow number before → AllBelow number come → AllBelow number after
   pub sound : AreNodes before → AreNodes after
 
@@ -45,6 +46,7 @@ first_replaced label inner rest new r =
           λ slot.
           swapped (if new.label.slot == slot then 1 else 0) (if label.slot == slot then 1 else 0) (times slot inner)
           (times slot new.inner) (times slot rest) (ap (λ s. if s == slot then 1 else 0) r.slot);
+      first_is = ap Some r.slot;
       below = λ number h come. (subst (λ s. s < number) (sym r.slot) h.0, come, h.2);
       sound = λ h. (r.sound.0, r.sound.1, h.2);
     }
@@ -57,6 +59,7 @@ inner_replaced label before after rest gone come a =
       sorts_are = refl;
       count_is = omega (arith, a.count_is);
       times_are = λ slot. omega (arith, a.times_are slot);
+      first_is = refl;
       below = λ number h new. (h.0, a.below number h.1 new, h.2);
       sound = λ h. (subst (IsNode label) (sym a.sorts_are) h.0, a.sound h.1, h.2);
     }
@@ -69,6 +72,7 @@ rest_replaced label inner before after gone come a =
       sorts_are = ap (λ ss. sort_of label.kind ∷ ss) a.sorts_are;
       count_is = omega (arith, a.count_is);
       times_are = λ slot. omega (arith, a.times_are slot);
+      first_is = refl;
       below = λ number h new. (h.0, h.1, a.below number h.2 new);
       sound = λ h. (h.0, h.1, a.sound h.2);
     }
@@ -185,6 +189,7 @@ put_keeps_tree tree path node new t there sound same shallow few drawn_few =
             r.below (tree.drawn + count new.inner)
             (below_more tree.drawn (tree.drawn + count new.inner) tree.items (omega arith) t.drawn) drawn;
         once = λ slot. once_again slot tree.drawn tree.items after node.inner (whole new.inner) t.drawn (t.once slot) (r.times_are slot);
+        main = r.first_is ∙ t.main;
         live = refl;
       },
       omega (arith, r.count_is, count_numbered tree.drawn (whole new.inner), count_whole new.inner, t.live),

@@ -6,7 +6,7 @@ use Rattle.template_tree.specs.PlainTree.{Forest, PlainTree, roomless, roomless_
 use Rattle.template_tree.specs.Program.{Fill, AreNodes}
 use Rattle.template_tree.specs.Slots.{AllBelow}
 use Rattle.template_tree.specs.Tree.{IsTree}
-use Rattle.template_tree.proofs.Room.Rooms.{sorts_roomless, count_roomless, depth_roomless, times_roomless, below_roomless, nodes_roomless}
+use Rattle.template_tree.proofs.Room.Rooms.{sorts_roomless, count_roomless, depth_roomless, times_roomless, first_roomless, below_roomless, nodes_roomless}
 
 nodes_without_room : (items : Forest) → AreNodes items → AreNodes (roomless items)
 nodes_without_room Forest.nil h = h
@@ -33,6 +33,7 @@ tree_without_room tree t =
       drawn_few = t.drawn_few;
       drawn = below_without_room tree.drawn tree.items t.drawn;
       once = λ slot. omega (arith, times_roomless slot tree.items, t.once slot);
+      main = first_roomless tree.items ∙ t.main;
       live = t.live ∙ sym (count_roomless tree.items);
     }
 
@@ -49,5 +50,6 @@ tree_with_room tree t =
       drawn_few = t.drawn_few;
       drawn = below_roomless tree.drawn tree.items t.drawn;
       once = λ slot. omega (arith, times_roomless slot tree.items, t.once slot);
+      main = sym (first_roomless tree.items) ∙ t.main;
       live = t.live ∙ count_roomless tree.items;
     }

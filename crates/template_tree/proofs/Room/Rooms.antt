@@ -4,11 +4,15 @@ use Rattle.std.proofs.Common.{ap, subst}
 use Rattle.plcs_grammar.specs.Template.{row_of}
 use Rattle.template_tree.specs.PlainTree.{Forest, roomless}
 use Rattle.template_tree.specs.Program.{sorts, sort_of, Fill, AreNodes}
-use Rattle.template_tree.specs.Slots.{count, depth, times, AllBelow}
+use Rattle.template_tree.specs.Slots.{count, depth, first_slot, times, AllBelow}
 
 pub sorts_roomless : (items : Forest) → sorts (roomless items) ≡ sorts items
 sorts_roomless Forest.nil = refl
 sorts_roomless (Forest.cons label inner rest) = ap (λ ss. sort_of label.kind ∷ ss) (sorts_roomless rest)
+
+pub first_roomless : (items : Forest) → first_slot (roomless items) ≡ first_slot items
+first_roomless Forest.nil = refl
+first_roomless (Forest.cons label inner rest) = refl
 
 pub count_roomless : (items : Forest) → count (roomless items) ≡ count items
 count_roomless Forest.nil = refl

@@ -1,15 +1,16 @@
 -- Slots drawn in listing order.
-use Rattle.std.specs.Prelude.{◌≡◌, refl, ℕ, zero, suc, ◌+◌, ◌<◌, ◌≤◌, List, [], ◌∷◌, length, drop, slice_get, slice_set, Some, None, ◌-◌, if◌then◌else◌, ◌==◌, Bool, true, false}
+use Rattle.std.specs.Prelude.{◌≡◌, refl, ℕ, zero, suc, ◌+◌, ◌<◌, ◌≤◌, List, [], ◌∷◌, ◌++◌, length, drop, slice_get, slice_set, Some, None, ◌-◌, if◌then◌else◌, ◌==◌, Bool, true, false}
 use Rattle.std.proofs.Common.{ap, sym, ◌∙◌, arith, add-one, subst, ◌⊎◌, inl, inr}
 use Rattle.std.proofs.lemmas.Bool.{ne_eqb, cases_lt}
 use Rattle.std.proofs.lemmas.Option.{none-some}
+use Rattle.plcs_grammar.specs.declared.node_kind.Sort.{Sort}
 use Rattle.plcs_grammar.specs.Template.{row_of, program_sections}
 use Rattle.template_tree.specs.Build.{built_tree}
 use Rattle.template_tree.specs.Limit.{deepest_path, most_slots}
 use Rattle.template_tree.specs.Program.{sorts, sort_of, Fill, AreNodes, IsProgram}
 use Rattle.template_tree.specs.Tree.{IsTree}
 use Rattle.template_tree.specs.PlainTree.{Label, Forest, PlainNode, PlainNodes, nodes, forest, forest_nodes}
-use Rattle.template_tree.specs.Slots.{count, depth, times, AllBelow, with_slots_from}
+use Rattle.template_tree.specs.Slots.{count, depth, first_slot, times, AllBelow, with_slots_from}
 use Rattle.template_tree.proofs.Edits.SameEdits.{taken}
 
 -- a list whose nodes after so many have the slots from a number on
@@ -173,6 +174,16 @@ once_numbered slot first (Forest.cons label inner rest) =
     (once_numbered slot (first + 1 + count inner) rest) (none_before slot (first + 1) inner) (none_after slot (first + 1) inner)
     (none_before slot (first + 1 + count inner) rest) (cases_lt slot (first + 1)) (cases_lt slot (first + 1 + count inner))
 
+-- a program has a first node
+not_empty : Fill program_sections [] → ⊥
+not_empty h =
+    let e : [] ≡ Sort.Main ∷ h.1 = h.2 ∙ ap (λ own. own ++ h.1) h.3 in cc
+
+-- the first node of a program stands in the slot from which they are drawn
+first_numbered : (first : ℕ) (items : Forest) → Fill program_sections (sorts items) → first_slot (with_slots_from first items) ≡ Some first
+first_numbered first Forest.nil h = absurd (not_empty h)
+first_numbered first (Forest.cons label inner rest) h = refl
+
 -- the tree that is built from a program within the limits is a tree
 pub built_is_tree : (list : PlainNodes) → IsProgram (forest list.items) → depth (forest list.items) ≤ deepest_path
     → count (forest list.items) ≤ most_slots → IsTree (built_tree list)
@@ -189,6 +200,7 @@ built_is_tree list program shallow few =
       drawn_few = omega (arith, few);
       drawn = below_numbered 0 (count items) items (omega arith);
       once = λ slot. once_numbered slot 0 items;
+      main = first_numbered 0 items program.listed;
       live = sym (count_numbered 0 items);
     }
 

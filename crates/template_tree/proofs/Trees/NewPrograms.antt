@@ -8,10 +8,10 @@ use Rattle.plcs_grammar.specs.declared.node_kind.Sort.{Sort}
 use Rattle.plcs_grammar.specs.Template.{program_sections, procedure_sections}
 use Rattle.template_tree.specs.PlainTree.{Forest, PlainNode, forest, roomless, with_spare}
 use Rattle.template_tree.specs.Program.{sorts, Fill, AreNodes, IsNode}
-use Rattle.template_tree.specs.Slots.{count, times, AllBelow}
+use Rattle.template_tree.specs.Slots.{count, first_slot, times, AllBelow}
 use Rattle.template_tree.specs.Tree.{IsTree}
 use Rattle.template_tree.specs.NewTree.{bare_label, new_items}
-use Rattle.template_tree.proofs.Room.Rooms.{sorts_roomless, count_roomless, depth_roomless, times_roomless, below_roomless, nodes_roomless}
+use Rattle.template_tree.proofs.Room.Rooms.{sorts_roomless, count_roomless, depth_roomless, first_roomless, times_roomless, below_roomless, nodes_roomless}
 
 -- a bare node before others, without room
 bare_first : (node : PlainNode) (slot : ℕ) (kind : NodeKind) → with_spare 0 node ≡ record { label = bare_label slot kind; inner = Forest.nil }
@@ -123,5 +123,6 @@ new_is_tree items spare e =
       drawn_few = omega arith;
       drawn = below_roomless 4 items (subst (AllBelow 4) (sym e) below_four);
       once = λ slot. rw (← times_roomless slot items, e) (once slot);
+      main = sym (first_roomless items) ∙ ap first_slot e;
       live = sym (sym (count_roomless items) ∙ ap count e);
     }
