@@ -12,7 +12,7 @@ use Rattle.plcs_grammar.specs.Builtin.{is_builtin_name}
 use Rattle.plcs_grammar.specs.PlainPhrase.{PlainExpr, PlainExprs, PlainPhrase, PlainVarRef}
 use Rattle.template_tree.specs.Place.{place_at}
 use Rattle.template_tree.specs.PlainTree.{Forest, Label}
-use Rattle.plcs_code.specs.Gen.{Gen, heading_entries}
+use Rattle.plcs_code.specs.Gen.{Gen, headings_by_name}
 use Rattle.plcs_code.specs.InstrText.{instr_text}
 use Rattle.plcs_code.specs.Pieces.{suspension}
 use Rattle.plcs_code.specs.PlainInstr.{PlainInstr}
@@ -128,7 +128,7 @@ call_is_laid :
 call_is_laid = simp gets
 
 -- p is entered at address 6
-p_is_entered : heading_entries no_marks items_of_p 0 call_p ≡ (codes "p", record { address = 6; slot = 3 }) ∷ []
+p_is_entered : headings_by_name no_marks items_of_p 0 call_p ≡ (codes "p", record { address = 6; slot = record { 0 = 3 } }) ∷ []
 unfolding is_builtin_name
 p_is_entered = simp gets
 
@@ -190,6 +190,6 @@ two_headings =
     (leaf (filled 4 Template.Proc (Some (PlainPhrase.procedure_name (codes "p")) ∷ [])) Forest.nil))
 
 -- the first one is entered
-first_heading_counts : get (Gen no_marks no_items two_headings).headings (codes "p") ≡ Some record { address = 4; slot = 3 }
+first_heading_counts : get (Gen no_marks no_items two_headings).headings (codes "p") ≡ Some record { address = 4; slot = record { 0 = 3 } }
 unfolding is_builtin_name
 first_heading_counts = simp gets

@@ -5,10 +5,15 @@ use Rattle.std.specs.List.{list_any}
 use Rattle.std.proofs.lemmas.List.{append-nil, take_more}
 use Rattle.plcs_base.specs.PlainCounts.{PlainCounts}
 use Rattle.plcs_base.specs.declared.declared.Declared.{Declared}
+use Rattle.plcs_base.specs.Mark.{MarkMap}
+use Rattle.plcs_grammar.specs.declared.node_kind.NodeKind.{NodeKind}
+use Rattle.plcs_grammar.specs.declared.template.Template.{Template}
+use Rattle.plcs_grammar.specs.PlainPhrase.{PlainPhrase}
 use Rattle.template_tree.specs.Environment.{item_named}
-use Rattle.plcs_code.specs.Pieces.{cell_instr, new_parameter, parameter_instr, parameters_instrs, piece_at}
+use Rattle.template_tree.specs.PlainTree.{Label}
+use Rattle.plcs_code.specs.Pieces.{cell_instr, kind_pieces, new_parameter, own_pieces, parameter_instr, parameters_instrs, piece_at, suspension, template_pieces}
 use Rattle.plcs_code.specs.PlainInstr.{PlainInstr}
-use Rattle.plcs_code.specs.Private.LaysAll.{LaysAll}
+use Rattle.plcs_code.specs.Private.LaysAll.{LaysAll, lays_nothing}
 use Rattle.plcs_code.proofs.Laying.{lays_append, lays_same}
 
 -- a piece that goes on is its beginning, and the code behind it
@@ -23,6 +28,45 @@ pub laid_piece : {Out : Type 0} {lays : Out → PlainCounts → PlainInstr → O
     → LaysAll lays a u (piece_at n point stop []) b v → LaysAll lays b v code c w → LaysAll lays a u (piece_at slot point stop code) c w
 laid_piece n slot point stop code same is begun more =
     lays_same (goes_on slot point stop code is) (lays_append (lays_same (ap (λ s. piece_at s point stop []) same) begun) more)
+
+-- nothing is laid where the code is that of an equal value that has none
+pub laid_nothing : {X Out : Type 0} {lays : Out → PlainCounts → PlainInstr → Out → PlainCounts → Type 0} {a : Out} {u : PlainCounts}
+    (code : X → List PlainInstr) (x y : X) → x ≡ y → code y ≡ [] → LaysAll lays a u (code x) a u
+laid_nothing code x y is none = lays_same (sym (ap code is ∙ none)) lays_nothing
+
+-- what stands behind the nodes inside a node doesn't depend on the items of a procedure
+template_behind : (slot : ℕ) (all one : Option PlainInstr) (parts : List (Option PlainPhrase)) (items others : List Declared) (template : Template)
+    → (template_pieces slot all one parts items template).behind ≡ (template_pieces slot all one parts others template).behind
+template_behind slot all one parts items others Template.Fixed = refl
+template_behind slot all one parts items others Template.Bit = refl
+template_behind slot all one parts items others Template.Char = refl
+template_behind slot all one parts items others Template.If = refl
+template_behind slot all one parts items others Template.IfElse = refl
+template_behind slot all one parts items others Template.While = refl
+template_behind slot all one parts items others Template.For = refl
+template_behind slot all one parts items others Template.Group = refl
+template_behind slot all one parts items others Template.Get = refl
+template_behind slot all one parts items others Template.Put = refl
+template_behind slot all one parts items others Template.PutSkip = refl
+template_behind slot all one parts items others Template.Call = refl
+template_behind slot all one parts items others Template.Return = refl
+template_behind slot all one parts items others Template.Comment = refl
+template_behind slot all one parts items others Template.Proc = refl
+template_behind slot all one parts items others Template.ProcP = refl
+
+kind_behind : (slot : ℕ) (all one : Option PlainInstr) (parts : List (Option PlainPhrase)) (items others : List Declared) (kind : NodeKind)
+    → (kind_pieces slot all one parts items kind).behind ≡ (kind_pieces slot all one parts others kind).behind
+kind_behind slot all one parts items others NodeKind.DeclarationHole = refl
+kind_behind slot all one parts items others NodeKind.StatementHole = refl
+kind_behind slot all one parts items others NodeKind.ProcedureHole = refl
+kind_behind slot all one parts items others NodeKind.Main = refl
+kind_behind slot all one parts items others NodeKind.Assign = refl
+kind_behind slot all one parts items others (NodeKind.Filled template) = template_behind slot all one parts items others template
+
+pub own_behind : (marks : MarkMap) (items others : List Declared) (label : Label)
+    → (own_pieces marks items label).behind ≡ (own_pieces marks others label).behind
+own_behind marks items others label =
+    kind_behind label.slot (suspension marks label.slot label.parts) (suspension marks label.slot (take 1 label.parts)) label.parts items others label.kind
 
 -- ---- cells
 

@@ -1,10 +1,105 @@
 -- The laws of code.
-use Rattle.std.specs.Prelude.{◌≡◌, length, map}
+use Rattle.std.specs.Prelude.{◌≡◌, ◌↔◌, ℕ, ◌+◌, ◌≤◌, ℤ, ◌+ℤ◌, pos, Bool, false, true, IsSome, length, List, map, take, drop, Option, None, Some, is_some, option_and_then, slice_get}
+use Rattle.std.specs.FinMap.{get}
 use Rattle.plcs_base.specs.Mark.{MarkMap}
 use Rattle.plcs_base.specs.Scope.{ItemMap}
-use Rattle.template_tree.specs.PlainTree.{Forest}
-use Rattle.plcs_code.specs.Gen.{node_codes, node_lengths}
+use Rattle.template_tree.specs.Mention.{phrase_at}
+use Rattle.template_tree.specs.Place.{Exists, PlainPlace, Site, site}
+use Rattle.template_tree.specs.PlainTree.{Forest, Label}
+use Rattle.template_tree.specs.Program.{IsProgram}
+use Rattle.template_tree.specs.Slots.{times}
+use Rattle.plcs_code.specs.Gen.{Gen, code_around, has_code, node_codes, node_lengths, own_instrs, own_length}
+use Rattle.plcs_code.specs.PlainInstr.{PlainInstr, place_of}
+
+-- ---- lengths
 
 -- the lengths of codes are told without them: jumps don't change how long a code is
 abbrev pub LengthsAreTold : Type 0
 LengthsAreTold = (marks : MarkMap) (items : ItemMap) (nodes : Forest) → map length (node_codes marks items nodes) ≡ node_lengths marks items nodes
+
+-- the own code of a node is as long, whatever the lengths of the codes inside it
+abbrev pub OwnLengthsStay : Type 0
+OwnLengthsStay =
+    (marks : MarkMap) (items : ItemMap) (label : Label) (lengths : List ℕ)
+    → length (own_instrs marks items label lengths) ≡ own_length marks items label
+
+-- ---- jumps
+
+-- how far an instruction jumps, if it may jump
+abbrev pub jump_of : PlainInstr → Option ℤ
+jump_of (PlainInstr.place at) = None
+jump_of PlainInstr.suspend_placeholder = None
+jump_of PlainInstr.suspend_marked = None
+jump_of (PlainInstr.push_number z) = None
+jump_of (PlainInstr.push_bit b) = None
+jump_of (PlainInstr.push_text text) = None
+jump_of (PlainInstr.load name) = None
+jump_of (PlainInstr.load_at name) = None
+jump_of (PlainInstr.store name) = None
+jump_of (PlainInstr.store_at name) = None
+jump_of (PlainInstr.unary op) = None
+jump_of (PlainInstr.binary op) = None
+jump_of (PlainInstr.builtin function n) = None
+jump_of (PlainInstr.jump d) = Some d
+jump_of (PlainInstr.jump_false d) = Some d
+jump_of (PlainInstr.for_enter slot name d) = Some d
+jump_of (PlainInstr.for_next slot name d) = Some d
+jump_of (PlainInstr.get name) = None
+jump_of (PlainInstr.get_at name) = None
+jump_of (PlainInstr.put n) = None
+jump_of (PlainInstr.put_skip n) = None
+jump_of (PlainInstr.reference name) = None
+jump_of (PlainInstr.reference_at name) = None
+jump_of PlainInstr.dummy = None
+jump_of (PlainInstr.call name n) = None
+jump_of (PlainInstr.parameter name ty) = None
+jump_of (PlainInstr.cell name ty n) = None
+jump_of PlainInstr.leave = None
+
+-- each jump of the code goes to an address in it, or to the one behind it
+abbrev pub JumpsStayIn : List PlainInstr → Type 0
+JumpsStayIn code =
+    (address : ℕ) (d : ℤ) → option_and_then jump_of (slice_get code address) ≡ Some d
+    → (target : ℕ) × (pos target ≡ pos (address + 1) +ℤ d) × (target ≤ length code)
+
+-- the jumps of a program's code stay inside it
+abbrev pub JumpsStayInside : Type 0
+JumpsStayInside = (marks : MarkMap) (items : ItemMap) (program : Forest) → JumpsStayIn (Gen marks items program).instrs
+
+-- ---- spans
+
+-- the instructions from an address on are the code, if it isn't longer than they are
+abbrev pub HasCodeAt : List PlainInstr → (start : ℕ) → List PlainInstr → Type 0
+HasCodeAt instrs start code = take (length code) (drop start instrs) ≡ code
+
+-- the code of the site of a slot stands in that of the program where the span of the slot says
+abbrev pub SpanHolds : MarkMap → ItemMap → (program : Forest) → (slot : ℕ) → Site → Type 0
+SpanHolds marks items program slot site =
+    let whole = Gen marks items program in
+    let code = code_around marks items site.label (node_codes marks items site.inner) in
+    (start : ℕ) × (get whole.spans slot ≡ Some (start, length code)) × HasCodeAt whole.instrs start code
+
+-- in a program in which each slot stands but once, the slot of each node that has code has the span of that code, and no
+-- other slot has one
+pub record SpansHoldCode : Type 0 where
+  pub held : (marks : MarkMap) (items : ItemMap) (program : Forest) (slot : ℕ) (found : Site)
+      → ((s : ℕ) → times s program ≤ 1) → site program slot ≡ Some found → has_code found.label.kind ≡ true
+      → SpanHolds marks items program slot found
+  pub codeless : (marks : MarkMap) (items : ItemMap) (program : Forest) (slot : ℕ) (found : Site)
+      → ((s : ℕ) → times s program ≤ 1) → site program slot ≡ Some found → has_code found.label.kind ≡ false
+      → get (Gen marks items program).spans slot ≡ None
+  pub absent : (marks : MarkMap) (items : ItemMap) (program : Forest) (slot : ℕ)
+      → site program slot ≡ None → get (Gen marks items program).spans slot ≡ None
+
+-- ---- places
+
+-- whether the marks have one of the first phrase in the slot
+abbrev pub is_marked_first : MarkMap → (slot : ℕ) → Bool
+is_marked_first marks slot = is_some (get marks (phrase_at slot 0))
+
+-- in a program in which each slot stands but once, a place exists, by its marks, exactly where it has an address
+abbrev pub PlacesHaveAddresses : Type 0
+PlacesHaveAddresses =
+    (marks : MarkMap) (items : ItemMap) (program : Forest) → IsProgram program → ((s : ℕ) → times s program ≤ 1)
+    → (place : PlainPlace)
+    → Exists (is_marked_first marks) program place ↔ IsSome (get (Gen marks items program).addresses (place_of place))

@@ -100,8 +100,3 @@ get_targets other = []
 abbrev pub counter_name : Option PlainPhrase → Option (List ℕ)
 counter_name (Some (PlainPhrase.variable_name name)) = Some name
 counter_name other = None
-
--- the instruction for the variable with which a loop counts, if it is there
-abbrev pub counter_instrs : (make : List ℕ → PlainInstr) → Option (List ℕ) → List PlainInstr
-counter_instrs make None = []
-counter_instrs make (Some name) = make name ∷ []

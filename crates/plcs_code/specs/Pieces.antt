@@ -1,7 +1,8 @@
 -- The table of code: what the code of a node has beside that of the nodes inside it.
-use Rattle.std.specs.Prelude.{ℕ, ◌+◌, ◌==◌, pos, neg_ℤ, Bool, false, not, ◌||◌, if◌then◌else◌, bytes_eq, List, [], ◌∷◌, ◌++◌, length, sum, take, flat_map, Option, Some, None, is_some, unwrap_or}
+use Rattle.std.specs.Prelude.{ℕ, ◌+◌, ◌==◌, pos, neg_ℤ, Bool, true, false, not, ◌||◌, if◌then◌else◌, bytes_eq, List, [], ◌∷◌, ◌++◌, length, sum, take, flat_map, Option, Some, None, is_some, option_map, unwrap_or}
 use Rattle.std.specs.FinMap.{get}
 use Rattle.std.specs.List.{list_any}
+use Rattle.std.specs.Option.{option_to_list}
 use Rattle.plcs_base.specs.Mark.{MarkMap}
 use Rattle.plcs_base.specs.Scope.{ItemMap}
 use Rattle.plcs_base.specs.declared.declared.Declared.{Declared}
@@ -14,7 +15,7 @@ use Rattle.template_tree.specs.Part.{part_at}
 use Rattle.template_tree.specs.Place.{place_at}
 use Rattle.template_tree.specs.PlainTree.{Label}
 use Rattle.template_tree.specs.ProgramMaps.{items_in}
-use Rattle.plcs_code.specs.ExprCode.{part_instrs, items_instrs, listed_exprs, listed_instrs, get_targets, counter_name, counter_instrs}
+use Rattle.plcs_code.specs.ExprCode.{part_instrs, items_instrs, listed_exprs, listed_instrs, get_targets, counter_name}
 use Rattle.plcs_code.specs.PlainInstr.{PlainInstr}
 
 -- ---- where a phrase is missing or marked
@@ -42,44 +43,32 @@ unless_stopped (Some stop) code = stop ∷ []
 
 -- ---- the pieces
 
--- the pieces of a node's own code: before the code of what stands inside it, behind the first node there, and behind
--- all
+-- the pieces of a node's own code, which don't depend on what stands inside it: before the code of that, and behind it
 pub record CodePieces : Type 0 where
   pub before : List PlainInstr
-  pub between : List PlainInstr
   pub behind : List PlainInstr
 
--- the pieces of a node that has code in one place alone
+-- the pieces of a node that has nothing of its own behind what stands inside it
 abbrev pub one_piece : List PlainInstr → CodePieces
-one_piece code = record { before = code; between = []; behind = [] }
+one_piece code = record { before = code; behind = [] }
 
 -- a piece that begins at a point of a slot
 abbrev pub piece_at : (slot point : ℕ) → Option PlainInstr → List PlainInstr → List PlainInstr
 piece_at slot point stop code = PlainInstr.place (place_at slot point) ∷ unless_stopped stop code
 
+-- the piece of a statement that runs the code of its first part
+abbrev pub first_piece : (slot : ℕ) → Option PlainInstr → List (Option PlainPhrase) → List PlainInstr
+first_piece slot stop parts = piece_at slot 0 stop (part_instrs (part_at parts 0))
+
+-- the piece before a loop that counts: its first value, its limit and its step
+abbrev pub enter_piece : (slot : ℕ) → Option PlainInstr → List (Option PlainPhrase) → List PlainInstr
+enter_piece slot stop parts =
+    piece_at slot 0 stop (part_instrs (part_at parts 1) ++ (part_instrs (part_at parts 2) ++ part_instrs (part_at parts 3)))
+
 -- the piece of a GET
 abbrev pub get_piece : (slot : ℕ) → Option PlainInstr → Option PlainPhrase → List PlainInstr
 get_piece slot None phrase = items_instrs slot 0 (get_targets phrase)
 get_piece slot (Some stop) phrase = PlainInstr.place (place_at slot 0) ∷ stop ∷ []
-
--- the piece of a condition in the first part, which jumps so far ahead where it is false
-abbrev pub test_piece : (slot : ℕ) → Option PlainInstr → List (Option PlainPhrase) → (ahead : ℕ) → List PlainInstr
-test_piece slot stop parts ahead =
-    piece_at slot 0 stop (part_instrs (part_at parts 0) ++ (PlainInstr.jump_false (pos ahead) ∷ []))
-
--- the piece that enters a loop that counts, or jumps so far ahead
-abbrev pub enter_piece : (slot : ℕ) → Option PlainInstr → List (Option PlainPhrase) → (ahead : ℕ) → List PlainInstr
-enter_piece slot stop parts ahead =
-    piece_at slot 0 stop
-    (part_instrs (part_at parts 1)
-    ++ (part_instrs (part_at parts 2)
-    ++ (part_instrs (part_at parts 3)
-    ++ counter_instrs (λ name. PlainInstr.for_enter slot name (pos ahead)) (counter_name (part_at parts 0)))))
-
--- the piece of the next iteration of a loop that counts, which jumps so far back
-abbrev pub iteration_piece : (slot : ℕ) → Option PlainInstr → List (Option PlainPhrase) → (back : ℕ) → List PlainInstr
-iteration_piece slot stop parts back =
-    piece_at slot 1 stop (counter_instrs (λ name. PlainInstr.for_next slot name (neg_ℤ (pos back))) (counter_name (part_at parts 0)))
 
 -- ---- procedures
 
@@ -109,65 +98,140 @@ abbrev pub procedure_pieces : (slot : ℕ) → List Declared → (parameters : L
 procedure_pieces slot items parameters =
     record {
       before = parameters_instrs items [] parameters ++ flat_map (cell_instr parameters) items;
-      between = [];
       behind = PlainInstr.place (place_at slot 1) ∷ PlainInstr.leave ∷ [];
     }
 
--- ---- the table
+-- ---- the table of pieces
 
--- the pieces of a node of the template in a slot, with what stops a run that needs all its parts, or the first one,
--- where the first node inside it has code of one length, and the others together of another
-abbrev pub template_pieces : (slot : ℕ) (all one : Option PlainInstr) (parts : List (Option PlainPhrase)) → List Declared → (first others : ℕ) → Template → CodePieces
-template_pieces slot all one parts items first others Template.Fixed = one_piece []
-template_pieces slot all one parts items first others Template.Bit = one_piece []
-template_pieces slot all one parts items first others Template.Char = one_piece []
-template_pieces slot all one parts items first others Template.If =
-    one_piece (test_piece slot all parts (first + others))
-template_pieces slot all one parts items first others Template.IfElse =
-    record {
-      before = test_piece slot all parts (first + 1);
-      between = PlainInstr.jump (pos others) ∷ [];
-      behind = [];
-    }
-template_pieces slot all one parts items first others Template.While =
-    let test = test_piece slot all parts (first + others + 1) in
-    record {
-      before = test;
-      between = [];
-      behind = PlainInstr.jump (neg_ℤ (pos (length test + (first + others) + 1))) ∷ [];
-    }
-template_pieces slot all one parts items first others Template.For =
-    record {
-      before = enter_piece slot all parts (first + others + 2);
-      between = [];
-      behind = iteration_piece slot one parts (first + others + 2);
-    }
-template_pieces slot all one parts items first others Template.Group = one_piece []
-template_pieces slot all one parts items first others Template.Get = one_piece (get_piece slot all (part_at parts 0))
-template_pieces slot all one parts items first others Template.Put =
+-- the pieces of a node of the template in a slot, with what stops a run that needs all its parts, or the first one
+abbrev pub template_pieces : (slot : ℕ) (all one : Option PlainInstr) (parts : List (Option PlainPhrase)) → List Declared → Template → CodePieces
+template_pieces slot all one parts items Template.Fixed = one_piece []
+template_pieces slot all one parts items Template.Bit = one_piece []
+template_pieces slot all one parts items Template.Char = one_piece []
+template_pieces slot all one parts items Template.If = one_piece (first_piece slot all parts)
+template_pieces slot all one parts items Template.IfElse = one_piece (first_piece slot all parts)
+template_pieces slot all one parts items Template.While = one_piece (first_piece slot all parts)
+template_pieces slot all one parts items Template.For =
+    record { before = enter_piece slot all parts; behind = piece_at slot 1 one [] }
+template_pieces slot all one parts items Template.Group = one_piece []
+template_pieces slot all one parts items Template.Get = one_piece (get_piece slot all (part_at parts 0))
+template_pieces slot all one parts items Template.Put =
     one_piece (piece_at slot 0 all (listed_instrs PlainInstr.put (listed_exprs (part_at parts 0))))
-template_pieces slot all one parts items first others Template.PutSkip =
+template_pieces slot all one parts items Template.PutSkip =
     one_piece (piece_at slot 0 all (listed_instrs PlainInstr.put_skip (listed_exprs (part_at parts 0))))
-template_pieces slot all one parts items first others Template.Call =
-    one_piece (piece_at slot 0 all (part_instrs (part_at parts 0)))
-template_pieces slot all one parts items first others Template.Return =
-    one_piece (piece_at slot 0 None (PlainInstr.leave ∷ []))
-template_pieces slot all one parts items first others Template.Comment = one_piece []
-template_pieces slot all one parts items first others Template.Proc = procedure_pieces slot items []
-template_pieces slot all one parts items first others Template.ProcP =
+template_pieces slot all one parts items Template.Call = one_piece (first_piece slot all parts)
+template_pieces slot all one parts items Template.Return = one_piece (piece_at slot 0 None (PlainInstr.leave ∷ []))
+template_pieces slot all one parts items Template.Comment = one_piece []
+template_pieces slot all one parts items Template.Proc = procedure_pieces slot items []
+template_pieces slot all one parts items Template.ProcP =
     procedure_pieces slot items (unwrap_or (parameters_given parts) [])
 
 -- the pieces of a node of the kind, as those of a template are told
-abbrev pub kind_pieces : (slot : ℕ) (all one : Option PlainInstr) (parts : List (Option PlainPhrase)) → List Declared → (first others : ℕ) → NodeKind → CodePieces
-kind_pieces slot all one parts items first others NodeKind.DeclarationHole = one_piece []
-kind_pieces slot all one parts items first others NodeKind.StatementHole =
+abbrev pub kind_pieces : (slot : ℕ) (all one : Option PlainInstr) (parts : List (Option PlainPhrase)) → List Declared → NodeKind → CodePieces
+kind_pieces slot all one parts items NodeKind.DeclarationHole = one_piece []
+kind_pieces slot all one parts items NodeKind.StatementHole =
     one_piece (piece_at slot 0 None (PlainInstr.suspend_placeholder ∷ []))
-kind_pieces slot all one parts items first others NodeKind.ProcedureHole = one_piece []
-kind_pieces slot all one parts items first others NodeKind.Main = procedure_pieces slot items []
-kind_pieces slot all one parts items first others NodeKind.Assign =
-    one_piece (piece_at slot 0 all (part_instrs (part_at parts 0)))
-kind_pieces slot all one parts items first others (NodeKind.Filled template) =
-    template_pieces slot all one parts items first others template
+kind_pieces slot all one parts items NodeKind.ProcedureHole = one_piece []
+kind_pieces slot all one parts items NodeKind.Main = procedure_pieces slot items []
+kind_pieces slot all one parts items NodeKind.Assign = one_piece (first_piece slot all parts)
+kind_pieces slot all one parts items (NodeKind.Filled template) = template_pieces slot all one parts items template
+
+-- the pieces of a node, where main or a procedure has these effective items
+abbrev pub own_pieces : MarkMap → List Declared → Label → CodePieces
+own_pieces marks items label =
+    kind_pieces label.slot (suspension marks label.slot label.parts) (suspension marks label.slot (take 1 label.parts))
+    label.parts items label.kind
+
+-- ---- the jumps
+
+-- the jumps of a node's own code, each one instruction or none: ahead, before the code of what stands inside it; behind
+-- the first node there; and back, behind all
+pub record CodeJumps : Type 0 where
+  pub ahead : Option PlainInstr
+  pub between : Option PlainInstr
+  pub back : Option PlainInstr
+
+-- the jumps of a node that has none
+abbrev pub no_jumps : CodeJumps
+no_jumps = record { ahead = None; between = None; back = None }
+
+-- a jump, but none where the piece that needs it is stopped
+abbrev pub jump_unless : (stopped : Bool) → Option PlainInstr → Option PlainInstr
+jump_unless true jump = None
+jump_unless false jump = jump
+
+-- the jump of a condition, which goes so far ahead where it is false
+abbrev pub test_jump : (stopped : Bool) (ahead : ℕ) → Option PlainInstr
+test_jump stopped ahead = jump_unless stopped (Some (PlainInstr.jump_false (pos ahead)))
+
+-- the instruction that enters a loop that counts with a variable, or jumps so far ahead
+abbrev pub enter_jump : (slot : ℕ) (counter : Option (List ℕ)) (stopped : Bool) (ahead : ℕ) → Option PlainInstr
+enter_jump slot counter stopped ahead =
+    jump_unless stopped (option_map (λ name. PlainInstr.for_enter slot name (pos ahead)) counter)
+
+-- the instruction for the next iteration of a loop that counts with a variable, which jumps so far back
+abbrev pub iteration_jump : (slot : ℕ) (counter : Option (List ℕ)) (stopped : Bool) (back : ℕ) → Option PlainInstr
+iteration_jump slot counter stopped back =
+    jump_unless stopped (option_map (λ name. PlainInstr.for_next slot name (neg_ℤ (pos back))) counter)
+
+-- the jump that goes so far back
+abbrev pub back_jump : (back : ℕ) → Option PlainInstr
+back_jump back = Some (PlainInstr.jump (neg_ℤ (pos back)))
+
+-- ---- the table of jumps
+
+-- the jumps of a node of the template in a slot, which counts with the variable, if it is there; where the piece that needs
+-- all its parts is stopped or not, and the one that needs the first; where so many instructions stand before what is
+-- inside, of which the first node has code of one length, and the others together of another
+abbrev pub template_jumps : (slot : ℕ) (counter : Option (List ℕ)) (all one : Bool) (before first others : ℕ) → Template → CodeJumps
+template_jumps slot counter all one before first others Template.Fixed = no_jumps
+template_jumps slot counter all one before first others Template.Bit = no_jumps
+template_jumps slot counter all one before first others Template.Char = no_jumps
+template_jumps slot counter all one before first others Template.If =
+    record { ahead = test_jump all (first + others); between = None; back = None }
+template_jumps slot counter all one before first others Template.IfElse =
+    record { ahead = test_jump all (first + 1); between = Some (PlainInstr.jump (pos others)); back = None }
+template_jumps slot counter all one before first others Template.While =
+    let test = test_jump all (first + others + 1) in
+    record {
+      ahead = test;
+      between = None;
+      back = back_jump (before + length (option_to_list test) + (first + others) + 1);
+    }
+template_jumps slot counter all one before first others Template.For =
+    record {
+      ahead = enter_jump slot counter all (first + others + 2);
+      between = None;
+      back = iteration_jump slot counter one (first + others + 2);
+    }
+template_jumps slot counter all one before first others Template.Group = no_jumps
+template_jumps slot counter all one before first others Template.Get = no_jumps
+template_jumps slot counter all one before first others Template.Put = no_jumps
+template_jumps slot counter all one before first others Template.PutSkip = no_jumps
+template_jumps slot counter all one before first others Template.Call = no_jumps
+template_jumps slot counter all one before first others Template.Return = no_jumps
+template_jumps slot counter all one before first others Template.Comment = no_jumps
+template_jumps slot counter all one before first others Template.Proc = no_jumps
+template_jumps slot counter all one before first others Template.ProcP = no_jumps
+
+-- the jumps of a node of the kind, as those of a template are told
+abbrev pub kind_jumps : (slot : ℕ) (counter : Option (List ℕ)) (all one : Bool) (before first others : ℕ) → NodeKind → CodeJumps
+kind_jumps slot counter all one before first others NodeKind.DeclarationHole = no_jumps
+kind_jumps slot counter all one before first others NodeKind.StatementHole = no_jumps
+kind_jumps slot counter all one before first others NodeKind.ProcedureHole = no_jumps
+kind_jumps slot counter all one before first others NodeKind.Main = no_jumps
+kind_jumps slot counter all one before first others NodeKind.Assign = no_jumps
+kind_jumps slot counter all one before first others (NodeKind.Filled template) =
+    template_jumps slot counter all one before first others template
+
+-- the jumps of a node, before what is inside of which so many instructions stand, where its first node has code of one
+-- length, and the others together of another
+abbrev pub own_jumps : MarkMap → Label → (before first others : ℕ) → CodeJumps
+own_jumps marks label before first others =
+    kind_jumps label.slot (counter_name (part_at label.parts 0)) (is_some (suspension marks label.slot label.parts))
+    (is_some (suspension marks label.slot (take 1 label.parts))) before first others label.kind
+
+-- ---- by the items of a program, and by the lengths of the codes inside
 
 -- the length of the first code
 abbrev pub first_length : List ℕ → ℕ
@@ -179,13 +243,11 @@ abbrev pub other_lengths : List ℕ → ℕ
 other_lengths [] = 0
 other_lengths (n ∷ ns) = sum ns
 
--- the pieces of a node, where main or a procedure has these effective items
-abbrev pub own_pieces : MarkMap → List Declared → Label → (first others : ℕ) → CodePieces
-own_pieces marks items label first others =
-    kind_pieces label.slot (suspension marks label.slot label.parts) (suspension marks label.slot (take 1 label.parts))
-    label.parts items first others label.kind
+-- the pieces of a node
+abbrev pub pieces : MarkMap → ItemMap → Label → CodePieces
+pieces marks items label = own_pieces marks (items_in items label.slot) label
 
--- the pieces of a node, where the codes of the nodes inside it have these lengths
-abbrev pub pieces : MarkMap → ItemMap → Label → (lengths : List ℕ) → CodePieces
-pieces marks items label lengths =
-    own_pieces marks (items_in items label.slot) label (first_length lengths) (other_lengths lengths)
+-- the jumps of a node, where the codes of the nodes inside it have these lengths
+abbrev pub jumps : MarkMap → ItemMap → Label → (lengths : List ℕ) → CodeJumps
+jumps marks items label lengths =
+    own_jumps marks label (length (pieces marks items label).before) (first_length lengths) (other_lengths lengths)

@@ -4,4 +4,5 @@ pub mod InstrCode
 -- ---- code while it is laid
 pub mod LaysAll
 pub mod PlainDraft
+pub mod PlainJumps
 pub mod PutInstr

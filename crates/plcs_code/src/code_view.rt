@@ -36,8 +36,7 @@ pub trait CodeView<W: Work> {
 
     /// The slot of the effective heading that has the name, or `None` where none has it.
     fn procedure(&self, name: &Name) -> Option<Slot>
-        ensures { option_map (λ slot. slot.0) result ≡ option_map (λ entry. entry.slot) (get
-            (code self.now).headings name.now) };
+        ensures { result ≡ option_map (λ entry. entry.slot) (get (code self.now).headings name.now) };
 
     /// The address of the first instruction and the number of instructions of the code of what stands in
     /// the slot, inner nodes included, or `None` where the slot isn't live or has no code: where a

@@ -1,7 +1,6 @@
 //! What stands in a node's own code before that of the nodes inside it, laid.
-ghost use Rattle.std.specs.Prelude.{◌≡◌, ◌+◌, ◌<◌, ◌≤◌, ◌++◌, ◌∷◌, [], None, flat_map, length, option_map, unwrap_or};
+ghost use Rattle.std.specs.Prelude.{◌≡◌, ◌<◌, ◌++◌, ◌∷◌, [], None, flat_map, length, option_map, unwrap_or};
 ghost use Rattle.template_tree.specs.Environment.{parameters_given};
-ghost use Rattle.plcs_code.specs.BlockLimit.{most_instrs};
 ghost use Rattle.plcs_code.specs.Pieces.{cell_instr, own_pieces, parameters_instrs, piece_at, template_pieces};
 ghost use Rattle.plcs_code.specs.PlainInstr.{plain_instr};
 ghost use Rattle.plcs_code.specs.Private.LaysAll.{LaysAll};
@@ -9,29 +8,25 @@ ghost use Rattle.plcs_code.specs.Private.LaysAll.{LaysAll};
 use crate::instr::Instr;
 use crate::instr_out::InstrOut;
 use crate::lay_cells::{lay_cells, lay_parameters};
-use crate::lay_pieces::{lay_enter, lay_first, lay_get, lay_put, lay_test};
+use crate::lay_pieces::{lay_enter, lay_first, lay_get, lay_put};
 use crate::suspension::suspension;
 use plcs_base::{Declared, Marked, Name, Place, Point, Slot, Work};
 use plcs_grammar::{NodeKind, Template};
 use std::alloc::Global;
 use template_tree::{Node, parameters_given};
 
-/// Lays what stands in the own code of a node before that of the nodes inside it, of which the first has
-/// code of one length, and the others together of another.
+/// Lays what stands in the own code of a node before that of the nodes inside it, but for its jump.
 pub(crate) fn lay_before<W: Work, O: InstrOut<W>, M: Marked>(
     alloc: Global,
     node: &Node,
     marks: &M,
     items: &[Declared],
-    first: u32,
-    others: u32,
     out: &mut O,
     work: &mut W,
 )
     requires few { length node.now.label.parts < 256 }
-    requires short { first + others + 2 ≤ most_instrs }
     ensures { LaysAll O.lays out.old (W.counts work.old)
-        (own_pieces (M.marks marks.now) items.now node.now.label first others).before
+        (own_pieces (M.marks marks.now) items.now node.now.label).before
         out.new (W.counts work.new) }
 {
     let stop = suspension(node, marks);
@@ -42,7 +37,7 @@ pub(crate) fn lay_before<W: Work, O: InstrOut<W>, M: Marked>(
         NodeKind::Main => lay_items_of(items, &[], out, work),
         NodeKind::Assign => lay_first(alloc, node, stop, out, work),
         NodeKind::Filled(template) => {
-            lay_template(alloc, node, template, stop, items, first, others, out, work);
+            lay_template(alloc, node, template, stop, items, out, work);
         }
     }
 }
@@ -54,24 +49,21 @@ fn lay_template<W: Work, O: InstrOut<W>>(
     template: Template,
     stop: Option<Instr>,
     items: &[Declared],
-    first: u32,
-    others: u32,
     out: &mut O,
     work: &mut W,
 )
-    requires short { first + others + 2 ≤ most_instrs }
     ensures { LaysAll O.lays out.old (W.counts work.old)
-        (template_pieces node.now.label.slot (option_map plain_instr stop) None node.now.label.parts items.now first others template).before
+        (template_pieces node.now.label.slot (option_map plain_instr stop) None node.now.label.parts items.now template).before
         out.new (W.counts work.new) }
 {
     match template {
         Template::Fixed => {}
         Template::Bit => {}
         Template::Char => {}
-        Template::If => lay_test(alloc, node, stop, first + others, out, work),
-        Template::IfElse => lay_test(alloc, node, stop, first + 1, out, work),
-        Template::While => lay_test(alloc, node, stop, first + others + 1, out, work),
-        Template::For => lay_enter(alloc, node, stop, first + others + 2, out, work),
+        Template::If => lay_first(alloc, node, stop, out, work),
+        Template::IfElse => lay_first(alloc, node, stop, out, work),
+        Template::While => lay_first(alloc, node, stop, out, work),
+        Template::For => lay_enter(alloc, node, stop, out, work),
         Template::Group => {}
         Template::Get => lay_get(alloc, node, stop, out, work),
         Template::Put => lay_put(alloc, node, stop, false, out, work),

@@ -1,11 +1,10 @@
 //! The pieces of a statement's own code, laid.
-ghost use Rattle.std.specs.Prelude.{◌≡◌, ◌≤◌, ◌∷◌, ◌++◌, [], is_none, option_map, neg_ℤ, pos};
+ghost use Rattle.std.specs.Prelude.{◌≡◌, ◌∷◌, [], is_none, option_map};
 ghost use Rattle.plcs_grammar.specs.PlainPhrase.{plain_exprs};
 ghost use Rattle.template_tree.specs.Part.{part_at};
-ghost use Rattle.plcs_code.specs.BlockLimit.{most_instrs};
-ghost use Rattle.plcs_code.specs.ExprCode.{counter_instrs, counter_name, listed_exprs, listed_instrs, part_instrs};
-ghost use Rattle.plcs_code.specs.Pieces.{enter_piece, get_piece, piece_at, test_piece, iteration_piece};
-ghost use Rattle.plcs_code.specs.PlainInstr.{PlainInstr, plain_instr};
+ghost use Rattle.plcs_code.specs.ExprCode.{listed_exprs, listed_instrs, part_instrs};
+ghost use Rattle.plcs_code.specs.Pieces.{enter_piece, first_piece, get_piece, piece_at};
+ghost use Rattle.plcs_code.specs.PlainInstr.{plain_instr};
 ghost use Rattle.plcs_code.specs.Private.LaysAll.{LaysAll};
 ghost use Rattle.plcs_code.specs.Private.PutInstr.{put_instr};
 
@@ -14,8 +13,7 @@ use crate::instr_out::InstrOut;
 use crate::lay_expr::lay_exprs;
 use crate::lay_phrase::{lay_items, lay_phrase};
 use crate::limit::MOST_INSTRS;
-use crate::names::name_of;
-use crate::statement_parts::{counter_name, get_targets, listed_exprs};
+use crate::statement_parts::{get_targets, listed_exprs};
 use plcs_base::{Place, Point, Slot, Work};
 use plcs_grammar::Expr;
 use std::alloc::Global;
@@ -23,7 +21,7 @@ use template_tree::{Node, phrase_in};
 
 /// Begins a piece at a point of a slot, with what stops a run there, if anything does. The answer is
 /// whether the piece goes on.
-fn begin<W: Work, O: InstrOut<W>>(
+pub(crate) fn begin<W: Work, O: InstrOut<W>>(
     slot: Slot,
     point: u16,
     stop: Option<Instr>,
@@ -59,7 +57,7 @@ fn lay_part<W: Work, O: InstrOut<W>>(
     }
 }
 
-/// Lays a piece of the first part alone: that of an assignment or of a call.
+/// Lays a piece of the first part alone: that of an assignment, a condition or a call.
 pub(crate) fn lay_first<W: Work, O: InstrOut<W>>(
     alloc: Global,
     node: &Node,
@@ -67,107 +65,30 @@ pub(crate) fn lay_first<W: Work, O: InstrOut<W>>(
     out: &mut O,
     work: &mut W,
 )
-    ensures { LaysAll O.lays out.old (W.counts work.old) (piece_at node.now.label.slot 0
-        (option_map plain_instr stop) (part_instrs (part_at node.now.label.parts 0))) out.new (W.counts work.new) }
+    ensures { LaysAll O.lays out.old (W.counts work.old) (first_piece node.now.label.slot
+        (option_map plain_instr stop) node.now.label.parts) out.new (W.counts work.new) }
 {
     if begin(node.slot(), 0, stop, out, work) {
         lay_part(alloc, node, 0, out, work);
     }
 }
 
-/// Lays the piece of a condition, which jumps so far ahead where it is false.
-pub(crate) fn lay_test<W: Work, O: InstrOut<W>>(
-    alloc: Global,
-    node: &Node,
-    stop: Option<Instr>,
-    ahead: u32,
-    out: &mut O,
-    work: &mut W,
-)
-    requires few { ahead ≤ most_instrs }
-    ensures { LaysAll O.lays out.old (W.counts work.old) (test_piece node.now.label.slot
-        (option_map plain_instr stop) node.now.label.parts ahead) out.new (W.counts work.new) }
-{
-    if begin(node.slot(), 0, stop, out, work) {
-        lay_part(alloc, node, 0, out, work);
-        out.put(Instr::JumpFalse(ahead as i32), work);
-    }
-}
-
-/// Lays the piece that enters a loop that counts, or jumps so far ahead.
+/// Lays the piece before a loop that counts: its first value, its limit and its step.
 pub(crate) fn lay_enter<W: Work, O: InstrOut<W>>(
     alloc: Global,
     node: &Node,
     stop: Option<Instr>,
-    ahead: u32,
     out: &mut O,
     work: &mut W,
 )
-    requires few { ahead ≤ most_instrs }
     ensures { LaysAll O.lays out.old (W.counts work.old) (enter_piece node.now.label.slot
-        (option_map plain_instr stop) node.now.label.parts ahead) out.new (W.counts work.new) }
+        (option_map plain_instr stop) node.now.label.parts) out.new (W.counts work.new) }
 {
     if begin(node.slot(), 0, stop, out, work) {
         lay_part(alloc, node, 1, out, work);
         lay_part(alloc, node, 2, out, work);
         lay_part(alloc, node, 3, out, work);
-        put_enter(node, ahead, out, work);
     }
-}
-
-/// Lays the instruction that enters a loop with the variable in its first part.
-fn put_enter<W: Work, O: InstrOut<W>>(node: &Node, ahead: u32, out: &mut O, work: &mut W)
-    requires few { ahead ≤ most_instrs }
-    ensures { LaysAll O.lays out.old (W.counts work.old) (counter_instrs
-        (λ name. PlainInstr.for_enter node.now.label.slot name (pos ahead)) (counter_name
-        (part_at node.now.label.parts 0))) out.new (W.counts work.new) }
-{
-    if let Some(name) = counter_name(node) {
-        out.put(
-            Instr::ForEnter(node.slot(), name_of(name), ahead as i32),
-            work,
-        );
-    }
-}
-
-/// Lays the piece of the next iteration of a loop that counts, which jumps so far back.
-pub(crate) fn lay_iteration<W: Work, O: InstrOut<W>>(
-    node: &Node,
-    stop: Option<Instr>,
-    back: u32,
-    out: &mut O,
-    work: &mut W,
-)
-    requires few { back ≤ most_instrs }
-    ensures { LaysAll O.lays out.old (W.counts work.old) (iteration_piece node.now.label.slot
-        (option_map plain_instr stop) node.now.label.parts back) out.new (W.counts work.new) }
-{
-    if begin(node.slot(), 1, stop, out, work) {
-        put_iteration(node, back, out, work);
-    }
-}
-
-/// Lays the instruction of the next iteration of a loop with the variable in its first part.
-fn put_iteration<W: Work, O: InstrOut<W>>(node: &Node, back: u32, out: &mut O, work: &mut W)
-    requires few { back ≤ most_instrs }
-    ensures { LaysAll O.lays out.old (W.counts work.old) (counter_instrs
-        (λ name. PlainInstr.for_next node.now.label.slot name (neg_ℤ (pos back))) (counter_name
-        (part_at node.now.label.parts 0))) out.new (W.counts work.new) }
-{
-    if let Some(name) = counter_name(node) {
-        out.put(
-            Instr::ForNext(node.slot(), name_of(name), back_by(back)),
-            work,
-        );
-    }
-}
-
-/// The number of a jump back by so many instructions.
-fn back_by(back: u32) -> i32
-    requires few { back ≤ most_instrs }
-    ensures { result ≡ neg_ℤ (pos back) }
-{
-    -(back as i32)
 }
 
 /// Lays the piece of a GET.

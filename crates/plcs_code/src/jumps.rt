@@ -1,0 +1,194 @@
+//! The jumps of a node's own code, which depend on how long the codes inside it are.
+ghost use Rattle.std.specs.Prelude.{◌≡◌, ◌+◌, ◌<◌, ◌≤◌, None, length, option_map, neg_ℤ, pos};
+ghost use Rattle.std.specs.Option.{option_to_list};
+ghost use Rattle.template_tree.specs.Part.{part_at};
+ghost use Rattle.plcs_code.specs.BlockLimit.{most_instrs};
+ghost use Rattle.plcs_code.specs.ExprCode.{counter_name};
+ghost use Rattle.plcs_code.specs.Pieces.{back_jump, enter_jump, iteration_jump, no_jumps, own_jumps, template_jumps, test_jump};
+ghost use Rattle.plcs_code.specs.PlainInstr.{plain_instr};
+ghost use Rattle.plcs_code.specs.Private.LaysAll.{LaysAll};
+ghost use Rattle.plcs_code.specs.Private.PlainJumps.{plain_jumps};
+
+use crate::instr::Instr;
+use crate::instr_out::InstrOut;
+use crate::names::name_of;
+use crate::statement_parts::counter_name;
+use crate::suspension::{first_suspension, suspension};
+use plcs_base::{Marked, Work};
+use plcs_grammar::{NodeKind, Template};
+use template_tree::Node;
+
+/// The jumps of a node's own code, each one instruction or none.
+#[derive(Drop)]
+pub(crate) struct Jumps {
+    /// Before the code of what stands inside the node.
+    pub(crate) ahead: Option<Instr>,
+    /// Behind the code of the first node inside.
+    pub(crate) between: Option<Instr>,
+    /// Behind all.
+    pub(crate) back: Option<Instr>,
+}
+
+/// The jumps of a node, before what is inside of which so many instructions stand, where its first node has
+/// code of one length, and the others together of another.
+pub(crate) fn own_jumps<M: Marked>(
+    node: &Node,
+    marks: &M,
+    before: u32,
+    first: u32,
+    others: u32,
+) -> Jumps
+    requires few { length node.now.label.parts < 256 }
+    requires short { before + first + others + 2 ≤ most_instrs }
+    ensures { plain_jumps result ≡ own_jumps (M.marks marks.now) node.now.label before first others }
+{
+    let all = suspension(node, marks).is_some();
+    let one = first_suspension(node, marks).is_some();
+    match node.kind() {
+        NodeKind::DeclarationHole => no_jumps(),
+        NodeKind::StatementHole => no_jumps(),
+        NodeKind::ProcedureHole => no_jumps(),
+        NodeKind::Main => no_jumps(),
+        NodeKind::Assign => no_jumps(),
+        NodeKind::Filled(template) => {
+            template_jumps(node, template, all, one, before, first, others)
+        }
+    }
+}
+
+/// The jumps of a node that has none.
+fn no_jumps() -> Jumps
+    ensures { plain_jumps result ≡ no_jumps }
+{
+    Jumps {
+        ahead: None,
+        between: None,
+        back: None,
+    }
+}
+
+/// The jumps of a node of the template, where the piece that needs all its parts is stopped or not, and the
+/// one that needs the first.
+fn template_jumps(
+    node: &Node,
+    template: Template,
+    all: bool,
+    one: bool,
+    before: u32,
+    first: u32,
+    others: u32,
+) -> Jumps
+    requires short { before + first + others + 2 ≤ most_instrs }
+    ensures { plain_jumps result ≡ template_jumps node.now.label.slot (counter_name (part_at node.now.label.parts 0))
+        all one before first others template }
+{
+    match template {
+        Template::Fixed => no_jumps(),
+        Template::Bit => no_jumps(),
+        Template::Char => no_jumps(),
+        Template::If => Jumps {
+            ahead: test_jump(all, first + others),
+            between: None,
+            back: None,
+        },
+        Template::IfElse => Jumps {
+            ahead: test_jump(all, first + 1),
+            between: Some(Instr::Jump(others as i32)),
+            back: None,
+        },
+        Template::While => while_jumps(all, before, first + others),
+        Template::For => Jumps {
+            ahead: enter_jump(node, all, first + others + 2),
+            between: None,
+            back: iteration_jump(node, one, first + others + 2),
+        },
+        Template::Group => no_jumps(),
+        Template::Get => no_jumps(),
+        Template::Put => no_jumps(),
+        Template::PutSkip => no_jumps(),
+        Template::Call => no_jumps(),
+        Template::Return => no_jumps(),
+        Template::Comment => no_jumps(),
+        Template::Proc => no_jumps(),
+        Template::ProcP => no_jumps(),
+    }
+}
+
+/// The jumps of a While whose condition is stopped or not, before the body of which so many instructions
+/// stand, and which has a body of this length.
+fn while_jumps(stopped: bool, before: u32, inside: u32) -> Jumps
+    requires short { before + inside + 2 ≤ most_instrs }
+    ensures { plain_jumps result
+        ≡ record {
+          ahead = test_jump stopped (inside + 1);
+          between = None;
+          back = back_jump (before + length (option_to_list (test_jump stopped (inside + 1))) + inside + 1);
+        } }
+{
+    let test = u32::from(!stopped);
+    Jumps {
+        ahead: test_jump(stopped, inside + 1),
+        between: None,
+        back: Some(Instr::Jump(back_by(before + test + inside + 1))),
+    }
+}
+
+/// The jump of a condition, if it isn't stopped.
+fn test_jump(stopped: bool, ahead: u32) -> Option<Instr>
+    requires few { ahead ≤ most_instrs }
+    ensures { option_map plain_instr result ≡ test_jump stopped ahead }
+{
+    if stopped {
+        return None;
+    }
+    Some(Instr::JumpFalse(ahead as i32))
+}
+
+/// The instruction that enters a loop that counts, if its variable is there, and it isn't stopped.
+fn enter_jump(node: &Node, stopped: bool, ahead: u32) -> Option<Instr>
+    requires few { ahead ≤ most_instrs }
+    ensures { option_map plain_instr result ≡ enter_jump node.now.label.slot (counter_name
+        (part_at node.now.label.parts 0)) stopped ahead }
+{
+    if stopped {
+        return None;
+    }
+    let Some(name) = counter_name(node) else {
+        return None;
+    };
+    Some(Instr::ForEnter(node.slot(), name_of(name), ahead as i32))
+}
+
+/// The instruction for the next iteration of a loop that counts, if its variable is there, and it isn't
+/// stopped.
+fn iteration_jump(node: &Node, stopped: bool, back: u32) -> Option<Instr>
+    requires few { back ≤ most_instrs }
+    ensures { option_map plain_instr result ≡ iteration_jump node.now.label.slot (counter_name
+        (part_at node.now.label.parts 0)) stopped back }
+{
+    if stopped {
+        return None;
+    }
+    let Some(name) = counter_name(node) else {
+        return None;
+    };
+    Some(Instr::ForNext(node.slot(), name_of(name), back_by(back)))
+}
+
+/// The number of a jump back by so many instructions.
+fn back_by(back: u32) -> i32
+    requires few { back ≤ most_instrs }
+    ensures { result ≡ neg_ℤ (pos back) }
+{
+    -(back as i32)
+}
+
+/// Lays a jump, if there is one.
+pub(crate) fn lay_jump<W: Work, O: InstrOut<W>>(jump: Option<Instr>, out: &mut O, work: &mut W)
+    ensures { LaysAll O.lays out.old (W.counts work.old) (option_to_list (option_map plain_instr jump))
+        out.new (W.counts work.new) }
+{
+    if let Some(jump) = jump {
+        out.put(jump, work);
+    }
+}
