@@ -81,9 +81,14 @@ value_at frames location = then_gives (if_there (cell_at frames location)) value
 -- the value as a cell of the type keeps it, if it is of its kind: of a text as many first bytes as the type has
 abbrev pub kept_value : ItemType → Value → Option Value
 kept_value ItemType.Fixed (Value.Fixed z) = Some (Value.Fixed z)
+kept_value ItemType.Fixed (Value.Bit b) = None
+kept_value ItemType.Fixed (Value.Text x) = None
+kept_value ItemType.Bit (Value.Fixed z) = None
 kept_value ItemType.Bit (Value.Bit b) = Some (Value.Bit b)
+kept_value ItemType.Bit (Value.Text x) = None
+kept_value (ItemType.Text n) (Value.Fixed z) = None
+kept_value (ItemType.Text n) (Value.Bit b) = None
 kept_value (ItemType.Text n) (Value.Text x) = Some (Value.Text (take n x))
-kept_value ty value = None
 
 -- the value as the cell at a location keeps it
 abbrev pub kept_at : List Frame → Location → Value → Outcome Value

@@ -25,13 +25,31 @@ use Rattle.plcs_store.specs.Limit.{most_frames}
 
 -- whether a place at which a template stands is that of a CALL which waits for what it called
 abbrev pub waits_in_template : Template → (point : ℕ) → Bool
+waits_in_template Template.Fixed point = false
+waits_in_template Template.Bit point = false
+waits_in_template Template.Char point = false
+waits_in_template Template.If point = false
+waits_in_template Template.IfElse point = false
+waits_in_template Template.While point = false
+waits_in_template Template.For point = false
+waits_in_template Template.Group point = false
+waits_in_template Template.Get point = false
+waits_in_template Template.Put point = false
+waits_in_template Template.PutSkip point = false
 waits_in_template Template.Call point = point == 1
-waits_in_template other point = false
+waits_in_template Template.Return point = false
+waits_in_template Template.Comment point = false
+waits_in_template Template.Proc point = false
+waits_in_template Template.ProcP point = false
 
 -- whether a place at which a node of the kind stands is that of a CALL which waits for what it called
 abbrev pub is_waiting_place : NodeKind → (point : ℕ) → Bool
+is_waiting_place NodeKind.DeclarationHole point = false
+is_waiting_place NodeKind.StatementHole point = false
+is_waiting_place NodeKind.ProcedureHole point = false
+is_waiting_place NodeKind.Main point = false
+is_waiting_place NodeKind.Assign point = false
 is_waiting_place (NodeKind.Filled template) point = waits_in_template template point
-is_waiting_place other point = false
 
 -- a frame stands at a place of its procedure, and waits for another there or doesn't; the nodes around its place are told
 pub record StandsAround (program : Forest) (waits : Bool) (frame : Frame) (kind : NodeKind) (around : Around) : Type 0 where

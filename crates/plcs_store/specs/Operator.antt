@@ -87,9 +87,14 @@ text_order x y = slice_cmp nat_cmp (padded_to (length y) x) (padded_to (length x
 -- how two values of one kind are ordered
 abbrev pub value_order : Value → Value → Option Ordering
 value_order (Value.Fixed a) (Value.Fixed b) = Some (int_cmp a b)
+value_order (Value.Fixed a) (Value.Bit b) = None
+value_order (Value.Fixed a) (Value.Text b) = None
+value_order (Value.Bit a) (Value.Fixed b) = None
 value_order (Value.Bit a) (Value.Bit b) = Some (bool_cmp a b)
+value_order (Value.Bit a) (Value.Text b) = None
+value_order (Value.Text a) (Value.Fixed b) = None
+value_order (Value.Text a) (Value.Bit b) = None
 value_order (Value.Text a) (Value.Text b) = Some (text_order a b)
-value_order left right = None
 
 -- what a comparison makes of two values: whether their order passes the test
 abbrev pub compared : (Ordering → Bool) → Value → Value → Outcome Value
