@@ -1,5 +1,5 @@
 -- What a step does to a configuration: one act.
-use Rattle.std.specs.Prelude.{ℕ, ◌-◌, ◌+◌, List, [], ◌∷◌, ◌++◌, length, take}
+use Rattle.std.specs.Prelude.{◌≡◌, ℕ, ◌-◌, ◌+◌, ◌<◌, List, [], ◌∷◌, ◌++◌, length, slice_get, take, Some}
 use Rattle.plcs_base.specs.declared.value.Value.{Value}
 use Rattle.template_tree.specs.Place.{PlainPlace, place_at}
 use Rattle.plcs_store.specs.declared.cell.Cell.{Cell}
@@ -8,6 +8,7 @@ use Rattle.plcs_store.specs.declared.frame.Frame.{Frame}
 use Rattle.plcs_store.specs.declared.kept_loop.KeptLoop.{KeptLoop}
 use Rattle.plcs_store.specs.CellAt.{changed_at, newest, with_cell}
 use Rattle.plcs_store.specs.Configuration.{PlainConfiguration, frame_at}
+use Rattle.plcs_store.specs.Limit.{most_loops}
 
 -- what a step does, beside going to a place
 pub data Act : Type 0 where
@@ -93,3 +94,7 @@ output_after Act.leave output = output
 abbrev pub done : Act → (next : PlainPlace) → PlainConfiguration → PlainConfiguration
 done act next c =
     record { frames = frames_after act next c.frames; taken = taken_after act c.taken; output = output_after act c.output }
+
+-- the newest frame has room for one more loop, if there is a frame
+abbrev pub HasLoopRoom : List Frame → Type 0
+HasLoopRoom frames = (frame : Frame) → slice_get frames (newest frames) ≡ Some frame → length frame.loops < most_loops

@@ -1,5 +1,5 @@
 -- The cells of frames: where they are, what is read from them, and what is stored.
-use Rattle.std.specs.Prelude.{ℕ, ◌-◌, ℤ, pos, nat_abs, int_le, ◌&&◌, if◌then◌else◌, bytes_eq, List, length, replicate, take, slice_get, slice_set, Option, Some, None, option_and_then, option_map}
+use Rattle.std.specs.Prelude.{◌≡◌, ℕ, ◌-◌, ◌<◌, ℤ, pos, nat_abs, int_le, ◌&&◌, if◌then◌else◌, bytes_eq, List, length, replicate, take, slice_get, slice_set, Option, Some, None, option_and_then, option_map}
 use Rattle.std.specs.Map.{lookup, set_value}
 use Rattle.std.specs.Option.{option_map_or}
 use Rattle.plcs_base.specs.declared.declared.Declared.{Declared}
@@ -122,3 +122,16 @@ unset_variable item = record { ty = item.ty; size = item.size; cells = replicate
 -- the cell of a variable under its name, not set
 abbrev pub unset_named : Declared → List ℕ × Variable
 unset_named item = (item.name, unset_variable item)
+
+-- ---- what a cell has to be to be set
+
+-- a variable of the name has a cell of this number, counted from 0, if there is the variable
+abbrev pub HasElement : (name : List ℕ) → (element : ℕ) → Variables → Type 0
+HasElement name element variables =
+    (variable : Variable) → variable_named name variables ≡ Some variable → element < length variable.cells
+
+-- the variable at a location has the cell, if there is the variable
+abbrev pub HasCell : Location → List Frame → Type 0
+HasCell location frames =
+    (variable : Variable) → variable_at frames location.frame location.name ≡ Some variable
+    → location.element < length variable.cells

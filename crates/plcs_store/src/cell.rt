@@ -1,4 +1,6 @@
 //! Cells, and where they are.
+ghost use Rattle.std.specs.Prelude.{◌≡◌};
+
 use plcs_base::{Name, Value};
 
 /// The location of a cell in the frames of a run.
@@ -10,6 +12,22 @@ pub struct Location {
     pub name: Name,
     /// Which of the variable's cells it is, counted from 0.
     pub element: u32,
+}
+
+impl Location {
+    /// The same location. It takes no memory.
+    pub fn copy(&self) -> Location
+        ensures { result ≡ self.now }
+    {
+        let Some(name) = Name::read(self.name.as_bytes()) else {
+            unreachable!();
+        };
+        Location {
+            frame: self.frame,
+            name,
+            element: self.element,
+        }
+    }
 }
 
 /// A cell of a variable.

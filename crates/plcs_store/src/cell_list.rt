@@ -1,5 +1,5 @@
 //! The cells of one variable.
-ghost use Rattle.std.specs.Prelude.{◌≡◌};
+ghost use Rattle.std.specs.Prelude.{◌≡◌, ◌<◌, length, slice_set};
 
 use crate::cell::Cell;
 use std::marker::Model;
@@ -39,5 +39,13 @@ impl CellList {
         ensures { result.now ≡ self.now }
     {
         self.cells.as_slice()
+    }
+
+    /// Puts this into the cell of this number, counted from 0. It takes no memory.
+    pub fn set(&mut self, element: usize, cell: Cell)
+        requires there { element < length self.old }
+        ensures { self.new ≡ slice_set self.old element cell }
+    {
+        self.cells[element] = cell;
     }
 }

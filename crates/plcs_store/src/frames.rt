@@ -1,10 +1,17 @@
 //! The frames of a run.
-ghost use Rattle.std.specs.Prelude.{◌≡◌, ◌+◌, ◌<◌, ◌≤◌, length, vec_capacity, vec_len, slice_get, ◌++◌, [], ◌∷◌, IfNone, IfOk, IfSome};
+ghost use Rattle.std.specs.Prelude.{◌≡◌, ◌+◌, ◌<◌, ◌≤◌, length, vec_capacity, vec_len, slice_get, ◌++◌, [], ◌∷◌, IfNone, IfOk, IfSome, option_map};
+ghost use Rattle.plcs_store.specs.Act.{HasLoopRoom, newest_at, with_loop, with_newest};
+ghost use Rattle.plcs_store.specs.CellAt.{HasCell, cell_at, variable_at, with_cell};
+ghost use Rattle.plcs_store.specs.Configuration.{plain_place, top_place};
 ghost use Rattle.plcs_store.specs.Limit.{most_frames};
+ghost use Rattle.plcs_store.specs.Undone.{newest_frame};
 
+use crate::cell::{Cell, Location};
 use crate::frame::Frame;
+use crate::kept_loop::KeptLoop;
 use crate::limit::MOST_FRAMES;
-use plcs_base::OutOfMemory;
+use crate::variable::Variable;
+use plcs_base::{Name, OutOfMemory, Place};
 use std::alloc::Global;
 use std::marker::Model;
 
@@ -57,5 +64,73 @@ impl Frames {
         ensures none { IfNone result ((self.old ≡ []) × (self.new ≡ self.old)) }
     {
         self.frames.pop()
+    }
+
+    /// Them in order.
+    pub fn as_slice(&self) -> &[Frame]
+        ensures all { result.now ≡ self.now }
+        ensures few { length self.now ≤ most_frames }
+    {
+        self.frames.as_slice()
+    }
+
+    /// The newest of them, which is the last, or `None` where there is none.
+    pub fn newest(&self) -> Option<&Frame>
+        ensures { option_map (λ frame. frame.now) result ≡ newest_frame self.now }
+    {
+        self.frames.last()
+    }
+
+    /// Puts the newest frame at the place.
+    pub fn set_place(&mut self, place: Place)
+        requires some { 0 < length self.old }
+        ensures { self.new ≡ newest_at (plain_place place) self.old }
+    {
+        let newest = self.frames.len() - 1;
+        self.frames[newest].place = place;
+    }
+
+    /// The variable of the name in the frame of this number, counted from 0 at main's, or `None` where there
+    /// is none.
+    pub fn variable(&self, frame: usize, name: &Name) -> Option<&Variable>
+        ensures { option_map (λ variable. variable.now) result ≡ variable_at self.now frame name.now }
+    {
+        match self.frames.get(frame) {
+            None => None,
+            Some(one) => one.cells.get(name),
+        }
+    }
+
+    /// The cell at a location, or `None` where there is none.
+    pub fn cell(&self, location: &Location) -> Option<&Cell>
+        ensures { option_map (λ cell. cell.now) result ≡ cell_at self.now location.now }
+    {
+        match self.variable(usize::from(location.frame), &location.name) {
+            None => None,
+            Some(variable) => variable.cells.as_slice().get(location.element as usize),
+        }
+    }
+
+    /// Puts this into the cell at a location; where the frame has no variable of the name, nowhere. It takes no
+    /// memory.
+    pub fn set_cell(&mut self, location: &Location, cell: Cell)
+        requires frame { location.now.frame < length self.old }
+        requires there { HasCell location.now self.old }
+        ensures { self.new ≡ with_cell location.now cell self.old }
+    {
+        let frame = usize::from(location.frame);
+        self.frames[frame]
+            .cells
+            .set(&location.name, location.element as usize, cell);
+    }
+
+    /// Adds a loop inside those of the newest frame. It takes no memory.
+    pub fn push_loop(&mut self, kept: KeptLoop)
+        requires some { 0 < length self.old }
+        requires room { HasLoopRoom self.old }
+        ensures { self.new ≡ with_newest (with_loop kept) self.old }
+    {
+        let newest = self.frames.len() - 1;
+        self.frames[newest].loops.push(kept);
     }
 }

@@ -59,4 +59,12 @@ impl Loops {
     {
         self.loops.pop()
     }
+
+    /// Them in order.
+    pub fn as_slice(&self) -> &[KeptLoop]
+        ensures all { result.now ≡ self.now }
+        ensures few { length self.now ≤ most_loops }
+    {
+        self.loops.as_slice()
+    }
 }
