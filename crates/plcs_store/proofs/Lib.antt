@@ -14,3 +14,5 @@ pub mod WrittenItems
 pub mod Unedited
 -- `steps_taken_back`
 pub mod TakenBack
+-- `what_fits_has_a_step`, `steps_do_allowed_acts`
+pub mod FittingSteps

@@ -1,11 +1,14 @@
 -- The laws of steps: a new run fits, what fits has a step, and what that leads to fits again.
 use Rattle.std.specs.Prelude.{◌≡◌, ℕ, List, Some, IsSome}
+use Rattle.template_tree.specs.Place.{PlainPlace}
 use Rattle.template_tree.specs.PlainTree.{PlainTree}
 use Rattle.template_tree.specs.Tree.{IsTree}
+use Rattle.plcs_store.specs.Act.{Act, done}
 use Rattle.plcs_store.specs.Configuration.{PlainConfiguration}
 use Rattle.plcs_store.specs.Fits.{Fits}
 use Rattle.plcs_store.specs.NewFrame.{First}
 use Rattle.plcs_store.specs.Step.{PlainStepAnswer, Step}
+use Rattle.plcs_store.specs.Undone.{Allows, step_undone, undo_of}
 
 -- a new run of a tree fits it
 abbrev pub NewRunsFit : Type 0
@@ -21,3 +24,17 @@ abbrev pub StepsKeepFit : Type 0
 StepsKeepFit =
     (tree : PlainTree) (input : List ℕ) (c d : PlainConfiguration) → IsTree tree → Fits tree.items c
     → Step tree.items input c ≡ Some (PlainStepAnswer.stepped d) → Fits tree.items d
+
+-- a step of a run that fits a tree does an act that its configuration allows, and goes on somewhere
+abbrev pub StepsDoAllowedActs : Type 0
+StepsDoAllowedActs =
+    (tree : PlainTree) (input : List ℕ) (c d : PlainConfiguration) → IsTree tree → Fits tree.items c
+    → Step tree.items input c ≡ Some (PlainStepAnswer.stepped d)
+    → (act : Act) × (next : PlainPlace) × Allows act c × (d ≡ done act next c)
+
+-- a step of a run that fits a tree is taken back by the record of the act that it does
+abbrev pub StepsOfRunsTakenBack : Type 0
+StepsOfRunsTakenBack =
+    (tree : PlainTree) (input : List ℕ) (c d : PlainConfiguration) → IsTree tree → Fits tree.items c
+    → Step tree.items input c ≡ Some (PlainStepAnswer.stepped d)
+    → (act : Act) × (next : PlainPlace) × (d ≡ done act next c) × (step_undone (undo_of act c) d ≡ c)

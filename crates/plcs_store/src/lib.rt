@@ -46,6 +46,9 @@ pub use output_item::write_items;
 pub use reason::{Reason, RunReason};
 pub use refusal::ResumeRefusal;
 pub use run_state::{Run, RunState};
-pub use step_laws::{new_runs_fit, steps_taken_back, unedited_may_resume};
+pub use step_laws::{
+    new_runs_fit, steps_do_allowed_acts, steps_taken_back, unedited_may_resume,
+    what_fits_has_a_step,
+};
 pub use undo::Undo;
 pub use variable::Variable;

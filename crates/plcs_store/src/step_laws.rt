@@ -1,6 +1,6 @@
 //! The laws of steps and of resumption, each a function that does nothing and whose contract states it.
 ghost use Rattle.plcs_store.specs.Resume.{UneditedResumes};
-ghost use Rattle.plcs_store.specs.StepLaws.{NewRunsFit};
+ghost use Rattle.plcs_store.specs.StepLaws.{FittingRunsStep, NewRunsFit, StepsDoAllowedActs, StepsOfRunsTakenBack};
 ghost use Rattle.plcs_store.specs.Undone.{StepsTakenBack};
 
 use tree_steps::{sites_stand, slots_stand};
@@ -8,6 +8,25 @@ use tree_steps::{sites_stand, slots_stand};
 /// A new run of a tree fits it: it stands at main's first statement, with no cell set and in no loop.
 pub fn new_runs_fit()
     ensures { NewRunsFit }
+{
+    sites_stand();
+    slots_stand();
+}
+
+/// What fits a tree has a step there: it stands at a place of the tree where something is done, and each phrase
+/// that is used there comes to a value of its kind, or stops the step for a reason.
+pub fn what_fits_has_a_step()
+    ensures { FittingRunsStep }
+{
+    sites_stand();
+    slots_stand();
+}
+
+/// A step of what fits a tree does an act that its configuration allows, and the record of this act takes the
+/// step back.
+pub fn steps_do_allowed_acts()
+    ensures acts { StepsDoAllowedActs }
+    ensures back { StepsOfRunsTakenBack }
 {
     sites_stand();
     slots_stand();
