@@ -62,7 +62,7 @@ no_loop : (kind : NodeKind) (slot : ℕ) → passes_in kind ≡ true → loop_by
 no_loop (NodeKind.Filled template) slot e = template_no_loop template slot e
 no_loop other slot e = absurd (false≢true e)
 
-same_loops : (kind : NodeKind) (slot : ℕ) (around : Around) → passes_in kind ≡ true → loops_around ((slot, kind) ∷ around) ≡ loops_around around
+pub same_loops : (kind : NodeKind) (slot : ℕ) (around : Around) → passes_in kind ≡ true → loops_around ((slot, kind) ∷ around) ≡ loops_around around
 same_loops kind slot around e = ap (λ (loop : List ℕ). loops_around around ++ loop) (no_loop kind slot e) ∙ append-nil (loops_around around)
 
 -- ---- where a run begins

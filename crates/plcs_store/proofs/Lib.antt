@@ -16,3 +16,5 @@ pub mod Unedited
 pub mod TakenBack
 -- `what_fits_has_a_step`, `steps_do_allowed_acts`
 pub mod FittingSteps
+-- `steps_keep_fit`
+pub mod KeptFit

@@ -30,7 +30,7 @@ same_name one other = by (bytes_eq one other) (bytes_eq other one) refl refl
     by true false e f = sym ((bytes_eq-Decides other one).1 (sym ((bytes_eq-Decides one other).0 e))) ∙ f
     by false true e f = sym e ∙ (bytes_eq-Decides one other).1 (sym ((bytes_eq-Decides other one).0 f))
 
-or_false : (one other : Bool) → (one || other) ≡ false → (one ≡ false) × (other ≡ false)
+pub or_false : (one other : Bool) → (one || other) ≡ false → (one ≡ false) × (other ≡ false)
 or_false true other e = absurd (false≢true (sym e))
 or_false false other e = (refl, e)
 
@@ -94,7 +94,7 @@ effective_distinct before (item ∷ rest) distinct =
     effective_distinct (with_declared before item) rest
     (with_level (is_some (item_offence before item)) before item refl distinct)
 
-no_names : IsDistinct bytes_eq (item_names [])
+pub no_names : IsDistinct bytes_eq (item_names [])
 unfolding IsDistinct
 no_names = tt
 

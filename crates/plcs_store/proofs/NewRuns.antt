@@ -62,7 +62,7 @@ template_starts_no_wait Template.Call = refl
 template_starts_no_wait other = refl
 
 -- no start of a statement waits
-starts_no_wait : (kind : NodeKind) → is_waiting_place kind 0 ≡ false
+pub starts_no_wait : (kind : NodeKind) → is_waiting_place kind 0 ≡ false
 starts_no_wait (NodeKind.Filled template) = template_starts_no_wait template
 starts_no_wait other = refl
 

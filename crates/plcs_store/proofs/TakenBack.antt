@@ -28,7 +28,7 @@ known (Some a) h = (a, refl)
 
 -- ---- lists of which one item is changed
 
-changed_behind : {A : Type 0} (k : ℕ) (f : A → A) (x : A) (xs : List A) → changed_at (suc k) f (x ∷ xs) ≡ x ∷ changed_at k f xs
+pub changed_behind : {A : Type 0} (k : ℕ) (f : A → A) (x : A) (xs : List A) → changed_at (suc k) f (x ∷ xs) ≡ x ∷ changed_at k f xs
 changed_behind {A} k f x xs = by (slice_get xs k)
   where
     by : (got : Option A)
@@ -36,7 +36,7 @@ changed_behind {A} k f x xs = by (slice_get xs k)
     by None = refl
     by (Some a) = refl
 
-changed_length : {A : Type 0} (k : ℕ) (f : A → A) (xs : List A) → length (changed_at k f xs) ≡ length xs
+pub changed_length : {A : Type 0} (k : ℕ) (f : A → A) (xs : List A) → length (changed_at k f xs) ≡ length xs
 changed_length k f [] = refl
 changed_length zero f (x ∷ xs) = refl
 changed_length (suc k) f (x ∷ xs) = ap length (changed_behind k f x xs) ∙ ap suc (changed_length k f xs)
@@ -50,7 +50,7 @@ changed_twice {A} (suc k) f g (x ∷ xs) =
     ∙ ap (λ (rest : List A). x ∷ rest) (changed_twice k f g xs) ∙ sym (changed_behind k (λ a. f (g a)) x xs)
 
 -- changes that commute on items commute on a list
-changed_either : {A : Type 0} (j k : ℕ) (f g : A → A) → ((a : A) → f (g a) ≡ g (f a)) → (xs : List A)
+pub changed_either : {A : Type 0} (j k : ℕ) (f g : A → A) → ((a : A) → f (g a) ≡ g (f a)) → (xs : List A)
     → changed_at j f (changed_at k g xs) ≡ changed_at k g (changed_at j f xs)
 changed_either j k f g same [] = refl
 changed_either {A} zero zero f g same (x ∷ xs) = ap (λ (a : A). a ∷ xs) (same x)
@@ -120,7 +120,7 @@ element_back name element cell new variables variable found held =
     ∙ set_value_same (bytes_eq name) variables variable found
 
 -- a frame with a cell set
-abbrev set_in_frame : Location → Cell → Frame → Frame
+abbrev pub set_in_frame : Location → Cell → Frame → Frame
 set_in_frame location cell frame = record frame { cells = with_element_named location.name location.element cell frame.cells }
 
 frame_back : (location : Location) (cell new : Cell) (frame : Frame)
@@ -149,7 +149,7 @@ cell_back location cell new frames held =
 -- ---- the newest frame
 
 -- changes of the newest frame are changes at one number, as long as no frame comes or goes
-newest_is : (f : Frame → Frame) (ys frames : List Frame) → length ys ≡ length frames → with_newest f ys ≡ changed_at (newest frames) f ys
+pub newest_is : (f : Frame → Frame) (ys frames : List Frame) → length ys ≡ length frames → with_newest f ys ≡ changed_at (newest frames) f ys
 newest_is f ys frames same = ap (λ (n : ℕ). changed_at (n - 1) f ys) same
 
 newest_back : (f g : Frame → Frame) (frames : List Frame) → ((frame : Frame) → slice_get frames (newest frames) ≡ Some frame → f (g frame) ≡ frame)
@@ -179,7 +179,7 @@ both_back f g location cell new frames either same held =
     ∙ newest_back f g frames same
 
 -- one change of the newest frame after another is one
-newest_twice : (f g : Frame → Frame) (frames : List Frame) → with_newest f (with_newest g frames) ≡ with_newest (λ frame. f (g frame)) frames
+pub newest_twice : (f g : Frame → Frame) (frames : List Frame) → with_newest f (with_newest g frames) ≡ with_newest (λ frame. f (g frame)) frames
 newest_twice f g frames =
     newest_is f (with_newest g frames) frames (changed_length (newest frames) g frames) ∙ changed_twice (newest frames) f g frames
 

@@ -47,7 +47,7 @@ pub use reason::{Reason, RunReason};
 pub use refusal::ResumeRefusal;
 pub use run_state::{Run, RunState};
 pub use step_laws::{
-    new_runs_fit, steps_do_allowed_acts, steps_taken_back, unedited_may_resume,
+    new_runs_fit, steps_do_allowed_acts, steps_keep_fit, steps_taken_back, unedited_may_resume,
     what_fits_has_a_step,
 };
 pub use undo::Undo;

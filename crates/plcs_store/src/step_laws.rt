@@ -1,6 +1,6 @@
 //! The laws of steps and of resumption, each a function that does nothing and whose contract states it.
 ghost use Rattle.plcs_store.specs.Resume.{UneditedResumes};
-ghost use Rattle.plcs_store.specs.StepLaws.{FittingRunsStep, NewRunsFit, StepsDoAllowedActs, StepsOfRunsTakenBack};
+ghost use Rattle.plcs_store.specs.StepLaws.{FittingRunsStep, NewRunsFit, StepsDoAllowedActs, StepsKeepFit, StepsOfRunsTakenBack};
 ghost use Rattle.plcs_store.specs.Undone.{StepsTakenBack};
 
 use tree_steps::{sites_stand, slots_stand};
@@ -17,6 +17,15 @@ pub fn new_runs_fit()
 /// that is used there comes to a value of its kind, or stops the step for a reason.
 pub fn what_fits_has_a_step()
     ensures { FittingRunsStep }
+{
+    sites_stand();
+    slots_stand();
+}
+
+/// What a run that fits a tree steps to fits it again: its frames stand at places of the tree, with their
+/// cells and loops, and each cell holds a value or a reference of its kind.
+pub fn steps_keep_fit()
+    ensures { StepsKeepFit }
 {
     sites_stand();
     slots_stand();
