@@ -1,5 +1,5 @@
 -- What stands at a place without an offence does an act that its configuration allows, or stops.
-use Rattle.std.specs.Prelude.{◌≡◌, refl, ℕ, ◌+◌, nat_le, ℤ, ◌+ℤ◌, Bool, if◌then◌else◌, List, [], ◌++◌, length, Some, None, is_some, option_map, Ok}
+use Rattle.std.specs.Prelude.{◌≡◌, refl, ℕ, nat_le, ℤ, ◌+ℤ◌, Bool, if◌then◌else◌, List, [], ◌++◌, length, Some, None, is_some, option_map, Ok}
 use Rattle.std.proofs.Common.{ap, ◌∙◌, subst}
 use Rattle.plcs_base.specs.declared.declared.Declared.{Declared}
 use Rattle.plcs_base.specs.declared.value.Kind.{Kind}
@@ -14,7 +14,7 @@ use Rattle.plcs_store.specs.declared.fault_kind.FaultKind.{FaultKind}
 use Rattle.plcs_store.specs.declared.frame.Frame.{Frame}
 use Rattle.plcs_store.specs.declared.kept_loop.KeptLoop.{KeptLoop}
 use Rattle.plcs_store.specs.Act.{Act, done}
-use Rattle.plcs_store.specs.CellAt.{Variables, located, newest, value_at, variable_at}
+use Rattle.plcs_store.specs.CellAt.{Variables, located, value_at, variable_at}
 use Rattle.plcs_store.specs.Configuration.{PlainConfiguration}
 use Rattle.plcs_store.specs.ExpressionValue.{argument_values, expression_value, expression_values, name_of_reference, reference_location, subscript_value}
 use Rattle.plcs_store.specs.Fits.{IsTarget}
