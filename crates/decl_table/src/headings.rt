@@ -3,7 +3,6 @@ ghost use Rattle.std.specs.Prelude.{◌≡◌, [], OnOk, option_map};
 ghost use Rattle.decl_table.specs.PlainDecls.{slot_of};
 ghost use Rattle.decl_table.specs.Private.DeclsView.{TakesHeading};
 
-use crate::name_copy::name_copy;
 use indexmap::IndexMap;
 use plcs_base::{Name, OutOfMemory, Slot};
 use std::alloc::Global;
@@ -48,7 +47,7 @@ impl Headings {
         if !may_be_called(name) {
             return Ok(());
         }
-        self.slots.insert(name_copy(name), procedure.slot().0)?;
+        self.slots.insert(name.copy(), procedure.slot().0)?;
         Ok(())
     }
 

@@ -6,7 +6,6 @@ ghost use Rattle.decl_table.specs.Private.ItemsView.{shaped};
 ghost use Rattle.template_tree.specs.Limit.{most_slots};
 ghost use Rattle.template_tree.specs.Slots.{count};
 
-use crate::name_copy::name_copy;
 use indexmap::IndexMap;
 use plcs_base::{Declared, ItemType, MarkKind, Name, OutOfMemory};
 use plcs_grammar::{Builtin, Item};
@@ -97,7 +96,7 @@ impl Items {
             return Ok(());
         }
         let cells = self.cells + shape.cells();
-        self.shapes.insert(name_copy(name), shape)?;
+        self.shapes.insert(name.copy(), shape)?;
         self.cells = cells;
         Ok(())
     }
@@ -167,7 +166,7 @@ fn declared(name: &Name, shape: Shape) -> Declared
     ensures { result ≡ shaped name.now shape }
 {
     Declared {
-        name: name_copy(name),
+        name: name.copy(),
         ty: shape.ty,
         size: shape.size,
     }

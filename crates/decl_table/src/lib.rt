@@ -6,7 +6,6 @@ mod decls;
 mod headings;
 mod items;
 mod mention_list;
-mod name_copy;
 mod scopes;
 mod uses;
 

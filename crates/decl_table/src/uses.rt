@@ -11,7 +11,6 @@ ghost use Rattle.decl_table.specs.PlainDecls.{mentions_of};
 ghost use Rattle.decl_table.specs.Private.UsesView.{AddsNames, AddsNodes, AddsPart, AddsParts, AreSettled};
 
 use crate::mention_list::MentionList;
-use crate::name_copy::name_copy;
 use indexmap::IndexMap;
 use plcs_base::{Name, OutOfMemory, PhraseAt};
 use plcs_grammar::{Expr, Item, Phrase, VarRef};
@@ -243,7 +242,7 @@ impl Uses {
             return Ok(());
         }
         let places = MentionList::of(alloc, at)?;
-        self.places.insert(name_copy(name), places)?;
+        self.places.insert(name.copy(), places)?;
         Ok(())
     }
 }

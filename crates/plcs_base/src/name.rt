@@ -82,6 +82,16 @@ impl Name {
     {
         self.bytes.as_slice()
     }
+
+    /// A copy of the name, made without memory.
+    pub fn copy(&self) -> Name
+        ensures { result ≡ self.now }
+    {
+        let Some(copy) = Name::read(self.as_bytes()) else {
+            unreachable!()
+        };
+        copy
+    }
 }
 
 /// Whether the bytes are a name.

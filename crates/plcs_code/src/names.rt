@@ -7,10 +7,7 @@ use plcs_base::{Name, OutOfMemory, TextValue};
 pub(crate) fn name_of(name: &Name) -> Name
     ensures { result ≡ name.now }
 {
-    let Some(copy) = Name::read(name.as_bytes()) else {
-        unreachable!()
-    };
-    copy
+    name.copy()
 }
 
 /// A copy of a text for an instruction that pushes it.

@@ -14,7 +14,7 @@ returns c =
     let called = sym c.may_be_called.ensures ∙ c.if-not-may_be_called.false in
     λ name.
     c.in_ok-insert.ensures.updates.0 name
-    ∙ ap (λ k. cond (bytes_eq k name) (Some c.slot.result.0) (slot_of name old)) c.name_copy.ensures
+    ∙ ap (λ k. cond (bytes_eq k name) (Some c.slot.result.0) (slot_of name old)) c.copy.ensures
     ∙ ap (λ s. cond (bytes_eq key name) (Some s) (slot_of name old)) c.slot.ensures
     ∙ first (bytes_eq key name) node.label.slot (slot_of name old)
     ∙ ap (λ o. option_or o (slot_of name old)) (sym (given node key (heading_of node.label.kind node.label.parts) refl c.in-Some.ensures called name))

@@ -11,7 +11,7 @@ invariant_of-self-2 c =
     let fine : is_some (item_offence (items_of entries) item) ≡ false =
     rw (c.self.view_is) (ap is_some (sym c.offence.ensures) ∙ sym c.is_some.ensures ∙ c.if-is_some.false) in
     let made : items_of c.insert.new.self.entries ≡ items_of entries ++ (item ∷ []) =
-    inserted c.args.name.now c.args.shape entries c.name_copy.result c.insert.new.self.entries c.name_copy.ensures c.in_ok-insert.ensures.entries
+    inserted c.args.name.now c.args.shape entries c.copy.result c.insert.new.self.entries c.copy.ensures c.in_ok-insert.ensures.entries
     (has_no_offence (items_of entries) item fine).0 in
     record {
       once = c.in_ok-insert.ensures.unique;
@@ -29,6 +29,6 @@ returns c =
     let fine : is_some (item_offence (items_of entries) item) ≡ false =
     rw (c.self.view_is) (ap is_some (sym c.offence.ensures) ∙ sym c.is_some.ensures ∙ c.if-is_some.false) in
     rw (← c.self.view_is)
-    (inserted c.args.name.now c.args.shape entries c.name_copy.result c.insert.new.self.entries c.name_copy.ensures c.in_ok-insert.ensures.entries
+    (inserted c.args.name.now c.args.shape entries c.copy.result c.insert.new.self.entries c.copy.ensures c.in_ok-insert.ensures.entries
     (has_no_offence (items_of entries) item fine).0
     ∙ sym (one_more (items_of entries) item fine))

@@ -27,6 +27,6 @@ returns c =
     (noted key c.args.at [] old c.insert.new.self.entries
     (ap (λ o. unwrap_or o []) (sym c.in_default.ensures.value))
     (λ name. c.in_ok-insert.ensures.updates.0 name
-    ∙ ap (λ m. cond (bytes_eq c.name_copy.result name) (Some c.in_ok-places.places) (lookup (bytes_eq name) m.entries)) c.get_mut.follows.holds-at-none
-    ∙ ap (λ k. cond (bytes_eq k name) (Some c.in_ok-places.places) (lookup (bytes_eq name) old)) c.name_copy.ensures
+    ∙ ap (λ m. cond (bytes_eq c.copy.result name) (Some c.in_ok-places.places) (lookup (bytes_eq name) m.entries)) c.get_mut.follows.holds-at-none
+    ∙ ap (λ k. cond (bytes_eq k name) (Some c.in_ok-places.places) (lookup (bytes_eq name) old)) c.copy.ensures
     ∙ ap (λ p. cond (bytes_eq key name) (Some p) (lookup (bytes_eq name) old)) c.in_ok-places.ensures))
