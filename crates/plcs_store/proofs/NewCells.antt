@@ -10,13 +10,13 @@ use Rattle.std.proofs.lemmas.Slice.Eq.{bytes_eq-Decides}
 use Rattle.plcs_base.specs.declared.declared.Declared.{Declared}
 use Rattle.plcs_base.specs.declared.mark.MarkKind.{MarkKind}
 use Rattle.plcs_grammar.specs.Builtin.{is_builtin_name}
-use Rattle.template_tree.specs.Environment.{all_declared, cells, cells_of, effective, item_named, item_offence, items_inside, with_declared}
+use Rattle.template_tree.specs.Environment.{all_declared, cells, cells_in, cells_of, effective, item_named, item_offence, items_inside, with_declared}
 use Rattle.template_tree.specs.Limit.{most_cells}
 use Rattle.template_tree.specs.PlainTree.{Forest}
 use Rattle.plcs_store.specs.declared.cell.Cell.{Cell}
 use Rattle.plcs_store.specs.declared.variable.Variable.{Variable}
 use Rattle.plcs_store.specs.CellAt.{unset_named, unset_variable, variable_named}
-use Rattle.plcs_store.specs.Fits.{AreVariables, cell_count, declared_part, variable_part}
+use Rattle.plcs_store.specs.Fits.{AreVariables, declared_part, variable_part}
 
 -- ---- different names
 
@@ -145,5 +145,5 @@ unset_variables items distinct =
       whole =
           λ name variable e.
           let found = unset_found name items variable e in
-          subst (λ (one : Variable). length one.cells ≡ cell_count one) (sym found.1) (length-replicate (cells_of found.0) Cell.Unset);
+          subst (λ (one : Variable). length one.cells ≡ cells_in one.size) (sym found.1) (length-replicate (cells_of found.0) Cell.Unset);
     }

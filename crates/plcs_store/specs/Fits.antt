@@ -8,7 +8,7 @@ use Rattle.plcs_base.specs.declared.value.Kind.{Kind}
 use Rattle.plcs_base.specs.declared.value.Value.{Value}
 use Rattle.plcs_grammar.specs.declared.node_kind.NodeKind.{NodeKind}
 use Rattle.plcs_grammar.specs.declared.template.Template.{Template}
-use Rattle.template_tree.specs.Environment.{Items, item_named, kind_of_type}
+use Rattle.template_tree.specs.Environment.{Items, cells_in, item_named, kind_of_type}
 use Rattle.template_tree.specs.Place.{PlainPlace, Start}
 use Rattle.template_tree.specs.PlainTree.{Forest}
 use Rattle.tree_steps.specs.RunPlace.{HasPlace}
@@ -94,15 +94,11 @@ declared_part item = (item.ty, item.size)
 abbrev pub variable_part : Variable → ItemType × ℕ
 variable_part variable = (variable.ty, variable.size)
 
--- how many cells a variable has: one as a scalar, and as an array its size
-abbrev pub cell_count : Variable → ℕ
-cell_count variable = if variable.size == 0 then 1 else variable.size
-
 -- the variables are those of the effective items, with their types and sizes, each once
 pub record AreVariables (items : List Declared) (variables : Variables) : Type 0 where
   pub once : IsDistinct bytes_eq (keys_of variables)
   pub same : (name : List ℕ) → option_map variable_part (variable_named name variables) ≡ option_map declared_part (item_named name items)
-  pub whole : (name : List ℕ) (variable : Variable) → variable_named name variables ≡ Some variable → length variable.cells ≡ cell_count variable
+  pub whole : (name : List ℕ) (variable : Variable) → variable_named name variables ≡ Some variable → length variable.cells ≡ cells_in variable.size
 
 -- each frame has the cells of its procedure
 abbrev pub CellsFit : (program : Forest) → List Frame → Type 0

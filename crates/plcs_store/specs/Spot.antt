@@ -1,6 +1,5 @@
 -- What stands at each place of a program, with the places that follow. It doesn't depend on what a run is in.
 use Rattle.std.specs.Prelude.{ℕ, zero, suc, ◌+◌, ◌==◌, Bool, true, false, nat_lt, if◌then◌else◌, List, [], ◌∷◌, slice_get, Option, Some, None, is_none, is_some, option_and_then, option_map}
-use Rattle.std.specs.FinMap.{get}
 use Rattle.std.specs.List.{list_all, list_any}
 use Rattle.std.specs.Option.{option_or}
 use Rattle.plcs_base.specs.declared.declared.Declared.{Declared}
@@ -9,8 +8,7 @@ use Rattle.plcs_grammar.specs.declared.template.Template.{Template}
 use Rattle.plcs_grammar.specs.PlainPhrase.{PlainExpr, PlainExprs, PlainPhrase, PlainVarRef}
 use Rattle.template_tree.specs.Environment.{Heading, Sig, Signature, heading_of, items_inside}
 use Rattle.template_tree.specs.Environment.{procedure_at}
-use Rattle.template_tree.specs.Marks.{Marks}
-use Rattle.template_tree.specs.Mention.{phrase_at}
+use Rattle.template_tree.specs.Marks.{is_phrase_marked}
 use Rattle.template_tree.specs.Part.{part_at}
 use Rattle.template_tree.specs.Place.{PlainPlace, Site, begin, item_count, place_at, site}
 use Rattle.template_tree.specs.PlainTree.{Forest, PlainNode}
@@ -256,10 +254,6 @@ site_spot marked callees found (suc point) = point_spot marked found (suc point)
 abbrev pub spot_by : (marked : (slot part : ℕ) → Bool) → (program : Forest) → PlainPlace → Option Spot
 spot_by marked program place =
     option_and_then (λ found. site_spot (marked place.slot) (callee_named program) found place.point) (site program place.slot)
-
--- whether a phrase of the program is marked
-abbrev pub is_phrase_marked : (program : Forest) → (slot part : ℕ) → Bool
-is_phrase_marked program slot part = is_some (get (Marks program) (phrase_at slot part))
 
 -- what stands at a place of the program, if it has this place
 abbrev pub spot_at : (program : Forest) → PlainPlace → Option Spot

@@ -85,9 +85,13 @@ all_declared (Forest.cons label inner rest) = declares label ++ all_declared res
 
 -- ---- which items are effective
 
--- how many cells a declared item has: one as a scalar, and as an array its size
+-- how many cells an item of the size has: one as a scalar, whose size is 0, and as an array its size
+abbrev pub cells_in : (size : ℕ) → ℕ
+cells_in size = if size == 0 then 1 else size
+
+-- how many cells a declared item has
 abbrev pub cells_of : Declared → ℕ
-cells_of item = if item.size == 0 then 1 else item.size
+cells_of item = cells_in item.size
 
 -- how many cells declared items have together
 abbrev pub cells : List Declared → ℕ

@@ -1,7 +1,7 @@
 -- The verdict of each phrase of a program, and its marks: the phrases with an offence, and the kind of each one's first.
 -- Elision plays no part.
-use Rattle.std.specs.Prelude.{ℕ, ◌+◌, ◌==◌, if◌then◌else◌, List, [], ◌∷◌, ◌++◌, Option, Some, None, option_map}
-use Rattle.std.specs.FinMap.{FinMap, entries, from_entries}
+use Rattle.std.specs.Prelude.{ℕ, ◌+◌, ◌==◌, Bool, if◌then◌else◌, List, [], ◌∷◌, ◌++◌, Option, Some, None, is_some, option_map}
+use Rattle.std.specs.FinMap.{FinMap, entries, from_entries, get}
 use Rattle.std.specs.List.{filter_map}
 use Rattle.plcs_base.specs.Mark.{MarkMap, phrase_cmp}
 use Rattle.plcs_base.specs.declared.declared.Declared.{Declared}
@@ -93,3 +93,7 @@ offences verdicts = from_entries (filter_map offence_at (entries verdicts))
 -- the marks of a program
 abbrev pub Marks : (program : Forest) → MarkMap
 Marks program = offences (Verdicts program)
+
+-- whether a phrase of the program is marked
+abbrev pub is_phrase_marked : (program : Forest) → (slot part : ℕ) → Bool
+is_phrase_marked program slot part = is_some (get (Marks program) (phrase_at slot part))

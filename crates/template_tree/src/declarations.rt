@@ -1,8 +1,8 @@
 //! What declarations say, read from the parts of their nodes.
-ghost use Rattle.std.specs.Prelude.{◌≡◌, [], option_map};
+ghost use Rattle.std.specs.Prelude.{◌≡◌, option_map};
 ghost use Rattle.plcs_base.specs.declared.declared.ItemType.{ItemType};
 ghost use Rattle.plcs_grammar.specs.PlainPhrase.{plain_phrase};
-ghost use Rattle.template_tree.specs.Environment.{cells_of, items_of_list, length_given, list_items, number_of_length, template_type, type_given};
+ghost use Rattle.template_tree.specs.Environment.{cells_in, items_of_list, length_given, list_items, number_of_length, template_type, type_given};
 
 use crate::filled_part::phrase_in;
 use crate::node::Node;
@@ -84,7 +84,7 @@ fn items_of_list(phrase: &Phrase) -> &[Item]
 
 /// How many cells a declared item of this size has: one where it is 0, which stands for a scalar.
 pub fn cells_of(size: u32) -> u32
-    ensures { result ≡ cells_of record { name = []; ty = ItemType.Fixed; size = size } }
+    ensures { result ≡ cells_in size }
 {
     if size == 0 { 1 } else { size }
 }

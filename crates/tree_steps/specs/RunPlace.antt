@@ -1,11 +1,9 @@
 -- Places of a run in a program, by what is marked in it; and where a run begins that comes to a statement.
-use Rattle.std.specs.Prelude.{◌≡◌, ◌↔◌, ◌⊎◌, ℕ, Bool, false, is_some, option_map}
-use Rattle.std.specs.FinMap.{get}
+use Rattle.std.specs.Prelude.{◌≡◌, ◌↔◌, ◌⊎◌, ℕ, Bool, false, option_map}
 use Rattle.plcs_grammar.specs.declared.node_kind.NodeKind.{NodeKind}
 use Rattle.plcs_grammar.specs.declared.node_kind.Sort.{Sort}
 use Rattle.plcs_grammar.specs.declared.template.Template.{Template}
-use Rattle.template_tree.specs.Marks.{Marks}
-use Rattle.template_tree.specs.Mention.{phrase_at}
+use Rattle.template_tree.specs.Marks.{is_phrase_marked}
 use Rattle.template_tree.specs.Place.{After, Exists, PlainPlace, Site, Start, passes_in, site}
 use Rattle.template_tree.specs.PlainTree.{Forest, Label}
 use Rattle.template_tree.specs.Program.{sort_of}
@@ -16,7 +14,7 @@ use Rattle.tree_steps.specs.StandingSlot.{Around, StandsInside, loops_around, ou
 
 -- whether the first phrase in the slot is marked in the program
 abbrev pub is_first_marked : Forest → (slot : ℕ) → Bool
-is_first_marked program slot = is_some (get (Marks program) (phrase_at slot 0))
+is_first_marked program slot = is_phrase_marked program slot 0
 
 -- a run of the program has this place
 abbrev pub HasPlace : Forest → PlainPlace → Type 0
