@@ -16,7 +16,7 @@ use Rattle.decl_table.specs.PlainDecls.{PlainDecls, mentions_of, slot_of}
 use Rattle.decl_table.specs.Private.DeclsView.{TakesProcedure}
 use Rattle.decl_table.specs.Private.UsesView.{AreSettled, is_among}
 use Rattle.decl_table.proofs.AddedUses.{of_nodes, of_nodes-first, or_comm}
-use Rattle.decl_table.proofs.PlaceOrder.{nat_ties, places_equiv, same_place}
+use Rattle.plcs_base.specs.PlaceOrder.{nat_ties, places_equiv, same_place}
 
 -- the table has what these main and procedures say
 pub record IsRead (decls : PlainDecls) (rest : Forest) : Type 0 where

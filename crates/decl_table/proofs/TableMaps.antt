@@ -12,7 +12,7 @@ use Rattle.plcs_base.specs.declared.declared.Declared.{Declared}
 use Rattle.template_tree.specs.Environment.{Heading, Signature, heading_of, may_be_called, signature_for, signature_of}
 use Rattle.template_tree.specs.PlainTree.{PlainNode}
 use Rattle.decl_table.proofs.AddedUses.{same_name}
-use Rattle.decl_table.proofs.PlaceOrder.{nat_ties}
+use Rattle.plcs_base.specs.PlaceOrder.{nat_ties}
 
 -- ---- the items of procedures
 

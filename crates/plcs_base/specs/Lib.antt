@@ -7,3 +7,7 @@ pub mod CountLaws
 pub mod Put
 pub mod Mark
 pub mod Scope
+-- ---- what follows from these and is cited by proofs of all crates
+pub mod Putting
+pub mod PlaceOrder
+pub mod ListLeft

@@ -39,14 +39,12 @@ pub struct Counts {
 }
 
 impl Work for Counts {
-    ghost counts = {
-        λ counts. record {
-          emitted = counts.emitted;
-          checked = counts.checked;
-          fetched = counts.fetched;
-          laid = counts.laid;
-        }
-    };
+    ghost counts = { λ counts. record {
+      emitted = counts.emitted;
+      checked = counts.checked;
+      fetched = counts.fetched;
+      laid = counts.laid;
+    } };
 
     fn emitted(&mut self) {
         self.emitted = self.emitted.saturating_add(1);

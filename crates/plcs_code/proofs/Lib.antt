@@ -4,11 +4,11 @@ mod Limits
 mod Examples
 -- `show_instr`: texts of instructions that are known in another way
 pub mod ShownInstrs
--- each clause on what is laid: instructions laid in turn, into a draft or into a tally, lists of phrases, and each kind of
--- expression
+-- each clause on what is laid: instructions laid in turn, into a draft or into a tally, lists of phrases, and arguments that
+-- are passed by a dummy
 pub mod Laying
 pub mod LaidLists
-pub mod ExprCases
+pub mod DummyArguments
 -- `suspension`: the parts of a node, one after the other
 pub mod ReadParts
 -- the pieces of a statement, and the cells of a procedure

@@ -1,7 +1,7 @@
 -- Texts of instructions that are known in another way.
 use Rattle.std.proofs.Common.{ℕ, ◌≡◌, sym, ap}
 use Rattle.plcs_base.specs.Put.{PutsAll}
-use Rattle.plcs_base.proofs.Putting.{puts_same}
+use Rattle.plcs_base.specs.Putting.{puts_same}
 use Rattle.plcs_code.specs.declared.instr.Instr.{Instr}
 use Rattle.plcs_code.specs.InstrText.{instr_text}
 use Rattle.plcs_code.specs.PlainInstr.{plain_instr}

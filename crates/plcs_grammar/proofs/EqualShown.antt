@@ -5,7 +5,7 @@ use Rattle.plcs_grammar.specs.declared.expr.Expr.{Expr}
 use Rattle.plcs_grammar.specs.declared.phrase.Phrase.{Phrase}
 use Rattle.plcs_grammar.specs.PlainPhrase.{PlainExpr, PlainVarRef, plain_expr, plain_phrase}
 use Rattle.plcs_grammar.specs.Canon.{canon, canon_reference, Canon}
-use Rattle.plcs_base.proofs.Putting.{puts_same}
+use Rattle.plcs_base.specs.Putting.{puts_same}
 
 module _ {Out : Type 0} {puts : Out → ℕ → Out → Type 0} {before after : Out} where
   -- the text of an equal expression in plain form

@@ -6,8 +6,8 @@ mod Examples
 -- no template or sign is forgotten in its table: `Template::read` and `Sign::read`
 mod WholeTables
 -- ---- plain forms
--- each variant of an expression: `show`, `copy_phrase`, and the calls of the crates above
-pub mod PlainExprCases
+-- where a chain of operators ends, and how deep its left operands are: `show`, `copy_phrase`
+mod ChainOperands
 -- plain forms that are equal part by part: `same_phrase`
 mod EqualPlainPhrases
 -- ---- bytes that are put in turn

@@ -1,7 +1,7 @@
 -- A text in parentheses, put in turn.
 use Rattle.std.proofs.Common.{ℕ, List, ◌++◌}
 use Rattle.plcs_base.specs.Put.{PutsAll, puts_next}
-use Rattle.plcs_base.proofs.Putting.{puts_append, puts_behind}
+use Rattle.plcs_base.specs.Putting.{puts_append, puts_behind}
 use Rattle.plcs_grammar.specs.Canon.{parenthesized_bytes}
 
 -- putting a name, a parenthesis, a text and a parenthesis puts the text in parentheses behind the name

@@ -1,5 +1,6 @@
 -- ---- phrases as plain data, and the plain form of the code's
 pub mod PlainPhrase
+pub mod PlainExprCases
 pub mod Category
 -- ---- tokens
 pub mod Sign

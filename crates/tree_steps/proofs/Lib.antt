@@ -19,7 +19,7 @@ pub mod RoomlessPlaces
 pub mod SitedSlots
 -- `places_last`
 pub mod KeptPlaces
--- `list_marks_follow_items`: the order of places
-pub mod PlaceOrder
+-- `list_marks_follow_items`: the mark at a place
+pub mod PlaceMarks
 -- `list_marks_follow_items`
 pub mod ListMarks

@@ -21,7 +21,8 @@ use Rattle.template_tree.specs.Slots.{times}
 use Rattle.template_tree.specs.Verdict.{Surroundings, references_offence, verdict}
 use Rattle.tree_steps.specs.ListVerdict.{ListMarksFollowItems}
 use Rattle.tree_steps.specs.RunPlace.{is_first_marked}
-use Rattle.tree_steps.proofs.PlaceOrder.{mark_at, place_ties, places_total}
+use Rattle.plcs_base.specs.PlaceOrder.{place_ties, places_total}
+use Rattle.tree_steps.proofs.PlaceMarks.{mark_at}
 use Rattle.tree_steps.proofs.SitedSlots.{either_found, found_among, site_there}
 use Rattle.tree_steps.proofs.StandingSlots.{counted, found_first, found_later, has, one_if, stands_counted}
 

@@ -1,7 +1,3 @@
--- what is left of a list: each loop over nodes or parts
-mod ListsLeft
--- the order of places: `Marks::verdict`, `Marks::note`, `check_phrase`
-mod PlaceOrder
 -- a slot to which a path leads is live: `check_phrase`
 mod LiveSlots
 -- what is found in chains of operators: `Chain::before`

@@ -14,8 +14,8 @@ use Rattle.plcs_base.specs.PlainCounts.{ChecksAtMost, PlainCounts}
 use Rattle.plcs_base.specs.Mark.{phrase_cmp}
 use Rattle.plcs_base.specs.declared.mark.MarkKind.{MarkKind}
 use Rattle.plcs_base.specs.declared.place.PhraseAt.{PhraseAt}
-use Rattle.type_marks.proofs.ListsLeft.{left_from, none_left}
-use Rattle.type_marks.proofs.PlaceOrder.{place_test_equiv, place_ties, places_total, same_place}
+use Rattle.plcs_base.specs.ListLeft.{left_from, none_left}
+use Rattle.plcs_base.specs.PlaceOrder.{place_test_equiv, place_ties, places_total, same_place}
 use Rattle.template_tree.specs.Marks.{VerdictList, VerdictMap, node_verdicts, offence_at, offences, part_verdicts, procedure_verdicts, surroundings}
 use Rattle.template_tree.specs.Mention.{phrase_at}
 use Rattle.template_tree.specs.PlainTree.{Forest, PlainNode, forest, forest_nodes, nodes}

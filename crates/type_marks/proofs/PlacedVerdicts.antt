@@ -9,7 +9,7 @@ use Rattle.plcs_base.specs.Mark.{phrase_cmp}
 use Rattle.plcs_base.specs.declared.mark.MarkKind.{MarkKind}
 use Rattle.plcs_base.specs.declared.place.PhraseAt.{PhraseAt}
 use Rattle.plcs_grammar.specs.PlainPhrase.{PlainPhrase}
-use Rattle.type_marks.proofs.PlaceOrder.{place_ties, places_total}
+use Rattle.plcs_base.specs.PlaceOrder.{place_ties, places_total}
 use Rattle.template_tree.specs.Part.{part_at}
 use Rattle.template_tree.specs.Marks.{VerdictList, Verdicts, node_verdicts, part_verdicts, procedure_verdicts, surroundings}
 use Rattle.template_tree.specs.Mention.{phrase_at}

@@ -4,7 +4,7 @@ use Rattle.std.proofs.Common.{ap, sym, ◌∙◌, arith, append_assoc, add-one, 
 use Rattle.std.proofs.Math.Seq.{drop-nil}
 use Rattle.std.proofs.lemmas.List.{replicate-append-replicate}
 use Rattle.plcs_base.specs.Put.{PutsAll}
-use Rattle.plcs_base.proofs.Putting.{puts_append, puts_same}
+use Rattle.plcs_base.specs.Putting.{puts_append, puts_same}
 use Rattle.plcs_grammar.specs.declared.row.Segment.{Segment}
 use Rattle.plcs_grammar.specs.PlainPhrase.{PlainPhrase}
 use Rattle.plcs_grammar.specs.Template.{PlainSection, row_of, plain_segment}

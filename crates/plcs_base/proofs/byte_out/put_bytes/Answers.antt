@@ -1,7 +1,7 @@
 use Rattle.std.proofs.Common.{◌<◌, length, sym, arith}
 use Rattle.std.proofs.lemmas.List.{take_more}
 use Rattle.plcs_base.specs.Put.{puts_nothing}
-use Rattle.plcs_base.proofs.Putting.{puts_behind, puts_same}
+use Rattle.plcs_base.specs.Putting.{puts_behind, puts_same}
 use Rattle.plcs_base.proofs.byte_out.put_bytes.Goals as goal
 
 pub loop-byte-init : goal.loop-byte-init

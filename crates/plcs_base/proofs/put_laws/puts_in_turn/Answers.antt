@@ -1,4 +1,4 @@
-use Rattle.plcs_base.proofs.Putting as putting
+use Rattle.plcs_base.specs.Putting as putting
 use Rattle.plcs_base.proofs.put_laws.puts_in_turn.Goals as goal
 
 pub returns : goal.returns

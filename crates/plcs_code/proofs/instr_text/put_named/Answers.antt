@@ -1,5 +1,5 @@
 use Rattle.plcs_base.specs.Put.{puts_next}
-use Rattle.plcs_base.proofs.Putting.{puts_append}
+use Rattle.plcs_base.specs.Putting.{puts_append}
 use Rattle.plcs_code.proofs.instr_text.put_named.Goals as goal
 
 pub returns : goal.returns

@@ -1,4 +1,4 @@
-use Rattle.plcs_base.proofs.Putting.{puts_append}
+use Rattle.plcs_base.specs.Putting.{puts_append}
 use Rattle.plcs_code.proofs.instr_text.put_numbered.Goals as goal
 
 pub returns : goal.returns

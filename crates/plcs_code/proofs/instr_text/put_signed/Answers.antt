@@ -4,7 +4,7 @@ use Rattle.std.specs.Fmt.{signed_decimal}
 use mir.Syntax.{w32}
 use mir.Val.{SFits, of_z, to_z}
 use Rattle.plcs_base.specs.Put.{puts_next}
-use Rattle.plcs_base.proofs.Putting.{puts_append, puts_same}
+use Rattle.plcs_base.specs.Putting.{puts_append, puts_same}
 use Rattle.plcs_code.proofs.instr_text.put_signed.Goals as goal
 
 pub returns : goal.returns

@@ -1,5 +1,5 @@
 use Rattle.std.proofs.Common.{ap, sym, ◌∷◌}
-use Rattle.plcs_base.proofs.Putting.{puts_append, puts_same}
+use Rattle.plcs_base.specs.Putting.{puts_append, puts_same}
 use Rattle.plcs_code.specs.InstrText.{type_text}
 use Rattle.plcs_code.proofs.instr_text.put_type.Goals as goal
 

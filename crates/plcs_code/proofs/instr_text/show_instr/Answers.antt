@@ -1,7 +1,7 @@
 use Rattle.std.proofs.Common.{ap, ◌∙◌, ◌++◌, ◌∷◌}
 use Rattle.std.specs.Prelude.{codes}
 use Rattle.plcs_grammar.specs.Token.{quoted}
-use Rattle.plcs_base.proofs.Putting.{puts_append, puts_same}
+use Rattle.plcs_base.specs.Putting.{puts_append, puts_same}
 use Rattle.plcs_code.proofs.ShownInstrs.{shown_instr}
 use Rattle.plcs_code.proofs.instr_text.show_instr.Goals as goal
 

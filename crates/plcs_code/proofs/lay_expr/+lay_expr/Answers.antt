@@ -3,11 +3,10 @@ use Rattle.std.proofs.lemmas.Int.{to_z-of_z}
 use mir.Syntax.{w32}
 use mir.Val.{SFits, of_z, to_z}
 use Rattle.plcs_grammar.specs.PlainPhrase.{plain_exprs}
-use Rattle.plcs_grammar.proofs.PlainExprCases.{expr_builtin, expr_infix, expr_prefix, expr_variable}
+use Rattle.plcs_grammar.specs.PlainExprCases.{expr_bit, expr_builtin, expr_infix, expr_number, expr_prefix, expr_text, expr_variable, reference_simple}
 use Rattle.plcs_code.specs.ExprCode.{exprs_instrs, index_instrs}
 use Rattle.plcs_code.specs.PlainInstr.{PlainInstr}
 use Rattle.plcs_code.specs.Private.LaysAll.{lays_nothing}
-use Rattle.plcs_code.proofs.ExprCases.{expr_bit, expr_number, expr_text, reference_simple}
 use Rattle.plcs_code.proofs.LaidLists.{counted, exprs_next, laid_expr, laid_plain}
 use Rattle.plcs_code.proofs.Laying.{lays_append, lays_behind, lays_one, lays_same}
 use Rattle.plcs_code.proofs.lay_expr.+lay_expr.Goals as goal

@@ -1,7 +1,7 @@
 use Rattle.std.proofs.Common.{[], ◌∷◌, sym, ap}
-use Rattle.plcs_grammar.proofs.PlainExprCases.{expr_variable}
+use Rattle.plcs_grammar.specs.PlainExprCases.{expr_variable}
 use Rattle.plcs_code.specs.ExprCode.{argument_instrs}
-use Rattle.plcs_code.proofs.ExprCases.{argument_other}
+use Rattle.plcs_code.proofs.DummyArguments.{argument_other}
 use Rattle.plcs_code.proofs.Laying.{lays_append, lays_behind, lays_one, lays_same}
 use Rattle.plcs_code.proofs.lay_phrase.lay_argument.Goals as goal
 

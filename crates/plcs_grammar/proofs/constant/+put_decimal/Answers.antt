@@ -1,6 +1,6 @@
 use Rattle.std.proofs.Common.{sym, arith}
 use Rattle.std.proofs.lemmas.Fmt.{decimal_digit, decimal_step}
-use Rattle.plcs_base.proofs.Putting.{puts_one, puts_behind, puts_same}
+use Rattle.plcs_base.specs.Putting.{puts_one, puts_behind, puts_same}
 use Rattle.plcs_grammar.proofs.constant.+put_decimal.Goals as goal
 
 pub returns-then-number-lt10 : goal.returns-then-number-lt10

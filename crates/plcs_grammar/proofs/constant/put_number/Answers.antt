@@ -3,7 +3,7 @@ use Rattle.std.specs.Prelude.{nat_abs}
 use Rattle.std.specs.Int.Signed.{lt_z}
 use Rattle.std.proofs.lemmas.Int.{to_z-of_z}
 use Rattle.plcs_base.specs.Put.{puts_next}
-use Rattle.plcs_base.proofs.Putting.{puts_same}
+use Rattle.plcs_base.specs.Putting.{puts_same}
 use Rattle.plcs_grammar.proofs.NegativeNumbers.{negative_text}
 use Rattle.plcs_grammar.proofs.constant.put_number.Goals as goal
 

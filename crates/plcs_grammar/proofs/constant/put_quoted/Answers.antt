@@ -1,5 +1,5 @@
 use Rattle.plcs_base.specs.Put.{puts_next}
-use Rattle.plcs_base.proofs.Putting.{puts_behind}
+use Rattle.plcs_base.specs.Putting.{puts_behind}
 use Rattle.plcs_grammar.proofs.constant.put_quoted.Goals as goal
 
 pub returns : goal.returns

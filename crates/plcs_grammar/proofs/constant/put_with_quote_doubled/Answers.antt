@@ -1,5 +1,5 @@
 use Rattle.std.proofs.Common.{sym}
-use Rattle.plcs_base.proofs.Putting.{puts_one, puts_same}
+use Rattle.plcs_base.specs.Putting.{puts_one, puts_same}
 use Rattle.plcs_grammar.proofs.DoubledQuotes.{undoubled}
 use Rattle.plcs_grammar.proofs.constant.put_with_quote_doubled.Goals as goal
 

@@ -2,7 +2,7 @@ use Rattle.std.proofs.Common.{◌<◌, [], ◌∷◌, length, take, get_or, sym,
 use Rattle.std.proofs.lemmas.List.{take_more}
 use Rattle.plcs_base.specs.Put.{puts_nothing}
 use Rattle.plcs_grammar.specs.Token.{with_quotes_doubled}
-use Rattle.plcs_base.proofs.Putting.{puts_append, puts_same}
+use Rattle.plcs_base.specs.Putting.{puts_append, puts_same}
 use Rattle.plcs_grammar.proofs.DoubledQuotes.{doubled_append}
 use Rattle.plcs_grammar.proofs.constant.put_with_quotes_doubled.Goals as goal
 

@@ -3,7 +3,8 @@ use Rattle.plcs_grammar.specs.PlainPhrase.{PlainExpr, PlainVarRef, plain_expr}
 use Rattle.plcs_grammar.specs.declared.expr.Expr.{size-Expr}
 use Rattle.plcs_grammar.specs.declared.expr_copy.Link.{Link}
 use Rattle.plcs_grammar.specs.Private.Link.{linked}
-use Rattle.plcs_grammar.proofs.PlainExprCases.{expr_infix, left_no_deeper, reference_subscripted}
+use Rattle.plcs_grammar.specs.PlainExprCases.{expr_infix, reference_subscripted}
+use Rattle.plcs_grammar.proofs.ChainOperands.{left_no_deeper}
 use Rattle.plcs_grammar.proofs.LinkedChains.{linked_push}
 use Rattle.plcs_grammar.proofs.expr_copy.+copy_expr.Goals as goal
 

@@ -1,7 +1,7 @@
 use Rattle.std.proofs.Common.{refl, sym, ap, ◌∙◌}
 use Rattle.plcs_grammar.specs.PlainPhrase.{PlainExpr, plain_expr}
 use Rattle.plcs_grammar.specs.Private.Link.{linked}
-use Rattle.plcs_grammar.proofs.PlainExprCases.{expr_infix}
+use Rattle.plcs_grammar.specs.PlainExprCases.{expr_infix}
 use Rattle.plcs_grammar.proofs.LinkedChains.{linked_push}
 use Rattle.plcs_grammar.proofs.expr_copy.chained.Goals as goal
 

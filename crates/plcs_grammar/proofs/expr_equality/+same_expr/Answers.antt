@@ -1,7 +1,7 @@
 use Rattle.std.proofs.Common.{◌<◌, length, arith}
 use Rattle.plcs_grammar.specs.PlainPhrase.{plain_expr}
 use Rattle.plcs_grammar.proofs.EqualPlainPhrases.{told_no, told_through, differs_at, images_length, exprs_tell, listed_exprs}
-use Rattle.plcs_grammar.proofs.PlainExprCases.{expr_by_variant}
+use Rattle.plcs_grammar.specs.PlainExprCases.{expr_by_variant}
 use Rattle.plcs_grammar.proofs.expr_equality.+same_expr.Goals as goal
 
 pub same_exprs-returns-then-all-others : goal.same_exprs-returns-then-all-others

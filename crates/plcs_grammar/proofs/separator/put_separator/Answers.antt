@@ -1,7 +1,7 @@
 use Rattle.std.proofs.Common.{◌≡◌, sym, ap, arith}
 use Rattle.plcs_base.specs.Put.{puts_nothing}
 use Rattle.plcs_grammar.specs.Private.Separator.{separator}
-use Rattle.plcs_base.proofs.Putting.{puts_same}
+use Rattle.plcs_base.specs.Putting.{puts_same}
 use Rattle.plcs_grammar.proofs.separator.put_separator.Goals as goal
 
 pub returns-else-number-gt0 : goal.returns-else-number-gt0

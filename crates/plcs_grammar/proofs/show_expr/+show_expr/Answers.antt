@@ -7,12 +7,13 @@ use Rattle.plcs_grammar.specs.PlainPhrase.{plain_expr, plain_exprs}
 use Rattle.plcs_grammar.specs.Sign.{sign_bytes}
 use Rattle.plcs_grammar.specs.Canon.{canon, canon_list, joined}
 use Rattle.plcs_grammar.specs.Private.Chain.{leftmost, chain_text, operator_text}
-use Rattle.plcs_base.proofs.Putting.{puts_append, puts_same, puts_three}
+use Rattle.plcs_base.specs.Putting.{puts_append, puts_same, puts_three}
 use Rattle.plcs_grammar.proofs.ParenthesizedTexts.{puts_parenthesized}
 use Rattle.plcs_grammar.proofs.EqualShown.{shown_plain, shown_reference, shown_expr}
 use Rattle.plcs_grammar.proofs.ChainTexts.{chain_whole, chain_halves}
 use Rattle.plcs_grammar.proofs.JoinedTexts.{joined_next, list_is}
-use Rattle.plcs_grammar.proofs.PlainExprCases.{expr_prefix, expr_infix, expr_builtin, expr_paren, reference_subscripted, no_operator}
+use Rattle.plcs_grammar.specs.PlainExprCases.{expr_prefix, expr_infix, expr_builtin, expr_paren, reference_subscripted}
+use Rattle.plcs_grammar.proofs.ChainOperands.{no_operator}
 use Rattle.plcs_grammar.proofs.show_expr.+show_expr.Goals as goal
 
 pub show_expr-returns-in-Prefix : goal.show_expr-returns-in-Prefix

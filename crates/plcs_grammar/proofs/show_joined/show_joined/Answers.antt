@@ -1,6 +1,6 @@
 use Rattle.std.proofs.Common.{◌<◌, length, sym, arith}
 use Rattle.plcs_base.specs.Put.{puts_nothing}
-use Rattle.plcs_base.proofs.Putting.{puts_same, puts_three}
+use Rattle.plcs_base.specs.Putting.{puts_same, puts_three}
 use Rattle.plcs_grammar.proofs.JoinedTexts.{joined_next}
 use Rattle.plcs_grammar.proofs.show_joined.show_joined.Goals as goal
 

@@ -1,7 +1,7 @@
 use Rattle.std.proofs.Common.{ap, ◌∙◌}
 use Rattle.plcs_grammar.specs.PlainPhrase.{plain_var_ref}
 use Rattle.plcs_grammar.specs.Canon.{canon_reference, joined}
-use Rattle.plcs_base.proofs.Putting.{puts_same, puts_three}
+use Rattle.plcs_base.specs.Putting.{puts_same, puts_three}
 use Rattle.plcs_grammar.proofs.JoinedTexts.{joined_map}
 use Rattle.plcs_grammar.proofs.EqualShown.{shown_phrase}
 use Rattle.plcs_grammar.proofs.show_phrase.show.Goals as goal

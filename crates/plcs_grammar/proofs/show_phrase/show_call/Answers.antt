@@ -1,5 +1,5 @@
 use Rattle.std.proofs.Common.{◌<◌, length, sym, rules}
-use Rattle.plcs_base.proofs.Putting.{puts_same}
+use Rattle.plcs_base.specs.Putting.{puts_same}
 use Rattle.plcs_grammar.proofs.ParenthesizedTexts.{puts_parenthesized}
 use Rattle.plcs_grammar.proofs.JoinedTexts.{call_text}
 use Rattle.plcs_grammar.proofs.show_phrase.show_call.Goals as goal

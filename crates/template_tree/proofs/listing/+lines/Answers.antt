@@ -2,7 +2,7 @@
 -- nodes before, by the sections that are left for the others. Both get smaller by the node that they go into.
 use Rattle.std.proofs.Common.{rules, ◌≡◌, ◌+◌, ◌<◌, ◌∙◌, sym, ap, arith, false, length, map, option_map}
 use Rattle.plcs_base.specs.Put.{puts_nothing, puts_next}
-use Rattle.plcs_base.proofs.Putting.{puts_append, puts_same}
+use Rattle.plcs_base.specs.Putting.{puts_append, puts_same}
 use Rattle.plcs_grammar.specs.Template.{PlainRow, row_of, plain_row}
 use Rattle.template_tree.specs.Line.{fixed_line, lines, segments_text}
 use Rattle.template_tree.specs.Listing.{bytes_of_lines}

@@ -1,5 +1,5 @@
 use Rattle.plcs_base.specs.Put.{puts_nothing}
-use Rattle.plcs_base.proofs.Putting.{puts_append, puts_same}
+use Rattle.plcs_base.specs.Putting.{puts_append, puts_same}
 use Rattle.template_tree.proofs.Listings.PutLines.{two_blanks}
 use Rattle.template_tree.proofs.listing.put_blanks.Goals as goal
 

@@ -1,6 +1,6 @@
 use Rattle.std.proofs.Common.{arith, ap, sym, map}
 use Rattle.plcs_base.specs.Put.{puts_nothing}
-use Rattle.plcs_base.proofs.Putting.{puts_same}
+use Rattle.plcs_base.specs.Putting.{puts_same}
 use Rattle.plcs_grammar.specs.Template.{plain_segment}
 use Rattle.template_tree.specs.Line.{segments_text}
 use Rattle.template_tree.specs.PlainPhrasePlace.{plain_phrase_place}

@@ -3,7 +3,7 @@
 use Rattle.std.proofs.Common.{◌≡◌, ◌∙◌, ◌+◌, drop, sym, ap, arith}
 use Rattle.std.proofs.lemmas.Option.{slice_get_within}
 use Rattle.template_tree.specs.PlainTree.{Forest, forest, forest_nodes, nodes}
-use Rattle.type_marks.proofs.ListsLeft.{left_from, none_left}
+use Rattle.plcs_base.specs.ListLeft.{left_from, none_left}
 use Rattle.template_tree.specs.Marks.{declared_before}
 use Rattle.type_marks.specs.Private.DeclaredItems.{has_such}
 use Rattle.type_marks.proofs.ChildLists.{such_behind, such_here, such_own}

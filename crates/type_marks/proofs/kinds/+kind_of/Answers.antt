@@ -7,7 +7,7 @@ use Rattle.template_tree.specs.Verdict.{kind_of, kinds_of}
 use Rattle.type_marks.specs.Private.Arguments.{fit_found, judged, takes_kind, taken_of}
 use Rattle.type_marks.specs.Private.Chain.{chain_end}
 use Rattle.type_marks.proofs.FoundArguments.{fit_end, fit_left, fit_next, judged_is, kinds_length}
-use Rattle.plcs_grammar.proofs.PlainExprCases.{expr_builtin}
+use Rattle.plcs_grammar.specs.PlainExprCases.{expr_builtin}
 use Rattle.type_marks.proofs.kinds.+kind_of.Goals as goal
 use Rattle.type_marks.proofs.kinds.+kind_of.Goals.{fit_arguments-then-fits, fit_arguments-else-fits}
 

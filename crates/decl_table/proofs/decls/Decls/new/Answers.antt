@@ -3,7 +3,7 @@ use Rattle.std.proofs.Math.ListN.{drop_of_length-le}
 use Rattle.template_tree.specs.Path.{node_at}
 use Rattle.template_tree.specs.PlainTree.{Forest, forest, forest_nodes, nodes}
 use Rattle.decl_table.specs.PlainDecls.{PlainDecls}
-use Rattle.decl_table.proofs.ListsLeft.{left_from, past_where_none}
+use Rattle.plcs_base.specs.ListLeft.{left_from, past_where_none}
 use Rattle.decl_table.proofs.ReadProcedures.{IsRead, read_all, read_next, read_none}
 use Rattle.decl_table.proofs.decls.Decls.new.Goals as goal
 

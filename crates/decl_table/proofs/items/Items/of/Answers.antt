@@ -3,7 +3,7 @@ use Rattle.std.proofs.lemmas.Option.{slice_get_within}
 use Rattle.template_tree.specs.Environment.{all_declared, declares, effective}
 use Rattle.template_tree.specs.PlainTree.{forest, forest_nodes, nodes}
 use Rattle.decl_table.proofs.ItemLists.{effective_append}
-use Rattle.decl_table.proofs.ListsLeft.{left_from, none_left}
+use Rattle.plcs_base.specs.ListLeft.{left_from, none_left}
 use Rattle.decl_table.proofs.items.Items.of.Goals as goal
 
 pub loop-node-init : goal.loop-node-init

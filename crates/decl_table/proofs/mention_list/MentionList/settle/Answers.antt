@@ -3,7 +3,7 @@ use Rattle.std.proofs.lemmas.List.Filters.{dedup_is}
 use Rattle.std.proofs.lemmas.List.Kept.{Contains-dedup, Contains-from_dedup, IsStrictlySortedBy-dedup}
 use Rattle.std.proofs.lemmas.List.Sorted.{Contains-permutation, IsPermutation-sym}
 use Rattle.decl_table.specs.Private.UsesView.{IsSettled}
-use Rattle.decl_table.proofs.PlaceOrder.{place_equal, place_test_equiv, place_ties, places_total}
+use Rattle.plcs_base.specs.PlaceOrder.{place_equal, place_test_equiv, place_ties, places_total}
 use Rattle.decl_table.proofs.mention_list.MentionList.settle.Goals as goal
 
 pub returns : goal.returns

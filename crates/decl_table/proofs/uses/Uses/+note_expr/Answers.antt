@@ -1,12 +1,14 @@
 -- With the names in the rest of the chain, those noted so far are the names of the whole expression; an operator's right
 -- operand moves from the rest to what is noted. So at the end of the chain, whatever stands there, all are noted.
-use Rattle.std.proofs.Common.{◌∙◌, ◌+◌, [], ◌∷◌, drop, sym, ap, subst, refl, arith}
+use Rattle.std.proofs.Common.{◌∙◌, ◌+◌, ◌≤◌, [], ◌∷◌, drop, sym, ap, subst, refl, arith, rules}
 use Rattle.plcs_grammar.specs.declared.expr.Expr.{size-Expr}
+use Rattle.plcs_grammar.specs.declared.expr.Expr.TheVariants.{Infix}
+use Rattle.plcs_grammar.specs.declared.expr.Expr.TheViews.{the_lemmas}
+use Rattle.plcs_grammar.specs.PlainExprCases.{expr_builtin, expr_infix, expr_paren, expr_prefix, expr_variable, reference_subscripted}
 use Rattle.plcs_grammar.specs.PlainPhrase.{plain_expr, plain_exprs, plain_var_ref}
 use Rattle.template_tree.specs.Mention.{names_in, names_in_all, reference_names}
 use Rattle.decl_table.specs.Private.UsesView.{AddsNames}
 use Rattle.decl_table.proofs.AddedUses.{adds_both, adds_last, Leaves, leaves_next, left_behind, of_names, of_names-append, or_comm, then_ok}
-use Rattle.plcs_grammar.proofs.PlainExprCases.{expr_builtin, expr_infix, expr_paren, expr_prefix, expr_variable, left_no_deeper, reference_subscripted}
 use Rattle.decl_table.proofs.uses.Uses.+note_expr.Goals as goal
 
 pub note_expr-loop-rest-preserved : goal.note_expr-loop-rest-preserved
@@ -27,7 +29,9 @@ note_expr-loop-rest-preserved t c =
           ∙ or_comm (of_names a at name place) (of_names b at name place))
           c.loop-rest.invariant.leaves);
       shallow =
-          omega (arith, left_no_deeper c.loop-rest.rest.now c.in-Infix.field-0 c.in-Infix.left c.in-Infix.right c.in-Infix.is, c.loop-rest.invariant.shallow, ap size-Expr c.deref-rest.ensures);
+          let smaller : size-Expr c.in-Infix.left.value ≤ size-Expr (Infix c.in-Infix.field-0 c.in-Infix.left c.in-Infix.right) =
+          search (rules, the_lemmas) in
+          omega (arith, ap size-Expr c.in-Infix.is, smaller, c.loop-rest.invariant.shallow, ap size-Expr c.deref-rest.ensures);
       same = refl;
     }
 

@@ -5,7 +5,7 @@ use Rattle.template_tree.specs.Mention.{phrase_at}
 use Rattle.template_tree.specs.PlainPhrasePlace.{plain_phrase_place}
 use Rattle.decl_table.specs.Private.UsesView.{AddsPart}
 use Rattle.decl_table.proofs.AddedUses.{leaves_next, leaves_none, of_parts, of_parts-next, of_place}
-use Rattle.decl_table.proofs.ListsLeft.{left_from, none_left}
+use Rattle.plcs_base.specs.ListLeft.{left_from, none_left}
 use Rattle.decl_table.proofs.uses.Uses.note_parts.Goals as goal
 
 pub loop-part-preserved : goal.loop-part-preserved

@@ -1,6 +1,6 @@
 use Rattle.std.proofs.Common.{sym, ap}
 use Rattle.plcs_grammar.specs.Canon.{canon_sized}
-use Rattle.plcs_base.proofs.Putting.{puts_same}
+use Rattle.plcs_base.specs.Putting.{puts_same}
 use Rattle.plcs_grammar.proofs.ParenthesizedTexts.{puts_parenthesized}
 use Rattle.plcs_grammar.proofs.show_joined.ItemShown.show.Goals as goal
 

@@ -1,7 +1,7 @@
 -- The verdicts of the nodes from number k on stand in the map, and bound the checks; one node fewer is left each time.
 -- At 0 all that stands in the node is noted, and its parts come before that, as its verdicts list them.
 use Rattle.std.proofs.Common.{◌≡◌, ◌+◌, ◌-◌, [], ◌∷◌, Some, drop, length, slice_get, sym, arith}
-use Rattle.type_marks.proofs.ListsLeft.{past_where_none}
+use Rattle.plcs_base.specs.ListLeft.{past_where_none}
 use Rattle.template_tree.specs.Marks.{node_verdicts, part_verdicts, surroundings}
 use Rattle.template_tree.specs.PlainTree.{forest, nodes}
 use Rattle.type_marks.proofs.NotedVerdicts.{all_more, node_more, noted_all, noted_node, then_ok}

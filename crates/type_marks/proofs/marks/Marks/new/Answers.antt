@@ -2,7 +2,7 @@
 -- At 0 they are those of the whole program, since main and the procedures are found by all numbers below their count.
 use Rattle.std.proofs.Common.{◌≡◌, ℕ, ◌+◌, ◌-◌, [], ◌∷◌, Some, drop, length, slice_get, sym, ap, ◌∙◌, arith}
 use Rattle.std.specs.FinMap.{from_entries}
-use Rattle.type_marks.proofs.ListsLeft.{past_where_none}
+use Rattle.plcs_base.specs.ListLeft.{past_where_none}
 use Rattle.template_tree.specs.Marks.{VerdictMap, node_verdicts, offences, procedure_verdicts}
 use Rattle.template_tree.specs.PlainTree.{Forest, forest, forest_nodes, nodes}
 use Rattle.type_marks.proofs.NotedVerdicts.{at_most, noted_procedure, procedure_more, procedures_shorter}

@@ -1,65 +1,19 @@
--- The order of the places of phrases, and the mark at a place among verdicts.
--- A place is told by two numbers, and offences stand in the order of verdicts, so that what is found among them is the offence of what is found.
+-- The mark at a place among verdicts.
+-- Offences stand in the order of verdicts, so that what is found among them is the offence of what is found.
 use Rattle.std.proofs.Common.{◌≡◌, ℕ, Bool, true, false, [], ◌∷◌, Option, Some, None, sym, ap, subst, ◌∙◌, refl}
-use Rattle.std.specs.Prelude.{◌&&◌, T, cond, nat_eq, nat_lt}
-use Rattle.std.proofs.Common.{arith}
-use Rattle.std.proofs.lemmas.Bool.Decides.{nat_tests}
-use Rattle.std.specs.Cmp.{IsEquivalence, IsTotalOrder}
-use Rattle.std.specs.FinMap.{entries, entries_sorted, find, get, get-entries, get-from_entries, is_sorted, nat_cmp-IsAntisymmetric}
+use Rattle.std.specs.Prelude.{◌&&◌, T, cond}
+use Rattle.std.specs.FinMap.{entries, entries_sorted, find, get, get-entries, get-from_entries, is_sorted}
 use Rattle.std.specs.FinMap.Entries.{below_all}
 use Rattle.std.specs.List.{filter_map}
 use Rattle.std.specs.Option.{option_flatten}
-use Rattle.std.specs.Ordering.{eq_by_cmp, is_eq, is_lt, nat_cmp, ordering_then}
+use Rattle.std.specs.Ordering.{eq_by_cmp, is_eq, is_lt}
 use Rattle.std.specs.declared.cmp.Ordering.{Ordering}
 use Rattle.std.specs.declared.cmp.Ordering.TheVariants.{Less, Equal, Greater}
-use Rattle.std.proofs.lemmas.Cmp.{eq_by_cmp_equiv, nat_cmp_total, on_total, then_total}
 use Rattle.plcs_base.specs.Mark.{phrase_cmp}
+use Rattle.plcs_base.specs.PlaceOrder.{places_total, same_place}
 use Rattle.plcs_base.specs.declared.mark.MarkKind.{MarkKind}
 use Rattle.plcs_base.specs.declared.place.PhraseAt.{PhraseAt}
 use Rattle.template_tree.specs.Marks.{VerdictList, VerdictMap, offence_at, offences}
-
--- places are in one order
-pub places_total : IsTotalOrder phrase_cmp
-places_total = then_total (on_total (λ (at : PhraseAt). at.slot.0) nat_cmp_total) (on_total (λ (at : PhraseAt). at.part) nat_cmp_total)
-
-pub places_equiv : IsEquivalence (eq_by_cmp phrase_cmp)
-places_equiv = eq_by_cmp_equiv places_total
-
--- places that are equal in it are the same
-pub same_place : (x y : PhraseAt) → eq_by_cmp phrase_cmp x y ≡ true → x ≡ y
-same_place x y same = by (nat_cmp x.slot.0 y.slot.0) (nat_cmp x.part y.part) refl refl same
-  where
-    by : (a b : Ordering) → nat_cmp x.slot.0 y.slot.0 ≡ a → nat_cmp x.part y.part ≡ b → is_eq (ordering_then a b) ≡ true → x ≡ y
-    by Equal Equal e f same =
-        λ i. record { slot = record { 0 = nat_cmp-IsAntisymmetric x.slot.0 y.slot.0 e i }; part = nat_cmp-IsAntisymmetric x.part y.part f i }
-    by Less b e f same = absurd (cc)
-    by Greater b e f same = absurd (cc)
-    by Equal Less e f same = absurd (cc)
-    by Equal Greater e f same = absurd (cc)
-
--- the test of numbers is that of their order
-pub nat_ties : (m n : ℕ) → nat_eq m n ≡ is_eq (nat_cmp m n)
-nat_ties m n = by (nat_lt m n) (nat_eq m n) refl refl
-  where
-    by : (less same : Bool) → nat_lt m n ≡ less → nat_eq m n ≡ same → same ≡ is_eq (cond less Less (cond same Equal Greater))
-    by true true e f = absurd (grind (arith, nat_tests))
-    by true false e f = refl
-    by false true e f = refl
-    by false false e f = refl
-
--- the test of places is that of the order
-pub place_ties : (x y : PhraseAt) → (nat_eq x.slot.0 y.slot.0 && nat_eq x.part y.part) ≡ eq_by_cmp phrase_cmp x y
-place_ties x y =
-    ap (λ b. b && nat_eq x.part y.part) (nat_ties x.slot.0 y.slot.0)
-    ∙ ap (λ b. is_eq (nat_cmp x.slot.0 y.slot.0) && b) (nat_ties x.part y.part)
-    ∙ by (nat_cmp x.slot.0 y.slot.0) (nat_cmp x.part y.part)
-  where
-    by : (a b : Ordering) → (is_eq a && is_eq b) ≡ is_eq (ordering_then a b)
-    by Less b = refl
-    by Equal b = refl
-    by Greater b = refl
-
--- ---- the marks among verdicts
 
 below_none : (q : PhraseAt) (es : VerdictList) → T (below_all phrase_cmp q es) → find phrase_cmp q es ≡ None
 below_none q [] below = refl
