@@ -15,7 +15,7 @@ use Rattle.plcs_grammar.specs.declared.node_kind.Sort.{Sort}
 use Rattle.plcs_grammar.specs.declared.template.Template.{Template}
 use Rattle.plcs_grammar.specs.PlainPhrase.{PlainPhrase}
 use Rattle.template_tree.specs.Environment.{Items, items_inside, procedure_at}
-use Rattle.template_tree.specs.Marks.{Marks, surroundings}
+use Rattle.template_tree.specs.Marks.{Marks, is_phrase_marked, surroundings}
 use Rattle.template_tree.specs.Mention.{phrase_at}
 use Rattle.template_tree.specs.Part.{part_at}
 use Rattle.template_tree.specs.Place.{PlainPlace, Site, Start, has_point, is_statement, passes_in, place_at, place_exists_at, site}
@@ -33,7 +33,7 @@ use Rattle.plcs_store.specs.Act.{Act, done}
 use Rattle.plcs_store.specs.CellAt.{newest}
 use Rattle.plcs_store.specs.Configuration.{PlainConfiguration, frame_place, top_place}
 use Rattle.plcs_store.specs.Fits.{AllStand, AreVariables, Fits, HasLoops, StandsAround, StandsAt, StandsAtStart, is_waiting_place}
-use Rattle.plcs_store.specs.Spot.{Spot, callee_named, is_phrase_marked, point_spot, site_spot, spot_at}
+use Rattle.plcs_store.specs.Spot.{Spot, callee_named, point_spot, site_spot, spot_at}
 use Rattle.plcs_store.specs.Step.{PlainStepAnswer, Step, caller_place, innermost_loop, leave_answer, spot_answer, waits_for}
 use Rattle.plcs_store.specs.StepLaws.{FittingRunsStep, StepsDoAllowedActs, StepsOfRunsTakenBack}
 use Rattle.plcs_store.specs.Undone.{last_loop, step_undone, undo_of}

@@ -8,7 +8,7 @@ use Rattle.plcs_base.specs.declared.declared.Declared.{Declared}
 use Rattle.plcs_base.specs.declared.declared.ItemType.{ItemType}
 use Rattle.plcs_base.specs.declared.value.Kind.{Kind}
 use Rattle.plcs_base.specs.declared.value.Value.{Value}
-use Rattle.template_tree.specs.Environment.{item_named, kind_of_type}
+use Rattle.template_tree.specs.Environment.{cells_in, item_named, kind_of_type}
 use Rattle.template_tree.specs.KindTable.{same_kind}
 use Rattle.plcs_store.specs.declared.cell.Cell.{Cell}
 use Rattle.plcs_store.specs.declared.cell.Location.{Location}
@@ -16,7 +16,7 @@ use Rattle.plcs_store.specs.declared.fault_kind.FaultKind.{FaultKind}
 use Rattle.plcs_store.specs.declared.frame.Frame.{Frame}
 use Rattle.plcs_store.specs.declared.variable.Variable.{Variable}
 use Rattle.plcs_store.specs.CellAt.{cell_at, element_of, final_location, kept_value, located, newest, own_location, stands_for, value_at, value_in_cell, variable_at, variable_named}
-use Rattle.plcs_store.specs.Fits.{AreVariables, HoldsRight, IsNoReference, IsTarget, ValuesFit, cell_count, declared_part, kind_of_value, variable_part}
+use Rattle.plcs_store.specs.Fits.{AreVariables, HoldsRight, IsNoReference, IsTarget, ValuesFit, declared_part, kind_of_value, variable_part}
 use Rattle.plcs_store.specs.Outcome.{Outcome, faults, if_there, then_gives}
 use Rattle.plcs_store.specs.Step.{storing}
 use Rattle.plcs_store.proofs.FittingSteps.Found.{and_both}
@@ -37,7 +37,7 @@ pub record HasVariable (frames : List Frame) (name : List ℕ) (ty : ItemType) :
   pub variable : Variable
   pub there : variable_at frames (newest frames) name ≡ Some variable
   pub ty_is : variable.ty ≡ ty
-  pub whole : length variable.cells ≡ cell_count variable
+  pub whole : length variable.cells ≡ cells_in variable.size
 
 mapped : {A B : Type 0} (f : A → B) (found : Option A) (b : B) → option_map f found ≡ Some b → (a : A) × (found ≡ Some a) × (f a ≡ b)
 mapped f None b e = absurd (none-some b e)
@@ -68,7 +68,7 @@ within_size : (size n k : ℕ) → 1 ≤ k → k ≤ size → n ≡ (if size == 
 within_size zero n k some few e = omega (arith, some, few)
 within_size (suc size) n k some few e = let same : n ≡ suc size = e ∙ not_zero size in omega (arith, some, few, same)
 
-element_so : (variable : Variable) (subscript : Option ℤ) → length variable.cells ≡ cell_count variable
+element_so : (variable : Variable) (subscript : Option ℤ) → length variable.cells ≡ cells_in variable.size
     → Gives (λ k. k < length variable.cells) (element_of variable subscript)
 element_so variable None whole = some_cell variable.size (length variable.cells) whole
 element_so variable (Some (pos n)) whole =
