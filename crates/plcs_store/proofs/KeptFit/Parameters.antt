@@ -15,7 +15,7 @@ use Rattle.plcs_base.specs.declared.declared.Declared.{Declared}
 use Rattle.plcs_base.specs.declared.declared.ItemType.{ItemType}
 use Rattle.plcs_base.specs.declared.value.Kind.{Kind}
 use Rattle.plcs_base.specs.declared.value.Value.{Value}
-use Rattle.template_tree.specs.Environment.{item_named, kind_of_type, parameter_kind, parameter_kinds, scalar_kind}
+use Rattle.template_tree.specs.Environment.{cells_in, item_named, kind_of_type, parameter_kind, parameter_kinds, scalar_kind}
 use Rattle.template_tree.specs.KindTable.{same_kind}
 use Rattle.template_tree.specs.ParameterItem.{scalar_item}
 use Rattle.plcs_store.specs.declared.argument.Argument.{Argument}
@@ -24,7 +24,7 @@ use Rattle.plcs_store.specs.declared.cell.Location.{Location}
 use Rattle.plcs_store.specs.declared.frame.Frame.{Frame}
 use Rattle.plcs_store.specs.declared.variable.Variable.{Variable}
 use Rattle.plcs_store.specs.CellAt.{Variables, kept_value, unset_named, variable_at, variable_named}
-use Rattle.plcs_store.specs.Fits.{AreVariables, HoldsRight, cell_count, declared_part, kind_of_value, variable_part}
+use Rattle.plcs_store.specs.Fits.{AreVariables, HoldsRight, declared_part, kind_of_value, variable_part}
 use Rattle.plcs_store.specs.NewFrame.{option_before, other_variables, parameter_named, parameter_of, parameter_variables, reference_parameter, scalar_variable}
 use Rattle.plcs_store.proofs.FittingSteps.Found.{and_both, kinds_same}
 use Rattle.plcs_store.proofs.NewCells.{distinct_behind, item_names, no_names, or_false, same_name, unset_cell, unset_found, unset_same, unset_variables}
@@ -311,10 +311,10 @@ module _ (frames : List Frame) (items : List Declared) (names : List (List ℕ))
       ∙ sym (ap (option_map declared_part) (ap (λ (n : List ℕ). item_named n items) own ∙ entry.2.named))
 
   parameter_whole : (name : List ℕ) (variable : Variable) → variable_named name parameters ≡ Some variable
-      → length variable.cells ≡ cell_count variable
+      → length variable.cells ≡ cells_in variable.size
   parameter_whole name variable found =
       let entry = entry_found (IsParameter frames items) (bytes_eq name) parameters variable are.1 found in
-      subst (λ (v : Variable). length v.cells ≡ cell_count v) (sym entry.2.is) refl
+      subst (λ (v : Variable). length v.cells ≡ cells_in v.size) (sym entry.2.is) refl
 
   parameter_right : (name : List ℕ) (element : ℕ) (variable : Variable) (cell : Cell) → variable_named name parameters ≡ Some variable
       → slice_get variable.cells element ≡ Some cell → HoldsRight frames (length frames) (kind_of_type variable.ty) cell
@@ -351,7 +351,7 @@ module _ (frames : List Frame) (items : List Declared) (names : List (List ℕ))
         whole =
             λ name variable found.
             whole_level (variable_named name parameters) (variable_named name (map unset_named others)) variable
-            (length variable.cells ≡ cell_count variable) (sym (lookup_joined (bytes_eq name) parameters (map unset_named others)) ∙ found)
+            (length variable.cells ≡ cells_in variable.size) (sym (lookup_joined (bytes_eq name) parameters (map unset_named others)) ∙ found)
             (parameter_whole name variable)
             ((unset_variables others (filtered_distinct (is_other names) items distinct)).whole name variable);
       }

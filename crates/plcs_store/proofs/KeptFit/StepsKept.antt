@@ -12,6 +12,7 @@ use Rattle.template_tree.specs.PlainTree.{Forest, PlainTree}
 use Rattle.template_tree.specs.Tree.{IsTree}
 use Rattle.tree_steps.specs.RunPlace.{is_first_marked}
 use Rattle.tree_steps.specs.StandingSlot.{Around, StandsInside, outermost_slot}
+use Rattle.template_tree.specs.Marks.{is_phrase_marked}
 use Rattle.plcs_store.specs.declared.argument.Argument.{Argument}
 use Rattle.plcs_store.specs.declared.cell.Location.{Location}
 use Rattle.plcs_store.specs.declared.fault_kind.FaultKind.{FaultKind}
@@ -28,7 +29,7 @@ use Rattle.plcs_store.specs.NewFrame.{new_frame, other_variables, parameter_vari
 use Rattle.plcs_store.specs.Operator.{fixed_value, on_bit, on_number}
 use Rattle.plcs_store.specs.Outcome.{Outcome, faults, if_there, then_gives}
 use Rattle.plcs_store.specs.OutputItem.{output_with}
-use Rattle.plcs_store.specs.Spot.{Callee, Spot, callee_named, is_phrase_marked, site_spot, spot_at}
+use Rattle.plcs_store.specs.Spot.{Callee, Spot, callee_named, site_spot, spot_at}
 use Rattle.plcs_store.specs.Step.{Going, PlainStepAnswer, assignment_act, begin_going, call_going, called_frame, caller_place, enter_going, entry_going, going_on, is_over, item_outcome, iteration_going, loop_going, newest_loop, output_act, read_act, spot_answer, step_answer, storing, test_going, waits_for, write_act}
 use Rattle.plcs_store.specs.StepLaws.{StepsKeepFit}
 use Rattle.plcs_store.proofs.KeptFit.Arguments.{IsFinalArgument, arguments_final}

@@ -11,14 +11,14 @@ use Rattle.std.proofs.lemmas.Option.{none-some, same_Some}
 use Rattle.plcs_base.specs.declared.declared.Declared.{Declared}
 use Rattle.plcs_base.specs.declared.value.Kind.{Kind}
 use Rattle.plcs_base.specs.declared.value.Value.{Value}
-use Rattle.template_tree.specs.Environment.{Items, kind_of_type}
+use Rattle.template_tree.specs.Environment.{cells_in, Items, kind_of_type}
 use Rattle.template_tree.specs.PlainTree.{Forest}
 use Rattle.plcs_store.specs.declared.cell.Cell.{Cell}
 use Rattle.plcs_store.specs.declared.cell.Location.{Location}
 use Rattle.plcs_store.specs.declared.frame.Frame.{Frame}
 use Rattle.plcs_store.specs.declared.variable.Variable.{Variable}
 use Rattle.plcs_store.specs.CellAt.{Variables, variable_at, variable_named, with_cell, with_element, with_element_named}
-use Rattle.plcs_store.specs.Fits.{AreVariables, HoldsRight, IsNoReference, IsOfMain, IsTarget, StandsAtStart, ValuesFit, cell_count, kind_of_value, variable_part}
+use Rattle.plcs_store.specs.Fits.{AreVariables, HoldsRight, IsNoReference, IsOfMain, IsTarget, StandsAtStart, ValuesFit, kind_of_value, variable_part}
 use Rattle.plcs_store.specs.Limit.{most_frames}
 use Rattle.plcs_store.proofs.TakenBack.{changed_length, set_in_frame}
 use Rattle.plcs_store.proofs.KeptFit.ChangedItems.{changed_related, item_still, set_item}
@@ -104,11 +104,11 @@ same_part own element cell (Some was) (Some is) (inr (mine, set)) =
     ap (λ (v : Variable). Some (variable_part v)) set ∙ ap (λ (v : Variable). Some (variable_part v)) (sym mine)
 
 still_whole : (own : Variable) (element : ℕ) (cell : Cell) (was is : Variable) → Became own element cell was is
-    → length was.cells ≡ cell_count was → length is.cells ≡ cell_count is
-still_whole own element cell was is (inl same) whole = subst (λ (v : Variable). length v.cells ≡ cell_count v) (sym same) whole
+    → length was.cells ≡ cells_in was.size → length is.cells ≡ cells_in is.size
+still_whole own element cell was is (inl same) whole = subst (λ (v : Variable). length v.cells ≡ cells_in v.size) (sym same) whole
 still_whole own element cell was is (inr (mine, set)) whole =
-    subst (λ (v : Variable). length v.cells ≡ cell_count v) (sym set)
-    (length-set own.cells element cell ∙ subst (λ (v : Variable). length v.cells ≡ cell_count v) mine whole)
+    subst (λ (v : Variable). length v.cells ≡ cells_in v.size) (sym set)
+    (length-set own.cells element cell ∙ subst (λ (v : Variable). length v.cells ≡ cells_in v.size) mine whole)
 
 -- variables with this in a cell of the one that is found
 set_variables : (items : List Declared) (name : List ℕ) (element : ℕ) (cell : Cell) (variables : Variables) (own : Variable)
