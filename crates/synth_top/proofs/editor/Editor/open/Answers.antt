@@ -1,3 +1,5 @@
+-- The session is opened over what was loaded, and then told the first refusal; told so, that is the first session of the
+-- definition. A message changes neither the size nor the grids.
 use Rattle.std.proofs.Common.{◌≡◌, Option, Some, None, refl, sym, ap, subst, ◌∙◌, List, ℕ, option_map}
 use Rattle.plcs_base.specs.PlainCounts.{ChecksAtMost}
 use Rattle.template_tree.specs.PlainTree.{PlainTree, roomless_tree}
