@@ -13,7 +13,7 @@ use Rattle.file_store.specs.Loaded.{IsListingOf}
 use Rattle.file_store.specs.Saved.{Saves}
 use Rattle.plcs_base.specs.declared.memory.OutOfMemory.{OutOfMemory}
 use Rattle.synth_session.specs.declared.answer.Answer.{Answer}
-use Rattle.synth_session.specs.FileReply.{CountsFault, FilesDo, HaveReplied, Reply, Request}
+use Rattle.synth_session.specs.FileReply.{CountsFault, FilesDo, HaveNoMemory, HaveReplied, Reply, Request}
 
 -- ---- refusals
 
@@ -54,6 +54,30 @@ refused_load name begun_before begun_now refusal before now says reads other = r
   stored = reads.stored;
   faults = counts_fault refusal before.faults now.faults reads.fault;
   wants = reads.want.same (λ is. other (cc));
+}
+
+-- ---- want of memory
+
+-- a save in which memory ran out
+pub wanting_save : {T : Type 0} (name own bytes : List ℕ) (refusal : FileRefusal) (before now : PlainFiles)
+    → Saves {T = T} name own (Err refusal) before now
+    → refusal ≡ FileRefusal.OutOfMemory → HaveNoMemory (Request.Save name bytes) Reply.Saved before now
+wanting_save name own bytes refusal before now saves wants = record {
+  can = tt;
+  stored = saves.kept;
+  faults = saves.fault.same (λ is. absurd (cc));
+  wants = saves.want.rose (ap Err wants);
+}
+
+-- a load in which memory ran out: a call can always fail
+pub wanting_load : {T : Type 0} (name : List ℕ) (begun_before begun_now : Option NewContent) (refusal : FileRefusal) (before now : PlainFiles)
+    → OnlyReads {T = T} (Err refusal) before now begun_before begun_now
+    → refusal ≡ FileRefusal.OutOfMemory → HaveNoMemory (Request.Load name) (Reply.Refused FileRefusal.FileFault) before now
+wanting_load name begun_before begun_now refusal before now reads wants = record {
+  can = (λ is. absurd (cc), tt);
+  stored = reads.stored;
+  faults = reads.fault.same (λ is. absurd (cc));
+  wants = reads.want.later;
 }
 
 -- ---- a program that was loaded
@@ -108,6 +132,7 @@ module _ (trees : TreesIgnoreRoom) (counts : CountsIgnoreRoom) (listings : Listi
     wants = reads.want.same (λ other. absurd (cc));
   }
   loaded_files name begun_before begun_now tree before now is says reads (Err error) = record {
+    can = ((trees tree).0 is, says_without_room before.stored name tree says);
     stored = reads.stored;
     faults = reads.fault.same (λ other. absurd (cc));
     wants = reads.want.later;

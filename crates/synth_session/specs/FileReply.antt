@@ -74,13 +74,16 @@ CountsWant Request.Nothing before now = now ≡ before
 CountsWant (Request.Save name bytes) before now = Rose before now
 CountsWant (Request.Load name) before now = before ≤ now
 
--- memory ran out in a key that asked this of the files: their map and their count of faults are as before
-pub record HaveNoMemory (request : Request) (before now : PlainFiles) : Type 0 where
+-- memory ran out in a key that asked this of the files: they can reply so, whether or not it came to a reply; their map
+-- and their count of faults are as before
+pub record HaveNoMemory (request : Request) (reply : Reply) (before now : PlainFiles) : Type 0 where
+  pub can : CanReply before.stored request reply
   pub stored : now.stored ≡ before.stored
   pub faults : now.faults ≡ before.faults
   pub wants : CountsWant request before.wants now.wants
 
--- what the files did in a key that asked this of them: they replied so where it was answered, and else memory ran out
+-- what the files did in a key that asked this of them: they replied so where it was answered, and else memory ran out,
+-- and so they can reply
 abbrev pub FilesDo : Request → Reply → PlainFiles → PlainFiles → Result Answer OutOfMemory → Type 0
 FilesDo request reply before now (Ok answer) = HaveReplied request reply before now
-FilesDo request reply before now (Err error) = HaveNoMemory request before now
+FilesDo request reply before now (Err error) = HaveNoMemory request reply before now

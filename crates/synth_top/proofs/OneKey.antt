@@ -10,7 +10,7 @@ use Rattle.screen_window.specs.PlainGrid.{PlainGrid}
 use Rattle.synth_session.specs.declared.answer.Answer.{Answer}
 use Rattle.synth_session.specs.declared.answer.Answer.TheVariants.{Done, Refused, Quit}
 use Rattle.synth_session.specs.declared.key.Key.{Key}
-use Rattle.synth_session.specs.FileReply.{HaveNoMemory}
+use Rattle.synth_session.specs.FileReply.{HaveNoMemory, Reply}
 use Rattle.synth_session.specs.KeyOutcome.{KeyOutcome}
 use Rattle.synth_session.specs.KeyRequest.{request}
 use Rattle.synth_session.specs.MemoryTaken.{key_takes_memory}
@@ -187,7 +187,8 @@ none_shown a b same = record {
 }
 
 -- the key wanted memory, and did nothing
-pub one_wanted : (key : Key) (a b : Moment) → IsTrue (key_takes_memory a.session key) → HaveNoMemory (request a.session key) a.files b.files
+pub one_wanted : {reply : Reply} (key : Key) (a b : Moment) → IsTrue (key_takes_memory a.session key)
+    → HaveNoMemory (request a.session key) reply a.files b.files
     → b.session ≡ a.session → b.shown ≡ a.shown → b.taken ≡ a.taken → b.wanted ≡ a.wanted → CountsFor [] a.counts b.counts → KeysWanted (key ∷ []) a b
 one_wanted key a b takes files session shown taken wanted counts = record {
   pressed = [];

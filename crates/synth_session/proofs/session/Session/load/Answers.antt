@@ -1,8 +1,9 @@
 use Rattle.std.proofs.Common.{rules}
 use Rattle.template_tree.specs.PlainTree.{roomless_tree}
+use Rattle.file_store.specs.declared.refusal.FileRefusal.{FileRefusal}
 use Rattle.synth_session.specs.FileReply.{Reply}
 use Rattle.synth_session.proofs.CheckedPhrases.{checks_free}
-use Rattle.synth_session.proofs.FileReplies.{loaded_files, refused_load}
+use Rattle.synth_session.proofs.FileReplies.{loaded_files, refused_load, wanting_load}
 use Rattle.synth_session.proofs.session.Session.load.Goals as goal
 
 pub returns-in-Ok : goal.returns-in-Ok
@@ -17,6 +18,16 @@ returns-in-Ok g c =
         counts = c.take_program.ensures.counts;
       };
     }
+
+pub returns-in-OutOfMemory : goal.returns-in-OutOfMemory
+returns-in-OutOfMemory g c = record {
+  does = record {
+    reply = Reply.Refused FileRefusal.FileFault;
+    files = wanting_load _ _ _ c.in-Err.refusal _ _ c.in-Err.ensures.files c.in-OutOfMemory.is;
+    does = search rules;
+    counts = checks_free 0;
+  };
+}
 
 pub returns-in_default : goal.returns-in_default
 returns-in_default g c = record {
