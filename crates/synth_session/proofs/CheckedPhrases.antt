@@ -18,7 +18,7 @@ use Rattle.synth_session.specs.CheckedPhrases.{filled_parts, phrase_count, phras
 use Rattle.synth_session.specs.ClipCommands.{cut_outcome, cut_to_clip, fragment_there, slots_there}
 use Rattle.synth_session.specs.KeyOutcome.{KeyOutcome, refusal_outcome}
 use Rattle.synth_session.specs.PlainSession.{PlainSession}
-use Rattle.synth_session.specs.Private.EditFault.{edit_checks}
+use Rattle.synth_session.specs.Private.Faults.{edit_checks}
 use Rattle.synth_session.proofs.ClipFragments.{fragment_stands}
 
 -- one more

@@ -6,11 +6,12 @@ use Rattle.plcs_grammar.specs.PlainPhrase.{PlainPhrase}
 use Rattle.plcs_grammar.specs.declared.node_kind.NodeKind.{NodeKind}
 use Rattle.template_tree.specs.Hole.{hole_left}
 use Rattle.template_tree.specs.EditAnswer.{MayTake}
+use Rattle.template_tree.specs.declared.tree_fault.TreeFault.{TreeFault}
 use Rattle.template_tree.specs.Path.{node_at}
 use Rattle.template_tree.specs.PlainTree.{Forest, PlainNode, PlainTree, roomless, roomless_node}
 use Rattle.template_tree.specs.Slots.{count}
 use Rattle.template_tree.specs.Stop.{PlainStop}
-use Rattle.template_tree.specs.Copy.{IsCopy}
+use Rattle.template_tree.specs.Copy.{CopyRefused, IsCopy}
 use Rattle.clip_store.specs.PlainFragment.{PlainFragment, roomless_fragment, slots_of, whole_fragment}
 use Rattle.session_edit.specs.Here.{can_take, takes_at}
 use Rattle.screen_window.specs.LowerRows.{cursor_part}
@@ -41,12 +42,27 @@ takes_node tree found stop there node takes =
     may_take found (sym (ap (λ part. option_map_or (can_take part) (option_map roomless_node found) false) node)
     ∙ sym (ap (λ found. option_map_or (can_take stop.part) found false) there) ∙ takes)
 
+-- a copy of such a node is refused for want of memory alone
+pub copy_wants : (found : Option PlainNode) (fault : TreeFault) → IsSomeAnd found MayTake → CopyRefused found fault
+    → (fault ≡ TreeFault.OutOfMemory → ⊥) → ⊥
+copy_wants found TreeFault.NotHere may refused other = refused may
+copy_wants found TreeFault.TooDeep may refused other = absurd refused
+copy_wants found TreeFault.TooLarge may refused other = absurd refused
+copy_wants found TreeFault.SlotsUsedUp may refused other = absurd refused
+copy_wants found TreeFault.OutOfMemory may refused other = other refl
+
 -- a copy of the node that stands there is that node, whole and without room
 pub copied_node : ((fragment : PlainFragment) → whole_fragment (roomless_fragment fragment) ≡ roomless_fragment (whole_fragment fragment))
     → (found : Option PlainNode) (copy : PlainNode) → IsSomeAnd found (λ node. IsCopy node copy)
     → Some (PlainFragment.node (roomless_node copy)) ≡ option_map whole_fragment (option_map PlainFragment.node (option_map roomless_node found))
 copied_node whole None copy is = absurd is
 copied_node whole (Some node) copy is = ap (λ f. Some f) (ap PlainFragment.node is ∙ sym (whole (PlainFragment.node node)))
+
+-- what is whole stays so
+pub whole_twice : ((fragment : PlainFragment) → whole_fragment (whole_fragment fragment) ≡ whole_fragment fragment)
+    → (there : Option PlainFragment) → option_map whole_fragment (option_map whole_fragment there) ≡ option_map whole_fragment there
+whole_twice once None = refl
+whole_twice once (Some fragment) = ap (λ f. Some f) (once fragment)
 
 -- what stands there is the node that was given out
 pub fragment_given : (tree : PlainTree) (stop : PlainStop) (node : PlainNode) → stop.part ≡ None

@@ -19,7 +19,7 @@ use Rattle.template_tree.specs.Stop.{PlainStop}
 use Rattle.cursor_moves.specs.Move.{stop_down, stop_left, stop_right, stop_up}
 use Rattle.clip_store.specs.ClipLimit.{is_full}
 use Rattle.clip_store.specs.PlainClips.{clip_named}
-use Rattle.clip_store.specs.PlainFragment.{PlainFragment, whole_fragment}
+use Rattle.clip_store.specs.PlainFragment.{PlainFragment}
 use Rattle.session_edit.specs.Edited.{Edited, edited}
 use Rattle.session_edit.specs.Here.{category_at, takes_at}
 use Rattle.session_edit.specs.PlainEdit.{PlainEdit}
@@ -120,7 +120,7 @@ clips_alone s name outcome alone =
 -- a clip inserted
 inserted_alone : (s : PlainSession) (fragment : Option PlainFragment) → Alone s (fragment_inserted s fragment)
 inserted_alone s None = refused_alone s (why.Clip ClipRefusal.NoClip)
-inserted_alone s (Some fragment) = edited_alone s (PlainEdit.insert (whole_fragment fragment))
+inserted_alone s (Some fragment) = edited_alone s (PlainEdit.insert fragment)
 
 -- a comment turned
 turned_alone : (s : PlainSession) → Alone s (comment_toggled s)

@@ -15,7 +15,7 @@ use Rattle.synth_session.specs.declared.answer.Refusal.TheVariants as why
 use Rattle.synth_session.specs.EnteredLine.{standing_entered}
 use Rattle.synth_session.specs.KeyOutcome.{refusal_outcome}
 use Rattle.synth_session.specs.PlainSession.{PlainSession}
-use Rattle.synth_session.specs.Private.TextFault.{IsFaultOf}
+use Rattle.synth_session.specs.Private.Faults.{IsTextFault}
 use Rattle.synth_session.specs.TextStanding.{TextsStandSo, standing_of}
 
 -- the law: every text is what it is taken for
@@ -36,7 +36,7 @@ answered_phrase c x (Err fault) says = tt
 
 -- a fault that is answered
 pub answered_fault : (c : Category) (x : List ℕ) (answer : Result Phrase PhraseFault) → Answers c x answer
-    → IfErr answer (λ fault. IsFaultOf fault (standing_of c x))
+    → IfErr answer (IsTextFault (standing_of c x))
 answered_fault c x (Ok phrase) says = tt
 answered_fault c x (Err (Syntax place)) says = is_standing c x (Standing.wrong_at place) says
 answered_fault c x (Err (NumberTooLarge place)) says = is_standing c x (Standing.over (OverLimit.number_too_large place)) says
@@ -51,7 +51,7 @@ own_form c (Ok phrase) formed is = subst (λ (d : Category). IsWellFormed d (pla
 own_form c (Err fault) formed is = tt
 
 -- what comes of phrase text with a fault
-pub fault_entered : (s : PlainSession) (standing : Standing) (fault : PhraseFault) → IsFaultOf fault standing
+pub fault_entered : (s : PlainSession) (standing : Standing) (fault : PhraseFault) → IsTextFault standing fault
     → (fault ≡ OutOfMemory → ⊥) → standing_entered s standing ≡ refusal_outcome s (why.Phrase fault)
 fault_entered s standing (Syntax place) is isnt = ap (standing_entered s) is
 fault_entered s standing (NumberTooLarge place) is isnt = ap (standing_entered s) is

@@ -17,7 +17,7 @@ use Rattle.synth_session.specs.KeyOutcome.{KeyOutcome, line_acceptance_outcome, 
 use Rattle.synth_session.specs.PlainSession.{PlainSession}
 use Rattle.synth_session.specs.TypedLine.{cursor_phrase}
 
--- the fragment that stands at a stop, as a clip takes it: the phrase in a part, or else the node
+-- the fragment that stands at a stop: the phrase in a part, or else the node
 abbrev pub fragment_there : PlainTree → PlainStop → Option ℕ → Option PlainFragment
 fragment_there tree stop None = option_map PlainFragment.node (node_at tree.items stop.path)
 fragment_there tree stop (Some part) = option_map PlainFragment.phrase (cursor_phrase tree stop)
@@ -42,12 +42,13 @@ copied_to_clip s name =
     else copy_outcome s name (fragment_there s.tree s.stop s.stop.part))
     else refusal_outcome s why.NotHere
 
--- what comes of taking out what stands at the cursor into the clip of this name
+-- what comes of taking out what stands at the cursor into the clip of this name, with nothing elided in it
 abbrev pub cut_outcome : PlainSession → List ℕ → Edited → Option PlainFragment → KeyOutcome
 cut_outcome s name (Edited.refused fault) fragment = refusal_outcome s (edit_refusal fault)
 cut_outcome s name (Edited.became tree stop taken what slot) None = refusal_outcome s why.NotHere
 cut_outcome s name (Edited.became tree stop taken what slot) (Some fragment) =
-    program_acceptance_outcome (record (edited_session s tree stop) { clips = with_clip name fragment s.clips })
+    program_acceptance_outcome
+    (record (edited_session s tree stop) { clips = with_clip name (whole_fragment fragment) s.clips })
 
 -- what `.cut` does: what stands at the cursor is taken out into the clip of this name, where the clips have room
 abbrev pub cut_to_clip : PlainSession → List ℕ → KeyOutcome
@@ -58,10 +59,10 @@ cut_to_clip s name =
     else cut_outcome s name (edited s.tree s.stop PlainEdit.take) (fragment_there s.tree s.stop s.stop.part))
     else refusal_outcome s why.NotHere
 
--- a copy of the fragment in a clip comes in at the cursor, where there is such a clip
+-- a copy of the fragment in a clip, as it is there, comes in at the cursor, where there is such a clip
 abbrev pub fragment_inserted : PlainSession → Option PlainFragment → KeyOutcome
 fragment_inserted s None = refusal_outcome s (why.Clip ClipRefusal.NoClip)
-fragment_inserted s (Some fragment) = edited_by s (PlainEdit.insert (whole_fragment fragment))
+fragment_inserted s (Some fragment) = edited_by s (PlainEdit.insert fragment)
 
 -- what `.insert` does: a copy of the clip of this name comes in at the cursor
 abbrev pub clip_inserted : PlainSession → List ℕ → KeyOutcome

@@ -9,7 +9,7 @@ use Rattle.template_tree.specs.PlainTree.{PlainTree, roomless_tree}
 use Rattle.template_tree.specs.Stop.{IsStop, line_at, plain_stop}
 use Rattle.template_tree.specs.Tree.{IsTree}
 use Rattle.decl_table.specs.Agreement.{IsDeclsOf}
-use Rattle.clip_store.specs.PlainClips.{roomless_pairs}
+use Rattle.clip_store.specs.PlainClips.{kept_pairs}
 use Rattle.unparse_layout.specs.Agreement.{IsLayoutOf}
 use Rattle.screen_window.specs.PlainGrid.{PlainGrid}
 use Rattle.screen_window.specs.Screen.{window_rows}
@@ -22,7 +22,7 @@ use Rattle.synth_session.specs.KeyOutcome.{KeyOutcome}
 use Rattle.synth_session.specs.PlainSession.{PlainSession}
 use Rattle.synth_session.specs.RefusalText.{shown_message}
 
--- the plain form of a session in the code
+-- the plain form of a session in the code; its clips are shown as they are kept, with nothing elided
 abbrev pub plain_session : {W : Type 0} → Session W → PlainSession
 plain_session s = record {
   size = record { rows = s.screens.shown.rows; cols = s.screens.shown.cols };
@@ -30,7 +30,7 @@ plain_session s = record {
   stop = plain_stop s.stop;
   top = s.top;
   typed = s.typed.items;
-  clips = roomless_pairs s.clips.pairs;
+  clips = kept_pairs s.clips.pairs;
   input = s.input;
   message = shown_message s.message;
 }

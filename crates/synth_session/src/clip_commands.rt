@@ -1,5 +1,5 @@
 //! The commands of clips, `.copy`, `.cut` and `.insert`.
-ghost use Rattle.std.specs.Prelude.{◌≡◌, ◌≤◌, false, true, IfOk, IfSome, Option, Some, None, option_map, option_and_then};
+ghost use Rattle.std.specs.Prelude.{◌≡◌, ◌≤◌, false, true, not, IfOk, IfSome, Option, Some, None, option_map, option_and_then};
 ghost use Rattle.plcs_base.specs.PlainCounts.{ChecksAtMost};
 ghost use Rattle.plcs_grammar.specs.PlainPhrase.{plain_phrase};
 ghost use Rattle.template_tree.specs.PlainTree.{roomless_tree};
@@ -7,8 +7,8 @@ ghost use Rattle.template_tree.specs.Program.{IsSubtree};
 ghost use Rattle.template_tree.specs.Stop.{IsStop, plain_stop};
 ghost use Rattle.template_tree.specs.Tree.{IsTree};
 ghost use Rattle.clip_store.specs.ClipLimit.{has_room, is_full};
-ghost use Rattle.clip_store.specs.PlainClips.{with_clip};
-ghost use Rattle.clip_store.specs.PlainFragment.{IsFragment, PlainFragment, plain_fragment, roomless_fragment, slots_of, whole_fragment};
+ghost use Rattle.clip_store.specs.PlainClips.{kept_pairs, with_clip};
+ghost use Rattle.clip_store.specs.PlainFragment.{IsFragment, PlainFragment, kept_fragment, plain_fragment, slots_of, whole_fragment};
 ghost use Rattle.session_edit.specs.Here.{takes_at};
 ghost use Rattle.synth_session.specs.ClipCommands.{clip_inserted, copied_to_clip, cut_to_clip, fragment_there, slots_there};
 ghost use Rattle.synth_session.specs.TypedLine.{cursor_phrase};
@@ -18,7 +18,7 @@ use crate::answer::{Answer, ClipRefusal, Refusal};
 use crate::edit_commands::edit_refusal;
 use crate::session::Session;
 use crate::typed_line::phrase_at;
-use clip_store::{Clips, Fragment, room_is_not_clipped};
+use clip_store::{Clips, Fragment, clips_are_kept_whole, room_is_not_clipped};
 use plcs_base::{Name, OutOfMemory, Work};
 use plcs_grammar::{Phrase, copy_phrase};
 use session_edit::{Edit, takes};
@@ -31,20 +31,15 @@ impl<W: Work> Session<W> {
         requires { IsSession self.old }
         ensures { Does true (copied_to_clip (plain_session self.old) name) self.old self.new result }
     {
-        room_is_not_clipped();
         if !takes(&self.program.tree, &self.stop) {
             return Ok(self.refuse(Refusal::NotHere));
         }
-        if !self
-            .clips
-            .would_hold(&name, slots_there(&self.program.tree, &self.stop))
-        {
+        let slots = slots_there(&self.program.tree, &self.stop);
+        if !would_hold(&self.clips, &name, slots) {
             return Ok(self.refuse(Refusal::Clip(ClipRefusal::Full)));
         }
         self.clips.reserve(&name)?;
-        let Some(copy) = copy_there(alloc, &self.program.tree, &self.stop)? else {
-            return Ok(self.refuse(Refusal::NotHere));
-        };
+        let copy = copy_there(alloc, &self.program.tree, &self.stop)?;
         keep(&mut self.clips, name, copy);
         Ok(self.accept_line())
     }
@@ -65,10 +60,8 @@ impl<W: Work> Session<W> {
         if !takes(&self.program.tree, &self.stop) {
             return Ok(self.refuse(Refusal::NotHere));
         }
-        if !self
-            .clips
-            .would_hold(&name, slots_there(&self.program.tree, &self.stop))
-        {
+        let slots = slots_there(&self.program.tree, &self.stop);
+        if !would_hold(&self.clips, &name, slots) {
             return Ok(self.refuse(Refusal::Clip(ClipRefusal::Full)));
         }
         self.clips.reserve(&name)?;
@@ -94,7 +87,7 @@ impl<W: Work> Session<W> {
         ensures counts { ChecksAtMost (clip_inserted (plain_session self.old) name.now).checks
             (W.counts work.old) (W.counts work.new) }
     {
-        room_is_not_clipped();
+        clips_are_kept_whole();
         let Some(clip) = self.clips.get(name) else {
             return Ok(self.refuse(Refusal::Clip(ClipRefusal::NoClip)));
         };
@@ -103,25 +96,30 @@ impl<W: Work> Session<W> {
     }
 }
 
-/// A copy of what stands at the stop as a clip takes it, with nothing elided in it.
-fn copy_there(alloc: Global, tree: &Tree, at: &Stop) -> Result<Option<Fragment>, OutOfMemory>
+/// A copy of what stands at the stop, from which it can be taken, as a clip takes it: nothing in it is elided.
+fn copy_there(alloc: Global, tree: &Tree, at: &Stop) -> Result<Fragment, OutOfMemory>
     requires tree { IsTree tree.now }
-    ensures copy { IfOk result (λ copy. option_map (λ fragment. roomless_fragment (plain_fragment fragment)) copy
+    requires taken { takes_at (roomless_tree tree.now) (plain_stop at.now) ≡ true }
+    ensures copy { IfOk result (λ copy. Some (kept_fragment (plain_fragment copy))
         ≡ option_map whole_fragment (fragment_there (roomless_tree tree.now) (plain_stop at.now) at.now.part)) }
-    ensures slots { IfOk result (λ copy. IfSome copy (λ fragment.
-        slots_of (plain_fragment fragment) ≡ slots_there (roomless_tree tree.now) (plain_stop at.now))) }
-    ensures sound { IfOk result (λ copy. IfSome copy (λ fragment. IsFragment (plain_fragment fragment))) }
+    ensures slots { IfOk result (λ copy.
+        slots_of (plain_fragment copy) ≡ slots_there (roomless_tree tree.now) (plain_stop at.now)) }
+    ensures sound { IfOk result (λ copy. IsFragment (plain_fragment copy)) }
 {
     room_is_not_shown();
     room_is_not_clipped();
+    clips_are_kept_whole();
     match at.part {
         None => match tree.copy_node(alloc, &at.path) {
-            Ok(node) => Ok(Some(Fragment::Node(node))),
-            Err(_) => Err(OutOfMemory),
+            Ok(node) => Ok(Fragment::Node(node)),
+            Err(fault) => match fault {
+                TreeFault::OutOfMemory => Err(OutOfMemory),
+                _ => unreachable!(),
+            },
         },
         Some(_) => match copy_phrase_at(alloc, tree, at)? {
-            Some(phrase) => Ok(Some(Fragment::Phrase(phrase))),
-            None => Ok(None),
+            Some(phrase) => Ok(Fragment::Phrase(phrase)),
+            None => unreachable!(),
         },
     }
 }
@@ -163,12 +161,22 @@ fn slots_there(tree: &Tree, at: &Stop) -> u32
     }
 }
 
+/// Whether the clips would hold a fragment of so many slots under the name.
+fn would_hold(clips: &Clips, name: &Name, slots: u32) -> bool
+    ensures { result ≡ not (is_full name.now slots (kept_pairs clips.now.pairs)) }
+{
+    clips_are_kept_whole();
+    clips.would_hold(name, slots)
+}
+
 /// Puts a fragment that the clips have room for under the name.
 fn keep(clips: &mut Clips, name: Name, fragment: Fragment)
     requires sound { IsFragment (plain_fragment fragment) }
-    requires fits { is_full name (slots_of (plain_fragment fragment)) clips.old.pairs ≡ false }
+    requires fits { is_full name (slots_of (plain_fragment fragment)) (kept_pairs clips.old.pairs) ≡ false }
     requires room { has_room name clips.old ≡ true }
-    ensures { clips.new.pairs ≡ with_clip name (plain_fragment fragment) clips.old.pairs }
+    ensures { kept_pairs clips.new.pairs
+        ≡ with_clip name (kept_fragment (plain_fragment fragment)) (kept_pairs clips.old.pairs) }
 {
+    clips_are_kept_whole();
     let _ = clips.put(name, fragment);
 }

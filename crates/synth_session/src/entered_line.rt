@@ -13,7 +13,7 @@ ghost use Rattle.synth_session.specs.EnteredLine.{command_line_outcome, command_
 ghost use Rattle.synth_session.specs.FileReply.{Reply, Request};
 ghost use Rattle.synth_session.specs.KeyRequest.{command_line_request, command_request, line_request};
 ghost use Rattle.synth_session.specs.MemoryTaken.{command_line_takes_memory, command_takes_memory, line_takes_memory};
-ghost use Rattle.synth_session.specs.Private.TextFault.{IsFaultOf};
+ghost use Rattle.synth_session.specs.Private.Faults.{IsTextFault};
 ghost use Rattle.synth_session.specs.TextStanding.{standing_of};
 ghost use Rattle.synth_session.specs.SessionView.{Does, DoesByReply, IsSession, plain_session};
 
@@ -156,7 +156,7 @@ fn read_phrase(alloc: Global, category: Category, text: &[u8]) -> Result<Phrase,
     requires { length text.now < 2 ^ 32 }
     ensures phrase { IfOk result (λ phrase. standing_of category text.now ≡ Standing.phrase (plain_phrase phrase)) }
     ensures sound { IfOk result (λ phrase. IsWellFormed (category_of (plain_phrase phrase)) (plain_phrase phrase)) }
-    ensures fault { IfErr result (λ fault. IsFaultOf fault (standing_of category text.now)) }
+    ensures fault { IfErr result (IsTextFault (standing_of category text.now)) }
 {
     parse(alloc, category, text)
 }

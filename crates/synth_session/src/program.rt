@@ -11,7 +11,7 @@ ghost use Rattle.session_edit.specs.Here.{takes_at};
 ghost use Rattle.session_edit.specs.PlainEdit.{BringsWhatMayStand, PlainEdit, plain_edit};
 ghost use Rattle.synth_session.specs.CheckedPhrases.{phrase_count};
 ghost use Rattle.synth_session.specs.SessionView.{Agrees, DependOn};
-ghost use Rattle.synth_session.specs.Private.EditFault.{IsEditFault, edit_checks};
+ghost use Rattle.synth_session.specs.Private.Faults.{IsEditFault, edit_checks};
 ghost use Rattle.synth_session.specs.Private.TakenFragment.{TakesOutFragment};
 
 use crate::clip_commands::copy_phrase_at;
@@ -166,7 +166,7 @@ impl<W: Work> Program<W> {
                 stop,
                 fragment: Fragment::Node(node),
             }),
-            None => Err(TreeFault::NotHere),
+            None => unreachable!(),
         }
     }
 
@@ -182,7 +182,7 @@ impl<W: Work> Program<W> {
             (W.counts work.old) (W.counts work.new) }
     {
         let Some(phrase) = copy_phrase_at(alloc, &self.tree, at)? else {
-            return Err(TreeFault::OutOfMemory);
+            unreachable!()
         };
         let changed = self.change(alloc, at, Edit::Take, work)?;
         Ok(Taken {

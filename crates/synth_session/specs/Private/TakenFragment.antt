@@ -10,7 +10,7 @@ use Rattle.session_edit.specs.PlainEdit.{PlainEdit}
 use Rattle.synth_session.specs.declared.program.Program.{Program}
 use Rattle.synth_session.specs.declared.program.Taken.{Taken}
 use Rattle.synth_session.specs.ClipCommands.{fragment_there}
-use Rattle.synth_session.specs.Private.EditFault.{HasBecome, IsEditFault}
+use Rattle.synth_session.specs.Private.Faults.{HasBecome, IsEditFault}
 use Rattle.synth_session.specs.SessionView.{Agrees}
 
 -- what stands at a stop was taken out of the program, which is what the edit makes of it, and is given out whole, or

@@ -5,8 +5,8 @@ use Rattle.synth_session.proofs.ClipFragments.{fragment_given, node_there}
 use Rattle.synth_session.proofs.TakenNodes.{node_taken}
 use Rattle.synth_session.proofs.program.Program.take_node.Goals as goal
 
-pub returns-in-Some-clause-taken : goal.returns-in-Some-clause-taken
-returns-in-Some-clause-taken g c =
+pub returns-clause-taken : goal.returns-clause-taken
+returns-clause-taken g c =
     record {
       agrees = c.in_ok-stop.ensures.agrees;
       became = search rules;
@@ -20,8 +20,8 @@ returns-in-Some-clause-taken g c =
       same = tt;
     }
 
-pub returns-in-None : goal.returns-in-None
-returns-in-None g c =
+pub unreachable-requires : goal.unreachable-requires
+unreachable-requires g c =
     absurd (node_there (roomless_tree c.args.self.now.tree) (plain_stop c.args.at.now) c.requires.node c.requires.taken
     (sym (ap (option_map roomless_node) c.in-None.is)
     ∙ node_taken (roomless_tree c.args.self.now.tree) (plain_stop c.args.at.now) c.requires.node c.in_ok-stop.ensures.became))

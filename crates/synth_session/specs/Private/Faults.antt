@@ -1,10 +1,16 @@
--- What came of an edit of the program.
+-- What came of an edit of the program, and why an edit isn't made or phrase text isn't entered.
 use Rattle.std.specs.Prelude.{◌≡◌, ℕ}
+use Rattle.plcs_grammar.specs.OverLimit.{OverLimit}
+use Rattle.phrase_parser.specs.Standing.{Standing}
+use Rattle.phrase_parser.specs.declared.fault.PhraseFault.{PhraseFault}
+use Rattle.phrase_parser.specs.declared.fault.PhraseFault.TheVariants.{Syntax, NumberTooLarge, TooDeep, OutOfMemory}
 use Rattle.template_tree.specs.PlainTree.{PlainTree}
 use Rattle.template_tree.specs.Stop.{PlainStop}
 use Rattle.template_tree.specs.declared.tree_fault.TreeFault.{TreeFault}
 use Rattle.session_edit.specs.Edited.{Edited}
 use Rattle.synth_session.specs.CheckedPhrases.{phrase_count}
+
+-- ---- edits
 
 -- this outcome of an edit of the program is a refusal for this fault; want of memory says nothing of it
 abbrev pub IsEditFault : Edited → TreeFault → Type 0
@@ -20,3 +26,12 @@ HasBecome (Edited.refused fault) after to = ⊥
 abbrev pub edit_checks : Edited → ℕ
 edit_checks (Edited.became tree stop taken what slot) = phrase_count tree
 edit_checks (Edited.refused fault) = 0
+
+-- ---- phrase text
+
+-- the fault is that of phrase text of this standing; want of memory says nothing of it
+abbrev pub IsTextFault : Standing → PhraseFault → Type 0
+IsTextFault standing (Syntax place) = standing ≡ Standing.wrong_at place
+IsTextFault standing (NumberTooLarge place) = standing ≡ Standing.over (OverLimit.number_too_large place)
+IsTextFault standing (TooDeep place) = standing ≡ Standing.over (OverLimit.too_deep place)
+IsTextFault standing OutOfMemory = Unit {0}
