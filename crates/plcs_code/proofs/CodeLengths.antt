@@ -117,7 +117,7 @@ own_lengths_stay marks items label lengths =
 -- ---- codes
 
 -- codes joined are as long as they are together
-joined_length : (codes : List (List PlainInstr)) → length (codes_joined codes) ≡ sum (map length codes)
+pub joined_length : (codes : List (List PlainInstr)) → length (codes_joined codes) ≡ sum (map length codes)
 joined_length [] = refl
 joined_length (code ∷ codes) =
     length-append code (codes_joined codes)
@@ -125,7 +125,7 @@ joined_length (code ∷ codes) =
     ∙ sym (sum_by-cons (λ n. n) (length code) (map length codes))
 
 -- the codes inside a node are as long as they are together, with what stands behind the first one
-around_length : (between : List PlainInstr) (codes : List (List PlainInstr))
+pub around_length : (between : List PlainInstr) (codes : List (List PlainInstr))
     → length (codes_around between codes) ≡ length between + sum (map length codes)
 around_length between [] = omega arith
 around_length between (code ∷ codes) =
@@ -133,7 +133,7 @@ around_length between (code ∷ codes) =
     omega (arith, total, joined_length codes, length-append code (between ++ codes_joined codes), length-append between (codes_joined codes))
 
 -- a code is as long as its pieces, its jumps and the codes inside it
-code_length : (own : CodePieces) (around : CodeJumps) (codes : List (List PlainInstr))
+pub code_length : (own : CodePieces) (around : CodeJumps) (codes : List (List PlainInstr))
     → length (code_with own around codes) ≡ pieces_length own around + sum (map length codes)
 code_length own around codes =
     let ahead = option_to_list around.ahead in

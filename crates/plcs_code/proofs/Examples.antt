@@ -15,7 +15,8 @@ use Rattle.template_tree.specs.PlainTree.{Forest, Label}
 use Rattle.plcs_code.specs.Gen.{Gen, headings_by_name}
 use Rattle.plcs_code.specs.InstrText.{instr_text}
 use Rattle.plcs_code.specs.Pieces.{suspension}
-use Rattle.plcs_code.specs.PlainInstr.{PlainInstr}
+use Rattle.plcs_code.specs.PlainInstr.{PlainInstr, place_of}
+use Rattle.plcs_code.proofs.PlaceAddresses.{places_total}
 
 -- a label of the template in the slot, with these parts
 abbrev filled : ℕ → Template → List (Option PlainPhrase) → Label
@@ -181,6 +182,40 @@ if_else =
 -- the code of its second body begins behind the jump that ends the first one
 second_body_spans : get (Gen no_marks no_items if_else).spans 5 ≡ Some (7, 3)
 second_body_spans = simp gets
+
+-- a GET of two variables
+abbrev get_two : Forest
+get_two =
+    main_with
+    (leaf
+    (filled 2 Template.Get
+    (Some (PlainPhrase.variable_list (PlainVarRef.simple (codes "a") ∷ (PlainVarRef.simple (codes "b") ∷ []))) ∷ []))
+    Forest.nil)
+    no_procedure
+
+-- its second item is a step of its own
+second_item_stands : get (Gen no_marks no_items get_two).addresses (place_of (place_at 2 1)) ≡ Some 2
+second_item_stands = simp (gets, places_total)
+
+-- a loop that counts from 1 to 2 by 1, around a PUT of 1
+abbrev for_one : Forest
+for_one =
+    main_with
+    (Forest.cons
+    (filled 2 Template.For
+    (Some (PlainPhrase.variable_name (codes "k"))
+    ∷ (Some (PlainPhrase.expression one) ∷ (Some (PlainPhrase.expression two) ∷ (Some (PlainPhrase.expression one) ∷ [])))))
+    (leaf (filled 4 Template.Put (Some (PlainPhrase.expression_list (single one)) ∷ [])) Forest.nil)
+    Forest.nil)
+    no_procedure
+
+-- its next iteration stands behind its heading and its body
+iteration_stands : get (Gen no_marks no_items for_one).addresses (place_of (place_at 2 1)) ≡ Some 8
+iteration_stands = simp (gets, places_total)
+
+-- a call comes back behind its code
+call_comes_back : get (Gen no_marks items_of_p call_p).addresses (place_of (place_at 2 1)) ≡ Some 4
+call_comes_back = simp (gets, places_total)
 
 -- two procedures of the name p
 abbrev two_headings : Forest

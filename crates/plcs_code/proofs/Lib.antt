@@ -15,3 +15,21 @@ pub mod ReadParts
 pub mod LaidPieces
 -- the law `lengths_are_told`: how long pieces and codes are
 pub mod CodeLengths
+-- the law `own_codes_add_up`
+pub mod OwnCodes
+-- the laws of jumps and places: code that works on values alone
+pub mod CodeActions
+-- the law `jumps_stay_inside`
+pub mod StayingJumps
+-- the laws of spans and places: the site of a slot
+pub mod FoundSites
+-- the law `spans_hold_code`
+pub mod StoodCode
+pub mod FoundNodes
+pub mod HeldSpans
+-- the law `places_have_addresses`: where steps end in a node's own code
+pub mod EndedSteps
+pub mod PlaceAddresses
+-- the law `addresses_hold_steps`
+pub mod BegunCode
+pub mod StoodSteps

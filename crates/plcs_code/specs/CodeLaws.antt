@@ -1,14 +1,15 @@
 -- The laws of code.
-use Rattle.std.specs.Prelude.{◌≡◌, ◌↔◌, ℕ, ◌+◌, ◌≤◌, ℤ, ◌+ℤ◌, pos, Bool, false, true, IsSome, length, List, map, take, drop, Option, None, Some, is_some, option_and_then, slice_get}
+use Rattle.std.specs.Prelude.{◌≡◌, ◌↔◌, ℕ, ◌+◌, ◌≤◌, ℤ, ◌+ℤ◌, pos, Bool, false, true, All, IsSome, length, List, map, take, drop, Option, None, Some, is_some, not, ◌&&◌, ◌==◌, option_and_then, slice_get}
 use Rattle.std.specs.FinMap.{get}
 use Rattle.plcs_base.specs.Mark.{MarkMap}
 use Rattle.plcs_base.specs.Scope.{ItemMap}
+use Rattle.plcs_grammar.specs.declared.node_kind.NodeKind.{NodeKind}
 use Rattle.template_tree.specs.Mention.{phrase_at}
-use Rattle.template_tree.specs.Place.{Exists, PlainPlace, Site, site}
+use Rattle.template_tree.specs.Place.{Exists, PlainPlace, Site, passes_in, place_at, site, site_start}
 use Rattle.template_tree.specs.PlainTree.{Forest, Label}
 use Rattle.template_tree.specs.Program.{IsProgram}
 use Rattle.template_tree.specs.Slots.{times}
-use Rattle.plcs_code.specs.Gen.{Gen, code_around, has_code, node_codes, node_lengths, own_instrs, own_length}
+use Rattle.plcs_code.specs.Gen.{Gen, code_around, has_code, is_call, node_codes, node_lengths, own_code, own_instrs, own_length}
 use Rattle.plcs_code.specs.PlainInstr.{PlainInstr, place_of}
 
 -- ---- lengths
@@ -22,6 +23,23 @@ abbrev pub OwnLengthsStay : Type 0
 OwnLengthsStay =
     (marks : MarkMap) (items : ItemMap) (label : Label) (lengths : List ℕ)
     → length (own_instrs marks items label lengths) ≡ own_length marks items label
+
+-- the own code of a slot is as long as that of the node there
+abbrev pub OwnCodesAreTold : Type 0
+OwnCodesAreTold =
+    (marks : MarkMap) (items : ItemMap) (program : Forest) (slot : ℕ) (found : Site) → site program slot ≡ Some found
+    → length (own_code marks items program slot) ≡ own_length marks items found.label
+
+-- how many instructions the own codes of nodes have together, those of nodes inside others too
+abbrev pub own_lengths : MarkMap → ItemMap → Forest → ℕ
+own_lengths marks items Forest.nil = 0
+own_lengths marks items (Forest.cons label inner rest) =
+    own_length marks items label + own_lengths marks items inner + own_lengths marks items rest
+
+-- the code of a program is as long as the own codes of all its nodes together
+abbrev pub OwnCodesAddUp : Type 0
+OwnCodesAddUp =
+    (marks : MarkMap) (items : ItemMap) (program : Forest) → length (Gen marks items program).instrs ≡ own_lengths marks items program
 
 -- ---- jumps
 
@@ -66,6 +84,10 @@ JumpsStayIn code =
 abbrev pub JumpsStayInside : Type 0
 JumpsStayInside = (marks : MarkMap) (items : ItemMap) (program : Forest) → JumpsStayIn (Gen marks items program).instrs
 
+-- the jumps of the code of each of the nodes stay inside that
+abbrev pub JumpsStayInNodes : Type 0
+JumpsStayInNodes = (marks : MarkMap) (items : ItemMap) (nodes : Forest) → All JumpsStayIn (node_codes marks items nodes)
+
 -- ---- spans
 
 -- the instructions from an address on are the code, if it isn't longer than they are
@@ -103,3 +125,36 @@ PlacesHaveAddresses =
     (marks : MarkMap) (items : ItemMap) (program : Forest) → IsProgram program → ((s : ℕ) → times s program ≤ 1)
     → (place : PlainPlace)
     → Exists (is_marked_first marks) program place ↔ IsSome (get (Gen marks items program).addresses (place_of place))
+
+-- ---- what stands at addresses
+
+-- whether a step ends at the point of a node of the kind, if a run has that: not at the start of what passes a run on, nor where
+-- a call comes back
+abbrev pub ends_step : NodeKind → (point : ℕ) → Bool
+ends_step kind point = not (passes_in kind) && not (is_call kind && (point == 1))
+
+-- where each slot stands but once, a place with an address has the step that ends there at that address
+abbrev pub AddressesHoldSteps : Type 0
+AddressesHoldSteps =
+    (marks : MarkMap) (items : ItemMap) (program : Forest) (place : PlainPlace) (found : Site) (address : ℕ)
+    → times place.slot program ≤ 1 → site program place.slot ≡ Some found → ends_step found.label.kind place.point ≡ true
+    → get (Gen marks items program).addresses (place_of place) ≡ Some address
+    → slice_get (Gen marks items program).instrs address ≡ Some (PlainInstr.place place)
+
+-- the start of a group or a comment of a program has the address at which its span begins, and there stands the step at which a
+-- run begins that comes to it
+abbrev pub PassedStartsStand : Type 0
+PassedStartsStand =
+    (marks : MarkMap) (items : ItemMap) (program : Forest) (slot : ℕ) (found : Site) → IsProgram program
+    → site program slot ≡ Some found → passes_in found.label.kind ≡ true
+    → (start count : ℕ) × (get (Gen marks items program).spans slot ≡ Some (start, count))
+    × (get (Gen marks items program).addresses (place_of (place_at slot 0)) ≡ Some start)
+    × (slice_get (Gen marks items program).instrs start ≡ Some (PlainInstr.place (site_start found)))
+
+-- where a call comes back has the address at which its span ends
+abbrev pub CallsComeBack : Type 0
+CallsComeBack =
+    (marks : MarkMap) (items : ItemMap) (program : Forest) (slot : ℕ) (found : Site)
+    → site program slot ≡ Some found → is_call found.label.kind ≡ true
+    → (start count : ℕ) × (get (Gen marks items program).spans slot ≡ Some (start, count))
+    × (get (Gen marks items program).addresses (place_of (place_at slot 1)) ≡ Some (start + count))

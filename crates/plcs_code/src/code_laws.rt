@@ -1,9 +1,42 @@
 //! The laws of code, each a function that does nothing and whose contract states it.
-ghost use Rattle.plcs_code.specs.CodeLaws.{LengthsAreTold, OwnLengthsStay};
+ghost use Rattle.plcs_code.specs.CodeLaws.{AddressesHoldSteps, CallsComeBack, JumpsStayInNodes, JumpsStayInside, LengthsAreTold, OwnCodesAddUp, OwnCodesAreTold, OwnLengthsStay, PassedStartsStand, PlacesHaveAddresses, SpansHoldCode};
 
 /// How many instructions the code of each node has is told without that code: jumps don't change it. The own
 /// code of a node is as long, whatever stands inside it.
 pub fn lengths_are_told()
     ensures told { LengthsAreTold }
     ensures own { OwnLengthsStay }
+{}
+
+/// The own code of a slot is as long as its node says, and the code of a program as long as the own codes of
+/// all its nodes together.
+pub fn own_codes_add_up()
+    ensures slot { OwnCodesAreTold }
+    ensures program { OwnCodesAddUp }
+{}
+
+/// Each jump of a code goes to an address in it or to its end: in the code of a program, and in that of each node
+/// of one.
+pub fn jumps_stay_inside()
+    ensures program { JumpsStayInside }
+    ensures nodes { JumpsStayInNodes }
+{}
+
+/// The code of what stands in a slot is what the span of the slot tells of the program's code; only a slot of a
+/// node that has code has a span.
+pub fn spans_hold_code()
+    ensures { SpansHoldCode }
+{}
+
+/// A place exists exactly where it has an address.
+pub fn places_have_addresses()
+    ensures { PlacesHaveAddresses }
+{}
+
+/// At the address of a place stands the step that ends there. A group or a comment begins where its first item
+/// does, and a call comes back at the end of its code.
+pub fn addresses_hold_steps()
+    ensures steps { AddressesHoldSteps }
+    ensures starts { PassedStartsStand }
+    ensures calls { CallsComeBack }
 {}

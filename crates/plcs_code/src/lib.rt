@@ -22,7 +22,10 @@ mod statement_parts;
 mod suspension;
 
 pub use block::{Block, Emitted};
-pub use code_laws::lengths_are_told;
+pub use code_laws::{
+    addresses_hold_steps, jumps_stay_inside, lengths_are_told, own_codes_add_up,
+    places_have_addresses, spans_hold_code,
+};
 pub use code_view::CodeView;
 pub use heading_entry::HeadingEntry;
 pub use instr::Instr;
