@@ -16,7 +16,7 @@ use Rattle.plcs_code.specs.Gen.{Gen, headings_by_name}
 use Rattle.plcs_code.specs.InstrText.{instr_text}
 use Rattle.plcs_code.specs.Pieces.{suspension}
 use Rattle.plcs_code.specs.PlainInstr.{PlainInstr, place_of}
-use Rattle.plcs_code.proofs.PlaceAddresses.{places_total}
+use Rattle.plcs_code.proofs.KeyOrder.{places_total}
 
 -- a label of the template in the slot, with these parts
 abbrev filled : ℕ → Template → List (Option PlainPhrase) → Label

@@ -179,7 +179,7 @@ first_span slot (own ∷ spans) node e is = by (own.slot.0 == slot) refl e (firs
 pub spans_hold_code : SpansHoldCode
 spans_hold_code =
     record {
-      held = λ marks items program slot found once e is.
+      held = λ marks items program slot found e is.
           let there = node_at_site marks items program slot found e in
           let node = own_node marks items there.0 found.label found.inner in
           let long = node_long marks items found.label found.inner in (
@@ -191,7 +191,7 @@ spans_hold_code =
           );
       codeless = λ marks items program slot found once e is.
           get-from_entries nat_cmp_total (flat_map span_by_slot (node_spans marks items 0 0 program)) slot
-          ∙ codeless_none marks items slot 0 0 false program (place_at 0 1) found (once slot) e is;
+          ∙ codeless_none marks items slot 0 0 false program (place_at 0 1) found once e is;
       absent = λ marks items program slot e.
           get-from_entries nat_cmp_total (flat_map span_by_slot (node_spans marks items 0 0 program)) slot
           ∙ nowhere_none marks items slot 0 0 program (siteless_nowhere slot false program (place_at 0 1) e);

@@ -15,6 +15,8 @@ pub mod ReadParts
 pub mod LaidPieces
 -- the law `lengths_are_told`: how long pieces and codes are
 pub mod CodeLengths
+-- the maps of code: the orders of their keys
+pub mod KeyOrder
 -- the law `own_codes_add_up`
 pub mod OwnCodes
 -- the laws of jumps and places: code that works on values alone

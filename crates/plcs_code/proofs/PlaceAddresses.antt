@@ -3,14 +3,13 @@
 -- stands but once is the one at the site of the slot.
 use Rattle.std.proofs.Common.{◌≡◌, ℕ, ◌+◌, Bool, true, false, ◌⊎◌, inl, inr, List, [], ◌∷◌, ◌++◌, length, map, take, Option, Some, None, refl, ap, sym, subst, ◌∙◌, append_assoc}
 use Rattle.std.specs.Prelude.{◌&&◌, ◌||◌, ◌==◌, IsSome, IsTrue, cond, flat_map, if◌then◌else◌, is_some, option_map}
-use Rattle.std.specs.Cmp.{IsTotalOrder}
-use Rattle.std.specs.FinMap.{find, get-from_entries, nat_cmp-IsAntisymmetric}
+use Rattle.std.specs.FinMap.{find, get-from_entries}
 use Rattle.std.specs.Option.{option_to_list}
-use Rattle.std.specs.Ordering.{eq_by_cmp, is_eq, nat_cmp, ordering_then}
+use Rattle.std.specs.Ordering.{eq_by_cmp, is_eq}
 use Rattle.std.specs.declared.cmp.Ordering.{Ordering}
 use Rattle.std.specs.declared.cmp.Ordering.TheVariants.{Less, Equal, Greater}
 use Rattle.std.proofs.Math.Bool.{false≢true}
-use Rattle.std.proofs.lemmas.Cmp.{nat_cmp_total, on_total, then_total, tied_itself}
+use Rattle.std.proofs.lemmas.Cmp.{tied_itself}
 use Rattle.plcs_base.specs.Mark.{MarkMap}
 use Rattle.plcs_base.specs.Scope.{ItemMap}
 use Rattle.plcs_base.specs.declared.place.Place.{Place}
@@ -28,29 +27,23 @@ use Rattle.plcs_code.specs.Gen.{address_by_place, addresses_in, code_around, cod
 use Rattle.plcs_code.specs.Pieces.{CodeJumps, first_length, jump_unless, jumps, kind_jumps, other_lengths, pieces, suspension, template_jumps}
 use Rattle.plcs_code.specs.PlainInstr.{PlainInstr, place_of}
 use Rattle.plcs_code.proofs.EndedSteps.{EndlessPlace, EndsBy, EndsIn, KindPlace, ends_either, ends_left, ends_right, had_place, place_had}
+use Rattle.plcs_code.proofs.KeyOrder.{places_differ, places_total}
 use Rattle.plcs_code.proofs.FoundSites.{InSlot, SiteWith, Somewhere, site_node, site_slot, site_somewhere, somewhere_map, somewhere_site}
 
 -- ---- the order of places
 
--- places are in one order
-pub places_total : IsTotalOrder place_cmp
-places_total = then_total (on_total (λ (at : Place). at.slot.0) nat_cmp_total) (on_total (λ (at : Place). at.point.0) nat_cmp_total)
-
 -- places that are equal in it are the same
-pub same_place : (x y : Place) → eq_by_cmp place_cmp x y ≡ true → (x.slot.0 ≡ y.slot.0) × (x.point.0 ≡ y.point.0)
-same_place x y same = by (nat_cmp x.slot.0 y.slot.0) (nat_cmp x.point.0 y.point.0) refl refl same
+pub same_place : (x y : Place) → eq_by_cmp place_cmp x y ≡ true → x ≡ y
+same_place x y same = by (place_cmp x y) refl same
   where
-    by : (a b : Ordering) → nat_cmp x.slot.0 y.slot.0 ≡ a → nat_cmp x.point.0 y.point.0 ≡ b → is_eq (ordering_then a b) ≡ true
-        → (x.slot.0 ≡ y.slot.0) × (x.point.0 ≡ y.point.0)
-    by Equal Equal e f same = (nat_cmp-IsAntisymmetric x.slot.0 y.slot.0 e, nat_cmp-IsAntisymmetric x.point.0 y.point.0 f)
-    by Less b e f same = absurd (false≢true same)
-    by Greater b e f same = absurd (false≢true same)
-    by Equal Less e f same = absurd (false≢true same)
-    by Equal Greater e f same = absurd (false≢true same)
+    by : (o : Ordering) → place_cmp x y ≡ o → is_eq o ≡ true → x ≡ y
+    by Equal e same = places_differ x y e
+    by Less e same = absurd (false≢true same)
+    by Greater e same = absurd (false≢true same)
 
 -- and the same place is
-pub place_ties : (slot point : ℕ) (q : PlainPlace) → slot ≡ q.slot → point ≡ q.point → eq_by_cmp place_cmp (place_of q) (place_of (place_at slot point)) ≡ true
-place_ties slot point q same at =
+pub place_tied : (slot point : ℕ) (q : PlainPlace) → slot ≡ q.slot → point ≡ q.point → eq_by_cmp place_cmp (place_of q) (place_of (place_at slot point)) ≡ true
+place_tied slot point q same at =
     ap (λ (n : ℕ). eq_by_cmp place_cmp (place_of q) (place_of (place_at n point))) same
     ∙ ap (λ (n : ℕ). eq_by_cmp place_cmp (place_of q) (place_of (place_at q.slot n))) at
     ∙ ap is_eq (tied_itself places_total (place_of q))
@@ -92,7 +85,7 @@ addressed_either q (e ∷ one) other h = by (eq_by_cmp place_cmp (place_of q) e.
 own_addressed : (q : PlainPlace) (slot point address : ℕ) → slot ≡ q.slot → point ≡ q.point
     → Addressed q ((place_of (place_at slot point), address) ∷ [])
 own_addressed q slot point address same at =
-    ap (λ (b : Bool). is_some (cond b (Some address) None)) (place_ties slot point q same at)
+    ap (λ (b : Bool). is_some (cond b (Some address) None)) (place_tied slot point q same at)
 
 addressed_own : (q : PlainPlace) (slot point address : ℕ) → Addressed q ((place_of (place_at slot point), address) ∷ [])
     → (slot ≡ q.slot) × (point ≡ q.point)
@@ -100,7 +93,9 @@ addressed_own q slot point address h = by (eq_by_cmp place_cmp (place_of q) (pla
   where
     by : (b : Bool) → eq_by_cmp place_cmp (place_of q) (place_of (place_at slot point)) ≡ b → IsSome (cond b (Some address) None)
         → (slot ≡ q.slot) × (point ≡ q.point)
-    by true e h = let same = same_place (place_of q) (place_of (place_at slot point)) e in (sym same.0, sym same.1)
+    by true e h =
+        let same = same_place (place_of q) (place_of (place_at slot point)) e in
+        (ap (λ (at : Place). at.slot.0) (sym same), ap (λ (at : Place). at.point.0) (sym same))
     by false e h = absurd (false≢true h)
 
 -- ---- by the steps that end in code
@@ -431,7 +426,7 @@ exists_owns marks items program q are None e has = absurd (false≢true has)
 exists_owns marks items program q are (Some found) e has = site_owns marks items program q found are e has
 
 pub places_have_addresses : PlacesHaveAddresses
-places_have_addresses marks items program is once q =
+places_have_addresses marks items program q is once =
     let nodes = node_spans marks items 0 0 program in
     let instrs = codes_joined (node_codes marks items program) in
     let entries : List (Place × ℕ) = endless nodes ++ addresses_in 0 instrs in
@@ -452,7 +447,7 @@ places_have_addresses marks items program is once q =
       λ exists. subst IsSome (sym found) (there exists),
       λ has.
           let at : SiteWith (HasPoint marks q) (site program q.slot) =
-          somewhere_site (HasPoint marks q) q.slot false program (place_at 0 1) (once q.slot)
+          somewhere_site (HasPoint marks q) q.slot false program (place_at 0 1) once
           (own_had marks items q program is.sound (back (subst IsSome found has))) in
           subst (λ (s : Option Site). IsTrue (place_exists_at (is_marked_first marks q.slot) s q.point)) (sym at.1) at.2,
     )

@@ -21,7 +21,8 @@ use Rattle.plcs_code.proofs.EndedSteps.{EndlessPlace}
 use Rattle.plcs_code.proofs.FoundNodes.{first_node, node_at_site, own_node}
 use Rattle.plcs_code.proofs.FoundSites.{InSlot, SiteWith, site_inner, site_node, site_or, site_slot, somewhere_map, somewhere_site}
 use Rattle.plcs_code.proofs.HeldSpans.{first_span, node_or}
-use Rattle.plcs_code.proofs.PlaceAddresses.{Addressed, EndlessOf, addressed_node, endless, place_ties, places_total, same_place, spans_endless}
+use Rattle.plcs_code.proofs.KeyOrder.{places_total}
+use Rattle.plcs_code.proofs.PlaceAddresses.{Addressed, EndlessOf, addressed_node, endless, place_tied, same_place, spans_endless}
 
 -- ---- what is found among addresses
 
@@ -76,7 +77,7 @@ step_found q from (PlainInstr.place at ∷ code) address e =
         → StepAt q from (PlainInstr.place at ∷ code) address
     by true ties e again =
         let same = same_place (place_of q) (place_of at) ties in
-        let one : at ≡ q = λ i. record { slot = sym same.0 i; point = sym same.1 i } in
+        let one : at ≡ q = λ i. record { slot = (sym same i).slot.0; point = (sym same i).point.0 } in
         let here : from ≡ address = ap (number_or from) e in
         (zero, omega (arith, here), ap (λ (p : PlainPlace). Some (PlainInstr.place p)) one)
     by false other e again = step_later q from (PlainInstr.place at) code address (again e)
@@ -169,7 +170,7 @@ passed_address slot node same is = by (passes_in node.kind) is
         (if passes then (place_of (place_at node.slot.0 0), node.start) ∷ []
         else (if is_call node.kind then (place_of (place_at node.slot.0 1), node.start + node.length) ∷ [] else []))
         ≡ Some node.start
-    by true is = ap (λ (b : Bool). cond b (Some node.start) None) (place_ties node.slot.0 0 (place_at slot 0) same refl)
+    by true is = ap (λ (b : Bool). cond b (Some node.start) None) (place_tied node.slot.0 0 (place_at slot 0) same refl)
     by false is = absurd (false≢true is)
 
 call_address : (slot : ℕ) (node : NodeSpan) → node.slot.0 ≡ slot → passes_in node.kind ≡ false → is_call node.kind ≡ true
@@ -182,7 +183,7 @@ call_address slot node same stays is = by (passes_in node.kind) (is_call node.ki
         else (if call then (place_of (place_at node.slot.0 1), node.start + node.length) ∷ [] else []))
         ≡ Some (node.start + node.length)
     by false true stays is =
-        ap (λ (b : Bool). cond b (Some (node.start + node.length)) None) (place_ties node.slot.0 1 (place_at slot 1) same refl)
+        ap (λ (b : Bool). cond b (Some (node.start + node.length)) None) (place_tied node.slot.0 1 (place_at slot 1) same refl)
     by true call stays is = absurd (false≢true (sym stays))
     by false false stays is = absurd (false≢true is)
 

@@ -101,14 +101,14 @@ SpanHolds marks items program slot site =
     let code = code_around marks items site.label (node_codes marks items site.inner) in
     (start : ℕ) × (get whole.spans slot ≡ Some (start, length code)) × HasCodeAt whole.instrs start code
 
--- in a program in which each slot stands but once, the slot of each node that has code has the span of that code, and no
--- other slot has one
+-- the slot of each node that has code has the span of that code; a slot that stands but once, at a node without code, has
+-- none, and nor has one that stands nowhere
 pub record SpansHoldCode : Type 0 where
   pub held : (marks : MarkMap) (items : ItemMap) (program : Forest) (slot : ℕ) (found : Site)
-      → ((s : ℕ) → times s program ≤ 1) → site program slot ≡ Some found → has_code found.label.kind ≡ true
+      → site program slot ≡ Some found → has_code found.label.kind ≡ true
       → SpanHolds marks items program slot found
   pub codeless : (marks : MarkMap) (items : ItemMap) (program : Forest) (slot : ℕ) (found : Site)
-      → ((s : ℕ) → times s program ≤ 1) → site program slot ≡ Some found → has_code found.label.kind ≡ false
+      → times slot program ≤ 1 → site program slot ≡ Some found → has_code found.label.kind ≡ false
       → get (Gen marks items program).spans slot ≡ None
   pub absent : (marks : MarkMap) (items : ItemMap) (program : Forest) (slot : ℕ)
       → site program slot ≡ None → get (Gen marks items program).spans slot ≡ None
@@ -119,11 +119,10 @@ pub record SpansHoldCode : Type 0 where
 abbrev pub is_marked_first : MarkMap → (slot : ℕ) → Bool
 is_marked_first marks slot = is_some (get marks (phrase_at slot 0))
 
--- in a program in which each slot stands but once, a place exists, by its marks, exactly where it has an address
+-- a place of a program whose slot stands but once exists, by the marks, exactly where it has an address
 abbrev pub PlacesHaveAddresses : Type 0
 PlacesHaveAddresses =
-    (marks : MarkMap) (items : ItemMap) (program : Forest) → IsProgram program → ((s : ℕ) → times s program ≤ 1)
-    → (place : PlainPlace)
+    (marks : MarkMap) (items : ItemMap) (program : Forest) (place : PlainPlace) → IsProgram program → times place.slot program ≤ 1
     → Exists (is_marked_first marks) program place ↔ IsSome (get (Gen marks items program).addresses (place_of place))
 
 -- ---- what stands at addresses
@@ -133,7 +132,7 @@ PlacesHaveAddresses =
 abbrev pub ends_step : NodeKind → (point : ℕ) → Bool
 ends_step kind point = not (passes_in kind) && not (is_call kind && (point == 1))
 
--- where each slot stands but once, a place with an address has the step that ends there at that address
+-- a place whose slot stands but once has at its address the step that ends there
 abbrev pub AddressesHoldSteps : Type 0
 AddressesHoldSteps =
     (marks : MarkMap) (items : ItemMap) (program : Forest) (place : PlainPlace) (found : Site) (address : ℕ)
