@@ -36,11 +36,11 @@ first_append slot (node ∷ one) other = by (node.slot.0 == slot) (first_append 
     by false again = again
 
 -- the node itself
-first_own : (slot : ℕ) (node : NodeSpan) (spans : List NodeSpan) → (node.slot.0 == slot) ≡ true → first_node slot (node ∷ spans) ≡ Some node
+pub first_own : (slot : ℕ) (node : NodeSpan) (spans : List NodeSpan) → (node.slot.0 == slot) ≡ true → first_node slot (node ∷ spans) ≡ Some node
 first_own slot node spans same = ap (λ (b : Bool). if b then Some node else first_node slot spans) same
 
 -- one inside it, or behind it
-first_other : (slot : ℕ) (node : NodeSpan) (within behind : List NodeSpan) → (node.slot.0 == slot) ≡ false
+pub first_other : (slot : ℕ) (node : NodeSpan) (within behind : List NodeSpan) → (node.slot.0 == slot) ≡ false
     → first_node slot (node ∷ (within ++ behind)) ≡ option_or (first_node slot within) (first_node slot behind)
 first_other slot node within behind other =
     ap (λ (b : Bool). if b then Some node else first_node slot (within ++ behind)) other ∙ first_append slot within behind

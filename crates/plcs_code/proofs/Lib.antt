@@ -35,3 +35,5 @@ pub mod PlaceAddresses
 -- the law `addresses_hold_steps`
 pub mod BegunCode
 pub mod StoodSteps
+-- the law `entries_are_headings`
+pub mod HeadingEntries

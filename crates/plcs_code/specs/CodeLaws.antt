@@ -1,14 +1,16 @@
 -- The laws of code.
-use Rattle.std.specs.Prelude.{◌≡◌, ◌↔◌, ℕ, ◌+◌, ◌≤◌, ℤ, ◌+ℤ◌, pos, Bool, false, true, All, IsSome, length, List, map, take, drop, Option, None, Some, is_some, not, ◌&&◌, ◌==◌, option_and_then, slice_get}
+use Rattle.std.specs.Prelude.{◌≡◌, ◌↔◌, ℕ, ◌+◌, ◌≤◌, ℤ, ◌+ℤ◌, pos, Bool, false, true, All, IsSome, length, List, map, take, drop, Option, None, Some, is_some, not, ◌&&◌, ◌==◌, option_and_then, option_map, slice_get}
 use Rattle.std.specs.FinMap.{get}
 use Rattle.plcs_base.specs.Mark.{MarkMap}
 use Rattle.plcs_base.specs.Scope.{ItemMap}
 use Rattle.plcs_grammar.specs.declared.node_kind.NodeKind.{NodeKind}
+use Rattle.template_tree.specs.Environment.{Sig}
 use Rattle.template_tree.specs.Mention.{phrase_at}
 use Rattle.template_tree.specs.Place.{Exists, PlainPlace, Site, passes_in, place_at, site, site_start}
 use Rattle.template_tree.specs.PlainTree.{Forest, Label}
 use Rattle.template_tree.specs.Program.{IsProgram}
 use Rattle.template_tree.specs.Slots.{times}
+use Rattle.plcs_code.specs.declared.heading_entry.HeadingEntry.{HeadingEntry}
 use Rattle.plcs_code.specs.Gen.{Gen, code_around, has_code, is_call, node_codes, node_lengths, own_code, own_instrs, own_length}
 use Rattle.plcs_code.specs.PlainInstr.{PlainInstr, place_of}
 
@@ -157,3 +159,19 @@ CallsComeBack =
     → site program slot ≡ Some found → is_call found.label.kind ≡ true
     → (start count : ℕ) × (get (Gen marks items program).spans slot ≡ Some (start, count))
     × (get (Gen marks items program).addresses (place_of (place_at slot 1)) ≡ Some (start + count))
+
+-- ---- entries
+
+-- the headings that code knows are the effective ones, each of the same slot
+abbrev pub EntriesAreHeadings : Type 0
+EntriesAreHeadings =
+    (marks : MarkMap) (items : ItemMap) (program : Forest) (name : List ℕ)
+    → option_map (λ entry. entry.slot.0) (get (Gen marks items program).headings name)
+    ≡ option_map (λ signature. signature.slot) (Sig program name)
+
+-- the procedure of an entry, whose slot stands but once, begins at the address of the entry
+abbrev pub EntriesBeginProcedures : Type 0
+EntriesBeginProcedures =
+    (marks : MarkMap) (items : ItemMap) (program : Forest) (name : List ℕ) (entry : HeadingEntry) → times entry.slot.0 program ≤ 1
+    → get (Gen marks items program).headings name ≡ Some entry
+    → (count : ℕ) × (get (Gen marks items program).spans entry.slot.0 ≡ Some (entry.address, count))

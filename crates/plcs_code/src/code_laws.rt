@@ -1,5 +1,5 @@
 //! The laws of code, each a function that does nothing and whose contract states it.
-ghost use Rattle.plcs_code.specs.CodeLaws.{AddressesHoldSteps, CallsComeBack, JumpsStayInNodes, JumpsStayInside, LengthsAreTold, OwnCodesAddUp, OwnCodesAreTold, OwnLengthsStay, PassedStartsStand, PlacesHaveAddresses, SpansHoldCode};
+ghost use Rattle.plcs_code.specs.CodeLaws.{AddressesHoldSteps, CallsComeBack, EntriesAreHeadings, EntriesBeginProcedures, JumpsStayInNodes, JumpsStayInside, LengthsAreTold, OwnCodesAddUp, OwnCodesAreTold, OwnLengthsStay, PassedStartsStand, PlacesHaveAddresses, SpansHoldCode};
 
 /// How many instructions the code of each node has is told without that code: jumps don't change it. The own
 /// code of a node is as long, whatever stands inside it.
@@ -39,4 +39,10 @@ pub fn addresses_hold_steps()
     ensures steps { AddressesHoldSteps }
     ensures starts { PassedStartsStand }
     ensures calls { CallsComeBack }
+{}
+
+/// The headings that code knows are the effective ones; the procedure of each is entered where its code begins.
+pub fn entries_are_headings()
+    ensures headings { EntriesAreHeadings }
+    ensures addresses { EntriesBeginProcedures }
 {}
