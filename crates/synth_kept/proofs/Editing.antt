@@ -282,7 +282,7 @@ module _ {S D : Type 0} (left : S → Option (List ℕ)) (source_faults : S → 
 
   -- no session was opened
   edits_unopened : (run : Status) (options : PlainOptions) (closing : Closing) → ClosesAsDue closing run now.given now.ended → (same_outside : Type 0)
-      → NotOpened run (told_editor before 0 0) (told_editor after now.given now.reads) Leads
+      → NotOpened run options (told_editor before 0 0) (told_editor after now.given now.reads) Leads
       → JournalWholeRun (Some (Edit options)) run closing before after same_outside (leads_to first.inner now.inner) (breaks_at first.inner now.inner)
   edits_unopened run options closing agrees same_outside unopened =
       let leads = unopened.source in

@@ -1,5 +1,5 @@
 -- Turns of a state that claims no more of the files than another.
-use Rattle.std.proofs.Common.{◌≡◌, ℕ, Bool, ◌||◌, List, [], ◌∷◌, ◌++◌, Option, Some, None, refl, sym, ap, ◌∙◌, subst, arith}
+use Rattle.std.proofs.Common.{◌≡◌, ℕ, ◌+◌, Bool, ◌||◌, List, [], ◌∷◌, ◌++◌, Option, Some, None, refl, sym, ap, ◌∙◌, subst, arith}
 use Rattle.plcs_base.specs.Count.{RoseBy}
 use Rattle.synth_outside.specs.Files.{FileMap}
 use Rattle.file_store.specs.declared.refusal.FileRefusal.{FileRefusal}
@@ -8,7 +8,7 @@ use Rattle.synth_session.specs.FileReply.{CanReply, CountsFault, IsMapAfter, Rep
 use Rattle.synth_session.specs.PlainSession.{PlainSession}
 use Rattle.synth_session.specs.KeyRequest.{request}
 use Rattle.synth_session.specs.Press.{press}
-use Rattle.synth_top.specs.Turn.{HasReply, HaveReplies, IsToldAs, PressedKey, EditorState, Shot, state_after_keys, asked, ends, failure, files_after, grids, screens_of, shots, turn}
+use Rattle.synth_top.specs.Turn.{HasReply, HaveReplies, IsToldAs, PressedKey, EditorState, Shot, bill, bills, state_after_keys, asked, ends, failure, files_after, grids, screens_of, shots, turn}
 
 -- ---- maps
 
@@ -117,7 +117,10 @@ module _ (s t : EditorState) (pressed : PressedKey) (less : ClaimsNoMore s t) wh
   unfolding turn
   turn_ends_same = ap (λ (z : PlainSession). (turn (record { session = z; files = s.files }) pressed).ends) less.session
 
-  turn_reply_less : HasReply t pressed → HasReply s pressed
+  bill_same : bill s pressed ≡ bill t pressed
+  bill_same = ap (λ (z : PlainSession). (press z pressed.key pressed.reply).checks) less.session
+
+  pub turn_reply_less : HasReply t pressed → HasReply s pressed
   turn_reply_less can =
       reply_less (asked s pressed) pressed.reply s.files t.files less.files
       (subst (λ asks. CanReply t.files asks pressed.reply) (sym same_request) can)
@@ -142,6 +145,12 @@ same_ends s t [] less = refl
 same_ends s t (p ∷ ps) less =
     ap (λ (b : Bool). b || ends (turn s p).after ps) (turn_ends_same s t p less)
     ∙ ap (λ (b : Bool). (turn t p).ends || b) (same_ends (turn s p).after (turn t p).after ps (turn_less s t p less))
+
+pub same_bills : (s t : EditorState) (ps : List PressedKey) → ClaimsNoMore s t → bills s ps ≡ bills t ps
+same_bills s t [] less = refl
+same_bills s t (p ∷ ps) less =
+    ap (λ (n : ℕ). n + bills (turn s p).after ps) (bill_same s t p less)
+    ∙ ap (λ (n : ℕ). bill t p + n) (same_bills (turn s p).after (turn t p).after ps (turn_less s t p less))
 
 pub replies_less : (s t : EditorState) (ps : List PressedKey) → ClaimsNoMore s t → HaveReplies t ps → HaveReplies s ps
 replies_less s t [] less can = tt

@@ -9,10 +9,11 @@ use Rattle.plcs_base.specs.PlainCounts.{PlainCounts}
 use Rattle.synth_outside.specs.Sink.{AppendsFront}
 use Rattle.synth_outside.specs.Files.{PlainFiles}
 use Rattle.synth_session.specs.declared.key.Key.{Key}
-use Rattle.synth_session.specs.FileReply.{CountsWant}
+use Rattle.synth_session.specs.FileReply.{CountsWant, Reply}
 use Rattle.synth_session.specs.KeyRequest.{request}
 use Rattle.synth_session.specs.MemoryTaken.{key_takes_memory}
 use Rattle.synth_session.specs.PlainSession.{PlainSession}
+use Rattle.synth_session.specs.Press.{press}
 use Rattle.synth_session.specs.SessionScreen.{grid}
 use Rattle.synth_top.specs.declared.status.Status.{Status}
 use Rattle.synth_top.specs.declared.status.Status.TheVariants.{WriteFault, NoMemory}
@@ -21,9 +22,9 @@ use Rattle.synth_top.specs.Counted.{CountsFor}
 use Rattle.synth_top.specs.Options.{PlainOptions}
 use Rattle.synth_top.specs.Private.Pressing.{AllShown, Moment, UpToLast, state_at}
 use Rattle.synth_top.specs.Private.EditorRuns.{EditorRuns}
-use Rattle.synth_top.specs.WholeRun.{AtLastKey, Course, NoKeyComes, LeavesSource, OpeningCut, ReadsInTurn, Stopped, Told, ToldStreams, opening, painted_over, written}
-use Rattle.synth_top.specs.Turn.{HaveReplies, IsToldAs, PressedKey, EditorState, state_after_keys, ends, failures, grids, keys_pressed, shot_of, shots}
-use Rattle.synth_top.proofs.CountsInTurn.{counts_both}
+use Rattle.synth_top.specs.WholeRun.{AtLastKey, Course, NoKeyComes, LeavesSource, OpeningCut, ReadsInTurn, Stopped, Told, ToldStreams, all_shots, opening, painted_over, run_bill, written}
+use Rattle.synth_top.specs.Turn.{HasReply, HaveReplies, IsToldAs, PressedKey, EditorState, bills, state_after_keys, ends, failures, grids, keys_pressed, shot_of, shots}
+use Rattle.synth_top.proofs.CountsInTurn.{counts_both, counts_within}
 
 -- what is told of keys and screens at a moment, and of all
 abbrev pub told_at : Option (List ℕ) → ℕ → Moment → ToldStreams
@@ -40,7 +41,7 @@ pub record Opened (first : EditorState) (before : Told) (m : Moment) : Type 0 wh
   pub unwanted : m.wanted ≡ before.streams.wants
   pub faults : m.files.faults ≡ before.files.faults
   pub wants : m.files.wants ≡ before.files.wants
-  pub counts : CountsFor (shot_of first.session ∷ []) before.counts m.counts
+  pub counts : CountsFor 0 (shot_of first.session ∷ []) before.counts m.counts
 
 -- no byte of keys was read before the keys that those before it complete
 abbrev pub InTurn : List ℕ → List PressedKey → Type 0
@@ -57,7 +58,7 @@ module _ (options : PlainOptions) (first : EditorState) (before now : Told) (ses
     (read : now.streams.left ≡ before.streams.left) (unread : now.streams.reads ≡ before.streams.reads)
     (front : AppendsFront before.streams.taken now.streams.taken (opening first.session)) (same : session ≡ first.session)
     (untouched : now.files ≡ before.files) (told : IsToldAs first.files before.files.stored)
-    (counts : CountsFor (shot_of first.session ∷ []) before.counts now.counts) where
+    (counts : CountsFor 0 (shot_of first.session ∷ []) before.counts now.counts) where
   opening_wrote : Appends before.streams.taken now.streams.taken (take front.0 (written first []))
   unfolding written
   opening_wrote = subst (λ l. Appends before.streams.taken now.streams.taken (take front.0 l)) (sym (append-nil (opening first.session))) front.1
@@ -92,7 +93,8 @@ module _ (options : PlainOptions) (first : EditorState) (before now : Told) (ses
     files = subst (λ (files : PlainFiles). IsToldAs first.files files.stored) (sym untouched) told;
     faults = omega (arith, ap (λ (files : PlainFiles). files.faults) untouched);
     wants = omega (arith, ap (λ (files : PlainFiles). files.wants) untouched);
-    counts = counts;
+    counts = counts_within 0 (run_bill opening_course before.files.wants now.files.wants status stopped) (all_shots opening_course) before.counts now.counts
+        (omega arith) counts;
   }
 
   pub opening_failed : {after_reads after_fault : Type 0} → after_reads → EditorRuns WriteFault options first before now after_reads after_fault session
@@ -116,11 +118,20 @@ module _ (options : PlainOptions) (first : EditorState) (before : Told) (opened 
   length_is ps = ap length (written_is ps) ∙ length-append (opening first.session) (painted_over opened.shown (grids (state_at opened) ps))
 
   -- what was counted, from the opening screen on
-  pub counts_all : (ps : List PressedKey) (now : PlainCounts) → CountsFor (shots (state_at opened) ps) opened.counts now
-      → CountsFor (shot_of first.session ∷ shots first ps) before.counts now
+  pub counts_all : (ps : List PressedKey) (now : PlainCounts) → CountsFor (bills (state_at opened) ps) (shots (state_at opened) ps) opened.counts now
+      → CountsFor (bills first ps) (shot_of first.session ∷ shots first ps) before.counts now
   counts_all ps now counts =
-      counts_both (shot_of first.session ∷ []) (shots first ps) before.counts opened.counts now is_opened.counts
-      (subst (λ (s : EditorState). CountsFor (shots s ps) opened.counts now) is_opened.state counts)
+      counts_both 0 (bills first ps) (bills first ps) (shot_of first.session ∷ []) (shots first ps) before.counts opened.counts now (omega arith) is_opened.counts
+      (subst (λ (s : EditorState). CountsFor (bills s ps) (shots s ps) opened.counts now) is_opened.state counts)
+
+  -- what the files can reply to a key behind some, and its bill
+  pub behind_reply : (ps : List PressedKey) (pressed : PressedKey) → HasReply (state_after_keys (state_at opened) ps) pressed
+      → HasReply (state_after_keys first ps) pressed
+  behind_reply ps pressed can = subst (λ (s : EditorState). HasReply (state_after_keys s ps) pressed) is_opened.state can
+
+  pub behind_bill : (ps : List PressedKey) (key : Key) (reply : Reply) → (press (state_after_keys (state_at opened) ps).session key reply).checks
+      ≡ (press (state_after_keys first ps).session key reply).checks
+  behind_bill ps key reply = ap (λ (s : EditorState). (press (state_after_keys s ps).session key reply).checks) is_opened.state
 
   -- what is seen after some keys: the session, the map that is claimed, and the faults of the files
   behind_session : (ps : List PressedKey) → m.session ≡ (state_after_keys (state_at opened) ps).session → m.session ≡ (state_after_keys first ps).session
@@ -173,11 +184,12 @@ module _ (options : PlainOptions) (first : EditorState) (before : Told) (opened 
         subst (λ (s : EditorState). CountsWant (request (state_after_keys s ps).session key) before.files.wants now) is_opened.state
         (subst (λ wants. CountsWant (request (state_after_keys (state_at opened) ps).session key) wants now) is_opened.wants counts)
 
-    -- the run that stopped so behind them
-    pub all_runs : (status : Status) → before.files.wants ≤ m.files.wants → Stopped all_course before.files.wants m.files.wants status → {after_reads after_fault : Type 0}
-        → LeavesSource all_course after_reads after_fault
-        → EditorRuns status options first before (whole_at left now_reads m) after_reads after_fault m.session
-    all_runs status wants stopped source = record {
+    -- the run that stopped so behind them, with what was counted then
+    pub all_runs_counting : (status : Status) → before.files.wants ≤ m.files.wants → (stopped : Stopped all_course before.files.wants m.files.wants status)
+        (counts : PlainCounts) → CountsFor (run_bill all_course before.files.wants m.files.wants status stopped) (all_shots all_course) before.counts counts
+        → {after_reads after_fault : Type 0} → LeavesSource all_course after_reads after_fault
+        → EditorRuns status options first before (whole_at left now_reads (record m { counts = counts })) after_reads after_fault m.session
+    all_runs_counting status wants stopped counts counted source = record {
       course = all_course;
       stopped = stopped;
       source = source;
@@ -185,8 +197,18 @@ module _ (options : PlainOptions) (first : EditorState) (before : Told) (opened 
       files = behind_files ps all.files;
       faults = behind_faults ps all.faults;
       wants = wants;
-      counts = counts_all ps m.counts all.counts;
+      counts = counted;
     }
+
+    -- the run where nothing more was counted
+    pub all_runs : (status : Status) → before.files.wants ≤ m.files.wants → Stopped all_course before.files.wants m.files.wants status → {after_reads after_fault : Type 0}
+        → LeavesSource all_course after_reads after_fault
+        → EditorRuns status options first before (whole_at left now_reads m) after_reads after_fault m.session
+    all_runs status wants stopped source =
+        all_runs_counting status wants stopped m.counts
+        (counts_within (bills first ps) (run_bill all_course before.files.wants m.files.wants status stopped) (all_shots all_course) before.counts m.counts
+        (omega arith) (counts_all ps m.counts all.counts))
+        source
 
   -- ---- keys were shown up to a last one
   module _ (bytes : List ℕ) (read : Consumes before.streams.left left (bytes ++ [])) (within : length bytes ≤ options.key_limit)
@@ -247,5 +269,6 @@ module _ (options : PlainOptions) (first : EditorState) (before : Told) (opened 
       files = behind_files (earlier ++ last ∷ []) up_to.files;
       faults = behind_faults (earlier ++ last ∷ []) up_to.faults;
       wants = omega (arith, up_to.wants, is_opened.wants);
-      counts = counts_all (earlier ++ last ∷ []) m.counts up_to.counts;
+      counts = counts_within (bills first (earlier ++ last ∷ [])) (run_bill last_course before.files.wants m.files.wants status stopped) (all_shots last_course)
+          before.counts m.counts (omega arith) (counts_all (earlier ++ last ∷ []) m.counts up_to.counts);
     }

@@ -5,6 +5,7 @@ use Rattle.std.proofs.lemmas.List.{same_from_push}
 use Rattle.std.proofs.KnownBytes.{Consumes-nil, Consumes-trans}
 use Rattle.std.specs.Io.KnownBytes.{Consumes, IsAtEnd}
 use Rattle.plcs_base.specs.Count.{Rose, raised, raised_by}
+use Rattle.plcs_base.specs.PlainCounts.{ChecksAtMost}
 use Rattle.synth_session.specs.declared.key.Key.{Key}
 use Rattle.synth_session.specs.declared.key.Key.TheVariants.{Other}
 use Rattle.synth_session.specs.FileReply.{CountsWant, Reply, Request}
@@ -15,14 +16,16 @@ use Rattle.synth_top.specs.declared.editor.Going.{Going}
 use Rattle.synth_top.specs.declared.editor.Going.TheVariants.{On, Over}
 use Rattle.synth_top.specs.declared.status.Status.{Status}
 use Rattle.synth_top.specs.declared.status.Status.TheVariants.{Done, ReadFault, WriteFault, NoMemory, BadWords, KeyLimit}
+use Rattle.synth_top.specs.Counted.{CountsFor}
 use Rattle.synth_top.specs.Keys.{Feeds, IsFront, IsHeld, completed, keys, listed_keys}
 use Rattle.synth_top.specs.Private.Pressing.{AllShown, KeysCut, KeysQuit, KeysShown, KeysWanted, Moment, Pressed, UpToLast, ended_as, state_at}
 use Rattle.synth_top.specs.Private.EditorRuns.{EditorRuns}
-use Rattle.synth_top.specs.WholeRun.{AtLastKey, Course, EndRead, NoKeyComes, KeyWanted, LimitTaken, PressedAll, ReadCut, ReadsInTurn, ScreenCut, Stopped, Told, painted_over, written}
-use Rattle.synth_top.specs.Turn.{PressedKey, EditorState, state_after_keys, ends, grids, keys_pressed, turn}
+use Rattle.synth_top.specs.WholeRun.{AtLastKey, Course, EndRead, NoKeyComes, KeyWanted, LimitTaken, PressedAll, ReadCut, ReadsInTurn, ScreenCut, Stopped, Told, all_shots, painted_over, run_bill, written}
+use Rattle.synth_top.specs.Turn.{PressedKey, EditorState, bill, bills, state_after_keys, ends, grids, keys_pressed, turn}
 use Rattle.synth_top.specs.Options.{PlainOptions}
-use Rattle.synth_top.proofs.Courses.{InTurn, Opened, all_counts, all_course, all_going, all_runs, all_takes, at_last, last_all, last_course, last_ends, last_runs, one_byte, told_at, whole_at}
-use Rattle.synth_top.proofs.KeysInOrder.{keys_pressed-append, counts_more, takes_more, both_shown, then_up_to, front_behind, wanted_behind, ends_more, painted_more}
+use Rattle.synth_top.proofs.CountsInTurn.{counts_behind}
+use Rattle.synth_top.proofs.Courses.{InTurn, Opened, all_counts, all_course, all_going, all_runs, all_runs_counting, all_takes, at_last, behind_bill, behind_reply, counts_all, last_all, last_course, last_ends, last_runs, one_byte, told_at, whole_at}
+use Rattle.synth_top.proofs.KeysInOrder.{keys_pressed-append, bill_more, counts_more, reply_more, takes_more, both_shown, then_up_to, front_behind, wanted_behind, ends_more, painted_more}
 use Rattle.synth_top.proofs.OneKey.{none_shown, unchanged_itself}
 
 -- so many bytes were read, one a read, all keys that they complete were pressed, and all screens were written
@@ -205,8 +208,12 @@ module _ (number : ℕ) (options : PlainOptions) (first : EditorState) (before :
 
     -- ---- keys up to one that wanted memory
     module _ (next : KeysWanted more m now) where
-      all_shown : AllShown so.opened now (so.pressed ++ next.pressed)
-      all_shown = both_shown so.opened m so.pressed so.all now next.pressed next.shown
+      -- what is seen but for the checks of that key
+      abbrev shown_now : Moment
+      shown_now = record now { counts = next.counted }
+
+      all_shown : AllShown so.opened shown_now (so.pressed ++ next.pressed)
+      all_shown = both_shown so.opened m so.pressed so.all shown_now next.pressed next.shown
 
       up_to_wanted : IsFront (keys_pressed (so.pressed ++ next.pressed) ++ next.wanted ∷ []) (pressed_keys ++ more)
       up_to_wanted = wanted_behind so.pressed pressed_keys more next.pressed next.wanted refl next.front
@@ -223,33 +230,57 @@ module _ (number : ℕ) (options : PlainOptions) (first : EditorState) (before :
           [ inl h ↦ inl (front_without _ _ next.wanted h) | inr h ↦ inr h ]
 
       abbrev wanting_course : Course options first before.streams (told_at now_left now_reads now)
-      wanting_course = all_course options first before so.opened now now_left now_reads so.is_opened bytes [] nothing_behind (omega arith) within reads made
+      wanting_course = all_course options first before so.opened shown_now now_left now_reads so.is_opened bytes [] nothing_behind (omega arith) within reads made
           (so.pressed ++ next.pressed) all_shown (front_without _ _ next.wanted in_keys) pressed_complete
 
-      key_wanted : KeyWanted wanting_course before.files.wants now.files.wants
+      abbrev key_wanted : KeyWanted wanting_course before.files.wants now.files.wants
       key_wanted = record {
         wanted = next.wanted;
-        takes = all_takes options first before so.opened now now_left now_reads so.is_opened bytes [] nothing_behind (omega arith) within reads made
+        reply = next.reply;
+        can_reply = behind_reply options first before so.opened shown_now now_left now_reads so.is_opened (so.pressed ++ next.pressed)
+            (record { key = next.wanted; reply = next.reply })
+            (reply_more so.opened m so.pressed so.all next.pressed next.wanted next.reply next.can_reply);
+        takes = all_takes options first before so.opened shown_now now_left now_reads so.is_opened bytes [] nothing_behind (omega arith) within reads made
             (so.pressed ++ next.pressed) all_shown (front_without _ _ next.wanted in_keys) pressed_complete next.wanted
             (takes_more so.opened m so.pressed so.all next.pressed next.wanted next.takes);
-        counts = all_counts options first before so.opened now now_left now_reads so.is_opened bytes [] nothing_behind (omega arith) within reads made
+        counts = all_counts options first before so.opened shown_now now_left now_reads so.is_opened bytes [] nothing_behind (omega arith) within reads made
             (so.pressed ++ next.pressed) all_shown (front_without _ _ next.wanted in_keys) pressed_complete next.wanted now.files.wants
             (counts_more so.opened m so.pressed so.all next.pressed next.wanted now.files.wants so.wants next.counts);
         next = in_keys;
         complete = in_complete;
-        going = all_going options first before so.opened now now_left now_reads so.is_opened bytes [] nothing_behind (omega arith) within reads made
+        going = all_going options first before so.opened shown_now now_left now_reads so.is_opened bytes [] nothing_behind (omega arith) within reads made
             (so.pressed ++ next.pressed) all_shown (front_without _ _ next.wanted in_keys) pressed_complete;
         taken = record { in_turn = in_turn next.pressed; reads = reads_in_turn next.pressed };
       }
+
+      abbrev wanted_stop : Stopped wanting_course before.files.wants now.files.wants NoMemory
+      wanted_stop = inr (inr (omega arith, refl, inl key_wanted))
+
+      -- its bill behind all keys pressed, and its checks under it
+      abbrev bill_then : ℕ
+      bill_then = bill (state_after_keys first (so.pressed ++ next.pressed)) (record { key = next.wanted; reply = next.reply })
+
+      wanted_checks : ChecksAtMost bill_then next.counted now.counts
+      wanted_checks = subst (λ (bound : ℕ). ChecksAtMost bound next.counted now.counts)
+          (bill_more so.opened m so.pressed so.all next.pressed next.wanted next.reply
+          ∙ behind_bill options first before so.opened shown_now now_left now_reads so.is_opened (so.pressed ++ next.pressed) next.wanted next.reply)
+          next.checks
+
+      -- what was counted, with these checks
+      wanted_counts : CountsFor (run_bill wanting_course before.files.wants now.files.wants NoMemory wanted_stop) (all_shots wanting_course) before.counts now.counts
+      wanted_counts = counts_behind (bills first (so.pressed ++ next.pressed)) bill_then (run_bill wanting_course before.files.wants now.files.wants NoMemory wanted_stop)
+          (all_shots wanting_course) before.counts next.counted now.counts (omega arith)
+          (counts_all options first before so.opened shown_now now_left now_reads so.is_opened (so.pressed ++ next.pressed) next.counted all_shown.counts)
+          wanted_checks
 
       -- the run that stopped there
       key_wanted_runs : {after_reads after_fault : Type 0} → after_reads
           → EditorRuns NoMemory options first before (whole_at now_left now_reads now) after_reads after_fault now.session
       key_wanted_runs led =
-          all_runs options first before so.opened now now_left now_reads so.is_opened bytes [] nothing_behind (omega arith) within reads made
+          all_runs_counting options first before so.opened shown_now now_left now_reads so.is_opened bytes [] nothing_behind (omega arith) within reads made
           (so.pressed ++ next.pressed) all_shown (front_without _ _ next.wanted in_keys) pressed_complete NoMemory
           (wants_rose (request (state_after_keys first (so.pressed ++ next.pressed)).session key_wanted.wanted) before.files.wants now.files.wants key_wanted.counts)
-          (inr (inr (omega arith, refl, inl key_wanted))) (inl (led, refl))
+          wanted_stop now.counts wanted_counts (inl (led, refl))
 
     -- a screen of one of the keys was cut short, or one of them wanted memory
     module _ {after_reads after_fault : Type 0} (led : after_reads) where

@@ -5,13 +5,15 @@ use Rattle.std.proofs.Math.Seq.{take-append-add}
 use Rattle.std.proofs.KnownBytes.{Appends-trans}
 use Rattle.std.specs.Io.KnownBytes.{Appends}
 use Rattle.plcs_base.specs.Count.{Rose}
+use Rattle.plcs_base.specs.PlainCounts.{ChecksAtMost}
 use Rattle.synth_outside.specs.Files.{FileMap}
 use Rattle.screen_window.specs.PlainGrid.{PlainGrid}
 use Rattle.synth_session.specs.declared.key.Key.{Key}
-use Rattle.synth_session.specs.FileReply.{CountsWant}
+use Rattle.synth_session.specs.FileReply.{CountsWant, Reply}
 use Rattle.synth_session.specs.KeyRequest.{request}
 use Rattle.synth_session.specs.MemoryTaken.{key_takes_memory}
 use Rattle.synth_session.specs.PlainSession.{PlainSession}
+use Rattle.synth_session.specs.Press.{press}
 use Rattle.synth_top.specs.declared.editor.Going.{Going}
 use Rattle.synth_top.specs.declared.editor.Going.TheVariants.{On, Over}
 use Rattle.synth_top.specs.declared.status.Status.{Status}
@@ -19,10 +21,10 @@ use Rattle.synth_top.specs.declared.status.Status.TheVariants.{Done, ReadFault, 
 use Rattle.synth_top.specs.Private.Pressing.{Moment, AllShown, UpToLast, KeysShown, KeysQuit, KeysCut, KeysWanted, Pressed, last_shown, state_at}
 use Rattle.synth_top.specs.Counted.{CountsFor}
 use Rattle.synth_top.specs.WholeRun.{painted_over}
-use Rattle.synth_top.specs.Turn.{HaveReplies, IsToldAs, PressedKey, Shot, state_after_keys, ends, failures, grids, keys_pressed, shots}
-use Rattle.synth_top.proofs.ClaimedFiles.{ClaimsNoMore, after_less, replies_less, same_ends, same_grids, same_shots, told_through}
+use Rattle.synth_top.specs.Turn.{HasReply, HaveReplies, IsToldAs, PressedKey, Shot, bills, state_after_keys, ends, failures, grids, keys_pressed, shots}
+use Rattle.synth_top.proofs.ClaimedFiles.{ClaimsNoMore, after_less, replies_less, same_bills, same_ends, same_grids, same_shots, told_through, turn_reply_less}
 use Rattle.synth_top.proofs.CountsInTurn.{counts_both}
-use Rattle.synth_top.proofs.TurnsInOrder.{after-append, ends-going, grids-append, HaveReplies-append, failures-append, painted_over-append, last_shown-append, shots-append}
+use Rattle.synth_top.proofs.TurnsInOrder.{after-append, bills-append, ends-going, grids-append, HaveReplies-append, failures-append, painted_over-append, last_shown-append, shots-append}
 use Rattle.synth_top.specs.Keys.{IsFront}
 
 -- the keys of some and of others
@@ -39,6 +41,12 @@ module _ (a b : Moment) (ps : List PressedKey) (shown : AllShown a b ps) where
   shots_more qs =
       shots-append (state_at a) ps qs
       ∙ ap (λ (all : List Shot). shots (state_at a) ps ++ all) (same_shots (state_after_keys (state_at a) ps) (state_at b) qs behind_less)
+
+  -- the bills of others
+  bills_more : (qs : List PressedKey) → bills (state_at a) (ps ++ qs) ≡ bills (state_at a) ps + bills (state_at b) qs
+  bills_more qs =
+      bills-append (state_at a) ps qs
+      ∙ ap (λ (n : ℕ). bills (state_at a) ps + n) (same_bills (state_after_keys (state_at a) ps) (state_at b) qs behind_less)
 
   -- the screens of others
   grids_more : (qs : List PressedKey) → grids (state_at a) (ps ++ qs) ≡ grids (state_at a) ps ++ grids (state_at b) qs
@@ -72,11 +80,12 @@ module _ (a b : Moment) (ps : List PressedKey) (shown : AllShown a b ps) where
       ∙ ap (λ g. last_shown g (grids (state_at b) qs)) (sym shown.shown)
 
   -- what was counted
-  counted_more : (c : Moment) (qs : List PressedKey) → CountsFor (shots (state_at b) qs) b.counts c.counts
-      → CountsFor (shots (state_at a) (ps ++ qs)) a.counts c.counts
+  counted_more : (c : Moment) (qs : List PressedKey) → CountsFor (bills (state_at b) qs) (shots (state_at b) qs) b.counts c.counts
+      → CountsFor (bills (state_at a) (ps ++ qs)) (shots (state_at a) (ps ++ qs)) a.counts c.counts
   counted_more c qs counts =
-      subst (λ (all : List Shot). CountsFor all a.counts c.counts) (sym (shots_more qs))
-      (counts_both (shots (state_at a) ps) (shots (state_at b) qs) a.counts b.counts c.counts shown.counts counts)
+      subst (λ (all : List Shot). CountsFor (bills (state_at a) (ps ++ qs)) all a.counts c.counts) (sym (shots_more qs))
+      (counts_both (bills (state_at a) ps) (bills (state_at b) qs) (bills (state_at a) (ps ++ qs)) (shots (state_at a) ps) (shots (state_at b) qs)
+      a.counts b.counts c.counts (omega (arith, bills_more qs)) shown.counts counts)
 
   -- what the files replied
   replies_more : (qs : List PressedKey) → HaveReplies (state_at b) qs → HaveReplies (state_at a) (ps ++ qs)
@@ -125,7 +134,7 @@ module _ (a b : Moment) (ps : List PressedKey) (shown : AllShown a b ps) where
         whole = omega (arith, whole, next.whole);
         faults = omega (arith, shown.faults, next.faults, faults);
         wants = next.wants ∙ same_wants;
-        counts = subst (λ l. CountsFor (shots (state_at a) l) a.counts c.counts) joined (counted_more c all next.counts);
+        counts = subst (λ l. CountsFor (bills (state_at a) l) (shots (state_at a) l) a.counts c.counts) joined (counted_more c all next.counts);
       }
 
   -- a key that wanted memory behind all of them
@@ -138,6 +147,15 @@ module _ (a b : Moment) (ps : List PressedKey) (shown : AllShown a b ps) where
     counts_more now same counts =
         subst (λ (s : PlainSession). CountsWant (request s wanted) a.files.wants now) (sym (after_more qs).session)
         (subst (λ before. CountsWant (request (state_after_keys (state_at b) qs).session wanted) before now) same counts)
+
+    pub reply_more : (reply : Reply) → HasReply (state_after_keys (state_at b) qs) (record { key = wanted; reply = reply })
+        → HasReply (state_after_keys (state_at a) (ps ++ qs)) (record { key = wanted; reply = reply })
+    reply_more reply can =
+        turn_reply_less (state_after_keys (state_at a) (ps ++ qs)) (state_after_keys (state_at b) qs) (record { key = wanted; reply = reply }) (after_more qs) can
+
+    pub bill_more : (reply : Reply) → (press (state_after_keys (state_at b) qs).session wanted reply).checks
+        ≡ (press (state_after_keys (state_at a) (ps ++ qs)).session wanted reply).checks
+    bill_more reply = ap (λ (s : PlainSession). (press s wanted reply).checks) (sym (after_more qs).session)
 
 -- keys in front of others
 pub front_behind : (ps : List PressedKey) (keys more : List Key) (qs : List PressedKey) → keys_pressed ps ≡ keys → IsFront (keys_pressed qs) more
@@ -207,7 +225,12 @@ module _ (keys more : List Key) (a b c : Moment) (first : KeysShown keys a b) wh
         takes = takes_more a b ps first.shown next.pressed next.wanted next.takes;
         counts = counts_more a b ps first.shown next.pressed next.wanted c.files.wants first.wants next.counts;
         front = wanted_behind ps keys more next.pressed next.wanted first.all next.front;
-        shown = both_shown a b ps first.shown c next.pressed next.shown;
+        counted = next.counted;
+        shown = both_shown a b ps first.shown (record c { counts = next.counted }) next.pressed next.shown;
+        reply = next.reply;
+        can_reply = reply_more a b ps first.shown next.pressed next.wanted next.reply next.can_reply;
+        checks = subst (λ (bound : ℕ). ChecksAtMost bound next.counted c.counts)
+            (bill_more a b ps first.shown next.pressed next.wanted next.reply) next.checks;
       }
 
 -- all of some keys, and then what became of others
@@ -255,7 +278,18 @@ pressed_before WriteFault keys more a b pressed = cut_before keys more a b press
 pressed_before NoMemory keys more a b pressed =
     elim pressed as (λ _. (KeysCut (keys ++ more) a b × Rose a.wanted b.wanted) ⊎ KeysWanted (keys ++ more) a b) [
       | inl cut ↦ inl (cut_before keys more a b cut.0, cut.1)
-      | inr wanted ↦ inr (record { pressed = wanted.pressed; wanted = wanted.wanted; takes = wanted.takes; counts = wanted.counts; front = front_more _ keys more wanted.front; shown = wanted.shown })
+      | inr wanted ↦ inr (record {
+        pressed = wanted.pressed;
+        wanted = wanted.wanted;
+        takes = wanted.takes;
+        counts = wanted.counts;
+        front = front_more _ keys more wanted.front;
+        counted = wanted.counted;
+        shown = wanted.shown;
+        reply = wanted.reply;
+        can_reply = wanted.can_reply;
+        checks = wanted.checks;
+      })
     ]
 pressed_before ReadFault keys more a b pressed = absurd pressed
 pressed_before BadWords keys more a b pressed = absurd pressed

@@ -3,6 +3,7 @@ use Rattle.std.proofs.Common.{◌≡◌, IsTrue, ℕ, Bool, true, false, ◌||�
 use Rattle.std.proofs.KnownBytes.{Appends-nil}
 use Rattle.std.specs.Io.KnownBytes.{Appends}
 use Rattle.plcs_base.specs.Count.{RoseBy}
+use Rattle.plcs_base.specs.PlainCounts.{ChecksAtMost, PlainCounts}
 use Rattle.synth_outside.specs.Files.{FileMap}
 use Rattle.synth_outside.specs.Sink.{AppendsFront}
 use Rattle.screen_window.specs.Paint.{Paint}
@@ -20,9 +21,9 @@ use Rattle.synth_session.specs.SessionScreen.{grid}
 use Rattle.synth_top.specs.Counted.{CountsFor}
 use Rattle.synth_top.specs.Private.Pressing.{AllShown, IsPressed, KeysCut, KeysQuit, KeysShown, KeysWanted, Moment, last_shown, state_at}
 use Rattle.synth_top.specs.WholeRun.{painted_over}
-use Rattle.synth_top.specs.Turn.{IsToldAs, PressedKey, Shot, Turn, state_after_keys, ends, failures, files_after, grids, is_quit, screens_of, shot_of, shots, turn, turn_with}
+use Rattle.synth_top.specs.Turn.{IsToldAs, PressedKey, Shot, Turn, bills, state_after_keys, ends, failures, files_after, grids, is_quit, screens_of, shot_of, shots, turn, turn_with}
 use Rattle.synth_top.proofs.ClaimedFiles.{fault_counted, told_behind, told_same}
-use Rattle.synth_top.proofs.CountsInTurn.{counts_nothing}
+use Rattle.synth_top.proofs.CountsInTurn.{counts_nothing, counts_within}
 
 -- an answer that isn't the end
 not_quit : (answer : Answer) → (answer ≡ Quit → ⊥) → is_quit answer ≡ false
@@ -82,13 +83,16 @@ module _ (key : Key) (answer : Answer) (a b : Moment) (s : PlainSession) (presse
   bytes_are : is_quit answer ≡ false → painted_over a.shown (grids (state_at a) (one ∷ [])) ≡ Paint a.shown (grid s)
   bytes_are going = ap (painted_over a.shown) (grids_are going) ∙ append-nil (Paint a.shown (grid s))
 
-  -- what was counted for the shot
-  counts_one : is_quit answer ≡ false → CountsFor (shot_of s ∷ []) a.counts b.counts → CountsFor (shots (state_at a) (one ∷ [])) a.counts b.counts
-  counts_one going counts = subst (λ (all : List Shot). CountsFor all a.counts b.counts) (sym (shots_are going)) counts
+  -- what was counted in it under its bill, for these shots
+  counts_one : (all : List Shot) → shots (state_at a) (one ∷ []) ≡ all → CountsFor outcome.checks all a.counts b.counts
+      → CountsFor (bills (state_at a) (one ∷ [])) (shots (state_at a) (one ∷ [])) a.counts b.counts
+  counts_one all are counts =
+      subst (λ (l : List Shot). CountsFor (bills (state_at a) (one ∷ [])) l a.counts b.counts) (sym are)
+      (counts_within outcome.checks (bills (state_at a) (one ∷ [])) all a.counts b.counts (omega arith) counts)
 
   -- the key was pressed, and its screen was written
   pub one_shown : (answer ≡ Quit → ⊥) → (over : PlainGrid) → over ≡ a.shown → Appends a.taken b.taken (Paint over (grid s))
-      → b.shown ≡ grid s → b.wanted ≡ a.wanted → CountsFor (shot_of s ∷ []) a.counts b.counts → KeysShown (key ∷ []) a b
+      → b.shown ≡ grid s → b.wanted ≡ a.wanted → CountsFor outcome.checks (shot_of s ∷ []) a.counts b.counts → KeysShown (key ∷ []) a b
   one_shown other over same_over wrote shown unwanted counts = record {
     pressed = one ∷ [];
     all = refl;
@@ -101,13 +105,13 @@ module _ (key : Key) (answer : Answer) (a b : Moment) (s : PlainSession) (presse
       wrote = subst (Appends a.taken b.taken) (ap (λ g. Paint g (grid s)) same_over ∙ sym (bytes_are (not_quit answer other))) wrote;
       unwanted = unwanted;
       faults = faults_are;
-      counts = counts_one (not_quit answer other) counts;
+      counts = counts_one (shot_of s ∷ []) (shots_are (not_quit answer other)) counts;
     };
     wants = pressed.files.wants;
   }
 
   -- the key ended the session, and nothing was written
-  pub one_quit : answer ≡ Quit → b.taken ≡ a.taken → CountsFor [] a.counts b.counts → KeysQuit (key ∷ []) a b
+  pub one_quit : answer ≡ Quit → b.taken ≡ a.taken → CountsFor outcome.checks [] a.counts b.counts → KeysQuit (key ∷ []) a b
   one_quit quit same_taken counts =
       let ending : is_quit answer ≡ true = ap is_quit quit in
       let no_shot : shots (state_at a) (one ∷ []) ≡ [] =
@@ -127,7 +131,7 @@ module _ (key : Key) (answer : Answer) (a b : Moment) (s : PlainSession) (presse
           whole = omega arith;
           faults = faults_are;
           wants = pressed.files.wants;
-          counts = subst (λ (all : List Shot). CountsFor all a.counts b.counts) (sym no_shot) counts;
+          counts = counts_one [] no_shot counts;
         };
         quit = ends_is ∙ ending;
         all = omega (arith, ap (λ (l : List ℕ). length l) none);
@@ -135,7 +139,7 @@ module _ (key : Key) (answer : Answer) (a b : Moment) (s : PlainSession) (presse
 
   -- the key was pressed, and its screen was cut short
   pub one_cut : (answer ≡ Quit → ⊥) → (over : PlainGrid) → over ≡ a.shown → AppendsFront a.taken b.taken (Paint over (grid s))
-      → CountsFor (shot_of s ∷ []) a.counts b.counts → KeysCut (key ∷ []) a b
+      → CountsFor outcome.checks (shot_of s ∷ []) a.counts b.counts → KeysCut (key ∷ []) a b
   one_cut other over same_over front counts = record {
     earlier = [];
     last = one;
@@ -151,14 +155,14 @@ module _ (key : Key) (answer : Answer) (a b : Moment) (s : PlainSession) (presse
       whole = omega arith;
       faults = faults_are;
       wants = pressed.files.wants;
-      counts = counts_one (not_quit answer other) counts;
+      counts = counts_one (shot_of s ∷ []) (shots_are (not_quit answer other)) counts;
     };
     going = ends_is ∙ not_quit answer other;
   }
 
 -- ---- no key
 
--- nothing but the count of wants of the files, and that of phrases checked, is seen to have changed
+-- nothing but the count of wants of the files is seen to have changed
 pub record IsUnchanged (a b : Moment) : Type 0 where
   pub session : b.session ≡ a.session
   pub shown : b.shown ≡ a.shown
@@ -166,11 +170,11 @@ pub record IsUnchanged (a b : Moment) : Type 0 where
   pub wanted : b.wanted ≡ a.wanted
   pub stored : b.files.stored ≡ a.files.stored
   pub faults : b.files.faults ≡ a.files.faults
-  pub counts : CountsFor [] a.counts b.counts
+  pub counts : b.counts ≡ a.counts
 
 -- nothing at all
 pub unchanged_itself : (a : Moment) → IsUnchanged a a
-unchanged_itself a = record { session = refl; shown = refl; taken = refl; wanted = refl; stored = refl; faults = refl; counts = counts_nothing a.counts }
+unchanged_itself a = record { session = refl; shown = refl; taken = refl; wanted = refl; stored = refl; faults = refl; counts = refl }
 
 -- no key was pressed
 pub none_shown : (a b : Moment) → IsUnchanged a b → AllShown a b []
@@ -183,18 +187,24 @@ none_shown a b same = record {
   wrote = subst (λ taken. Appends a.taken taken []) (sym same.taken) (Appends-nil a.taken);
   unwanted = same.wanted;
   faults = omega (arith, same.faults);
-  counts = same.counts;
+  counts = subst (λ (counts : PlainCounts). CountsFor 0 [] a.counts counts) (sym same.counts) (counts_nothing a.counts);
 }
 
--- the key wanted memory, and did nothing
+-- the key wanted memory, and did nothing but check phrases
 pub one_wanted : {reply : Reply} (key : Key) (a b : Moment) → IsTrue (key_takes_memory a.session key)
     → HaveNoMemory (request a.session key) reply a.files b.files
-    → b.session ≡ a.session → b.shown ≡ a.shown → b.taken ≡ a.taken → b.wanted ≡ a.wanted → CountsFor [] a.counts b.counts → KeysWanted (key ∷ []) a b
-one_wanted key a b takes files session shown taken wanted counts = record {
+    → b.session ≡ a.session → b.shown ≡ a.shown → b.taken ≡ a.taken → b.wanted ≡ a.wanted
+    → ChecksAtMost (press a.session key reply).checks a.counts b.counts → KeysWanted (key ∷ []) a b
+one_wanted {reply} key a b takes files session shown taken wanted checks = record {
   pressed = [];
   wanted = key;
   takes = takes;
   counts = files.wants;
   front = ([], refl);
-  shown = none_shown a b (record { session = session; shown = shown; taken = taken; wanted = wanted; stored = files.stored; faults = files.faults; counts = counts });
+  counted = a.counts;
+  shown = none_shown a (record b { counts = a.counts })
+      (record { session = session; shown = shown; taken = taken; wanted = wanted; stored = files.stored; faults = files.faults; counts = refl });
+  reply = reply;
+  can_reply = files.can;
+  checks = checks;
 }

@@ -5,7 +5,7 @@ use Rattle.screen_window.specs.Paint.{Paint}
 use Rattle.screen_window.specs.PlainGrid.{PlainGrid}
 use Rattle.synth_top.specs.Private.Pressing.{last_shown}
 use Rattle.synth_top.specs.WholeRun.{painted_over}
-use Rattle.synth_top.specs.Turn.{HaveReplies, PressedKey, EditorState, Shot, state_after_keys, ends, failures, grids, screens_of, shots, turn}
+use Rattle.synth_top.specs.Turn.{HaveReplies, PressedKey, EditorState, Shot, bills, state_after_keys, ends, failures, grids, screens_of, shots, turn}
 
 -- a test that fails, and then another
 or_false : (a b : Bool) → a ≡ false → (a || b) ≡ b
@@ -47,6 +47,10 @@ HaveReplies-append s (p ∷ ps) qs first second = (first.0, HaveReplies-append (
 pub failures-append : (ps qs : List PressedKey) → failures (ps ++ qs) ≡ failures ps + failures qs
 failures-append [] qs = omega arith
 failures-append (p ∷ ps) qs = let rest = failures-append ps qs in omega (arith, rest)
+
+pub bills-append : (s : EditorState) (ps qs : List PressedKey) → bills s (ps ++ qs) ≡ bills s ps + bills (state_after_keys s ps) qs
+bills-append s [] qs = omega arith
+bills-append s (p ∷ ps) qs = let rest = bills-append (turn s p).after ps qs in omega (arith, rest)
 
 -- some screens, and then others over the last of them
 pub painted_over-append : (g : PlainGrid) (xs ys : List PlainGrid) → painted_over g (xs ++ ys) ≡ painted_over g xs ++ painted_over (last_shown g xs) ys

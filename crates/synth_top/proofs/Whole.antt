@@ -1,5 +1,5 @@
 -- A whole run: the loads, the keys, and what is saved at the end.
-use Rattle.std.proofs.Common.{◌≡◌, inl, ℕ, List, [], Option, Some, None, codes, refl, ap, ◌∙◌, subst, arith}
+use Rattle.std.proofs.Common.{◌≡◌, inl, inr, ℕ, ◌+◌, List, [], Option, Some, None, codes, refl, ap, ◌∙◌, subst, arith}
 use Rattle.std.specs.Prelude.{option_map}
 use Rattle.std.specs.FinMap.{insert}
 use Rattle.plcs_base.specs.PlainCounts.{ChecksAtMost, PlainCounts}
@@ -8,15 +8,16 @@ use Rattle.template_tree.specs.Listing.{Listing}
 use Rattle.synth_session.specs.PlainSession.{PlainSession}
 use Rattle.synth_top.specs.declared.status.Status.{Status}
 use Rattle.synth_top.specs.declared.status.Status.TheVariants.{NoMemory}
+use Rattle.synth_top.specs.Counted.{CountsFor}
 use Rattle.synth_top.specs.Loads.{PlainFirstLoads, first_session, first_state, opening_checks}
 use Rattle.synth_top.specs.Options.{PlainOptions}
 use Rattle.synth_top.specs.Private.Loading.{BothLoad, LoadsNothing, OnlyRead}
 use Rattle.synth_top.specs.Private.EditorRuns.{Rescues, EditorRuns}
 use Rattle.synth_top.specs.Rescue.{NoRescue, Rescue, RescueFailed, RescueWanted, Rescued, files_with}
-use Rattle.synth_top.specs.WholeRun.{Ended, Ran, Stopped, Told, ToldStreams, all_shots, state_after}
+use Rattle.synth_top.specs.WholeRun.{Ended, Ran, Stopped, Told, ToldStreams, all_shots, run_bill, state_after}
 use Rattle.synth_top.specs.Turn.{IsToldAs, EditorState}
 use Rattle.synth_top.proofs.ClaimedFiles.{told_through}
-use Rattle.synth_top.proofs.CountsInTurn.{counts_both, counts_checks, counts_nothing}
+use Rattle.synth_top.proofs.CountsInTurn.{counts_both, counts_checks}
 
 -- ---- the loads
 
@@ -73,13 +74,18 @@ pub ran : (status : Status) (options : PlainOptions) (loads : PlainFirstLoads) (
 ran status options loads before now files loaded behind files_now counts opened counts_now first after_reads after_fault session load opening is runs_first rescue =
     let runs : EditorRuns status options (first_state options files.stored loads) (whole before loaded opened) (whole now behind counts_now) after_reads after_fault session =
     subst (λ (s : EditorState). EditorRuns status options s (whole before loaded opened) (whole now behind counts_now) after_reads after_fault session) is runs_first in
+    -- why it stopped, from the files' first count of wants on, and what was counted under its bill
+    let stopped : (why : Stopped runs.course files.wants behind.wants status)
+    × CountsFor (run_bill runs.course files.wants behind.wants status why) (all_shots runs.course) opened counts_now =
+    subst (λ (n : ℕ). (why : Stopped runs.course n behind.wants status) × CountsFor (run_bill runs.course n behind.wants status why) (all_shots runs.course) opened counts_now)
+    load.read.wants (runs.stopped, runs.counts) in
     record {
       loads = loads;
       can_load = load.can;
       course = runs.course;
       wants = behind.wants;
       wants_later = omega (arith, load.read.wants, runs.wants);
-      stopped = subst (λ (n : ℕ). Stopped runs.course n behind.wants status) load.read.wants runs.stopped;
+      stopped = stopped.0;
       source = runs.source;
       rescue = rescue.rescue;
       rescued = rescue.rescued;
@@ -87,7 +93,9 @@ ran status options loads before now files loaded behind files_now counts opened 
       files = files_with_less rescue.rescue (state_after runs.course) (record { session = session; files = behind.stored }) files_now.stored
           runs.session_is runs.files rescue.files;
       faults = omega (arith, load.read.faults, runs.faults, rescue.faults);
-      counts = counts_both [] (all_shots runs.course) counts opened counts_now (counts_checks (opening_checks loads) counts opened opening) runs.counts;
+      counts = counts_both (opening_checks loads) (run_bill runs.course files.wants behind.wants status stopped.0)
+          (opening_checks loads + run_bill runs.course files.wants behind.wants status stopped.0) [] (all_shots runs.course) counts opened counts_now (omega arith)
+          (counts_checks (opening_checks loads) counts opened opening) stopped.1;
     }
 
 -- no session was opened, since memory ran out over a load
@@ -102,7 +110,7 @@ unloaded options told files files_now counts after_reads after_fault nothing led
       stored = nothing.stored;
       faults = nothing.faults;
       wants = nothing.wants;
-      counts = counts_nothing counts;
+      counts = inl refl;
     })
 
 -- no session was opened, since memory ran out after the loads
@@ -117,5 +125,5 @@ unopened options loads told files files_now counts counts_now after_reads after_
       stored = load.read.stored;
       faults = load.read.later;
       wants = omega (arith, load.read.wants);
-      counts = counts_checks (opening_checks loads) counts counts_now opening;
+      counts = inr (record { loads = loads; can_load = load.can; counts = opening });
     })

@@ -1,4 +1,4 @@
--- What is counted for shots.
+-- What is counted for shots under a bill of checks.
 use Rattle.std.specs.Prelude.{◌≡◌, ℕ, ◌+◌, ◌≤◌, List, [], ◌∷◌}
 use Rattle.plcs_base.specs.Count.{raised_by}
 use Rattle.plcs_base.specs.PlainCounts.{PlainCounts}
@@ -15,11 +15,12 @@ abbrev pub all_fetched : List Shot → ℕ
 all_fetched [] = 0
 all_fetched (shot ∷ rest) = shot.fetched + all_fetched rest
 
--- what is counted for some shots: nothing is emitted, the count of phrases checked doesn't fall, as many instructions are fetched
--- as for the shots together, and at most as many lines are laid as their windows have rows
-pub record CountsFor (shots : List Shot) (before now : PlainCounts) : Type 0 where
+-- what is counted for some shots under a bill: nothing is emitted, at most as many phrases are checked as the bill says, as many
+-- instructions are fetched as for the shots together, and at most as many lines are laid as their windows have rows
+pub record CountsFor (bill : ℕ) (shots : List Shot) (before now : PlainCounts) : Type 0 where
   pub emitted : now.emitted ≡ before.emitted
-  pub checked : before.checked ≤ now.checked
+  pub checked : now.checked ≤ before.checked + bill
+  pub checked_later : before.checked ≤ now.checked
   pub fetched : now.fetched ≡ raised_by (all_fetched shots) before.fetched
-  pub later : before.laid ≤ now.laid
-  pub most : now.laid ≤ before.laid + all_window_rows shots
+  pub laid : now.laid ≤ before.laid + all_window_rows shots
+  pub laid_later : before.laid ≤ now.laid

@@ -95,6 +95,10 @@ turn state pressed =
 abbrev pub answered : EditorState → PressedKey → Answer
 answered state pressed = (press state.session pressed.key pressed.reply).answer
 
+-- the bill of a pressed key: how many phrases are checked in its turn at most
+abbrev pub bill : EditorState → PressedKey → ℕ
+bill state pressed = (press state.session pressed.key pressed.reply).checks
+
 -- ---- one turn after the other
 
 -- the state after the turns of some keys
@@ -129,6 +133,11 @@ HaveReplies state (first ∷ rest) = HasReply state first × HaveReplies (turn s
 abbrev pub failures : List PressedKey → ℕ
 failures [] = 0
 failures (first ∷ rest) = failure first.reply + failures rest
+
+-- the bills of some keys together
+abbrev pub bills : EditorState → List PressedKey → ℕ
+bills state [] = 0
+bills state (first ∷ rest) = bill state first + bills (turn state first).after rest
 
 -- the keys that a run pressed, without what the files replied in them
 abbrev pub keys_pressed : List PressedKey → List Key

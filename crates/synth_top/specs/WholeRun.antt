@@ -1,13 +1,14 @@
 -- A whole run: from the bytes of keys to the bytes of screens.
+use Rattle.std.proofs.Common.{inl, inr}
 use Rattle.std.specs.Prelude.{◌≡◌, ◌⊎◌, ℕ, ◌+◌, ◌<◌, ◌≤◌, true, false, IsTrue, List, [], ◌∷◌, ◌++◌, length, take, Option, codes}
 use Rattle.std.specs.Io.KnownBytes.{Appends, Consumes, IsAtEnd}
 use Rattle.plcs_base.specs.Count.{Rose, RoseBy, raised_by}
-use Rattle.plcs_base.specs.PlainCounts.{PlainCounts}
+use Rattle.plcs_base.specs.PlainCounts.{ChecksAtMost, CountsNothing, PlainCounts}
 use Rattle.synth_outside.specs.Files.{PlainFiles}
 use Rattle.screen_window.specs.Paint.{Paint, control}
 use Rattle.screen_window.specs.PlainGrid.{PlainGrid, blank_grid}
 use Rattle.synth_session.specs.declared.key.Key.{Key}
-use Rattle.synth_session.specs.FileReply.{CountsWant}
+use Rattle.synth_session.specs.FileReply.{CountsWant, Reply}
 use Rattle.synth_session.specs.KeyRequest.{request}
 use Rattle.synth_session.specs.MemoryTaken.{key_takes_memory}
 use Rattle.synth_session.specs.PlainSession.{PlainSession}
@@ -16,12 +17,12 @@ use Rattle.synth_top.specs.declared.status.Status.{Status}
 use Rattle.synth_top.specs.declared.status.Status.TheVariants.{Done, ReadFault, WriteFault, NoMemory, BadWords, KeyLimit}
 use Rattle.synth_top.specs.Counted.{CountsFor}
 use Rattle.synth_top.specs.Keys.{IsFront, completed, keys}
-use Rattle.synth_top.specs.Loads.{CanLoad, PlainFirstLoads, first_state, load_failures}
+use Rattle.synth_top.specs.Loads.{CanLoad, PlainFirstLoads, first_state, load_failures, opening_checks}
 use Rattle.synth_top.specs.Options.{PlainOptions}
 use Rattle.synth_top.specs.Rescue.{CountsRescueWant, IsRescue, Rescue, files_with, rescue_failure}
 use Rattle.synth_top.specs.Task.{PlainTask}
 use Rattle.synth_top.specs.Task.PlainTask.{Edit}
-use Rattle.synth_top.specs.Turn.{HaveReplies, IsToldAs, PressedKey, EditorState, Shot, answered, state_after_keys, ends, failures, grids, keys_pressed, makes_steps, shot_of, shots}
+use Rattle.synth_top.specs.Turn.{HasReply, HaveReplies, IsToldAs, PressedKey, EditorState, Shot, answered, bill, bills, state_after_keys, ends, failures, grids, keys_pressed, makes_steps, shot_of, shots}
 
 -- ---- what is written
 
@@ -180,9 +181,12 @@ module _ {options : PlainOptions} {first : EditorState} {before now : ToldStream
 
   -- a key wanted memory, which is one that takes some, between these counts of the files' wants: it isn't
   -- among those pressed but is the next one of the keys of the bytes, those pressed didn't end the session,
-  -- and no byte was taken before they were
+  -- and no byte was taken before they were. What it checked is billed by this reply, as files can
+  -- give it, whether or not it came to one
   pub record KeyWanted (wants_before wants_now : ℕ) : Type 0 where
     pub wanted : Key
+    pub reply : Reply
+    pub can_reply : HasReply state_after (record { key = wanted; reply = reply })
     pub takes : IsTrue (key_takes_memory state_after.session wanted)
     pub counts : CountsWant (request state_after.session wanted) wants_before wants_now
     pub next : IsFront (keys_pressed course.pressed ++ wanted ∷ []) (keys course.bytes)
@@ -213,6 +217,24 @@ module _ {options : PlainOptions} {first : EditorState} {before now : ToldStream
       (AllWritten × ReadCut) ⊎ ((NoneLost × (OpeningCut ⊎ ScreenCut) × Rose before.wants now.wants) ⊎ (AllWritten × NoneLost × TurnWanted wants_before wants_now))
   Stopped wants_before wants_now BadWords = ⊥
 
+  -- the bill of a turn in which memory ran out, where the key isn't among those pressed
+  abbrev pub wanted_bill : (wants_before wants_now : ℕ) → TurnWanted wants_before wants_now → ℕ
+  wanted_bill wants_before wants_now (inl last) = bill state_after (record { key = last.wanted; reply = last.reply })
+  wanted_bill wants_before wants_now (inr step) = 0
+
+  -- the bill of a key behind those pressed, by why the run stopped: of one that wanted memory, and else there is none
+  abbrev pub last_bill : (wants_before wants_now : ℕ) (status : Status) → Stopped wants_before wants_now status → ℕ
+  last_bill wants_before wants_now NoMemory (inl cut) = 0
+  last_bill wants_before wants_now NoMemory (inr (inl cut)) = 0
+  last_bill wants_before wants_now NoMemory (inr (inr behind)) = wanted_bill wants_before wants_now behind.2
+  last_bill wants_before wants_now status stopped = 0
+
+  -- the bill of a run that stopped so, from the opening screen on: those of the keys pressed together, and that of a key which wanted
+  -- memory
+  abbrev pub run_bill : (wants_before wants_now : ℕ) (status : Status) → Stopped wants_before wants_now status → ℕ
+  run_bill wants_before wants_now status stopped =
+      bills first course.pressed + last_bill wants_before wants_now status stopped
+
   -- what the source keeps besides its bytes is as after reads that were Ok, and then no byte was lost;
   -- or as behind one that wasn't, and then that read cut the run
   abbrev pub LeavesSource : Type 0 → Type 0 → Type 0
@@ -220,16 +242,23 @@ module _ {options : PlainOptions} {first : EditorState} {before now : ToldStream
 
 -- ---- a whole run
 
+-- memory ran out where a session was opened over what these loads gave: each phrase of its program was checked once at most, and
+-- nothing else was counted
+pub record OpeningWanted (options : PlainOptions) (before now : Told) : Type 0 where
+  pub loads : PlainFirstLoads
+  pub can_load : CanLoad options before.files.stored loads
+  pub counts : ChecksAtMost (opening_checks loads) before.counts now.counts
+
 -- no session was opened, for want of memory: nothing was read or written, the map of the files is as before, their counts
--- haven't fallen, and no shot was shown
-pub record NotOpened (status : Status) (before now : Told) (after_reads : Type 0) : Type 0 where
+-- haven't fallen, and nothing was counted, or what opening a session counts
+pub record NotOpened (status : Status) (options : PlainOptions) (before now : Told) (after_reads : Type 0) : Type 0 where
   pub wanted : status ≡ NoMemory
   pub same : now.streams ≡ before.streams
   pub source : after_reads
   pub stored : now.files.stored ≡ before.files.stored
   pub faults : before.files.faults ≤ now.files.faults
   pub wants : before.files.wants ≤ now.files.wants
-  pub counts : CountsFor [] before.counts now.counts
+  pub counts : CountsNothing before.counts now.counts ⊎ OpeningWanted options before now
 
 -- a session was opened: the run did this, and stopped, left its source and saved as its status says
 pub record Ran (status : Status) (options : PlainOptions) (before now : Told) (after_reads after_fault : Type 0) : Type 0 where
@@ -251,13 +280,14 @@ pub record Ran (status : Status) (options : PlainOptions) (before now : Told) (a
   pub files : IsToldAs (files_with rescue (state_after course)) now.files.stored
   pub faults : RoseBy (load_failures loads + failures course.pressed + rescue_failure rescue)
       before.files.faults now.files.faults
-  -- what was counted: for the shot of the opening screen and for those of the keys
-  pub counts : CountsFor (all_shots course) before.counts now.counts
+  -- what was counted: under the bill of the opening and those of the keys, for the shot of the opening screen and those of the keys
+  pub counts : CountsFor (opening_checks loads + run_bill course before.files.wants wants status stopped) (all_shots course)
+      before.counts now.counts
 
 -- the editor ended so: no session was opened, or the run went to its end
 abbrev pub Ended : Status → PlainOptions → (before now : Told) → (after_reads after_fault : Type 0) → Type 0
 Ended status options before now after_reads after_fault =
-    NotOpened status before now after_reads ⊎ Ran status options before now after_reads after_fault
+    NotOpened status options before now after_reads ⊎ Ran status options before now after_reads after_fault
 
 -- a task ended so
 abbrev pub TaskEnded : PlainTask → Status → (before now : Told) → (after_reads after_fault : Type 0) → Type 0

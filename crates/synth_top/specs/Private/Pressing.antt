@@ -2,7 +2,7 @@
 use Rattle.std.specs.Prelude.{◌≡◌, ◌⊎◌, ℕ, ◌≤◌, true, false, IsTrue, List, [], ◌∷◌, ◌++◌, length, take, Option, Some, None}
 use Rattle.std.specs.Io.KnownBytes.{Appends, Consumes, IsAtEnd}
 use Rattle.plcs_base.specs.Count.{Rose, RoseBy}
-use Rattle.plcs_base.specs.PlainCounts.{PlainCounts}
+use Rattle.plcs_base.specs.PlainCounts.{ChecksAtMost, PlainCounts}
 use Rattle.synth_outside.specs.Files.{PlainFiles}
 use Rattle.screen_window.specs.PlainGrid.{PlainGrid, blank_grid}
 use Rattle.synth_session.specs.declared.answer.Answer.{Answer}
@@ -23,7 +23,7 @@ use Rattle.synth_top.specs.Loads.{PlainFirstLoads, first_session}
 use Rattle.synth_top.specs.Options.{PlainOptions}
 use Rattle.synth_top.specs.WholeRun.{painted_over}
 use Rattle.synth_top.specs.Status.{CausedBy}
-use Rattle.synth_top.specs.Turn.{HaveReplies, IsToldAs, PressedKey, EditorState, state_after_keys, ends, failures, grids, keys_pressed, shots}
+use Rattle.synth_top.specs.Turn.{HasReply, HaveReplies, IsToldAs, PressedKey, EditorState, bill, bills, state_after_keys, ends, failures, grids, keys_pressed, shots}
 use Rattle.synth_top.specs.Keys.{IsFront}
 
 -- ---- an editor
@@ -99,7 +99,7 @@ pub record AllShown (before now : Moment) (pressed : List PressedKey) : Type 0 w
   pub wrote : Appends before.taken now.taken (painted_over before.shown (grids (state_at before) pressed))
   pub unwanted : now.wanted ≡ before.wanted
   pub faults : RoseBy (failures pressed) before.files.faults now.files.faults
-  pub counts : CountsFor (shots (state_at before) pressed) before.counts now.counts
+  pub counts : CountsFor (bills (state_at before) pressed) (shots (state_at before) pressed) before.counts now.counts
 
 -- these keys were pressed up to a last one: none before it ended the session, all screens before its
 -- own were written, and of its own so much that `count` bytes were written in all
@@ -114,7 +114,7 @@ pub record UpToLast (before now : Moment) (earlier : List PressedKey) (last : Pr
   pub whole : length (painted_over before.shown (grids (state_at before) earlier)) ≤ count
   pub faults : RoseBy (failures (earlier ++ last ∷ [])) before.files.faults now.files.faults
   pub wants : now.files.wants ≡ before.files.wants
-  pub counts : CountsFor (shots (state_at before) (earlier ++ last ∷ [])) before.counts now.counts
+  pub counts : CountsFor (bills (state_at before) (earlier ++ last ∷ [])) (shots (state_at before) (earlier ++ last ∷ [])) before.counts now.counts
 
 -- all of these keys were pressed
 pub record KeysShown (keys : List Key) (before now : Moment) : Type 0 where
@@ -142,14 +142,19 @@ pub record KeysCut (keys : List Key) (before now : Moment) : Type 0 where
   pub up_to : UpToLast before now earlier last count
   pub going : ends (state_at before) (earlier ++ last ∷ []) ≡ false
 
--- these keys were pressed up to one that wanted memory, and so did nothing
+-- these keys were pressed up to one that wanted memory, and so did nothing: from these counts on it checked phrases alone, under the
+-- bill that it has with this reply, as files can give it
 pub record KeysWanted (keys : List Key) (before now : Moment) : Type 0 where
   pub pressed : List PressedKey
   pub wanted : Key
   pub takes : IsTrue (key_takes_memory (state_after_keys (state_at before) pressed).session wanted)
   pub counts : CountsWant (request (state_after_keys (state_at before) pressed).session wanted) before.files.wants now.files.wants
   pub front : IsFront (keys_pressed pressed ++ wanted ∷ []) keys
-  pub shown : AllShown before now pressed
+  pub counted : PlainCounts
+  pub shown : AllShown before (record now { counts = counted }) pressed
+  pub reply : Reply
+  pub can_reply : HasReply (state_after_keys (state_at before) pressed) (record { key = wanted; reply = reply })
+  pub checks : ChecksAtMost (bill (state_after_keys (state_at before) pressed) (record { key = wanted; reply = reply })) counted now.counts
 
 -- what became of the keys, by whether the session goes on
 abbrev pub Pressed : Going → List Key → Moment → Moment → Type 0

@@ -14,7 +14,7 @@ returns-in_default-clause-presses g c =
       ends = tt;
       pressed = inr
           (one_wanted c.args.key _ _ pressed.does.met.0 pressed.files pressed.does.met.1 (ap (λ (z : PlainScreens). z.shown) pressed.does.screens) refl refl
-          (counts_checks _ _ _ pressed.counts));
+          pressed.counts);
       cause = record { later = omega arith; rose = λ e. absurd (cc); same = λ other. refl; last = λ e. refl };
       ready = pressed.does.session;
     }
