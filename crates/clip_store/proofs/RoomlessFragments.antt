@@ -1,11 +1,11 @@
 -- Fragments with and without the room of their lists.
 use Rattle.std.specs.Prelude.{◌≡◌, refl, ◌+◌, false}
 use Rattle.std.proofs.Common.{ap, sym, ◌∙◌}
-use Rattle.template_tree.specs.Copy.{IsCopy, whole_node}
-use Rattle.template_tree.specs.Edit.{whole}
-use Rattle.template_tree.specs.PlainTree.{Forest, PlainNode, roomless, roomless_node}
-use Rattle.template_tree.specs.RoomLaws.{CountsIgnoreRoom, RoomGoesOnce}
-use Rattle.template_tree.specs.Slots.{count}
+use Rattle.template_tree.specs.Edits.Copy.{IsCopy, whole_node}
+use Rattle.template_tree.specs.Edits.Edit.{whole}
+use Rattle.template_tree.specs.Programs.PlainTree.{Forest, PlainNode, roomless, roomless_node}
+use Rattle.template_tree.specs.Laws.RoomLaws.{CountsIgnoreRoom, RoomGoesOnce}
+use Rattle.template_tree.specs.Programs.Slots.{count}
 use Rattle.clip_store.specs.PlainFragment.{PlainFragment, kept_fragment, roomless_fragment, slots_of, whole_fragment}
 
 whole_roomless : (items : Forest) → whole (roomless items) ≡ roomless (whole items)

@@ -2,10 +2,10 @@
 use Rattle.std.specs.Prelude.{ℕ, ◌+◌}
 use Rattle.plcs_grammar.specs.PlainPhrase.{PlainPhrase, category_of}
 use Rattle.plcs_grammar.specs.PlainPhrase.{plain_phrase}
-use Rattle.template_tree.specs.PlainTree.{PlainNode, roomless_node}
-use Rattle.template_tree.specs.Copy.{whole_node}
-use Rattle.template_tree.specs.Program.{IsPartPhrase, IsSubtree}
-use Rattle.template_tree.specs.Slots.{count}
+use Rattle.template_tree.specs.Programs.PlainTree.{PlainNode, roomless_node}
+use Rattle.template_tree.specs.Edits.Copy.{whole_node}
+use Rattle.template_tree.specs.Programs.Program.{IsPartPhrase, IsSubtree}
+use Rattle.template_tree.specs.Programs.Slots.{count}
 use Rattle.clip_store.specs.declared.fragment.Fragment.{Fragment}
 
 -- a fragment: a node with what stands inside it, or a phrase

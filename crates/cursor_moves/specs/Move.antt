@@ -1,8 +1,8 @@
 -- Moves of the cursor over the visible stops of a program.
 use Rattle.std.specs.Prelude.{ℕ, ◌==◌, nat_lt, if◌then◌else◌, List, [], ◌∷◌, filter, find, Option, Some, None, option_and_then, option_map}
 use Rattle.std.specs.Option.{option_map_or, option_or}
-use Rattle.template_tree.specs.PlainTree.{Forest}
-use Rattle.template_tree.specs.Stop.{PlainStop, Stops, VisibleStop, listed_stop, node_stop, plain_stop, same_stop}
+use Rattle.template_tree.specs.Programs.PlainTree.{Forest}
+use Rattle.template_tree.specs.Positions.Stop.{PlainStop, Stops, VisibleStop, listed_stop, node_stop, plain_stop, same_stop}
 use Rattle.cursor_moves.specs.declared.cursor_move.Move.{Move}
 
 -- the first of a list, if there is one, as of the stops behind the one where a move begins

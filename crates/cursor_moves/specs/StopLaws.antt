@@ -1,7 +1,7 @@
 -- The laws of stops.
 use Rattle.std.specs.Prelude.{◌≡◌, ◌≢◌, ◌↔◌, ◌⊎◌, ◌<◌, map, AllPairs, Contains}
-use Rattle.template_tree.specs.PlainTree.{Forest}
-use Rattle.template_tree.specs.Stop.{IsStop, PlainStop, Stops}
+use Rattle.template_tree.specs.Programs.PlainTree.{Forest}
+use Rattle.template_tree.specs.Positions.Stop.{IsStop, PlainStop, Stops}
 
 -- the cursor may stand at a stop exactly where that is one of the listed visible stops
 abbrev pub StopsAreListed : Type 0

@@ -1,8 +1,8 @@
 //! Moves to the top and the bottom, which are the first and the last visible stop.
 ghost use Rattle.std.specs.Prelude.{◌≡◌};
-ghost use Rattle.template_tree.specs.PlainTree.{roomless_tree};
-ghost use Rattle.template_tree.specs.Stop.{IsStop, plain_stop};
-ghost use Rattle.template_tree.specs.Tree.{IsTree};
+ghost use Rattle.template_tree.specs.Programs.PlainTree.{roomless_tree};
+ghost use Rattle.template_tree.specs.Positions.Stop.{IsStop, plain_stop};
+ghost use Rattle.template_tree.specs.Programs.Tree.{IsTree};
 ghost use Rattle.cursor_moves.specs.Move.{first_stop, last_stop};
 
 use crate::part_stops::last_of_node;

@@ -1,7 +1,7 @@
 //! The visible node behind another one.
 ghost use Rattle.std.specs.Prelude.{◌≡◌, IsSome, None, is_some, option_map};
-ghost use Rattle.template_tree.specs.Stop.{visible_at};
-ghost use Rattle.template_tree.specs.Tree.{IsTree};
+ghost use Rattle.template_tree.specs.Positions.Stop.{visible_at};
+ghost use Rattle.template_tree.specs.Programs.Tree.{IsTree};
 ghost use Rattle.cursor_moves.specs.Private.NextPath.{LeadsOn, first_inside, next_of, next_with};
 
 use template_tree::{Node, Path, Tree, copy_path};

@@ -1,11 +1,11 @@
 //! The parts of a node at which the cursor may stand.
 ghost use Rattle.std.specs.Prelude.{◌≡◌, ◌≤◌, IsSome, IsSomeAnd, length, map};
 ghost use Rattle.plcs_grammar.specs.Template.{plain_segment};
-ghost use Rattle.template_tree.specs.Path.{node_at};
-ghost use Rattle.template_tree.specs.Program.{parts_of};
-ghost use Rattle.template_tree.specs.Stop.{MayStand, plain_stop};
-ghost use Rattle.template_tree.specs.Stop.{part_stops as number_of_part_stops};
-ghost use Rattle.template_tree.specs.Tree.{IsTree};
+ghost use Rattle.template_tree.specs.Positions.Path.{node_at};
+ghost use Rattle.template_tree.specs.Programs.Program.{parts_of};
+ghost use Rattle.template_tree.specs.Positions.Stop.{MayStand, plain_stop};
+ghost use Rattle.template_tree.specs.Positions.Stop.{part_stops as number_of_part_stops};
+ghost use Rattle.template_tree.specs.Programs.Tree.{IsTree};
 ghost use Rattle.cursor_moves.specs.Private.Number.{last_number, next_number};
 
 use plcs_grammar::{NodeKind, Segment};

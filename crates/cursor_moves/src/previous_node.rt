@@ -1,10 +1,10 @@
 //! The visible node before another one.
 ghost use Rattle.std.specs.Prelude.{◌≡◌, ◌+◌, ◌≤◌, ◌++◌, ◌∷◌, [], IfNone, IfSome, IsSome, IsSomeAnd, List, None, Some, if◌then◌else◌, length, ℕ};
-ghost use Rattle.template_tree.specs.Limit.{deepest_path, most_slots};
-ghost use Rattle.template_tree.specs.PlainTree.{nodes};
-ghost use Rattle.template_tree.specs.Slots.{count, depth};
-ghost use Rattle.template_tree.specs.Stop.{visible_at};
-ghost use Rattle.template_tree.specs.Tree.{IsTree};
+ghost use Rattle.template_tree.specs.Programs.Limit.{deepest_path, most_slots};
+ghost use Rattle.template_tree.specs.Programs.PlainTree.{nodes};
+ghost use Rattle.template_tree.specs.Programs.Slots.{count, depth};
+ghost use Rattle.template_tree.specs.Positions.Stop.{visible_at};
+ghost use Rattle.template_tree.specs.Programs.Tree.{IsTree};
 ghost use Rattle.cursor_moves.specs.Private.Number.{last_number};
 ghost use Rattle.cursor_moves.specs.Private.NextPath.{IsLastBelow, next_of};
 

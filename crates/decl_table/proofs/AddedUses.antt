@@ -9,8 +9,8 @@ use Rattle.std.proofs.lemmas.Slice.Eq.{bytes_eq-Decides}
 use Rattle.plcs_base.specs.Mark.{phrase_cmp}
 use Rattle.plcs_base.specs.declared.place.PhraseAt.{PhraseAt}
 use Rattle.plcs_grammar.specs.PlainPhrase.{PlainPhrase}
-use Rattle.template_tree.specs.Mention.{mention, mentioned, mentions, part_mentions, phrase_at}
-use Rattle.template_tree.specs.PlainTree.{Forest, PlainNode, forest}
+use Rattle.template_tree.specs.Checks.Mention.{mention, mentioned, mentions, part_mentions, phrase_at}
+use Rattle.template_tree.specs.Programs.PlainTree.{Forest, PlainNode, forest}
 use Rattle.decl_table.specs.PlainDecls.{PlainUses, mentions_of}
 use Rattle.decl_table.specs.Private.UsesView.{Adds, AddsNames, is_among}
 

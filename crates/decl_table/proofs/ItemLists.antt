@@ -11,8 +11,8 @@ use Rattle.plcs_base.specs.declared.declared.Declared.{Declared}
 use Rattle.plcs_base.specs.declared.mark.MarkKind.{MarkKind}
 use Rattle.plcs_grammar.specs.declared.builtin.Builtin.{Builtin}
 use Rattle.plcs_grammar.specs.Builtin.{builtin_of, is_builtin_name}
-use Rattle.template_tree.specs.Environment.{cells, cells_of, effective, item_named, item_offence, with_declared}
-use Rattle.template_tree.specs.Limit.{most_cells}
+use Rattle.template_tree.specs.Checks.Environment.{cells, cells_of, effective, item_named, item_offence, with_declared}
+use Rattle.template_tree.specs.Programs.Limit.{most_cells}
 use Rattle.decl_table.specs.declared.items.Shape.{Shape}
 use Rattle.decl_table.specs.Private.ItemsView.{items_of, shaped}
 

@@ -7,11 +7,11 @@ use Rattle.std.specs.Ordering.{nat_cmp}
 use Rattle.std.proofs.lemmas.Cmp.{nat_cmp_total, nat_eq_equiv}
 use Rattle.std.proofs.lemmas.Map.Views.{Contains-from_any, list_any-from_Contains}
 use Rattle.plcs_base.specs.declared.place.PhraseAt.{PhraseAt}
-use Rattle.template_tree.specs.Environment.{Items, Sig, Signature, items_inside, procedure_at, signature_for}
-use Rattle.template_tree.specs.Mention.{mentions}
-use Rattle.template_tree.specs.PlainTree.{Forest, PlainNode, forest}
+use Rattle.template_tree.specs.Checks.Environment.{Items, Sig, Signature, items_inside, procedure_at, signature_for}
+use Rattle.template_tree.specs.Checks.Mention.{mentions}
+use Rattle.template_tree.specs.Programs.PlainTree.{Forest, PlainNode, forest}
 use Rattle.decl_table.specs.Agreement.{IsDeclsOf}
-use Rattle.template_tree.specs.ProgramMaps.{items_in}
+use Rattle.template_tree.specs.Checks.ProgramMaps.{items_in}
 use Rattle.decl_table.specs.PlainDecls.{PlainDecls, mentions_of, slot_of}
 use Rattle.decl_table.specs.Private.DeclsView.{TakesProcedure}
 use Rattle.decl_table.specs.Private.UsesView.{AreSettled, is_among}

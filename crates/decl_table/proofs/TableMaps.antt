@@ -9,8 +9,8 @@ use Rattle.std.proofs.lemmas.Cmp.{nat_cmp_total, nat_eq_equiv}
 use Rattle.std.proofs.lemmas.Slice.Eq.{bytes_eq-Decides}
 use Rattle.plcs_base.specs.Scope.{ItemMap}
 use Rattle.plcs_base.specs.declared.declared.Declared.{Declared}
-use Rattle.template_tree.specs.Environment.{Heading, Signature, heading_of, may_be_called, signature_for, signature_of}
-use Rattle.template_tree.specs.PlainTree.{PlainNode}
+use Rattle.template_tree.specs.Checks.Environment.{Heading, Signature, heading_of, may_be_called, signature_for, signature_of}
+use Rattle.template_tree.specs.Programs.PlainTree.{PlainNode}
 use Rattle.decl_table.proofs.AddedUses.{same_name}
 use Rattle.plcs_base.specs.PlaceOrder.{nat_ties}
 

@@ -1,9 +1,9 @@
 -- Which table of declarations is that of which program.
 use Rattle.std.specs.Prelude.{◌≡◌, ℕ, List, option_map}
-use Rattle.template_tree.specs.Environment.{Sig}
-use Rattle.template_tree.specs.Mention.{AreUses}
-use Rattle.template_tree.specs.PlainTree.{Forest}
-use Rattle.template_tree.specs.ProgramMaps.{ScopeTells}
+use Rattle.template_tree.specs.Checks.Environment.{Sig}
+use Rattle.template_tree.specs.Checks.Mention.{AreUses}
+use Rattle.template_tree.specs.Programs.PlainTree.{Forest}
+use Rattle.template_tree.specs.Checks.ProgramMaps.{ScopeTells}
 use Rattle.decl_table.specs.PlainDecls.{PlainDecls, mentions_of, slot_of}
 
 -- the table of declarations is that of the program: each procedure's effective items, each name's effective

@@ -1,14 +1,14 @@
 //! The table of declarations.
 ghost use Rattle.std.specs.Prelude.{◌≡◌, ◌<◌, IfOk, OnOk, bytes_eq, option_map};
 ghost use Rattle.std.specs.List.{list_any};
-ghost use Rattle.template_tree.specs.Environment.{item_named};
-ghost use Rattle.template_tree.specs.Limit.{most_slots};
-ghost use Rattle.template_tree.specs.ParameterItem.{parameter_item, scalar_item};
-ghost use Rattle.template_tree.specs.Program.{IsSubtree};
-ghost use Rattle.template_tree.specs.Slots.{count};
-ghost use Rattle.template_tree.specs.Tree.{IsTree};
+ghost use Rattle.template_tree.specs.Checks.Environment.{item_named};
+ghost use Rattle.template_tree.specs.Programs.Limit.{most_slots};
+ghost use Rattle.template_tree.specs.Checks.ParameterItem.{parameter_item, scalar_item};
+ghost use Rattle.template_tree.specs.Programs.Program.{IsSubtree};
+ghost use Rattle.template_tree.specs.Programs.Slots.{count};
+ghost use Rattle.template_tree.specs.Programs.Tree.{IsTree};
 ghost use Rattle.decl_table.specs.Agreement.{IsDeclsOf};
-ghost use Rattle.template_tree.specs.ProgramMaps.{items_in};
+ghost use Rattle.template_tree.specs.Checks.ProgramMaps.{items_in};
 ghost use Rattle.decl_table.specs.PlainDecls.{mentions_of, slot_of};
 ghost use Rattle.decl_table.specs.Private.DeclsView.{TakesProcedure};
 

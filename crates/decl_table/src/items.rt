@@ -1,10 +1,10 @@
 //! The effective items of one procedure, as they are taken one after the other and found again.
 ghost use Rattle.std.specs.Prelude.{◌≡◌, ◌<◌, [], IfOk, OnOk, is_some, option_map, Some, slice_get};
 ghost use Rattle.plcs_base.specs.declared.declared.Declared.{Declared};
-ghost use Rattle.template_tree.specs.Environment.{all_declared, cells_of, declares, effective, item_named, item_offence, declared_as, items_inside, with_type, with_declared};
+ghost use Rattle.template_tree.specs.Checks.Environment.{all_declared, cells_of, declares, effective, item_named, item_offence, declared_as, items_inside, with_type, with_declared};
 ghost use Rattle.decl_table.specs.Private.ItemsView.{shaped};
-ghost use Rattle.template_tree.specs.Limit.{most_slots};
-ghost use Rattle.template_tree.specs.Slots.{count};
+ghost use Rattle.template_tree.specs.Programs.Limit.{most_slots};
+ghost use Rattle.template_tree.specs.Programs.Slots.{count};
 
 use indexmap::IndexMap;
 use plcs_base::{Declared, ItemType, MarkKind, Name, OutOfMemory};

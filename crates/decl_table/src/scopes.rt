@@ -2,8 +2,8 @@
 ghost use Rattle.std.specs.Prelude.{◌≡◌, OnOk};
 ghost use Rattle.std.specs.FinMap.{empty, insert};
 ghost use Rattle.plcs_base.specs.Scope.{item_at};
-ghost use Rattle.template_tree.specs.Environment.{item_named};
-ghost use Rattle.template_tree.specs.ProgramMaps.{items_in};
+ghost use Rattle.template_tree.specs.Checks.Environment.{item_named};
+ghost use Rattle.template_tree.specs.Checks.ProgramMaps.{items_in};
 
 use crate::items::Items;
 use indexmap::IndexMap;

@@ -1,12 +1,12 @@
 //! The phrases that mention each name, noted node by node.
 ghost use Rattle.std.specs.Prelude.{◌≡◌, ◌+◌, ◌<◌, ◌≤◌, ◌∷◌, ◌++◌, [], OnOk, IfOk, Some, length, map, flat_map, option_map};
 ghost use Rattle.plcs_grammar.specs.PlainPhrase.{plain_expr, plain_exprs, plain_phrase, plain_var_ref};
-ghost use Rattle.template_tree.specs.Limit.{most_slots};
-ghost use Rattle.template_tree.specs.Mention.{mentioned, names_in, names_in_all, reference_names};
-ghost use Rattle.template_tree.specs.PlainPhrasePlace.{plain_phrase_place};
-ghost use Rattle.template_tree.specs.PlainTree.{forest};
-ghost use Rattle.template_tree.specs.Program.{IsSubtree};
-ghost use Rattle.template_tree.specs.Slots.{count};
+ghost use Rattle.template_tree.specs.Programs.Limit.{most_slots};
+ghost use Rattle.template_tree.specs.Checks.Mention.{mentioned, names_in, names_in_all, reference_names};
+ghost use Rattle.template_tree.specs.Programs.PlainPhrasePlace.{plain_phrase_place};
+ghost use Rattle.template_tree.specs.Programs.PlainTree.{forest};
+ghost use Rattle.template_tree.specs.Programs.Program.{IsSubtree};
+ghost use Rattle.template_tree.specs.Programs.Slots.{count};
 ghost use Rattle.decl_table.specs.PlainDecls.{mentions_of};
 ghost use Rattle.decl_table.specs.Private.UsesView.{AddsNames, AddsNodes, AddsPart, AddsParts, AreSettled};
 

@@ -12,11 +12,11 @@ use Rattle.plcs_grammar.specs.declared.row.Amount.{Amount}
 use Rattle.plcs_grammar.specs.declared.template.Template.{Template}
 use Rattle.plcs_grammar.specs.PlainPhrase.{PlainPhrase}
 use Rattle.plcs_grammar.specs.Template.{PlainSection, row_of, program_sections}
-use Rattle.template_tree.specs.Build.{built_label}
-use Rattle.template_tree.specs.PlainTree.{Label, Forest, join}
-use Rattle.template_tree.specs.Program.{Fill, AreNodes, IsProgram, sorts, sort_of}
-use Rattle.template_tree.specs.Section.{same_sort}
-use Rattle.template_tree.specs.Listing.{Bare}
+use Rattle.template_tree.specs.Programs.Build.{built_label}
+use Rattle.template_tree.specs.Programs.PlainTree.{Label, Forest, join}
+use Rattle.template_tree.specs.Programs.Program.{Fill, AreNodes, IsProgram, sorts, sort_of}
+use Rattle.template_tree.specs.Listings.Section.{same_sort}
+use Rattle.template_tree.specs.Listings.Listing.{Bare}
 use Rattle.file_store.specs.Private.Reader.{shape, Saying, Said, Filling, Entry, unfilled, filling_after, first_entry, goes_on, item_entry, optional, OpenList, OpenNode, OpenNodes, unread, kind_with, node_of, closed, shut, lowered, at_height, lowered_to, line_taken, lines_taken, program_of, said_lead, said_last, sayings}
 use Rattle.file_store.proofs.Fillings.{fills, if_some_parts, sections_of, some_is, sort_shape, here, enters, led, node_fills, program_fills, kind_is, none_led}
 

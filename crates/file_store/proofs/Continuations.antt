@@ -12,10 +12,10 @@ use Rattle.plcs_grammar.specs.declared.row.Amount.{Amount}
 use Rattle.plcs_grammar.specs.declared.template.Template.{Template}
 use Rattle.plcs_grammar.specs.PlainPhrase.{PlainPhrase}
 use Rattle.plcs_grammar.specs.Template.{PlainSection, row_of, program_sections}
-use Rattle.template_tree.specs.Build.{built_label}
-use Rattle.template_tree.specs.PlainTree.{Label, Forest, join}
-use Rattle.template_tree.specs.Program.{AreNodes, AreParts, IsNode, IsProgram, parts_of, sorts, sort_of}
-use Rattle.template_tree.specs.Section.{same_sort}
+use Rattle.template_tree.specs.Programs.Build.{built_label}
+use Rattle.template_tree.specs.Programs.PlainTree.{Label, Forest, join}
+use Rattle.template_tree.specs.Programs.Program.{AreNodes, AreParts, IsNode, IsProgram, parts_of, sorts, sort_of}
+use Rattle.template_tree.specs.Listings.Section.{same_sort}
 use Rattle.file_store.specs.Private.Reader.{shape, Saying, Said, IsSaying, Filling, Entry, unfilled, filling_after, first_entry, goes_on, item_entry, advanced, is_text, led_sections, optional, OpenList, OpenNode, OpenNodes, unread, kind_with, node_of, closed, shut, lowered, at_height, lowered_to, with_open_node, begun, with_filling, led_in, ended_in, line_taken_at, line_taken, lines_taken, finished, program_of, said_lead, said_last, sayings}
 use Rattle.file_store.proofs.Fillings.{fills, if_some, if_some_parts, sections_of, some_is, sort_shape, same_sort_refl, same_sort_is, entered, filled, node_filled}
 use Rattle.file_store.proofs.Arrivals.{join_nil, join_assoc, first_sayings, opened_frame, opened_stack}

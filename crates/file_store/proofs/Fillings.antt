@@ -11,9 +11,9 @@ use Rattle.plcs_grammar.specs.declared.node_kind.Sort.{Sort}
 use Rattle.plcs_grammar.specs.declared.row.Amount.{Amount}
 use Rattle.plcs_grammar.specs.declared.template.Template.{Template}
 use Rattle.plcs_grammar.specs.Template.{PlainSection, row_of, program_sections, list_of, procedure_sections, body, body_after}
-use Rattle.template_tree.specs.PlainTree.{Forest}
-use Rattle.template_tree.specs.Program.{AreItems, Fill, sorts, sort_of}
-use Rattle.template_tree.specs.Section.{same_sort, left_for, left_in, left_after, next_lead}
+use Rattle.template_tree.specs.Programs.PlainTree.{Forest}
+use Rattle.template_tree.specs.Programs.Program.{AreItems, Fill, sorts, sort_of}
+use Rattle.template_tree.specs.Listings.Section.{same_sort, left_for, left_in, left_after, next_lead}
 use Rattle.file_store.specs.Private.Reader.{shape, Filling, Entry, unfilled, filling_after, first_entry, item_entry, unled, advanced, is_text, led_sections, optional, kind_with}
 
 -- whether a list may go on with these items and end behind them

@@ -13,8 +13,8 @@ use Rattle.plcs_grammar.specs.Template.{PlainSegment, row_of}
 use Rattle.plcs_grammar.specs.Token.{EndsWord}
 use Rattle.phrase_parser.specs.LineParts.{Divides, cut_at, with_front}
 use Rattle.phrase_parser.specs.LineParts.{IsPartOfLine as IsLinePart}
-use Rattle.template_tree.specs.Line.{part_text, segments_text}
-use Rattle.template_tree.specs.Program.{AreParts, IsPart, parts_of}
+use Rattle.template_tree.specs.Listings.Line.{part_text, segments_text}
+use Rattle.template_tree.specs.Programs.Program.{AreParts, IsPart, parts_of}
 use Rattle.file_store.specs.Private.LineLaws.{LineLaws}
 use Rattle.file_store.specs.Private.LineReading.{IsCut}
 use Rattle.file_store.specs.Private.Reader.{shape, Saying, text_of, IsSaying}

@@ -10,11 +10,11 @@ use Rattle.plcs_grammar.specs.declared.row.Amount.{Amount}
 use Rattle.plcs_grammar.specs.declared.template.Template.{Template}
 use Rattle.plcs_grammar.specs.PlainPhrase.{PlainPhrase}
 use Rattle.plcs_grammar.specs.Template.{PlainSection, row_of, program_sections}
-use Rattle.template_tree.specs.Line.{Line, fixed_line, head_line, lines, listing_lines, segments_text}
-use Rattle.template_tree.specs.Listing.{bytes_of_lines}
-use Rattle.template_tree.specs.PlainTree.{Forest}
-use Rattle.template_tree.specs.Program.{AreNodes, AreParts, IsProgram, parts_of, sort_of}
-use Rattle.template_tree.specs.Section.{same_sort, left_for, left_in, left_after, next_lead}
+use Rattle.template_tree.specs.Listings.Line.{Line, fixed_line, head_line, lines, listing_lines, segments_text}
+use Rattle.template_tree.specs.Listings.Listing.{bytes_of_lines}
+use Rattle.template_tree.specs.Programs.PlainTree.{Forest}
+use Rattle.template_tree.specs.Programs.Program.{AreNodes, AreParts, IsProgram, parts_of, sort_of}
+use Rattle.template_tree.specs.Listings.Section.{same_sort, left_for, left_in, left_after, next_lead}
 use Rattle.file_store.specs.ListedLine.{ListedLine, listed_fixed, listed_lines, listed_program, text_of_lines}
 use Rattle.file_store.specs.ListingLaws.{OneListing}
 use Rattle.file_store.specs.Private.LineLaws.{LineLaws}

@@ -15,13 +15,13 @@ use Rattle.plcs_grammar.specs.PlainPhrase.{PlainPhrase, category_of}
 use Rattle.plcs_grammar.specs.Reads.{HasReading}
 use Rattle.plcs_grammar.specs.Template.{PlainSegment, PlainSection, row_of, program_sections}
 use Rattle.plcs_grammar.specs.Token.{IsToken, Token}
-use Rattle.template_tree.specs.Limit.{deepest_path, most_slots}
-use Rattle.template_tree.specs.Line.{part_text, segments_text}
-use Rattle.template_tree.specs.Listing.{Listing, Spells}
-use Rattle.template_tree.specs.PlainTree.{Forest}
-use Rattle.template_tree.specs.Program.{AreNodes, AreParts, IsPart, IsPartPhrase, IsProgram, parts_of, sort_of}
-use Rattle.template_tree.specs.Section.{left_for, left_after, next_lead}
-use Rattle.template_tree.specs.Slots.{count, depth}
+use Rattle.template_tree.specs.Programs.Limit.{deepest_path, most_slots}
+use Rattle.template_tree.specs.Listings.Line.{part_text, segments_text}
+use Rattle.template_tree.specs.Listings.Listing.{Listing, Spells}
+use Rattle.template_tree.specs.Programs.PlainTree.{Forest}
+use Rattle.template_tree.specs.Programs.Program.{AreNodes, AreParts, IsPart, IsPartPhrase, IsProgram, parts_of, sort_of}
+use Rattle.template_tree.specs.Listings.Section.{left_for, left_after, next_lead}
+use Rattle.template_tree.specs.Programs.Slots.{count, depth}
 use Rattle.file_store.specs.Limit.{longest_listing}
 use Rattle.file_store.specs.Private.LineReading.{blank_bytes, said_bytes}
 use Rattle.file_store.specs.Private.Reader.{Said, Saying, shape, said_lead, said_last, sayings, text_of}

@@ -3,15 +3,15 @@ use Rattle.std.specs.Prelude.{◌≡◌, refl, ℕ, ◌+◌, ◌≤◌, false, L
 use Rattle.std.proofs.Common.{ap, sym, ◌∙◌, arith, subst}
 use Rattle.std.proofs.lemmas.List.{append-nil}
 use Rattle.plcs_grammar.specs.Template.{PlainSection, row_of, program_sections}
-use Rattle.template_tree.specs.Build.{built_tree}
-use Rattle.template_tree.specs.Edit.{whole}
-use Rattle.template_tree.specs.Listing.{Bare, Listing}
-use Rattle.template_tree.specs.Limit.{deepest_path, most_slots}
-use Rattle.template_tree.specs.PlainTree.{Label, Forest, PlainNodes, PlainTree, forest, roomless}
-use Rattle.template_tree.specs.Program.{AreNodes, Fill, IsProgram, sorts, sort_of}
-use Rattle.template_tree.specs.Section.{left_for, left_after}
-use Rattle.template_tree.specs.Slots.{count, depth, with_slots_from}
-use Rattle.template_tree.specs.Tree.{IsTree}
+use Rattle.template_tree.specs.Programs.Build.{built_tree}
+use Rattle.template_tree.specs.Edits.Edit.{whole}
+use Rattle.template_tree.specs.Listings.Listing.{Bare, Listing}
+use Rattle.template_tree.specs.Programs.Limit.{deepest_path, most_slots}
+use Rattle.template_tree.specs.Programs.PlainTree.{Label, Forest, PlainNodes, PlainTree, forest, roomless}
+use Rattle.template_tree.specs.Programs.Program.{AreNodes, Fill, IsProgram, sorts, sort_of}
+use Rattle.template_tree.specs.Listings.Section.{left_for, left_after}
+use Rattle.template_tree.specs.Programs.Slots.{count, depth, with_slots_from}
+use Rattle.template_tree.specs.Programs.Tree.{IsTree}
 use Rattle.file_store.specs.Loaded.{IsListingOf}
 use Rattle.file_store.specs.Private.Reader.{program_of, lines_taken, sayings, unread}
 use Rattle.file_store.specs.Private.Reading.{Come}

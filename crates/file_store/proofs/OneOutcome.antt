@@ -3,13 +3,13 @@ use Rattle.std.specs.Prelude.{◌≡◌, refl, ℕ, ◌+◌, ◌-◌, ◌<◌, �
 use Rattle.std.proofs.Common.{ap, sym, ◌∙◌, arith, append_assoc, subst, inl, inr}
 use Rattle.std.proofs.Math.Bool.{true≢false}
 use Rattle.plcs_grammar.specs.Template.{PlainSection, row_of, program_sections}
-use Rattle.template_tree.specs.Limit.{deepest_path, most_slots}
-use Rattle.template_tree.specs.Line.{line_bytes}
-use Rattle.template_tree.specs.Listing.{Spells}
-use Rattle.template_tree.specs.PlainTree.{Forest, PlainTree}
-use Rattle.template_tree.specs.Program.{sort_of}
-use Rattle.template_tree.specs.Section.{left_for, left_after, next_lead}
-use Rattle.template_tree.specs.Slots.{count, depth}
+use Rattle.template_tree.specs.Programs.Limit.{deepest_path, most_slots}
+use Rattle.template_tree.specs.Listings.Line.{line_bytes}
+use Rattle.template_tree.specs.Listings.Listing.{Spells}
+use Rattle.template_tree.specs.Programs.PlainTree.{Forest, PlainTree}
+use Rattle.template_tree.specs.Programs.Program.{sort_of}
+use Rattle.template_tree.specs.Listings.Section.{left_for, left_after, next_lead}
+use Rattle.template_tree.specs.Programs.Slots.{count, depth}
 use Rattle.file_store.specs.declared.refusal.FileRefusal.{FileRefusal}
 use Rattle.file_store.specs.Limit.{longest_listing}
 use Rattle.file_store.specs.ListedLine.{ListedLine, text_of_lines}

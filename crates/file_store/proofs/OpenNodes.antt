@@ -3,7 +3,7 @@ use Rattle.std.specs.Prelude.{◌≡◌, refl, ℕ, suc, ◌+◌, ◌<◌, ◌�
 use Rattle.std.proofs.Common.{ap, arith, subst}
 use Rattle.std.proofs.lemmas.Bool.{lt-leb, eq-eqb, ne_eqb}
 use Rattle.std.proofs.lemmas.List.{length-append}
-use Rattle.template_tree.specs.PlainTree.{Forest, PlainNode, forest, join, nodes, roomless}
+use Rattle.template_tree.specs.Programs.PlainTree.{Forest, PlainNode, forest, join, nodes, roomless}
 use Rattle.file_store.specs.Private.Reader.{at_height, led_in, led_sections, lowered, shut, with_filling}
 use Rattle.file_store.specs.Private.Gives.{Fails}
 use Rattle.file_store.specs.declared.reader.fault.ReadFault.{ReadFault}

@@ -4,9 +4,9 @@ use Rattle.std.proofs.Common.{ap, sym, ◌∙◌, ◌⊎◌, arith, append_assoc
 use Rattle.std.proofs.lemmas.List.{append-nil, append_cancel_left, length-append}
 use Rattle.std.proofs.lemmas.List.Elements.{All-head, All-tail}
 use Rattle.plcs_grammar.specs.Template.{program_sections}
-use Rattle.template_tree.specs.Line.{line_bytes}
-use Rattle.template_tree.specs.PlainTree.{Forest, PlainTree}
-use Rattle.template_tree.specs.Program.{IsProgram}
+use Rattle.template_tree.specs.Listings.Line.{line_bytes}
+use Rattle.template_tree.specs.Programs.PlainTree.{Forest, PlainTree}
+use Rattle.template_tree.specs.Programs.Program.{IsProgram}
 use Rattle.file_store.specs.declared.refusal.FileRefusal.{FileRefusal}
 use Rattle.file_store.specs.ListedLine.{ListedLine, text_of_lines}
 use Rattle.file_store.specs.Loaded.{BeginsListing, Fine, NextLine, NoListing, OpensTooDeep, OpensTooMany, Loaded, Refused, RefusesOnly, opened}

@@ -15,9 +15,9 @@ use Rattle.plcs_grammar.specs.PlainPhrase.{PlainPhrase}
 use Rattle.plcs_grammar.specs.Reads.{Reads}
 use Rattle.plcs_grammar.specs.Template.{PlainSegment}
 use Rattle.phrase_parser.specs.LineParts.{Divides, cut_at}
-use Rattle.template_tree.specs.Limit.{longest_phrase}
-use Rattle.template_tree.specs.Line.{part_text, segments_text}
-use Rattle.template_tree.specs.Program.{IsPart, may_be_empty}
+use Rattle.template_tree.specs.Programs.Limit.{longest_phrase}
+use Rattle.template_tree.specs.Listings.Line.{part_text, segments_text}
+use Rattle.template_tree.specs.Programs.Program.{IsPart, may_be_empty}
 use Rattle.file_store.specs.declared.reader.fault.ReadFault.{ReadFault}
 use Rattle.file_store.specs.Private.Gives.{Finds, LacksUnless}
 use Rattle.file_store.specs.Private.LineLaws.{LineLaws}

@@ -14,8 +14,8 @@ use Rattle.plcs_grammar.specs.PlainPhrase.{PlainPhrase}
 use Rattle.plcs_grammar.specs.Canon.{Canon}
 use Rattle.plcs_grammar.specs.Placeholder.{placeholder}
 use Rattle.plcs_grammar.specs.Template.{PlainSegment, row_of}
-use Rattle.template_tree.specs.Line.{part_text, segments_text}
-use Rattle.template_tree.specs.Program.{AreParts, IsPart, parts_of}
+use Rattle.template_tree.specs.Listings.Line.{part_text, segments_text}
+use Rattle.template_tree.specs.Programs.Program.{AreParts, IsPart, parts_of}
 use Rattle.file_store.specs.Loaded.{HasNoEnd}
 use Rattle.file_store.specs.Private.LineLaws.{LineLaws}
 use Rattle.file_store.specs.Private.LineReading.{blank_bytes, said_bytes}

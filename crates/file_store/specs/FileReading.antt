@@ -4,9 +4,9 @@ use Rattle.std.specs.FinMap.{get}
 use Rattle.synth_outside.specs.declared.faults.FilesFault.{FilesFault}
 use Rattle.synth_outside.specs.Cause.{HasCause}
 use Rattle.synth_outside.specs.Files.{FileMap, NewContent, PlainFiles, Lacks}
-use Rattle.template_tree.specs.PlainTree.{Forest, PlainTree}
+use Rattle.template_tree.specs.Programs.PlainTree.{Forest, PlainTree}
 use Rattle.file_store.specs.declared.refusal.FileRefusal.{FileRefusal}
-use Rattle.template_tree.specs.Listing.{Bare}
+use Rattle.template_tree.specs.Listings.Listing.{Bare}
 use Rattle.file_store.specs.Loaded.{IsListingOf, Refused}
 use Rattle.file_store.specs.Want.{MayRiseWith}
 

@@ -1,11 +1,11 @@
 -- The lines of a listing, and in which of them a node begins.
 use Rattle.std.specs.Prelude.{ℕ, ◌+◌, ◌-◌, Bool, true, false, List, [], ◌∷◌, ◌++◌, map, Option}
 use Rattle.plcs_grammar.specs.Template.{PlainSection, row_of, program_sections}
-use Rattle.template_tree.specs.Line.{Line, fixed_line, head_line}
-use Rattle.template_tree.specs.Listing.{bytes_of_lines}
-use Rattle.template_tree.specs.PlainTree.{Forest}
-use Rattle.template_tree.specs.Program.{sort_of}
-use Rattle.template_tree.specs.Section.{left_for, left_after, next_lead}
+use Rattle.template_tree.specs.Listings.Line.{Line, fixed_line, head_line}
+use Rattle.template_tree.specs.Listings.Listing.{bytes_of_lines}
+use Rattle.template_tree.specs.Programs.PlainTree.{Forest}
+use Rattle.template_tree.specs.Programs.Program.{sort_of}
+use Rattle.template_tree.specs.Listings.Section.{left_for, left_after, next_lead}
 
 -- a line of a listing, and whether a node begins in it
 pub record ListedLine : Type 0 where

@@ -1,11 +1,11 @@
 -- The laws of listings.
 use Rattle.std.specs.Prelude.{◌≡◌, ℕ, ◌≤◌, List, length, map}
-use Rattle.template_tree.specs.Limit.{deepest_path, most_slots}
-use Rattle.template_tree.specs.Line.{listing_lines}
-use Rattle.template_tree.specs.Listing.{Bare, Listing, Spells}
-use Rattle.template_tree.specs.PlainTree.{Forest}
-use Rattle.template_tree.specs.Program.{IsProgram}
-use Rattle.template_tree.specs.Slots.{count, depth}
+use Rattle.template_tree.specs.Programs.Limit.{deepest_path, most_slots}
+use Rattle.template_tree.specs.Listings.Line.{listing_lines}
+use Rattle.template_tree.specs.Listings.Listing.{Bare, Listing, Spells}
+use Rattle.template_tree.specs.Programs.PlainTree.{Forest}
+use Rattle.template_tree.specs.Programs.Program.{IsProgram}
+use Rattle.template_tree.specs.Programs.Slots.{count, depth}
 use Rattle.file_store.specs.declared.refusal.FileRefusal.{FileRefusal}
 use Rattle.file_store.specs.Limit.{longest_listing}
 use Rattle.file_store.specs.ListedLine.{listed_program}

@@ -1,13 +1,13 @@
 -- What tree the bytes of a file are the listing of, or at which line they go wrong.
 use Rattle.std.specs.Prelude.{◌≡◌, ◌⊎◌, ℕ, ◌+◌, ◌<◌, ◌≤◌, true, if◌then◌else◌, List, [], ◌∷◌, ◌++◌, length, All, Result, Ok, Err}
-use Rattle.template_tree.specs.Edit.{whole}
-use Rattle.template_tree.specs.Limit.{deepest_path, most_slots}
-use Rattle.template_tree.specs.Line.{line_bytes}
-use Rattle.template_tree.specs.Listing.{Bare, Spells}
-use Rattle.template_tree.specs.PlainTree.{Forest, PlainTree}
-use Rattle.template_tree.specs.Program.{IsProgram}
-use Rattle.template_tree.specs.Slots.{count, with_slots_from}
-use Rattle.template_tree.specs.Tree.{IsTree}
+use Rattle.template_tree.specs.Edits.Edit.{whole}
+use Rattle.template_tree.specs.Programs.Limit.{deepest_path, most_slots}
+use Rattle.template_tree.specs.Listings.Line.{line_bytes}
+use Rattle.template_tree.specs.Listings.Listing.{Bare, Spells}
+use Rattle.template_tree.specs.Programs.PlainTree.{Forest, PlainTree}
+use Rattle.template_tree.specs.Programs.Program.{IsProgram}
+use Rattle.template_tree.specs.Programs.Slots.{count, with_slots_from}
+use Rattle.template_tree.specs.Programs.Tree.{IsTree}
 use Rattle.file_store.specs.declared.refusal.FileRefusal.{FileRefusal}
 use Rattle.file_store.specs.Limit.{longest_listing}
 use Rattle.file_store.specs.ListedLine.{ListedLine, listed_program, text_of_lines}

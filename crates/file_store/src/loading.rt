@@ -1,10 +1,10 @@
 //! Files that are loaded.
 ghost use Rattle.std.specs.Prelude.{◌≡◌, ◌≢◌, ◌<◌, ◌≤◌, ℕ, List, true, IfErr, IfOk, length};
-ghost use Rattle.template_tree.specs.Limit.{deepest_path, most_slots};
-ghost use Rattle.template_tree.specs.Listing.{Spells};
-ghost use Rattle.template_tree.specs.PlainTree.{Forest};
-ghost use Rattle.template_tree.specs.Slots.{count, depth};
-ghost use Rattle.template_tree.specs.Tree.{IsTree};
+ghost use Rattle.template_tree.specs.Programs.Limit.{deepest_path, most_slots};
+ghost use Rattle.template_tree.specs.Listings.Listing.{Spells};
+ghost use Rattle.template_tree.specs.Programs.PlainTree.{Forest};
+ghost use Rattle.template_tree.specs.Programs.Slots.{count, depth};
+ghost use Rattle.template_tree.specs.Programs.Tree.{IsTree};
 ghost use Rattle.file_store.specs.declared.refusal.FileRefusal.{FileRefusal};
 ghost use Rattle.file_store.specs.FileReading.{HasContent, HasNoContent, Holds, IsFileRefused, LoadingSays, LoadsOnly, OnlyReads, RefusesLoad};
 ghost use Rattle.file_store.specs.Limit.{longest_input};

@@ -1,12 +1,12 @@
 //! The reader of listings.
 ghost use Rattle.std.specs.Prelude.{◌≡◌, ◌<◌, ◌≤◌, ◌+◌, ◌∷◌, ◌++◌, [], true, false, if◌then◌else◌, IfErr, IfOk, MatchOption, length};
-ghost use Rattle.template_tree.specs.Build.{built_tree};
-ghost use Rattle.template_tree.specs.Limit.{deepest_path, most_slots};
-ghost use Rattle.template_tree.specs.Listing.{Spells};
-ghost use Rattle.template_tree.specs.PlainTree.{Forest, forest};
-ghost use Rattle.template_tree.specs.Program.{IsProgram};
-ghost use Rattle.template_tree.specs.Slots.{count, depth};
-ghost use Rattle.template_tree.specs.Tree.{IsTree};
+ghost use Rattle.template_tree.specs.Programs.Build.{built_tree};
+ghost use Rattle.template_tree.specs.Programs.Limit.{deepest_path, most_slots};
+ghost use Rattle.template_tree.specs.Listings.Listing.{Spells};
+ghost use Rattle.template_tree.specs.Programs.PlainTree.{Forest, forest};
+ghost use Rattle.template_tree.specs.Programs.Program.{IsProgram};
+ghost use Rattle.template_tree.specs.Programs.Slots.{count, depth};
+ghost use Rattle.template_tree.specs.Programs.Tree.{IsTree};
 ghost use Rattle.file_store.specs.Limit.{longest_listing};
 ghost use Rattle.file_store.specs.Loaded.{HasNoEnd, Loaded, ReadsOnly, Refused, RefusesOnly};
 ghost use Rattle.file_store.specs.declared.refusal.FileRefusal.{FileRefusal};

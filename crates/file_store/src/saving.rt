@@ -3,8 +3,8 @@ ghost use Rattle.std.specs.Prelude.{◌≡◌, ◌≢◌, Err, IsSome, OnOk, cod
 ghost use Rattle.std.specs.Io.KnownBytes.{Appends};
 ghost use Rattle.synth_outside.specs.Files.{LeavesMap, begun_bytes, begun_name};
 ghost use Rattle.synth_outside.specs.declared.faults.FilesFault.TheVariants.{NoFile};
-ghost use Rattle.template_tree.specs.Listing.{Listing};
-ghost use Rattle.template_tree.specs.Tree.{IsTree};
+ghost use Rattle.template_tree.specs.Listings.Listing.{Listing};
+ghost use Rattle.template_tree.specs.Programs.Tree.{IsTree};
 ghost use Rattle.file_store.specs.Saved.{Saves};
 
 use crate::file_out::FileOut;

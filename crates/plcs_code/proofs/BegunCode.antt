@@ -12,11 +12,11 @@ use Rattle.plcs_grammar.specs.declared.node_kind.Sort.{Sort}
 use Rattle.plcs_grammar.specs.declared.template.Template.{Template}
 use Rattle.plcs_grammar.specs.PlainPhrase.{PlainPhrase}
 use Rattle.plcs_grammar.specs.Template.{list_of, row_of}
-use Rattle.template_tree.specs.Part.{part_at}
-use Rattle.template_tree.specs.Place.{PlainPlace, begin, is_statement, passes_in, place_at}
-use Rattle.template_tree.specs.PlainTree.{Forest, Label}
-use Rattle.template_tree.specs.Program.{AreNodes, AreParts, Fill, parts_of, sort_of, sorts}
-use Rattle.template_tree.specs.ProgramMaps.{items_in}
+use Rattle.template_tree.specs.Programs.Part.{part_at}
+use Rattle.template_tree.specs.Positions.Place.{PlainPlace, begin, is_statement, passes_in, place_at}
+use Rattle.template_tree.specs.Programs.PlainTree.{Forest, Label}
+use Rattle.template_tree.specs.Programs.Program.{AreNodes, AreParts, Fill, parts_of, sort_of, sorts}
+use Rattle.template_tree.specs.Checks.ProgramMaps.{items_in}
 use Rattle.plcs_code.specs.ExprCode.{counter_name}
 use Rattle.plcs_code.specs.Gen.{code_around, codes_around, codes_joined, node_codes, node_lengths}
 use Rattle.plcs_code.specs.Pieces.{first_length, get_piece, jumps, kind_jumps, kind_pieces, other_lengths, pieces, suspension, template_jumps, template_pieces}

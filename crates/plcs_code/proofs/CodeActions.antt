@@ -6,7 +6,7 @@ use Rattle.std.specs.List.{list_any}
 use Rattle.plcs_base.specs.Mark.{MarkMap}
 use Rattle.plcs_base.specs.declared.declared.Declared.{Declared}
 use Rattle.plcs_grammar.specs.PlainPhrase.{PlainExpr, PlainExprs, PlainPhrase, PlainVarRef}
-use Rattle.template_tree.specs.Environment.{item_named}
+use Rattle.template_tree.specs.Checks.Environment.{item_named}
 use Rattle.plcs_code.specs.ExprCode.{argument_instrs, arguments_instrs, expr_count, expr_instrs, exprs_instrs, index_instrs, listed_instrs, part_instrs, phrase_instrs, variable_instr}
 use Rattle.plcs_code.specs.Pieces.{cell_instr, has_empty, has_marked_part, new_parameter, parameter_instr, parameters_instrs, suspension}
 use Rattle.plcs_code.specs.PlainInstr.{PlainInstr}

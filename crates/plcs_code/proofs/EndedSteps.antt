@@ -17,11 +17,11 @@ use Rattle.plcs_grammar.specs.Reads.{HasReading}
 use Rattle.plcs_grammar.specs.Template.{row_of}
 use Rattle.plcs_grammar.specs.Token.{Token}
 use Rattle.plcs_grammar.specs.PhraseForm.{Form}
-use Rattle.template_tree.specs.Environment.{parameters_given}
-use Rattle.template_tree.specs.Part.{part_at}
-use Rattle.template_tree.specs.Place.{PlainPlace, has_point, is_statement, item_count, passes_in}
-use Rattle.template_tree.specs.PlainTree.{Label}
-use Rattle.template_tree.specs.Program.{AreParts, parts_of, sort_of}
+use Rattle.template_tree.specs.Checks.Environment.{parameters_given}
+use Rattle.template_tree.specs.Programs.Part.{part_at}
+use Rattle.template_tree.specs.Positions.Place.{PlainPlace, has_point, is_statement, item_count, passes_in}
+use Rattle.template_tree.specs.Programs.PlainTree.{Label}
+use Rattle.template_tree.specs.Programs.Program.{AreParts, parts_of, sort_of}
 use Rattle.plcs_code.specs.CodeLaws.{is_marked_first}
 use Rattle.plcs_code.specs.ExprCode.{index_instrs, items_instrs, listed_exprs, listed_instrs, part_instrs, variable_instr}
 use Rattle.plcs_code.specs.Gen.{is_call}

@@ -10,8 +10,8 @@ use Rattle.plcs_grammar.specs.declared.operator.InfixOp.{InfixOp}
 use Rattle.plcs_grammar.specs.declared.template.Template.{Template}
 use Rattle.plcs_grammar.specs.Builtin.{is_builtin_name}
 use Rattle.plcs_grammar.specs.PlainPhrase.{PlainExpr, PlainExprs, PlainPhrase, PlainVarRef}
-use Rattle.template_tree.specs.Place.{place_at}
-use Rattle.template_tree.specs.PlainTree.{Forest, Label}
+use Rattle.template_tree.specs.Positions.Place.{place_at}
+use Rattle.template_tree.specs.Programs.PlainTree.{Forest, Label}
 use Rattle.plcs_code.specs.Gen.{Gen, headings_by_name}
 use Rattle.plcs_code.specs.InstrText.{instr_text}
 use Rattle.plcs_code.specs.Pieces.{suspension}

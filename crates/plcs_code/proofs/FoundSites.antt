@@ -7,10 +7,10 @@ use Rattle.std.proofs.Math.Bool.{false≢true}
 use Rattle.std.proofs.lemmas.Bool.{eqb-true, eq-eqb}
 use Rattle.std.proofs.lemmas.Option.{none-some}
 use Rattle.plcs_grammar.specs.Template.{row_of}
-use Rattle.template_tree.specs.Place.{PlainPlace, Site, begin, end_at, in_turn, inner_end, site_among}
-use Rattle.template_tree.specs.PlainTree.{Forest, Label}
-use Rattle.template_tree.specs.Program.{AreNodes, IsNode, sorts}
-use Rattle.template_tree.specs.Slots.{times}
+use Rattle.template_tree.specs.Positions.Place.{PlainPlace, Site, begin, end_at, in_turn, inner_end, site_among}
+use Rattle.template_tree.specs.Programs.PlainTree.{Forest, Label}
+use Rattle.template_tree.specs.Programs.Program.{AreNodes, IsNode, sorts}
+use Rattle.template_tree.specs.Programs.Slots.{times}
 
 -- the site, or else another
 abbrev pub site_or : Site → Option Site → Site

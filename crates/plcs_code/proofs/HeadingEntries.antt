@@ -14,9 +14,9 @@ use Rattle.plcs_base.specs.Scope.{ItemMap}
 use Rattle.plcs_grammar.specs.declared.node_kind.NodeKind.{NodeKind}
 use Rattle.plcs_grammar.specs.declared.template.Template.{Template}
 use Rattle.plcs_grammar.specs.PlainPhrase.{PlainPhrase}
-use Rattle.template_tree.specs.Environment.{Heading, Sig, Signature, heading_of, may_be_called, signature_of, template_heading}
-use Rattle.template_tree.specs.PlainTree.{Forest, PlainNode}
-use Rattle.template_tree.specs.Slots.{times}
+use Rattle.template_tree.specs.Checks.Environment.{Heading, Sig, Signature, heading_of, may_be_called, signature_of, template_heading}
+use Rattle.template_tree.specs.Programs.PlainTree.{Forest, PlainNode}
+use Rattle.template_tree.specs.Programs.Slots.{times}
 use Rattle.plcs_code.specs.CodeLaws.{EntriesAreHeadings, EntriesBeginProcedures}
 use Rattle.plcs_code.specs.declared.heading_entry.HeadingEntry.{HeadingEntry}
 use Rattle.plcs_code.specs.declared.node_span.NodeSpan.{NodeSpan}

@@ -14,9 +14,9 @@ use Rattle.std.proofs.lemmas.Option.{none-some}
 use Rattle.plcs_base.specs.Mark.{MarkMap}
 use Rattle.plcs_base.specs.Scope.{ItemMap}
 use Rattle.plcs_grammar.specs.Template.{row_of}
-use Rattle.template_tree.specs.Place.{PlainPlace, Site, end_at, in_turn, inner_end, place_at, site_among}
-use Rattle.template_tree.specs.PlainTree.{Forest}
-use Rattle.template_tree.specs.Slots.{times}
+use Rattle.template_tree.specs.Positions.Place.{PlainPlace, Site, end_at, in_turn, inner_end, place_at, site_among}
+use Rattle.template_tree.specs.Programs.PlainTree.{Forest}
+use Rattle.template_tree.specs.Programs.Slots.{times}
 use Rattle.plcs_code.specs.CodeLaws.{SpansHoldCode}
 use Rattle.plcs_code.specs.declared.node_span.NodeSpan.{NodeSpan}
 use Rattle.plcs_code.specs.Gen.{codes_joined, has_code, node_codes, node_spans, span_by_slot}

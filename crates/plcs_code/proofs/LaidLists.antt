@@ -10,7 +10,7 @@ use Rattle.plcs_code.specs.ExprCode.{argument_instrs, arguments_instrs, expr_ins
 use Rattle.plcs_code.specs.PlainInstr.{PlainInstr}
 use Rattle.plcs_code.specs.Private.LaysAll.{LaysAll}
 use Rattle.plcs_code.proofs.Laying.{lays_same}
-use Rattle.template_tree.specs.Place.{place_at}
+use Rattle.template_tree.specs.Positions.Place.{place_at}
 
 module _ {Out : Type 0} {lays : Out → PlainCounts → PlainInstr → Out → PlainCounts → Type 0} {a b : Out} {u v : PlainCounts} where
   -- the code of an equal expression in plain form

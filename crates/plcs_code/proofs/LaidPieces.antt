@@ -9,8 +9,8 @@ use Rattle.plcs_base.specs.Mark.{MarkMap}
 use Rattle.plcs_grammar.specs.declared.node_kind.NodeKind.{NodeKind}
 use Rattle.plcs_grammar.specs.declared.template.Template.{Template}
 use Rattle.plcs_grammar.specs.PlainPhrase.{PlainPhrase}
-use Rattle.template_tree.specs.Environment.{item_named}
-use Rattle.template_tree.specs.PlainTree.{Label}
+use Rattle.template_tree.specs.Checks.Environment.{item_named}
+use Rattle.template_tree.specs.Programs.PlainTree.{Label}
 use Rattle.plcs_code.specs.Pieces.{cell_instr, kind_pieces, new_parameter, own_pieces, parameter_instr, parameters_instrs, piece_at, suspension, template_pieces}
 use Rattle.plcs_code.specs.PlainInstr.{PlainInstr}
 use Rattle.plcs_code.specs.Private.LaysAll.{LaysAll, lays_nothing}

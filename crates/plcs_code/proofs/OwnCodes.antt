@@ -4,8 +4,8 @@ use Rattle.std.specs.Prelude.{sum}
 use Rattle.std.proofs.lemmas.List.Sums.{sum_by-cons}
 use Rattle.plcs_base.specs.Mark.{MarkMap}
 use Rattle.plcs_base.specs.Scope.{ItemMap}
-use Rattle.template_tree.specs.Place.{Site}
-use Rattle.template_tree.specs.PlainTree.{Forest}
+use Rattle.template_tree.specs.Positions.Place.{Site}
+use Rattle.template_tree.specs.Programs.PlainTree.{Forest}
 use Rattle.plcs_code.specs.CodeLaws.{OwnCodesAddUp, OwnCodesAreTold, own_lengths}
 use Rattle.plcs_code.specs.Gen.{length_around, node_codes, node_lengths, site_code}
 use Rattle.plcs_code.proofs.CodeLengths.{joined_length, lengths_told, own_lengths_stay}

@@ -15,11 +15,11 @@ use Rattle.plcs_base.specs.Scope.{ItemMap}
 use Rattle.plcs_base.specs.declared.place.Place.{Place}
 use Rattle.plcs_grammar.specs.declared.node_kind.NodeKind.{NodeKind}
 use Rattle.plcs_grammar.specs.declared.template.Template.{Template}
-use Rattle.template_tree.specs.Part.{part_at}
-use Rattle.template_tree.specs.Place.{Exists, PlainPlace, Site, has_point, is_statement, passes_in, place_at, place_exists_at, site}
-use Rattle.template_tree.specs.PlainTree.{Forest, Label}
-use Rattle.template_tree.specs.Program.{AreNodes, sort_of}
-use Rattle.template_tree.specs.ProgramMaps.{items_in}
+use Rattle.template_tree.specs.Programs.Part.{part_at}
+use Rattle.template_tree.specs.Positions.Place.{Exists, PlainPlace, Site, has_point, is_statement, passes_in, place_at, place_exists_at, site}
+use Rattle.template_tree.specs.Programs.PlainTree.{Forest, Label}
+use Rattle.template_tree.specs.Programs.Program.{AreNodes, sort_of}
+use Rattle.template_tree.specs.Checks.ProgramMaps.{items_in}
 use Rattle.plcs_code.specs.CodeLaws.{PlacesHaveAddresses, is_marked_first}
 use Rattle.plcs_code.specs.ExprCode.{counter_name}
 use Rattle.plcs_code.specs.declared.node_span.NodeSpan.{NodeSpan}

@@ -4,7 +4,7 @@ use Rattle.std.specs.FinMap.{get}
 use Rattle.std.proofs.Common.{ap, sym, ◌∙◌, add-one}
 use Rattle.plcs_base.specs.Mark.{MarkMap}
 use Rattle.plcs_grammar.specs.PlainPhrase.{PlainPhrase}
-use Rattle.template_tree.specs.Mention.{phrase_at}
+use Rattle.template_tree.specs.Checks.Mention.{phrase_at}
 use Rattle.plcs_code.specs.Pieces.{has_empty, has_marked_part}
 
 -- what is left of a list begins with the item that is found

@@ -14,10 +14,10 @@ use Rattle.plcs_base.specs.declared.declared.Declared.{Declared}
 use Rattle.plcs_grammar.specs.declared.node_kind.NodeKind.{NodeKind}
 use Rattle.plcs_grammar.specs.declared.template.Template.{Template}
 use Rattle.plcs_grammar.specs.PlainPhrase.{PlainPhrase, PlainVarRef}
-use Rattle.template_tree.specs.Environment.{parameters_given}
-use Rattle.template_tree.specs.Part.{part_at}
-use Rattle.template_tree.specs.PlainTree.{Forest}
-use Rattle.template_tree.specs.ProgramMaps.{items_in}
+use Rattle.template_tree.specs.Checks.Environment.{parameters_given}
+use Rattle.template_tree.specs.Programs.Part.{part_at}
+use Rattle.template_tree.specs.Programs.PlainTree.{Forest}
+use Rattle.template_tree.specs.Checks.ProgramMaps.{items_in}
 use Rattle.plcs_code.specs.CodeLaws.{JumpsStayIn, JumpsStayInNodes, JumpsStayInside, jump_of}
 use Rattle.plcs_code.specs.ExprCode.{counter_name, get_targets, index_instrs, items_instrs, listed_exprs, part_instrs, variable_instr}
 use Rattle.plcs_code.specs.Gen.{code_with, codes_around, codes_joined, node_codes}

@@ -11,7 +11,7 @@ use Rattle.std.proofs.lemmas.Option.{none-some}
 use Rattle.plcs_base.specs.declared.place.Place.{Place}
 use Rattle.plcs_grammar.specs.declared.node_kind.NodeKind.{NodeKind}
 use Rattle.plcs_grammar.specs.declared.template.Template.{Template}
-use Rattle.template_tree.specs.Place.{PlainPlace, Site, begin, passes_in, place_at, site}
+use Rattle.template_tree.specs.Positions.Place.{PlainPlace, Site, begin, passes_in, place_at, site}
 use Rattle.plcs_code.specs.CodeLaws.{AddressesHoldSteps, CallsComeBack, PassedStartsStand}
 use Rattle.plcs_code.specs.declared.node_span.NodeSpan.{NodeSpan}
 use Rattle.plcs_code.specs.Gen.{addresses_in, codes_joined, has_code, is_call, node_address, node_codes, node_spans, place_cmp, span_by_slot}

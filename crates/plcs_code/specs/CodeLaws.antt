@@ -4,12 +4,12 @@ use Rattle.std.specs.FinMap.{get}
 use Rattle.plcs_base.specs.Mark.{MarkMap}
 use Rattle.plcs_base.specs.Scope.{ItemMap}
 use Rattle.plcs_grammar.specs.declared.node_kind.NodeKind.{NodeKind}
-use Rattle.template_tree.specs.Environment.{Sig}
-use Rattle.template_tree.specs.Mention.{phrase_at}
-use Rattle.template_tree.specs.Place.{Exists, PlainPlace, Site, passes_in, place_at, site, site_start}
-use Rattle.template_tree.specs.PlainTree.{Forest, Label}
-use Rattle.template_tree.specs.Program.{IsProgram}
-use Rattle.template_tree.specs.Slots.{times}
+use Rattle.template_tree.specs.Checks.Environment.{Sig}
+use Rattle.template_tree.specs.Checks.Mention.{phrase_at}
+use Rattle.template_tree.specs.Positions.Place.{Exists, PlainPlace, Site, passes_in, place_at, site, site_start}
+use Rattle.template_tree.specs.Programs.PlainTree.{Forest, Label}
+use Rattle.template_tree.specs.Programs.Program.{IsProgram}
+use Rattle.template_tree.specs.Programs.Slots.{times}
 use Rattle.plcs_code.specs.declared.heading_entry.HeadingEntry.{HeadingEntry}
 use Rattle.plcs_code.specs.Gen.{Gen, code_around, has_code, is_call, node_codes, node_lengths, own_code, own_instrs, own_length}
 use Rattle.plcs_code.specs.PlainInstr.{PlainInstr, place_of}

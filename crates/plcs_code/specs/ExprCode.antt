@@ -1,7 +1,7 @@
 -- The code of phrases: that of the operands from left to right, and then the operator; parentheses add nothing.
 use Rattle.std.specs.Prelude.{ℕ, ◌+◌, List, [], ◌∷◌, ◌++◌, Option, Some, None}
 use Rattle.plcs_grammar.specs.PlainPhrase.{PlainExpr, PlainExprs, PlainVarRef, PlainPhrase}
-use Rattle.template_tree.specs.Place.{place_at}
+use Rattle.template_tree.specs.Positions.Place.{place_at}
 use Rattle.plcs_code.specs.PlainInstr.{PlainInstr}
 
 -- how many expressions a list has

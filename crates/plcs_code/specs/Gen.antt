@@ -11,10 +11,10 @@ use Rattle.plcs_base.specs.declared.place.Place.{Place}
 use Rattle.plcs_grammar.specs.declared.node_kind.NodeKind.{NodeKind}
 use Rattle.plcs_grammar.specs.declared.node_kind.Sort.{Sort}
 use Rattle.plcs_grammar.specs.declared.template.Template.{Template}
-use Rattle.template_tree.specs.Environment.{Heading, heading_of, may_be_called}
-use Rattle.template_tree.specs.Place.{Site, passes_in, place_at, site}
-use Rattle.template_tree.specs.PlainTree.{Label, Forest}
-use Rattle.template_tree.specs.Program.{sort_of}
+use Rattle.template_tree.specs.Checks.Environment.{Heading, heading_of, may_be_called}
+use Rattle.template_tree.specs.Positions.Place.{Site, passes_in, place_at, site}
+use Rattle.template_tree.specs.Programs.PlainTree.{Label, Forest}
+use Rattle.template_tree.specs.Programs.Program.{sort_of}
 use Rattle.plcs_code.specs.declared.heading_entry.HeadingEntry.{HeadingEntry}
 use Rattle.plcs_code.specs.declared.node_span.NodeSpan.{NodeSpan}
 use Rattle.plcs_code.specs.PlainInstr.{PlainInstr, place_of}

@@ -9,12 +9,12 @@ use Rattle.plcs_base.specs.declared.declared.Declared.{Declared}
 use Rattle.plcs_grammar.specs.declared.node_kind.NodeKind.{NodeKind}
 use Rattle.plcs_grammar.specs.declared.template.Template.{Template}
 use Rattle.plcs_grammar.specs.PlainPhrase.{PlainPhrase}
-use Rattle.template_tree.specs.Environment.{item_named, parameters_given}
-use Rattle.template_tree.specs.Mention.{phrase_at}
-use Rattle.template_tree.specs.Part.{part_at}
-use Rattle.template_tree.specs.Place.{place_at}
-use Rattle.template_tree.specs.PlainTree.{Label}
-use Rattle.template_tree.specs.ProgramMaps.{items_in}
+use Rattle.template_tree.specs.Checks.Environment.{item_named, parameters_given}
+use Rattle.template_tree.specs.Checks.Mention.{phrase_at}
+use Rattle.template_tree.specs.Programs.Part.{part_at}
+use Rattle.template_tree.specs.Positions.Place.{place_at}
+use Rattle.template_tree.specs.Programs.PlainTree.{Label}
+use Rattle.template_tree.specs.Checks.ProgramMaps.{items_in}
 use Rattle.plcs_code.specs.ExprCode.{part_instrs, items_instrs, listed_exprs, listed_instrs, get_targets, counter_name}
 use Rattle.plcs_code.specs.PlainInstr.{PlainInstr}
 

@@ -5,7 +5,7 @@ use Rattle.plcs_base.specs.declared.place.Place.{Place}
 use Rattle.plcs_grammar.specs.declared.builtin.Builtin.{Builtin}
 use Rattle.plcs_grammar.specs.declared.operator.InfixOp.{InfixOp}
 use Rattle.plcs_grammar.specs.declared.operator.PrefixOp.{PrefixOp}
-use Rattle.template_tree.specs.Place.{PlainPlace, place_at}
+use Rattle.template_tree.specs.Positions.Place.{PlainPlace, place_at}
 use Rattle.plcs_code.specs.declared.instr.Instr.{Instr}
 
 -- an instruction as plain data. A jump's number goes from the instruction behind the jump to the one that comes next

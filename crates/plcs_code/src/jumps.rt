@@ -1,7 +1,7 @@
 //! The jumps of a node's own code, which depend on how long the codes inside it are.
 ghost use Rattle.std.specs.Prelude.{◌≡◌, ◌+◌, ◌<◌, ◌≤◌, None, length, option_map, neg_ℤ, pos};
 ghost use Rattle.std.specs.Option.{option_to_list};
-ghost use Rattle.template_tree.specs.Part.{part_at};
+ghost use Rattle.template_tree.specs.Programs.Part.{part_at};
 ghost use Rattle.plcs_code.specs.BlockLimit.{most_instrs};
 ghost use Rattle.plcs_code.specs.ExprCode.{counter_name};
 ghost use Rattle.plcs_code.specs.Pieces.{back_jump, enter_jump, iteration_jump, no_jumps, own_jumps, template_jumps, test_jump};

@@ -1,6 +1,6 @@
 //! What stands in a node's own code before that of the nodes inside it, laid.
 ghost use Rattle.std.specs.Prelude.{◌≡◌, ◌<◌, ◌++◌, ◌∷◌, [], None, flat_map, length, option_map, unwrap_or};
-ghost use Rattle.template_tree.specs.Environment.{parameters_given};
+ghost use Rattle.template_tree.specs.Checks.Environment.{parameters_given};
 ghost use Rattle.plcs_code.specs.Pieces.{cell_instr, own_pieces, parameters_instrs, piece_at, template_pieces};
 ghost use Rattle.plcs_code.specs.PlainInstr.{plain_instr};
 ghost use Rattle.plcs_code.specs.Private.LaysAll.{LaysAll};

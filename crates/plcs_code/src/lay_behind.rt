@@ -1,6 +1,6 @@
 //! What stands in a node's own code behind that of the nodes inside it, laid.
 ghost use Rattle.std.specs.Prelude.{◌≡◌, ◌∷◌, None, [], option_map};
-ghost use Rattle.template_tree.specs.Place.{place_at};
+ghost use Rattle.template_tree.specs.Positions.Place.{place_at};
 ghost use Rattle.plcs_code.specs.Pieces.{own_pieces, piece_at, template_pieces};
 ghost use Rattle.plcs_code.specs.PlainInstr.{PlainInstr, plain_instr};
 ghost use Rattle.plcs_code.specs.Private.LaysAll.{LaysAll};

@@ -1,7 +1,7 @@
 //! The code that makes the cells of a procedure, laid.
 ghost use Rattle.std.specs.Prelude.{◌≡◌, [], bytes_eq, flat_map, option_map};
 ghost use Rattle.std.specs.List.{list_any};
-ghost use Rattle.template_tree.specs.Environment.{item_named};
+ghost use Rattle.template_tree.specs.Checks.Environment.{item_named};
 ghost use Rattle.plcs_code.specs.Pieces.{cell_instr, new_parameter, parameters_instrs};
 ghost use Rattle.plcs_code.specs.Private.LaysAll.{LaysAll};
 

@@ -1,7 +1,7 @@
 //! The code of phrases, laid.
 ghost use Rattle.std.specs.Prelude.{◌≡◌, ◌∷◌, ◌++◌, [], drop, map};
 ghost use Rattle.plcs_grammar.specs.PlainPhrase.{plain_expr, plain_exprs, plain_phrase, plain_var_ref};
-ghost use Rattle.template_tree.specs.Place.{place_at};
+ghost use Rattle.template_tree.specs.Positions.Place.{place_at};
 ghost use Rattle.plcs_code.specs.ExprCode.{argument_instrs, arguments_instrs, items_instrs, phrase_instrs, variable_instr};
 ghost use Rattle.plcs_code.specs.PlainInstr.{PlainInstr, plain_instr};
 ghost use Rattle.plcs_code.specs.Private.LaysAll.{LaysAll};

@@ -1,7 +1,7 @@
 //! The pieces of a statement's own code, laid.
 ghost use Rattle.std.specs.Prelude.{◌≡◌, ◌∷◌, [], is_none, option_map};
 ghost use Rattle.plcs_grammar.specs.PlainPhrase.{plain_exprs};
-ghost use Rattle.template_tree.specs.Part.{part_at};
+ghost use Rattle.template_tree.specs.Programs.Part.{part_at};
 ghost use Rattle.plcs_code.specs.ExprCode.{listed_exprs, listed_instrs, part_instrs};
 ghost use Rattle.plcs_code.specs.Pieces.{enter_piece, first_piece, get_piece, piece_at};
 ghost use Rattle.plcs_code.specs.PlainInstr.{plain_instr};

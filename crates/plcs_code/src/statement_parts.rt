@@ -1,7 +1,7 @@
 //! What the parts of statements hold, read for their code.
 ghost use Rattle.std.specs.Prelude.{◌≡◌, Some, map, option_map};
 ghost use Rattle.plcs_grammar.specs.PlainPhrase.{plain_exprs, plain_phrase, plain_var_ref};
-ghost use Rattle.template_tree.specs.Part.{part_at};
+ghost use Rattle.template_tree.specs.Programs.Part.{part_at};
 ghost use Rattle.plcs_code.specs.ExprCode.{counter_name, get_targets, listed_exprs};
 
 use plcs_base::Name;

@@ -1,8 +1,8 @@
 //! What stops a run at a node: a phrase that is missing or marked.
 ghost use Rattle.std.specs.Prelude.{◌≡◌, ◌<◌, is_none, is_some, length, option_map, take};
 ghost use Rattle.std.specs.FinMap.{get};
-ghost use Rattle.template_tree.specs.Mention.{phrase_at};
-ghost use Rattle.template_tree.specs.PlainPhrasePlace.{plain_phrase_place};
+ghost use Rattle.template_tree.specs.Checks.Mention.{phrase_at};
+ghost use Rattle.template_tree.specs.Programs.PlainPhrasePlace.{plain_phrase_place};
 ghost use Rattle.plcs_code.specs.Pieces.{has_empty, has_marked_part, suspension};
 ghost use Rattle.plcs_code.specs.PlainInstr.{plain_instr};
 

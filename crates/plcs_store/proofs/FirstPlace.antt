@@ -8,9 +8,9 @@ use Rattle.plcs_grammar.specs.declared.node_kind.NodeKind.{NodeKind}
 use Rattle.plcs_grammar.specs.declared.node_kind.Sort.{Sort}
 use Rattle.plcs_grammar.specs.declared.template.Template.{Template}
 use Rattle.plcs_grammar.specs.Template.{list_of, procedure_sections, row_of}
-use Rattle.template_tree.specs.Place.{PlainPlace, begin, is_statement, passes_in, place_at}
-use Rattle.template_tree.specs.PlainTree.{Forest, Label}
-use Rattle.template_tree.specs.Program.{AreNodes, Fill, sort_of, sorts}
+use Rattle.template_tree.specs.Positions.Place.{PlainPlace, begin, is_statement, passes_in, place_at}
+use Rattle.template_tree.specs.Programs.PlainTree.{Forest, Label}
+use Rattle.template_tree.specs.Programs.Program.{AreNodes, Fill, sort_of, sorts}
 use Rattle.tree_steps.specs.StandingSlot.{Around, StandsBelow, loop_by_kind, loops_around, outermost_slot}
 
 -- ---- nodes with a statement among them

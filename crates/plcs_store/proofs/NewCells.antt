@@ -10,9 +10,9 @@ use Rattle.std.proofs.lemmas.Slice.Eq.{bytes_eq-Decides}
 use Rattle.plcs_base.specs.declared.declared.Declared.{Declared}
 use Rattle.plcs_base.specs.declared.mark.MarkKind.{MarkKind}
 use Rattle.plcs_grammar.specs.Builtin.{is_builtin_name}
-use Rattle.template_tree.specs.Environment.{all_declared, cells, cells_in, cells_of, effective, item_named, item_offence, items_inside, with_declared}
-use Rattle.template_tree.specs.Limit.{most_cells}
-use Rattle.template_tree.specs.PlainTree.{Forest}
+use Rattle.template_tree.specs.Checks.Environment.{all_declared, cells, cells_in, cells_of, effective, item_named, item_offence, items_inside, with_declared}
+use Rattle.template_tree.specs.Programs.Limit.{most_cells}
+use Rattle.template_tree.specs.Programs.PlainTree.{Forest}
 use Rattle.plcs_store.specs.declared.cell.Cell.{Cell}
 use Rattle.plcs_store.specs.declared.variable.Variable.{Variable}
 use Rattle.plcs_store.specs.CellAt.{unset_named, unset_variable, variable_named}

@@ -9,11 +9,11 @@ use Rattle.plcs_grammar.specs.declared.node_kind.NodeKind.{NodeKind}
 use Rattle.plcs_grammar.specs.declared.node_kind.Sort.{Sort}
 use Rattle.plcs_grammar.specs.declared.template.Template.{Template}
 use Rattle.plcs_grammar.specs.Template.{program_sections, row_of}
-use Rattle.template_tree.specs.Environment.{Items, items_inside, kind_of_type, procedure_at}
-use Rattle.template_tree.specs.Place.{PlainPlace, Site, begin, has_point, is_statement, place_at, place_exists_at}
-use Rattle.template_tree.specs.PlainTree.{Forest, Label, PlainNode}
-use Rattle.template_tree.specs.Program.{Fill, IsProgram, sort_of, sorts}
-use Rattle.template_tree.specs.Slots.{times}
+use Rattle.template_tree.specs.Checks.Environment.{Items, items_inside, kind_of_type, procedure_at}
+use Rattle.template_tree.specs.Positions.Place.{PlainPlace, Site, begin, has_point, is_statement, place_at, place_exists_at}
+use Rattle.template_tree.specs.Programs.PlainTree.{Forest, Label, PlainNode}
+use Rattle.template_tree.specs.Programs.Program.{Fill, IsProgram, sort_of, sorts}
+use Rattle.template_tree.specs.Programs.Slots.{times}
 use Rattle.tree_steps.specs.AgreementLaws.{SlotsStandOnce}
 use Rattle.tree_steps.specs.PlaceLaws.{OthersBeginThemselves, SitesStand, StandingSlotsHaveSites}
 use Rattle.tree_steps.specs.RunPlace.{HasPlace, is_first_marked}

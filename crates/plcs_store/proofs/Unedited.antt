@@ -3,9 +3,9 @@ use Rattle.std.specs.Prelude.{◌≡◌, List, [], ◌∷◌, map, Some, None, o
 use Rattle.std.proofs.Common.{ap, sym, ◌∙◌, refl, subst, inl, inr}
 use Rattle.std.proofs.lemmas.Option.{none-some}
 use Rattle.plcs_base.specs.declared.declared.Declared.{Declared}
-use Rattle.template_tree.specs.Environment.{Items}
-use Rattle.template_tree.specs.Place.{Site}
-use Rattle.template_tree.specs.PlainTree.{Forest}
+use Rattle.template_tree.specs.Checks.Environment.{Items}
+use Rattle.template_tree.specs.Positions.Place.{Site}
+use Rattle.template_tree.specs.Programs.PlainTree.{Forest}
 use Rattle.plcs_store.specs.declared.frame.Frame.{Frame}
 use Rattle.plcs_store.specs.declared.held_template.HeldTemplate.{HeldTemplate}
 use Rattle.plcs_store.specs.Resume.{AsksFrames, Parts, TemplateDiffers, UneditedResumes, heading_parts, template_held}

@@ -10,7 +10,7 @@ use Rattle.plcs_store.specs.declared.cell.Location.{Location}
 use Rattle.plcs_store.specs.declared.frame.Frame.{Frame}
 use Rattle.plcs_store.specs.declared.fault_kind.FaultKind.{FaultKind}
 use Rattle.plcs_store.specs.declared.variable.Variable.{Variable}
-use Rattle.template_tree.specs.Environment.{cells_of}
+use Rattle.template_tree.specs.Checks.Environment.{cells_of}
 use Rattle.plcs_store.specs.Outcome.{Outcome, faults, if_there, then_gives}
 
 -- ---- where cells are

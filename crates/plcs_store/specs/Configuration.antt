@@ -1,7 +1,7 @@
 -- What a run is in, as plain data, and its places.
 use Rattle.std.specs.Prelude.{ℕ, List, Option, option_map, slice_get}
 use Rattle.plcs_base.specs.declared.place.Place.{Place}
-use Rattle.template_tree.specs.Place.{PlainPlace}
+use Rattle.template_tree.specs.Positions.Place.{PlainPlace}
 use Rattle.plcs_store.specs.declared.frame.Frame.{Frame}
 use Rattle.plcs_store.specs.declared.run_state.RunState.{RunState}
 use Rattle.plcs_store.specs.CellAt.{newest}

@@ -8,9 +8,9 @@ use Rattle.plcs_base.specs.declared.value.Kind.{Kind}
 use Rattle.plcs_base.specs.declared.value.Value.{Value}
 use Rattle.plcs_grammar.specs.declared.node_kind.NodeKind.{NodeKind}
 use Rattle.plcs_grammar.specs.declared.template.Template.{Template}
-use Rattle.template_tree.specs.Environment.{Items, cells_in, item_named, kind_of_type}
-use Rattle.template_tree.specs.Place.{PlainPlace, Start}
-use Rattle.template_tree.specs.PlainTree.{Forest}
+use Rattle.template_tree.specs.Checks.Environment.{Items, cells_in, item_named, kind_of_type}
+use Rattle.template_tree.specs.Positions.Place.{PlainPlace, Start}
+use Rattle.template_tree.specs.Programs.PlainTree.{Forest}
 use Rattle.tree_steps.specs.RunPlace.{HasPlace}
 use Rattle.tree_steps.specs.StandingSlot.{Around, StandsInside, loop_by_kind, loops_around, outermost_slot}
 use Rattle.plcs_store.specs.declared.cell.Cell.{Cell}

@@ -3,11 +3,11 @@ use Rattle.std.specs.Prelude.{ℕ, not, if◌then◌else◌, bytes_eq, List, [],
 use Rattle.std.specs.List.{filter, list_any}
 use Rattle.plcs_base.specs.declared.declared.Declared.{Declared}
 use Rattle.plcs_base.specs.declared.declared.ItemType.{ItemType}
-use Rattle.template_tree.specs.Environment.{item_named, items_inside, kind_of_type}
-use Rattle.template_tree.specs.KindTable.{same_kind}
-use Rattle.template_tree.specs.ParameterItem.{scalar_item}
-use Rattle.template_tree.specs.Place.{PlainPlace}
-use Rattle.template_tree.specs.PlainTree.{Forest}
+use Rattle.template_tree.specs.Checks.Environment.{item_named, items_inside, kind_of_type}
+use Rattle.template_tree.specs.Checks.KindTable.{same_kind}
+use Rattle.template_tree.specs.Checks.ParameterItem.{scalar_item}
+use Rattle.template_tree.specs.Positions.Place.{PlainPlace}
+use Rattle.template_tree.specs.Programs.PlainTree.{Forest}
 use Rattle.plcs_store.specs.declared.argument.Argument.{Argument}
 use Rattle.plcs_store.specs.declared.cell.Cell.{Cell}
 use Rattle.plcs_store.specs.declared.cell.Location.{Location}

@@ -6,12 +6,12 @@ use Rattle.plcs_base.specs.declared.declared.Declared.{Declared}
 use Rattle.plcs_grammar.specs.declared.node_kind.NodeKind.{NodeKind}
 use Rattle.plcs_grammar.specs.declared.template.Template.{Template}
 use Rattle.plcs_grammar.specs.PlainPhrase.{PlainExpr, PlainExprs, PlainPhrase, PlainVarRef}
-use Rattle.template_tree.specs.Environment.{Heading, Sig, Signature, heading_of, items_inside}
-use Rattle.template_tree.specs.Environment.{procedure_at}
-use Rattle.template_tree.specs.Marks.{is_phrase_marked}
-use Rattle.template_tree.specs.Part.{part_at}
-use Rattle.template_tree.specs.Place.{PlainPlace, Site, begin, item_count, place_at, site}
-use Rattle.template_tree.specs.PlainTree.{Forest, PlainNode}
+use Rattle.template_tree.specs.Checks.Environment.{Heading, Sig, Signature, heading_of, items_inside}
+use Rattle.template_tree.specs.Checks.Environment.{procedure_at}
+use Rattle.template_tree.specs.Checks.Marks.{is_phrase_marked}
+use Rattle.template_tree.specs.Programs.Part.{part_at}
+use Rattle.template_tree.specs.Positions.Place.{PlainPlace, Site, begin, item_count, place_at, site}
+use Rattle.template_tree.specs.Programs.PlainTree.{Forest, PlainNode}
 use Rattle.plcs_store.specs.declared.reason.Reason.{Reason}
 
 -- ---- procedures that are called

@@ -2,8 +2,8 @@
 use Rattle.std.specs.Prelude.{ℕ, ◌-◌, ◌==◌, nat_le, ℤ, pos, ◌+ℤ◌, int_le, int_lt, Bool, if◌then◌else◌, List, ◌++◌, drop, length, slice_get, Option, Some, None, option_and_then, option_map, Result, Ok, Err}
 use Rattle.plcs_base.specs.declared.value.Value.{Value}
 use Rattle.plcs_grammar.specs.PlainPhrase.{PlainExpr, PlainExprs, PlainVarRef}
-use Rattle.template_tree.specs.Place.{PlainPlace}
-use Rattle.template_tree.specs.PlainTree.{Forest}
+use Rattle.template_tree.specs.Positions.Place.{PlainPlace}
+use Rattle.template_tree.specs.Programs.PlainTree.{Forest}
 use Rattle.plcs_store.specs.declared.argument.Argument.{Argument}
 use Rattle.plcs_store.specs.declared.cell.Location.{Location}
 use Rattle.plcs_store.specs.declared.fault_kind.FaultKind.{FaultKind}

@@ -1,8 +1,8 @@
 -- The laws of steps: a new run fits, what fits has a step, and what that leads to fits again.
 use Rattle.std.specs.Prelude.{◌≡◌, ℕ, List, Some, IsSome}
-use Rattle.template_tree.specs.Place.{PlainPlace}
-use Rattle.template_tree.specs.PlainTree.{PlainTree}
-use Rattle.template_tree.specs.Tree.{IsTree}
+use Rattle.template_tree.specs.Positions.Place.{PlainPlace}
+use Rattle.template_tree.specs.Programs.PlainTree.{PlainTree}
+use Rattle.template_tree.specs.Programs.Tree.{IsTree}
 use Rattle.plcs_store.specs.Act.{Act, done}
 use Rattle.plcs_store.specs.Configuration.{PlainConfiguration}
 use Rattle.plcs_store.specs.Fits.{Fits}

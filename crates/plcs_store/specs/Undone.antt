@@ -2,7 +2,7 @@
 use Rattle.std.specs.Prelude.{◌≡◌, ◌-◌, List, [], ◌∷◌, ◌++◌, length, take, slice_get, Option, Some, IsSome}
 use Rattle.std.specs.Option.{option_map_or}
 use Rattle.plcs_base.specs.declared.place.Place.{Place}
-use Rattle.template_tree.specs.Place.{PlainPlace}
+use Rattle.template_tree.specs.Positions.Place.{PlainPlace}
 use Rattle.plcs_store.specs.declared.cell.Cell.{Cell}
 use Rattle.plcs_store.specs.declared.cell.Location.{Location}
 use Rattle.plcs_store.specs.declared.frame.Frame.{Frame}

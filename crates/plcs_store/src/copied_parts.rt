@@ -1,6 +1,6 @@
 //! The copied parts of a node.
 ghost use Rattle.std.specs.Prelude.{◌≡◌, map};
-ghost use Rattle.template_tree.specs.PlainPhrasePlace.{plain_phrase_place};
+ghost use Rattle.template_tree.specs.Programs.PlainPhrasePlace.{plain_phrase_place};
 
 use std::marker::Model;
 use template_tree::PhrasePlace;
@@ -14,7 +14,7 @@ pub struct CopiedParts {
 impl Model for CopiedParts {
     ghost use Rattle.std.specs.Prelude.{List, Option, map};
     ghost use Rattle.plcs_grammar.specs.PlainPhrase.{PlainPhrase};
-    ghost use Rattle.template_tree.specs.PlainPhrasePlace.{plain_phrase_place};
+    ghost use Rattle.template_tree.specs.Programs.PlainPhrasePlace.{plain_phrase_place};
     ghost use Rattle.plcs_store.specs.Private.PartsCode.{parts_code};
 
     ghost Value = { List (Option PlainPhrase) };

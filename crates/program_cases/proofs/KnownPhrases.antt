@@ -3,8 +3,8 @@ use Rattle.std.proofs.Common.{ap}
 use Rattle.plcs_grammar.specs.PlainPhrase.{PlainPhrase}
 use Rattle.decl_table.specs.Agreement.{IsDeclsOf}
 use Rattle.decl_table.specs.PlainDecls.{PlainDecls}
-use Rattle.template_tree.specs.Environment.{item_named}
-use Rattle.template_tree.specs.PlainTree.{Forest, PlainNode}
+use Rattle.template_tree.specs.Checks.Environment.{item_named}
+use Rattle.template_tree.specs.Programs.PlainTree.{Forest, PlainNode}
 use Rattle.type_marks.specs.Agreement.{Knows}
 
 -- the table of a program knows all that is asked for where a phrase of it is checked

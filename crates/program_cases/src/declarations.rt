@@ -1,5 +1,5 @@
 //! What the table of declarations answers.
-ghost use Rattle.template_tree.specs.Tree.{IsTree};
+ghost use Rattle.template_tree.specs.Programs.Tree.{IsTree};
 
 use crate::words::{no_memory, number_at, word_at};
 use case_script::quoted;

@@ -1,6 +1,6 @@
 //! What the script's cases hold from one to the next.
 ghost use Rattle.std.specs.Prelude.{IfOk};
-ghost use Rattle.template_tree.specs.Tree.{IsTree};
+ghost use Rattle.template_tree.specs.Programs.Tree.{IsTree};
 
 use crate::screens::Screens;
 use crate::words::phrase_at;

@@ -2,7 +2,7 @@
 //! screens, and on sums of numbers. It plays a script, and prints what each case answers.
 #![tactic(auto)]
 
-ghost use Rattle.template_tree.specs.Tree.{IsTree};
+ghost use Rattle.template_tree.specs.Programs.Tree.{IsTree};
 
 mod case;
 mod cells;

@@ -1,10 +1,10 @@
 //! The marks of phrases.
 ghost use Rattle.std.specs.Prelude.{◌≡◌, IfSome};
 ghost use Rattle.decl_table.specs.Agreement.{IsDeclsOf};
-ghost use Rattle.template_tree.specs.Marks.{Verdicts};
-ghost use Rattle.template_tree.specs.Part.{IsPhrasePlace};
-ghost use Rattle.template_tree.specs.PlainPhrasePlace.{plain_phrase_place};
-ghost use Rattle.template_tree.specs.Tree.{IsTree};
+ghost use Rattle.template_tree.specs.Checks.Marks.{Verdicts};
+ghost use Rattle.template_tree.specs.Programs.Part.{IsPhrasePlace};
+ghost use Rattle.template_tree.specs.Programs.PlainPhrasePlace.{plain_phrase_place};
+ghost use Rattle.template_tree.specs.Programs.Tree.{IsTree};
 
 use crate::phrase_text::{phrase_of, text_of};
 use crate::program::path_to;

@@ -1,7 +1,7 @@
 //! Phrases and their texts.
 ghost use Rattle.std.specs.Prelude.{IfSome, Some};
 ghost use Rattle.plcs_grammar.specs.PlainPhrase.{plain_phrase};
-ghost use Rattle.template_tree.specs.Part.{IsPhrasePlace};
+ghost use Rattle.template_tree.specs.Programs.Part.{IsPhrasePlace};
 
 use phrase_parser::parse;
 use plcs_base::ByteOut;

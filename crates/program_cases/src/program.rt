@@ -1,5 +1,5 @@
 //! Programs that are read, and edits of them.
-ghost use Rattle.template_tree.specs.Tree.{IsTree};
+ghost use Rattle.template_tree.specs.Programs.Tree.{IsTree};
 ghost use Rattle.unparse_layout.specs.Agreement.{IsLayoutOf};
 
 use crate::lines::same_lines;

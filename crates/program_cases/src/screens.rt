@@ -1,6 +1,6 @@
 //! Views drawn on grids, and grids painted one over the other.
 ghost use Rattle.std.specs.Prelude.{◌≡◌, ◌<◌, ◌≤◌, ◌^◌};
-ghost use Rattle.template_tree.specs.Tree.{IsTree};
+ghost use Rattle.template_tree.specs.Programs.Tree.{IsTree};
 
 use crate::cells::print_row;
 use crate::one_mark::OneMark;

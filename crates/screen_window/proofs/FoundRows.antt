@@ -5,8 +5,8 @@ use Rattle.std.specs.List.{range_with_len}
 use Rattle.std.proofs.lemmas.Bool.{cases_lt}
 use Rattle.plcs_base.specs.CountLaws.{LaysAddUp}
 use Rattle.plcs_base.specs.PlainCounts.{CountsNothing, LaysAtMost, LaysOne, PlainCounts}
-use Rattle.template_tree.specs.Path.{node_at, slot_at}
-use Rattle.template_tree.specs.PlainTree.{PlainNode}
+use Rattle.template_tree.specs.Positions.Path.{node_at, slot_at}
+use Rattle.template_tree.specs.Programs.PlainTree.{PlainNode}
 use Rattle.screen_window.specs.Cursor.{cursor_position, node_row, position_in_row, stop_position}
 use Rattle.screen_window.specs.PlainView.{PlainView}
 use Rattle.screen_window.specs.Window.{window_line}

@@ -2,7 +2,7 @@
 use Rattle.std.proofs.Common.{◌≡◌, ◌<◌, ◌≤◌, ℕ, ◌+◌, ◌-◌, suc, Bool, true, false, cond, eqb, List, [], ◌∷◌, ◌++◌, length, take, drop, get_or, refl, ap, sym, ◌∙◌, add-one, arith}
 use Rattle.std.proofs.Math.Seq.{drop-cons}
 use Rattle.std.proofs.lemmas.List.{take_more, length-drop, get_or-drop}
-use Rattle.template_tree.specs.Listing.{split_at_ends}
+use Rattle.template_tree.specs.Listings.Listing.{split_at_ends}
 
 -- how many lines there are doesn't hang on what the first begins with
 count_any : (front other bytes : List ℕ) → length (split_at_ends front bytes) ≡ length (split_at_ends other bytes)

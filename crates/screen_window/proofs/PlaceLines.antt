@@ -3,8 +3,8 @@ use Rattle.std.proofs.Common.{◌≡◌, ◌<◌, ◌≤◌, ℕ, ◌+◌, suc, 
 use Rattle.std.specs.Prelude.{slice_get}
 use Rattle.std.proofs.Math.Seq.{drop-cons}
 use Rattle.std.proofs.lemmas.Option.{slice_get_within, get_or_from_slice_get, slice_get_cases}
-use Rattle.template_tree.specs.PlainTree.{Forest, PlainNode, forest, nodes, forest_nodes}
-use Rattle.template_tree.specs.Slots.{count}
+use Rattle.template_tree.specs.Programs.PlainTree.{Forest, PlainNode, forest, nodes, forest_nodes}
+use Rattle.template_tree.specs.Programs.Slots.{count}
 use Rattle.screen_window.specs.declared.node_line.NodeLine.{NodeLine}
 use Rattle.screen_window.specs.NodeLine.{found_line, place_line}
 use Rattle.screen_window.specs.Private.ItemLine.{item_line}

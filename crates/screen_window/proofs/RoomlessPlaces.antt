@@ -1,7 +1,7 @@
 -- What is looked for in a tree, with and without the room of its lists.
 use Rattle.std.proofs.Common.{◌≡◌, ℕ, Option, Some, None, refl}
 use Rattle.std.specs.Prelude.{◌==◌, if◌then◌else◌, option_map}
-use Rattle.template_tree.specs.PlainTree.{Forest, roomless}
+use Rattle.template_tree.specs.Programs.PlainTree.{Forest, roomless}
 use Rattle.screen_window.specs.NodeLine.{found_line, line_inside, place_line, point_line}
 
 -- the line of a place of a run

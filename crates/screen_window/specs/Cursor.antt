@@ -2,8 +2,8 @@
 use Rattle.std.specs.Prelude.{ℕ, ◌+◌, ◌-◌, ◌*◌, min, Bool, false, ◌==◌, if◌then◌else◌, List, [], ◌∷◌, length, find, Option, Some, None}
 use Rattle.std.specs.List.{range_with_len}
 use Rattle.plcs_grammar.specs.Template.{row_of}
-use Rattle.template_tree.specs.Path.{node_at}
-use Rattle.template_tree.specs.PlainTree.{PlainNode}
+use Rattle.template_tree.specs.Positions.Path.{node_at}
+use Rattle.template_tree.specs.Programs.PlainTree.{PlainNode}
 use Rattle.unparse_layout.specs.declared.line.LineKind.TheVariants.{First}
 use Rattle.unparse_layout.specs.LaidLine.{PlainLine}
 use Rattle.unparse_layout.specs.OwnedLine.{Stretch, stretches_of}

@@ -5,10 +5,10 @@ use Rattle.plcs_base.specs.declared.mark.MarkKind.{MarkKind}
 use Rattle.plcs_base.specs.declared.mark.MarkKind.TheVariants.{Undeclared, TypeMismatch, NotArray, NeedsSubscript, Duplicate, UnknownProcedure, WrongCount, ArgumentType, ParameterUndeclared, TooManyCells, Reserved}
 use Rattle.plcs_base.specs.Mark.{MarkMap}
 use Rattle.plcs_grammar.specs.declared.node_kind.NodeKind.{NodeKind}
-use Rattle.template_tree.specs.Listing.{split_at_ends}
-use Rattle.template_tree.specs.Part.{part_at}
-use Rattle.template_tree.specs.Path.{node_at}
-use Rattle.template_tree.specs.PlainTree.{PlainNode}
+use Rattle.template_tree.specs.Listings.Listing.{split_at_ends}
+use Rattle.template_tree.specs.Programs.Part.{part_at}
+use Rattle.template_tree.specs.Positions.Path.{node_at}
+use Rattle.template_tree.specs.Programs.PlainTree.{PlainNode}
 use Rattle.screen_window.specs.declared.lower_rows.TheConstants.{OUTPUT_ROWS}
 use Rattle.screen_window.specs.PlainView.{PlainView}
 

@@ -4,7 +4,7 @@ use Rattle.plcs_grammar.specs.declared.node_kind.NodeKind.{NodeKind}
 use Rattle.plcs_grammar.specs.declared.node_kind.Sort.{Sort}
 use Rattle.plcs_grammar.specs.declared.node_kind.Sort.TheVariants.{Main, Procedure, Declaration, Statement}
 use Rattle.plcs_grammar.specs.Template.{row_of}
-use Rattle.template_tree.specs.PlainTree.{Label, Forest}
+use Rattle.template_tree.specs.Programs.PlainTree.{Label, Forest}
 use Rattle.unparse_layout.specs.declared.line.LineKind.{LineKind}
 use Rattle.unparse_layout.specs.declared.line.LineKind.TheVariants.{First, Lead, Elision, Last}
 use Rattle.unparse_layout.specs.LaidLine.{PlainLine}

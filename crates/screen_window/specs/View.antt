@@ -1,8 +1,8 @@
 -- The plain form of a view of the code.
 use Rattle.std.specs.Prelude.{map, option_map}
 use Rattle.plcs_base.specs.Mark.{MarkMap}
-use Rattle.template_tree.specs.PlainTree.{roomless}
-use Rattle.template_tree.specs.Stop.{plain_stop}
+use Rattle.template_tree.specs.Programs.PlainTree.{roomless}
+use Rattle.template_tree.specs.Positions.Stop.{plain_stop}
 use Rattle.screen_window.specs.declared.view.View.{View}
 use Rattle.screen_window.specs.PlainView.{PlainView}
 

@@ -1,7 +1,7 @@
 -- The rows of the window, which show the program or its code.
 use Rattle.std.specs.Prelude.{ℕ, ◌+◌, Bool, false, List, [], ◌++◌, slice_get, slice_index_or, Option, Some, None}
 use Rattle.plcs_base.specs.declared.place.Place.{Place}
-use Rattle.template_tree.specs.PlainTree.{Forest}
+use Rattle.template_tree.specs.Programs.PlainTree.{Forest}
 use Rattle.unparse_layout.specs.LaidLine.{PlainLine, LaidLines}
 use Rattle.screen_window.specs.declared.node_line.NodeLine.{NodeLine}
 use Rattle.screen_window.specs.NodeLine.{is_line, place_line}

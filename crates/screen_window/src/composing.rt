@@ -2,9 +2,9 @@
 
 ghost use Rattle.std.specs.Prelude.{◌≡◌, ℕ, ◌+◌, ◌-◌, ◌≤◌, ◌<◌, [], Some, map, length, slice_index_or, option_map, nat_lt, if◌then◌else◌, ◌^◌, ◌++◌};
 ghost use Rattle.plcs_base.specs.PlainCounts.{CountsNothing, LaysAtMost, LaysOne};
-ghost use Rattle.template_tree.specs.Path.{slot_at};
-ghost use Rattle.template_tree.specs.PlainTree.{roomless};
-ghost use Rattle.template_tree.specs.Tree.{IsTree};
+ghost use Rattle.template_tree.specs.Positions.Path.{slot_at};
+ghost use Rattle.template_tree.specs.Programs.PlainTree.{roomless};
+ghost use Rattle.template_tree.specs.Programs.Tree.{IsTree};
 ghost use Rattle.unparse_layout.specs.Agreement.{IsLayoutOf};
 ghost use Rattle.screen_window.specs.declared.limit.TheConstants.{FEWEST_COLS, FEWEST_ROWS, MOST_COLS, MOST_ROWS};
 ghost use Rattle.screen_window.specs.Limit.{IsSize};

@@ -2,11 +2,11 @@
 
 ghost use Rattle.std.specs.Prelude.{◌≡◌, ◌+◌, ◌≤◌, length, map, option_map};
 ghost use Rattle.plcs_grammar.specs.Template.{plain_segment, row_of};
-ghost use Rattle.template_tree.specs.Line.{part_text};
-ghost use Rattle.template_tree.specs.Part.{part_at};
-ghost use Rattle.template_tree.specs.Path.{node_at};
-ghost use Rattle.template_tree.specs.PlainTree.{roomless, roomless_node};
-ghost use Rattle.template_tree.specs.Tree.{IsTree};
+ghost use Rattle.template_tree.specs.Listings.Line.{part_text};
+ghost use Rattle.template_tree.specs.Programs.Part.{part_at};
+ghost use Rattle.template_tree.specs.Positions.Path.{node_at};
+ghost use Rattle.template_tree.specs.Programs.PlainTree.{roomless, roomless_node};
+ghost use Rattle.template_tree.specs.Programs.Tree.{IsTree};
 ghost use Rattle.unparse_layout.specs.OwnedLine.{stretches_of};
 ghost use Rattle.screen_window.specs.Cursor.{bytes_before, cut_col, stop_col, stop_offset};
 ghost use Rattle.screen_window.specs.Private.Drawing.{capped};

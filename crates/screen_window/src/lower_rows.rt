@@ -1,10 +1,10 @@
 //! The rows below the window: the output, the message or mark, the prompt and the typed line.
 
 ghost use Rattle.std.specs.Prelude.{◌≡◌, ◌+◌, ◌≤◌, [], Some, length, slice_index_or};
-ghost use Rattle.template_tree.specs.Listing.{split_at_ends};
-ghost use Rattle.template_tree.specs.Path.{node_at};
-ghost use Rattle.template_tree.specs.PlainTree.{roomless};
-ghost use Rattle.template_tree.specs.Tree.{IsTree};
+ghost use Rattle.template_tree.specs.Listings.Listing.{split_at_ends};
+ghost use Rattle.template_tree.specs.Positions.Path.{node_at};
+ghost use Rattle.template_tree.specs.Programs.PlainTree.{roomless};
+ghost use Rattle.template_tree.specs.Programs.Tree.{IsTree};
 ghost use Rattle.screen_window.specs.declared.limit.TheConstants.{MOST_ROWS};
 ghost use Rattle.screen_window.specs.LowerRows.{cursor_mark, cursor_part, last_ones, mark_text, marked_text, message_or, output_row, part_mark};
 

@@ -1,10 +1,10 @@
 //! Lines of the screen, told by their nodes, and the one on which a place of a run is shown.
 
 ghost use Rattle.std.specs.Prelude.{◌≡◌, ◌≤◌, slice_get};
-ghost use Rattle.template_tree.specs.Limit.{most_slots};
-ghost use Rattle.template_tree.specs.PlainTree.{Forest, nodes};
-ghost use Rattle.template_tree.specs.Slots.{count};
-ghost use Rattle.template_tree.specs.Tree.{IsTree};
+ghost use Rattle.template_tree.specs.Programs.Limit.{most_slots};
+ghost use Rattle.template_tree.specs.Programs.PlainTree.{Forest, nodes};
+ghost use Rattle.template_tree.specs.Programs.Slots.{count};
+ghost use Rattle.template_tree.specs.Programs.Tree.{IsTree};
 ghost use Rattle.screen_window.specs.NodeLine.{is_line, is_outer, is_procedure, place_line, point_line, same_line_kind};
 ghost use Rattle.screen_window.specs.Private.ItemLine.{item_line};
 

@@ -12,19 +12,19 @@ use Rattle.plcs_grammar.specs.Template.{PlainSection, row_of, program_sections}
 use Rattle.template_tree.specs.declared.side.Side.{Side}
 use Rattle.template_tree.specs.declared.stop.Stop.{Stop}
 use Rattle.template_tree.specs.declared.tree_fault.TreeFault.{TreeFault}
-use Rattle.template_tree.specs.Edit.{with_hole}
-use Rattle.template_tree.specs.Hole.{hole_list, hole_of, lone}
-use Rattle.template_tree.specs.EditAnswer.{Edits, IsEdit, IsListItem, Refuses}
-use Rattle.template_tree.specs.ListItem.{is_listed, sections_at}
-use Rattle.template_tree.specs.Path.{added_path, last_child_number, node_at, with_last}
-use Rattle.template_tree.specs.PlainTree.{Forest, PlainNode, PlainTree, nodes, roomless, roomless_node, roomless_tree}
-use Rattle.template_tree.specs.Program.{sort_of}
-use Rattle.template_tree.specs.Receipt.{PlainReceipt}
-use Rattle.template_tree.specs.Slots.{count}
-use Rattle.template_tree.specs.Stop.{IsStop, PlainStop, plain_stop, visible_at, visible_below, node_stop}
-use Rattle.template_tree.specs.Tree.{IsTree}
-use Rattle.template_tree.specs.TreeEdit.{TreeEdit}
-use Rattle.template_tree.specs.TreeLaws.{SlotEditIsPathEdit}
+use Rattle.template_tree.specs.Edits.Edit.{with_hole}
+use Rattle.template_tree.specs.Edits.Hole.{hole_list, hole_of, lone}
+use Rattle.template_tree.specs.Edits.EditAnswer.{Edits, IsEdit, IsListItem, Refuses}
+use Rattle.template_tree.specs.Edits.ListItem.{is_listed, sections_at}
+use Rattle.template_tree.specs.Positions.Path.{added_path, last_child_number, node_at, with_last}
+use Rattle.template_tree.specs.Programs.PlainTree.{Forest, PlainNode, PlainTree, nodes, roomless, roomless_node, roomless_tree}
+use Rattle.template_tree.specs.Programs.Program.{sort_of}
+use Rattle.template_tree.specs.Edits.Receipt.{PlainReceipt}
+use Rattle.template_tree.specs.Programs.Slots.{count}
+use Rattle.template_tree.specs.Positions.Stop.{IsStop, PlainStop, plain_stop, visible_at, visible_below, node_stop}
+use Rattle.template_tree.specs.Programs.Tree.{IsTree}
+use Rattle.template_tree.specs.Edits.TreeEdit.{TreeEdit}
+use Rattle.template_tree.specs.Laws.TreeLaws.{SlotEditIsPathEdit}
 use Rattle.session_edit.specs.declared.applied.Applied.{Applied}
 use Rattle.session_edit.specs.AppliedEdit.{IsAnswer, IsApplied, IsRefused}
 use Rattle.session_edit.specs.Edited.{Edited, at_node, comes, edited, outcome_of_hole_beside, not_here}

@@ -8,19 +8,19 @@ use Rattle.std.proofs.lemmas.Option.{none-some, same_Some}
 use Rattle.plcs_grammar.specs.declared.node_kind.Sort.{Sort}
 use Rattle.plcs_grammar.specs.Template.{PlainSection, row_of, program_sections}
 use Rattle.template_tree.specs.declared.stop.Stop.{Stop}
-use Rattle.template_tree.specs.Hole.{is_hole}
-use Rattle.template_tree.specs.EditAnswer.{Edits, IsEdit, IsListItem, IsSpareHole}
-use Rattle.template_tree.specs.ListItem.{how_many, is_listed, sections_at, siblings_at}
-use Rattle.template_tree.specs.Path.{below, node_at, with_last}
-use Rattle.template_tree.specs.PlainTree.{Forest, PlainNode, PlainTree, nodes, roomless, roomless_node, roomless_tree}
-use Rattle.template_tree.specs.Program.{sort_of, sorts}
-use Rattle.template_tree.specs.Receipt.{PlainReceipt}
-use Rattle.template_tree.specs.Section.{same_sort}
-use Rattle.template_tree.specs.Stop.{IsStop, PlainStop, plain_stop, visible_at, node_stop}
-use Rattle.template_tree.specs.Tree.{IsTree}
-use Rattle.template_tree.specs.TreeEdit.{TreeEdit, tree_after}
-use Rattle.template_tree.specs.TreeLaws.{SlotEditIsPathEdit}
-use Rattle.template_tree.specs.Edit.{edit_at, give_way}
+use Rattle.template_tree.specs.Edits.Hole.{is_hole}
+use Rattle.template_tree.specs.Edits.EditAnswer.{Edits, IsEdit, IsListItem, IsSpareHole}
+use Rattle.template_tree.specs.Edits.ListItem.{how_many, is_listed, sections_at, siblings_at}
+use Rattle.template_tree.specs.Positions.Path.{below, node_at, with_last}
+use Rattle.template_tree.specs.Programs.PlainTree.{Forest, PlainNode, PlainTree, nodes, roomless, roomless_node, roomless_tree}
+use Rattle.template_tree.specs.Programs.Program.{sort_of, sorts}
+use Rattle.template_tree.specs.Edits.Receipt.{PlainReceipt}
+use Rattle.template_tree.specs.Listings.Section.{same_sort}
+use Rattle.template_tree.specs.Positions.Stop.{IsStop, PlainStop, plain_stop, visible_at, node_stop}
+use Rattle.template_tree.specs.Programs.Tree.{IsTree}
+use Rattle.template_tree.specs.Edits.TreeEdit.{TreeEdit, tree_after}
+use Rattle.template_tree.specs.Laws.TreeLaws.{SlotEditIsPathEdit}
+use Rattle.template_tree.specs.Edits.Edit.{edit_at, give_way}
 use Rattle.session_edit.specs.AppliedEdit.{IsApplied}
 use Rattle.session_edit.specs.Cursor.{has_sort, path_after_drop}
 use Rattle.session_edit.specs.Edited.{outcome_of_drop, edited, outcome_of_taking}

@@ -11,16 +11,16 @@ use Rattle.plcs_grammar.specs.declared.template.Template.{Template}
 use Rattle.plcs_grammar.specs.PlainPhrase.{PlainPhrase}
 use Rattle.template_tree.specs.declared.side.Side.{Side}
 use Rattle.template_tree.specs.declared.tree_fault.TreeFault.{TreeFault}
-use Rattle.template_tree.specs.Hole.{hole_left, hole_of, is_hole, lone}
-use Rattle.template_tree.specs.FreshNode.{fresh_node}
-use Rattle.template_tree.specs.Path.{added_path, node_at}
-use Rattle.template_tree.specs.PlainTree.{PlainNode, PlainTree, roomless, roomless_node, roomless_tree}
-use Rattle.template_tree.specs.Program.{sort_of}
-use Rattle.template_tree.specs.RoomLaws.{EditsIgnoreRoom, NodesIgnoreRoom}
-use Rattle.template_tree.specs.Section.{same_sort}
-use Rattle.template_tree.specs.Stop.{PlainStop, node_stop}
-use Rattle.template_tree.specs.Tree.{IsTree}
-use Rattle.template_tree.specs.TreeEdit.{TreeEdit, changed_slot, tree_after, what_of}
+use Rattle.template_tree.specs.Edits.Hole.{hole_left, hole_of, is_hole, lone}
+use Rattle.template_tree.specs.Edits.FreshNode.{fresh_node}
+use Rattle.template_tree.specs.Positions.Path.{added_path, node_at}
+use Rattle.template_tree.specs.Programs.PlainTree.{PlainNode, PlainTree, roomless, roomless_node, roomless_tree}
+use Rattle.template_tree.specs.Programs.Program.{sort_of}
+use Rattle.template_tree.specs.Laws.RoomLaws.{EditsIgnoreRoom, NodesIgnoreRoom}
+use Rattle.template_tree.specs.Listings.Section.{same_sort}
+use Rattle.template_tree.specs.Positions.Stop.{PlainStop, node_stop}
+use Rattle.template_tree.specs.Programs.Tree.{IsTree}
+use Rattle.template_tree.specs.Edits.TreeEdit.{TreeEdit, changed_slot, tree_after, what_of}
 use Rattle.tree_steps.specs.EditStep.{BringsSort, IsEditStep, substance}
 use Rattle.tree_steps.specs.EditStepLaws.{EditStepsAreWays, RoomIsNoEdit}
 use Rattle.clip_store.specs.PlainFragment.{PlainFragment}

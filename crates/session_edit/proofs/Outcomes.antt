@@ -4,19 +4,19 @@ use Rattle.std.proofs.Common.{ap, sym, ◌∙◌, subst, arith}
 use Rattle.std.proofs.lemmas.Bool.Decides.{Decides-ltb}
 use Rattle.template_tree.specs.declared.stop.Stop.{Stop}
 use Rattle.template_tree.specs.declared.tree_fault.TreeFault.{TreeFault}
-use Rattle.template_tree.specs.Edit.{edit_at, edit_slot, with_items}
-use Rattle.template_tree.specs.EditAnswer.{IsEdit, IsOverTreeLimit, IsWithin, Refuses}
-use Rattle.template_tree.specs.Limit.{deepest_path, most_slots, most_drawn_slots}
-use Rattle.template_tree.specs.Path.{node_at}
-use Rattle.template_tree.specs.PlainTree.{PlainNode, PlainTree, roomless, roomless_node, roomless_tree}
-use Rattle.template_tree.specs.Program.{IsSubtree}
-use Rattle.template_tree.specs.Receipt.{PlainReceipt}
-use Rattle.template_tree.specs.RoomLaws.{IsSameAfter}
-use Rattle.template_tree.specs.Slots.{depth}
-use Rattle.template_tree.specs.Stop.{IsStop, MayStand, PlainStop, plain_stop, visible_at}
-use Rattle.template_tree.specs.Tree.{IsTree}
-use Rattle.template_tree.specs.TreeEdit.{TreeEdit, changed_slot, tree_after, what_of}
-use Rattle.template_tree.specs.TreeLaws.{SlotEditIsPathEdit}
+use Rattle.template_tree.specs.Edits.Edit.{edit_at, edit_slot, with_items}
+use Rattle.template_tree.specs.Edits.EditAnswer.{IsEdit, IsOverTreeLimit, IsWithin, Refuses}
+use Rattle.template_tree.specs.Programs.Limit.{deepest_path, most_slots, most_drawn_slots}
+use Rattle.template_tree.specs.Positions.Path.{node_at}
+use Rattle.template_tree.specs.Programs.PlainTree.{PlainNode, PlainTree, roomless, roomless_node, roomless_tree}
+use Rattle.template_tree.specs.Programs.Program.{IsSubtree}
+use Rattle.template_tree.specs.Edits.Receipt.{PlainReceipt}
+use Rattle.template_tree.specs.Laws.RoomLaws.{IsSameAfter}
+use Rattle.template_tree.specs.Programs.Slots.{depth}
+use Rattle.template_tree.specs.Positions.Stop.{IsStop, MayStand, PlainStop, plain_stop, visible_at}
+use Rattle.template_tree.specs.Programs.Tree.{IsTree}
+use Rattle.template_tree.specs.Edits.TreeEdit.{TreeEdit, changed_slot, tree_after, what_of}
+use Rattle.template_tree.specs.Laws.TreeLaws.{SlotEditIsPathEdit}
 use Rattle.session_edit.specs.AppliedEdit.{IsApplied, IsRefused, is_made}
 use Rattle.session_edit.specs.Cursor.{onward}
 use Rattle.session_edit.specs.Edited.{Edited, comes, comes_onward, edited, outcome_at_node, at_node, limit_reached, not_here, unless}

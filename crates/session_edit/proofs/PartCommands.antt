@@ -6,15 +6,15 @@ use Rattle.std.proofs.lemmas.Bool.{false≢true}
 use Rattle.plcs_grammar.specs.PlainPhrase.{PlainPhrase}
 use Rattle.template_tree.specs.declared.stop.Stop.{Stop}
 use Rattle.template_tree.specs.declared.tree_fault.TreeFault.{TreeFault}
-use Rattle.template_tree.specs.EditAnswer.{Edits, IsEdit, TakesAtStop}
-use Rattle.template_tree.specs.Part.{part_at, part_category, with_part}
-use Rattle.template_tree.specs.Path.{node_at}
-use Rattle.template_tree.specs.PlainTree.{PlainNode, PlainTree, roomless_node, roomless_tree}
-use Rattle.template_tree.specs.Receipt.{PlainReceipt}
-use Rattle.template_tree.specs.Stop.{IsStop, MayStand, PlainStop, part_stops, plain_stop}
-use Rattle.template_tree.specs.Tree.{IsTree}
-use Rattle.template_tree.specs.TreeEdit.{TreeEdit}
-use Rattle.template_tree.specs.TreeLaws.{SlotEditIsPathEdit}
+use Rattle.template_tree.specs.Edits.EditAnswer.{Edits, IsEdit, TakesAtStop}
+use Rattle.template_tree.specs.Programs.Part.{part_at, part_category, with_part}
+use Rattle.template_tree.specs.Positions.Path.{node_at}
+use Rattle.template_tree.specs.Programs.PlainTree.{PlainNode, PlainTree, roomless_node, roomless_tree}
+use Rattle.template_tree.specs.Edits.Receipt.{PlainReceipt}
+use Rattle.template_tree.specs.Positions.Stop.{IsStop, MayStand, PlainStop, part_stops, plain_stop}
+use Rattle.template_tree.specs.Programs.Tree.{IsTree}
+use Rattle.template_tree.specs.Edits.TreeEdit.{TreeEdit}
+use Rattle.template_tree.specs.Laws.TreeLaws.{SlotEditIsPathEdit}
 use Rattle.clip_store.specs.PlainFragment.{PlainFragment}
 use Rattle.session_edit.specs.AppliedEdit.{IsApplied, IsRefused}
 use Rattle.session_edit.specs.Cursor.{onward}

@@ -8,19 +8,19 @@ use Rattle.plcs_grammar.specs.declared.template.Template.{Template}
 use Rattle.plcs_grammar.specs.PlainPhrase.{PlainPhrase}
 use Rattle.template_tree.specs.declared.stop.Stop.{Stop}
 use Rattle.template_tree.specs.declared.tree_fault.TreeFault.{TreeFault}
-use Rattle.template_tree.specs.Edit.{node_in_slot}
-use Rattle.template_tree.specs.Hole.{hole_left, lone}
-use Rattle.template_tree.specs.EditAnswer.{Edits, IsEdit, IsHoleFor, MayTake, Refuses, TakesAssignment, TakesOut, slot_in}
-use Rattle.template_tree.specs.FreshNode.{assignment_node, fresh_node}
-use Rattle.template_tree.specs.Path.{node_at}
-use Rattle.template_tree.specs.PlainTree.{PlainNode, PlainTree, roomless_node, roomless_tree}
-use Rattle.template_tree.specs.Program.{IsSubtree}
-use Rattle.template_tree.specs.Receipt.{PlainReceipt}
-use Rattle.template_tree.specs.Slots.{count}
-use Rattle.template_tree.specs.Stop.{IsStop, MayStand, PlainStop, plain_stop}
-use Rattle.template_tree.specs.Tree.{IsTree}
-use Rattle.template_tree.specs.TreeEdit.{TreeEdit, tree_after}
-use Rattle.template_tree.specs.TreeLaws.{SlotEditIsPathEdit}
+use Rattle.template_tree.specs.Edits.Edit.{node_in_slot}
+use Rattle.template_tree.specs.Edits.Hole.{hole_left, lone}
+use Rattle.template_tree.specs.Edits.EditAnswer.{Edits, IsEdit, IsHoleFor, MayTake, Refuses, TakesAssignment, TakesOut, slot_in}
+use Rattle.template_tree.specs.Edits.FreshNode.{assignment_node, fresh_node}
+use Rattle.template_tree.specs.Positions.Path.{node_at}
+use Rattle.template_tree.specs.Programs.PlainTree.{PlainNode, PlainTree, roomless_node, roomless_tree}
+use Rattle.template_tree.specs.Programs.Program.{IsSubtree}
+use Rattle.template_tree.specs.Edits.Receipt.{PlainReceipt}
+use Rattle.template_tree.specs.Programs.Slots.{count}
+use Rattle.template_tree.specs.Positions.Stop.{IsStop, MayStand, PlainStop, plain_stop}
+use Rattle.template_tree.specs.Programs.Tree.{IsTree}
+use Rattle.template_tree.specs.Edits.TreeEdit.{TreeEdit, tree_after}
+use Rattle.template_tree.specs.Laws.TreeLaws.{SlotEditIsPathEdit}
 use Rattle.clip_store.specs.PlainFragment.{PlainFragment}
 use Rattle.session_edit.specs.AppliedEdit.{IsApplied, IsRefused}
 use Rattle.session_edit.specs.Cursor.{onward}

@@ -1,9 +1,9 @@
 -- Items and stops, with and without the room of lists.
 use Rattle.std.specs.Prelude.{◌≡◌, refl, ℕ, [], ◌∷◌, Option, Some, None, option_and_then, option_map, slice_get}
 use Rattle.std.proofs.Common.{ap, sym, ◌∙◌}
-use Rattle.template_tree.specs.Path.{below}
-use Rattle.template_tree.specs.PlainTree.{Forest, PlainNode, nodes, roomless, roomless_node}
-use Rattle.template_tree.specs.Stop.{IsStop, PlainStop}
+use Rattle.template_tree.specs.Positions.Path.{below}
+use Rattle.template_tree.specs.Programs.PlainTree.{Forest, PlainNode, nodes, roomless, roomless_node}
+use Rattle.template_tree.specs.Positions.Stop.{IsStop, PlainStop}
 use Rattle.session_edit.specs.Private.RoomLaws.{RoomLaws}
 
 -- the node at an empty path below an item is the item

@@ -4,10 +4,10 @@ use Rattle.std.specs.Option.{option_or, option_map_or}
 use Rattle.std.proofs.Common.{ap, ◌∙◌, arith}
 use Rattle.std.proofs.lemmas.Bool.{eq-eqb}
 use Rattle.std.proofs.lemmas.Option.{none-some}
-use Rattle.template_tree.specs.PlainTree.{Forest, PlainNode, nodes, roomless}
-use Rattle.template_tree.specs.Slots.{times}
-use Rattle.template_tree.specs.Path.{below, node_at, slot_at}
-use Rattle.template_tree.specs.Stop.{MayStand, visible_below, visible_at}
+use Rattle.template_tree.specs.Programs.PlainTree.{Forest, PlainNode, nodes, roomless}
+use Rattle.template_tree.specs.Programs.Slots.{times}
+use Rattle.template_tree.specs.Positions.Path.{below, node_at, slot_at}
+use Rattle.template_tree.specs.Positions.Stop.{MayStand, visible_below, visible_at}
 use Rattle.session_edit.specs.ShownStop.{shown_path}
 use Rattle.session_edit.specs.Private.ShownPath.{shown_below, shown_numbers}
 

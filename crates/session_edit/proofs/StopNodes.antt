@@ -2,9 +2,9 @@
 use Rattle.std.specs.Prelude.{◌≡◌, refl, ℕ, false, Option, Some, None, option_and_then, option_map}
 use Rattle.std.specs.Option.{option_map_or}
 use Rattle.std.proofs.Common.{ap, ◌∙◌}
-use Rattle.template_tree.specs.PlainTree.{PlainNode, PlainTree, roomless_node, roomless_tree}
-use Rattle.template_tree.specs.Path.{node_at}
-use Rattle.template_tree.specs.Stop.{PlainStop}
+use Rattle.template_tree.specs.Programs.PlainTree.{PlainNode, PlainTree, roomless_node, roomless_tree}
+use Rattle.template_tree.specs.Positions.Path.{node_at}
+use Rattle.template_tree.specs.Positions.Stop.{PlainStop}
 use Rattle.session_edit.specs.Here.{can_take, category_at, category_in, takes_at}
 use Rattle.session_edit.specs.Private.RoomLaws.{RoomLaws}
 

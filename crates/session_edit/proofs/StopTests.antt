@@ -11,13 +11,13 @@ use Rattle.plcs_grammar.specs.declared.template.Template.{Template}
 use Rattle.plcs_grammar.specs.PlainPhrase.{PlainPhrase, category_of}
 use Rattle.plcs_grammar.specs.Template.{row_of}
 use Rattle.plcs_grammar.specs.Category.{category_number, same_category}
-use Rattle.template_tree.specs.Hole.{hole_of, is_hole}
-use Rattle.template_tree.specs.EditAnswer.{IsHoleFor, TakesAssignment}
-use Rattle.template_tree.specs.Part.{Takes, part_category}
-use Rattle.template_tree.specs.PlainTree.{PlainNode}
-use Rattle.template_tree.specs.Program.{may_be_empty, parts_of, sort_of}
-use Rattle.template_tree.specs.Section.{same_sort}
-use Rattle.template_tree.specs.Stop.{part_stops}
+use Rattle.template_tree.specs.Edits.Hole.{hole_of, is_hole}
+use Rattle.template_tree.specs.Edits.EditAnswer.{IsHoleFor, TakesAssignment}
+use Rattle.template_tree.specs.Programs.Part.{Takes, part_category}
+use Rattle.template_tree.specs.Programs.PlainTree.{PlainNode}
+use Rattle.template_tree.specs.Programs.Program.{may_be_empty, parts_of, sort_of}
+use Rattle.template_tree.specs.Listings.Section.{same_sort}
+use Rattle.template_tree.specs.Positions.Stop.{part_stops}
 use Rattle.session_edit.specs.Here.{category_in, is_typed, is_wanted, takes_nodes}
 
 pub is_false : (b : Bool) → (b ≡ true → ⊥) → b ≡ false

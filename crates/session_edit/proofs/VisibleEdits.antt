@@ -2,10 +2,10 @@
 use Rattle.std.specs.Prelude.{◌≡◌, refl, ℕ, zero, suc, pred, ◌≤◌, Bool, true, false, if◌then◌else◌, List, [], ◌∷◌, length, Option, Some, None, option_map, option_and_then, slice_get}
 use Rattle.std.proofs.Common.{ap, sym, ◌∙◌, arith}
 use Rattle.std.proofs.lemmas.Option.{none-some}
-use Rattle.template_tree.specs.PlainTree.{Forest, PlainNode, nodes, forest, join}
-use Rattle.template_tree.specs.Edit.{edit_at, give_way}
-use Rattle.template_tree.specs.Path.{below, node_at, with_last}
-use Rattle.template_tree.specs.Stop.{visible_below, visible_at}
+use Rattle.template_tree.specs.Programs.PlainTree.{Forest, PlainNode, nodes, forest, join}
+use Rattle.template_tree.specs.Edits.Edit.{edit_at, give_way}
+use Rattle.template_tree.specs.Positions.Path.{below, node_at, with_last}
+use Rattle.template_tree.specs.Positions.Stop.{visible_below, visible_at}
 
 -- the last number of a path
 abbrev pub last_number : List ℕ → ℕ

@@ -1,12 +1,12 @@
 -- What is answered to an edit at the stop of the cursor.
 use Rattle.std.specs.Prelude.{◌≡◌, Bool, true, false, IsTrue, IfSome, is_none, option_map, Result, Ok, Err}
 use Rattle.template_tree.specs.declared.tree_fault.TreeFault.{TreeFault}
-use Rattle.template_tree.specs.Edit.{Differs}
-use Rattle.template_tree.specs.PlainTree.{PlainTree, roomless_node, roomless_tree}
-use Rattle.template_tree.specs.Program.{IsSubtree}
-use Rattle.template_tree.specs.Receipt.{CanUndo, undone}
-use Rattle.template_tree.specs.Stop.{IsStop, PlainStop, plain_stop}
-use Rattle.template_tree.specs.Tree.{IsTree}
+use Rattle.template_tree.specs.Edits.Edit.{Differs}
+use Rattle.template_tree.specs.Programs.PlainTree.{PlainTree, roomless_node, roomless_tree}
+use Rattle.template_tree.specs.Programs.Program.{IsSubtree}
+use Rattle.template_tree.specs.Edits.Receipt.{CanUndo, undone}
+use Rattle.template_tree.specs.Positions.Stop.{IsStop, PlainStop, plain_stop}
+use Rattle.template_tree.specs.Programs.Tree.{IsTree}
 use Rattle.session_edit.specs.declared.applied.Applied.{Applied}
 use Rattle.session_edit.specs.PlainEdit.{PlainEdit}
 use Rattle.session_edit.specs.Edited.{Edited}

@@ -3,11 +3,11 @@ use Rattle.std.specs.Prelude.{ℕ, pred, Bool, false, nat_eq, if◌then◌else�
 use Rattle.std.specs.List.{starts_with}
 use Rattle.std.specs.Option.{option_map_or}
 use Rattle.plcs_grammar.specs.declared.node_kind.Sort.{Sort}
-use Rattle.template_tree.specs.Path.{node_at, with_last}
-use Rattle.template_tree.specs.PlainTree.{Forest}
-use Rattle.template_tree.specs.Program.{sort_of}
-use Rattle.template_tree.specs.Section.{same_sort}
-use Rattle.template_tree.specs.Stop.{PlainStop}
+use Rattle.template_tree.specs.Positions.Path.{node_at, with_last}
+use Rattle.template_tree.specs.Programs.PlainTree.{Forest}
+use Rattle.template_tree.specs.Programs.Program.{sort_of}
+use Rattle.template_tree.specs.Listings.Section.{same_sort}
+use Rattle.template_tree.specs.Positions.Stop.{PlainStop}
 use Rattle.cursor_moves.specs.Move.{stop_right}
 
 -- of a stop that was filled and the next one, that to which the cursor goes: the next, where it lies in the same node

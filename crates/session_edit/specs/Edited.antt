@@ -7,15 +7,15 @@ use Rattle.plcs_grammar.specs.PlainPhrase.{PlainPhrase}
 use Rattle.template_tree.specs.declared.side.Side.{Side}
 use Rattle.template_tree.specs.declared.change.What.{What}
 use Rattle.template_tree.specs.declared.tree_fault.TreeFault.{TreeFault}
-use Rattle.template_tree.specs.Hole.{hole_left, lone}
-use Rattle.template_tree.specs.FreshNode.{assignment_node, fresh_node}
-use Rattle.template_tree.specs.Limit.{deepest_path, most_slots, most_drawn_slots}
-use Rattle.template_tree.specs.Path.{added_path, node_at}
-use Rattle.template_tree.specs.PlainTree.{PlainNode, PlainTree, roomless_tree}
-use Rattle.template_tree.specs.Program.{sort_of}
-use Rattle.template_tree.specs.Slots.{depth}
-use Rattle.template_tree.specs.Stop.{PlainStop, node_stop}
-use Rattle.template_tree.specs.TreeEdit.{TreeEdit, changed_slot, tree_after, what_of}
+use Rattle.template_tree.specs.Edits.Hole.{hole_left, lone}
+use Rattle.template_tree.specs.Edits.FreshNode.{assignment_node, fresh_node}
+use Rattle.template_tree.specs.Programs.Limit.{deepest_path, most_slots, most_drawn_slots}
+use Rattle.template_tree.specs.Positions.Path.{added_path, node_at}
+use Rattle.template_tree.specs.Programs.PlainTree.{PlainNode, PlainTree, roomless_tree}
+use Rattle.template_tree.specs.Programs.Program.{sort_of}
+use Rattle.template_tree.specs.Programs.Slots.{depth}
+use Rattle.template_tree.specs.Positions.Stop.{PlainStop, node_stop}
+use Rattle.template_tree.specs.Edits.TreeEdit.{TreeEdit, changed_slot, tree_after, what_of}
 use Rattle.clip_store.specs.PlainFragment.{PlainFragment}
 use Rattle.session_edit.specs.PlainEdit.{PlainEdit}
 use Rattle.session_edit.specs.Here.{category_in, is_wanted, can_take, takes_nodes, takes_phrase, is_spare_hole, enclosing_item}

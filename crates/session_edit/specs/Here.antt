@@ -6,14 +6,14 @@ use Rattle.plcs_grammar.specs.declared.category.Category.{Category}
 use Rattle.plcs_grammar.specs.declared.node_kind.NodeKind.{NodeKind}
 use Rattle.plcs_grammar.specs.PlainPhrase.{PlainPhrase, category_of}
 use Rattle.plcs_grammar.specs.Category.{same_category}
-use Rattle.template_tree.specs.Hole.{hole_left, is_hole}
-use Rattle.template_tree.specs.ListItem.{how_many, is_listed, sections_at, siblings_at}
-use Rattle.template_tree.specs.Part.{part_at, part_category}
-use Rattle.template_tree.specs.Path.{node_at}
-use Rattle.template_tree.specs.PlainTree.{Forest, PlainNode, PlainTree}
-use Rattle.template_tree.specs.Program.{sort_of, sorts}
-use Rattle.template_tree.specs.Section.{same_sort}
-use Rattle.template_tree.specs.Stop.{PlainStop}
+use Rattle.template_tree.specs.Edits.Hole.{hole_left, is_hole}
+use Rattle.template_tree.specs.Edits.ListItem.{how_many, is_listed, sections_at, siblings_at}
+use Rattle.template_tree.specs.Programs.Part.{part_at, part_category}
+use Rattle.template_tree.specs.Positions.Path.{node_at}
+use Rattle.template_tree.specs.Programs.PlainTree.{Forest, PlainNode, PlainTree}
+use Rattle.template_tree.specs.Programs.Program.{sort_of, sorts}
+use Rattle.template_tree.specs.Listings.Section.{same_sort}
+use Rattle.template_tree.specs.Positions.Stop.{PlainStop}
 
 -- whether an assignment is typed at nodes of the kind
 abbrev pub is_typed : NodeKind → Bool

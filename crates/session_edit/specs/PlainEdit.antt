@@ -4,7 +4,7 @@ use Rattle.plcs_grammar.specs.PlainPhrase.{plain_phrase}
 use Rattle.plcs_grammar.specs.PlainPhrase.{PlainPhrase}
 use Rattle.plcs_grammar.specs.declared.template.Template.{Template}
 use Rattle.template_tree.specs.declared.side.Side.{Side}
-use Rattle.template_tree.specs.Part.{IsPhrasePlace}
+use Rattle.template_tree.specs.Programs.Part.{IsPhrasePlace}
 use Rattle.clip_store.specs.PlainFragment.{PlainFragment, IsFragment, plain_fragment, roomless_fragment}
 use Rattle.session_edit.specs.declared.edit.Edit.{Edit}
 

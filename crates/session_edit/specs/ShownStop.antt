@@ -1,8 +1,8 @@
 -- The stop at which a slot is shown, to which the cursor goes for it.
 use Rattle.std.specs.Prelude.{ℕ, ◌+◌, if◌then◌else◌, ◌==◌, List, [], ◌∷◌, Option, Some, None, option_map}
 use Rattle.std.specs.Option.{option_or}
-use Rattle.template_tree.specs.PlainTree.{Forest, PlainTree}
-use Rattle.template_tree.specs.Stop.{PlainStop, node_stop}
+use Rattle.template_tree.specs.Programs.PlainTree.{Forest, PlainTree}
+use Rattle.template_tree.specs.Positions.Stop.{PlainStop, node_stop}
 
 -- the path to the slot, or to the outermost elided comment in which it stands, among nodes of which the first has this number
 abbrev pub shown_path : ℕ → ℕ → Forest → Option (List ℕ)

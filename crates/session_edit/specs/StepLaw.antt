@@ -1,9 +1,9 @@
 -- The law of steps for edits at a stop: what is answered to one says that it is a step, or that nothing was done.
 use Rattle.std.specs.Prelude.{Bool, Result}
 use Rattle.template_tree.specs.declared.tree_fault.TreeFault.{TreeFault}
-use Rattle.template_tree.specs.PlainTree.{PlainTree, roomless_tree}
-use Rattle.template_tree.specs.Stop.{PlainStop}
-use Rattle.template_tree.specs.Tree.{IsTree}
+use Rattle.template_tree.specs.Programs.PlainTree.{PlainTree, roomless_tree}
+use Rattle.template_tree.specs.Positions.Stop.{PlainStop}
+use Rattle.template_tree.specs.Programs.Tree.{IsTree}
 use Rattle.tree_steps.specs.EditStep.{CameByEdits, IsEditStep}
 use Rattle.session_edit.specs.declared.applied.Applied.{Applied}
 use Rattle.session_edit.specs.AppliedEdit.{IsAnswer, IsApplied}

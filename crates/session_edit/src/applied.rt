@@ -1,7 +1,7 @@
 //! Edits applied at the stop of the cursor, and what they answer.
-ghost use Rattle.template_tree.specs.PlainTree.{roomless_tree};
-ghost use Rattle.template_tree.specs.Stop.{IsStop, plain_stop};
-ghost use Rattle.template_tree.specs.Tree.{IsTree};
+ghost use Rattle.template_tree.specs.Programs.PlainTree.{roomless_tree};
+ghost use Rattle.template_tree.specs.Positions.Stop.{IsStop, plain_stop};
+ghost use Rattle.template_tree.specs.Programs.Tree.{IsTree};
 ghost use Rattle.session_edit.specs.AppliedEdit.{IsAnswer, takes_memory};
 ghost use Rattle.session_edit.specs.Edited.{edited};
 ghost use Rattle.session_edit.specs.PlainEdit.{BringsWhatMayStand, plain_edit};

@@ -1,9 +1,9 @@
 //! Holes that come beside list items.
 ghost use Rattle.std.specs.Prelude.{◌≡◌, ◌↔◌, IsTrue, true};
 ghost use Rattle.template_tree.specs.declared.tree_fault.TreeFault.{TreeFault};
-ghost use Rattle.template_tree.specs.PlainTree.{roomless_tree};
-ghost use Rattle.template_tree.specs.Stop.{IsStop, plain_stop};
-ghost use Rattle.template_tree.specs.Tree.{IsTree};
+ghost use Rattle.template_tree.specs.Programs.PlainTree.{roomless_tree};
+ghost use Rattle.template_tree.specs.Positions.Stop.{IsStop, plain_stop};
+ghost use Rattle.template_tree.specs.Programs.Tree.{IsTree};
 ghost use Rattle.session_edit.specs.AppliedEdit.{IsAnswer};
 ghost use Rattle.session_edit.specs.Edited.{edited, outcome_of_hole_beside};
 ghost use Rattle.session_edit.specs.Here.{enclosing_item};

@@ -1,10 +1,10 @@
 //! Templates and phrase text entered at the cursor.
 ghost use Rattle.std.specs.Prelude.{◌≡◌, IsSome, None, Some, false, true};
 ghost use Rattle.plcs_grammar.specs.PlainPhrase.{plain_phrase};
-ghost use Rattle.template_tree.specs.Part.{IsPhrasePlace};
-ghost use Rattle.template_tree.specs.PlainTree.{roomless_tree};
-ghost use Rattle.template_tree.specs.Stop.{IsStop, plain_stop};
-ghost use Rattle.template_tree.specs.Tree.{IsTree};
+ghost use Rattle.template_tree.specs.Programs.Part.{IsPhrasePlace};
+ghost use Rattle.template_tree.specs.Programs.PlainTree.{roomless_tree};
+ghost use Rattle.template_tree.specs.Positions.Stop.{IsStop, plain_stop};
+ghost use Rattle.template_tree.specs.Programs.Tree.{IsTree};
 ghost use Rattle.session_edit.specs.AppliedEdit.{IsAnswer, takes_memory};
 ghost use Rattle.session_edit.specs.Edited.{edited};
 ghost use Rattle.session_edit.specs.PlainEdit.{PlainEdit};

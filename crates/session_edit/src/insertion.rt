@@ -1,11 +1,11 @@
 //! Fragments inserted at the cursor.
 ghost use Rattle.std.specs.Prelude.{Some, false};
 ghost use Rattle.plcs_grammar.specs.PlainPhrase.{plain_phrase};
-ghost use Rattle.template_tree.specs.Part.{IsPhrasePlace};
-ghost use Rattle.template_tree.specs.PlainTree.{roomless_node, roomless_tree};
-ghost use Rattle.template_tree.specs.Program.{IsSubtree};
-ghost use Rattle.template_tree.specs.Stop.{IsStop, plain_stop};
-ghost use Rattle.template_tree.specs.Tree.{IsTree};
+ghost use Rattle.template_tree.specs.Programs.Part.{IsPhrasePlace};
+ghost use Rattle.template_tree.specs.Programs.PlainTree.{roomless_node, roomless_tree};
+ghost use Rattle.template_tree.specs.Programs.Program.{IsSubtree};
+ghost use Rattle.template_tree.specs.Positions.Stop.{IsStop, plain_stop};
+ghost use Rattle.template_tree.specs.Programs.Tree.{IsTree};
 ghost use Rattle.clip_store.specs.PlainFragment.{IsFragment, PlainFragment, plain_fragment, roomless_fragment};
 ghost use Rattle.session_edit.specs.AppliedEdit.{IsAnswer};
 ghost use Rattle.session_edit.specs.Edited.{edited};

@@ -1,10 +1,10 @@
 //! What is deleted or taken out at the cursor.
 ghost use Rattle.std.specs.Prelude.{◌≡◌, IfNone, IfSome, IsSome, option_map, false};
-ghost use Rattle.template_tree.specs.Path.{node_at};
-ghost use Rattle.template_tree.specs.PlainTree.{roomless_tree};
-ghost use Rattle.template_tree.specs.Program.{sort_of};
-ghost use Rattle.template_tree.specs.Stop.{IsStop, plain_stop};
-ghost use Rattle.template_tree.specs.Tree.{IsTree};
+ghost use Rattle.template_tree.specs.Positions.Path.{node_at};
+ghost use Rattle.template_tree.specs.Programs.PlainTree.{roomless_tree};
+ghost use Rattle.template_tree.specs.Programs.Program.{sort_of};
+ghost use Rattle.template_tree.specs.Positions.Stop.{IsStop, plain_stop};
+ghost use Rattle.template_tree.specs.Programs.Tree.{IsTree};
 ghost use Rattle.session_edit.specs.AppliedEdit.{IsAnswer, IsApplied};
 ghost use Rattle.session_edit.specs.Cursor.{path_after_drop};
 ghost use Rattle.session_edit.specs.Edited.{edited};

@@ -3,9 +3,9 @@
 use Rattle.std.proofs.Common.{◌≡◌, ◌↔◌, List, ap, sym, subst, ◌∙◌, option_map}
 use Rattle.std.specs.Prelude.{Contains}
 use Rattle.plcs_base.specs.declared.place.PhraseAt.{PhraseAt}
-use Rattle.template_tree.specs.CheckLaws.{CheckAlike, ChecksIgnoreRoom}
-use Rattle.template_tree.specs.Environment.{Signature}
-use Rattle.template_tree.specs.PlainTree.{Forest, PlainTree, roomless, roomless_tree}
+use Rattle.template_tree.specs.Laws.CheckLaws.{CheckAlike, ChecksIgnoreRoom}
+use Rattle.template_tree.specs.Checks.Environment.{Signature}
+use Rattle.template_tree.specs.Programs.PlainTree.{Forest, PlainTree, roomless, roomless_tree}
 use Rattle.decl_table.specs.Agreement.{IsDeclsOf}
 use Rattle.decl_table.specs.PlainDecls.{PlainDecls, mentions_of}
 use Rattle.unparse_layout.specs.Agreement.{IsLayoutOf, LayoutsIgnoreRoom}

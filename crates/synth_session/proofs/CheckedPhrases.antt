@@ -4,9 +4,9 @@ use Rattle.std.proofs.Common.{◌≡◌, ◌+◌, ℕ, suc, Bool, true, false, i
 use Rattle.std.proofs.lemmas.List.{length-append}
 use Rattle.plcs_base.specs.PlainCounts.{ChecksAtMost, PlainCounts}
 use Rattle.plcs_grammar.specs.PlainPhrase.{PlainPhrase}
-use Rattle.template_tree.specs.Marks.{node_verdicts, part_verdicts, procedure_verdicts, surroundings}
-use Rattle.template_tree.specs.PlainTree.{Forest, PlainNode, PlainTree, roomless, roomless_tree}
-use Rattle.template_tree.specs.Verdict.{Surroundings}
+use Rattle.template_tree.specs.Checks.Marks.{node_verdicts, part_verdicts, procedure_verdicts, surroundings}
+use Rattle.template_tree.specs.Programs.PlainTree.{Forest, PlainNode, PlainTree, roomless, roomless_tree}
+use Rattle.template_tree.specs.Checks.Verdict.{Surroundings}
 use Rattle.clip_store.specs.ClipLimit.{is_full}
 use Rattle.clip_store.specs.PlainFragment.{PlainFragment}
 use Rattle.session_edit.specs.Edited.{Edited, edited}

@@ -4,18 +4,18 @@ use Rattle.std.specs.Prelude.{IsSome, IsSomeAnd}
 use Rattle.std.specs.Option.{option_map_or}
 use Rattle.plcs_grammar.specs.PlainPhrase.{PlainPhrase}
 use Rattle.plcs_grammar.specs.declared.node_kind.NodeKind.{NodeKind}
-use Rattle.template_tree.specs.Hole.{hole_left}
-use Rattle.template_tree.specs.EditAnswer.{MayTake}
+use Rattle.template_tree.specs.Edits.Hole.{hole_left}
+use Rattle.template_tree.specs.Edits.EditAnswer.{MayTake}
 use Rattle.template_tree.specs.declared.tree_fault.TreeFault.{TreeFault}
-use Rattle.template_tree.specs.Path.{node_at}
-use Rattle.template_tree.specs.PlainTree.{Forest, PlainNode, PlainTree, roomless, roomless_node}
-use Rattle.template_tree.specs.Slots.{count}
-use Rattle.template_tree.specs.Stop.{PlainStop}
-use Rattle.template_tree.specs.Copy.{CopyRefused, IsCopy}
+use Rattle.template_tree.specs.Positions.Path.{node_at}
+use Rattle.template_tree.specs.Programs.PlainTree.{Forest, PlainNode, PlainTree, roomless, roomless_node}
+use Rattle.template_tree.specs.Programs.Slots.{count}
+use Rattle.template_tree.specs.Positions.Stop.{PlainStop}
+use Rattle.template_tree.specs.Edits.Copy.{CopyRefused, IsCopy}
 use Rattle.clip_store.specs.PlainFragment.{PlainFragment, roomless_fragment, slots_of, whole_fragment}
 use Rattle.session_edit.specs.Here.{can_take, takes_at}
 use Rattle.screen_window.specs.LowerRows.{cursor_part}
-use Rattle.template_tree.specs.Part.{part_at}
+use Rattle.template_tree.specs.Programs.Part.{part_at}
 use Rattle.synth_session.specs.ClipCommands.{fragment_there}
 use Rattle.synth_session.specs.TypedLine.{cursor_phrase}
 

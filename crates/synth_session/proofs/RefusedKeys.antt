@@ -12,10 +12,10 @@ use Rattle.session_words.specs.CommandLine.{begins_with_point, command_of}
 use Rattle.session_words.specs.PlainCommand.{PlainCommand, PlainReading}
 use Rattle.session_words.specs.declared.command.CommandFault.TheVariants as line
 use Rattle.template_tree.specs.declared.side.Side.{Side}
-use Rattle.template_tree.specs.Elision.{with_toggled_at}
-use Rattle.template_tree.specs.Limit.{longest_phrase}
-use Rattle.template_tree.specs.PlainTree.{Forest}
-use Rattle.template_tree.specs.Stop.{PlainStop}
+use Rattle.template_tree.specs.Edits.Elision.{with_toggled_at}
+use Rattle.template_tree.specs.Programs.Limit.{longest_phrase}
+use Rattle.template_tree.specs.Programs.PlainTree.{Forest}
+use Rattle.template_tree.specs.Positions.Stop.{PlainStop}
 use Rattle.cursor_moves.specs.Move.{stop_down, stop_left, stop_right, stop_up}
 use Rattle.clip_store.specs.ClipLimit.{is_full}
 use Rattle.clip_store.specs.PlainClips.{clip_named}

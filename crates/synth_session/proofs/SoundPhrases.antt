@@ -5,12 +5,12 @@ use Rattle.plcs_grammar.specs.Canon.{Canon}
 use Rattle.plcs_grammar.specs.declared.category.Category.{Category}
 use Rattle.plcs_grammar.specs.PlainPhrase.{PlainPhrase, category_of}
 use Rattle.plcs_grammar.specs.Template.{row_of}
-use Rattle.template_tree.specs.Part.{part_at}
-use Rattle.template_tree.specs.Path.{below, node_at}
-use Rattle.template_tree.specs.PlainTree.{Forest, PlainNode, PlainTree, nodes}
-use Rattle.template_tree.specs.Program.{AreNodes, AreParts, IsPartPhrase, IsSubtree, parts_of}
-use Rattle.template_tree.specs.Stop.{PlainStop}
-use Rattle.template_tree.specs.Tree.{IsTree}
+use Rattle.template_tree.specs.Programs.Part.{part_at}
+use Rattle.template_tree.specs.Positions.Path.{below, node_at}
+use Rattle.template_tree.specs.Programs.PlainTree.{Forest, PlainNode, PlainTree, nodes}
+use Rattle.template_tree.specs.Programs.Program.{AreNodes, AreParts, IsPartPhrase, IsSubtree, parts_of}
+use Rattle.template_tree.specs.Positions.Stop.{PlainStop}
+use Rattle.template_tree.specs.Programs.Tree.{IsTree}
 use Rattle.screen_window.specs.LowerRows.{cursor_part}
 use Rattle.phrase_parser.proofs.Readings.Standings.{reading_category}
 use Rattle.synth_session.specs.TypedLine.{cursor_phrase}

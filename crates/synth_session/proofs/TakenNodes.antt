@@ -3,10 +3,10 @@ use Rattle.std.proofs.Common.{◌≡◌, ℕ, Option, Some, None}
 use Rattle.plcs_grammar.specs.declared.node_kind.NodeKind.{NodeKind}
 use Rattle.template_tree.specs.declared.tree_fault.TreeFault.{TreeFault}
 use Rattle.template_tree.specs.declared.change.What.{What}
-use Rattle.template_tree.specs.Hole.{hole_left}
-use Rattle.template_tree.specs.Path.{node_at}
-use Rattle.template_tree.specs.PlainTree.{PlainNode, PlainTree}
-use Rattle.template_tree.specs.Stop.{PlainStop}
+use Rattle.template_tree.specs.Edits.Hole.{hole_left}
+use Rattle.template_tree.specs.Positions.Path.{node_at}
+use Rattle.template_tree.specs.Programs.PlainTree.{PlainNode, PlainTree}
+use Rattle.template_tree.specs.Positions.Stop.{PlainStop}
 use Rattle.session_edit.specs.Edited.{Edited, at_node, edited, outcome_of_node_taking, outcome_of_taking, unless}
 use Rattle.session_edit.specs.PlainEdit.{PlainEdit}
 

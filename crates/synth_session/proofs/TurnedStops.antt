@@ -1,10 +1,10 @@
 -- The cursor may stand where it stood at a comment that is turned.
 use Rattle.std.proofs.Common.{◌≡◌, ℕ, zero, suc, Bool, true, false, not, if◌then◌else◌, List, [], ◌∷◌, Option, Some, None, option_map, option_and_then, refl, sym, ap, subst, ◌∙◌}
 use Rattle.std.specs.Prelude.{IsSomeAnd, slice_get}
-use Rattle.template_tree.specs.Edit.{edit_at, edit_below, give_way}
-use Rattle.template_tree.specs.Elision.{is_comment, toggled}
-use Rattle.template_tree.specs.PlainTree.{Forest, PlainNode, nodes}
-use Rattle.template_tree.specs.Stop.{IsStop, MayStand, PlainStop, visible_at, visible_below}
+use Rattle.template_tree.specs.Edits.Edit.{edit_at, edit_below, give_way}
+use Rattle.template_tree.specs.Edits.Elision.{is_comment, toggled}
+use Rattle.template_tree.specs.Programs.PlainTree.{Forest, PlainNode, nodes}
+use Rattle.template_tree.specs.Positions.Stop.{IsStop, MayStand, PlainStop, visible_at, visible_below}
 
 -- a comment turned, or another node as it is
 abbrev turned_node : PlainNode → PlainNode

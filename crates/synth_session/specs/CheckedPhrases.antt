@@ -1,7 +1,7 @@
 -- How many phrases a program has: so many are checked at most where the program is new, or another one.
 use Rattle.std.specs.Prelude.{ℕ, ◌+◌, List, [], ◌∷◌, Option, Some, None}
 use Rattle.plcs_grammar.specs.PlainPhrase.{PlainPhrase}
-use Rattle.template_tree.specs.PlainTree.{Forest, PlainTree}
+use Rattle.template_tree.specs.Programs.PlainTree.{Forest, PlainTree}
 
 -- how many of the parts of a node are filled
 abbrev pub filled_parts : List (Option PlainPhrase) → ℕ

@@ -1,9 +1,9 @@
 -- The commands of clips, `.copy`, `.cut` and `.insert`.
 use Rattle.std.specs.Prelude.{ℕ, if◌then◌else◌, List, Option, Some, None, option_map}
 use Rattle.std.specs.Option.{option_map_or}
-use Rattle.template_tree.specs.Path.{node_at}
-use Rattle.template_tree.specs.PlainTree.{PlainTree}
-use Rattle.template_tree.specs.Stop.{PlainStop}
+use Rattle.template_tree.specs.Positions.Path.{node_at}
+use Rattle.template_tree.specs.Programs.PlainTree.{PlainTree}
+use Rattle.template_tree.specs.Positions.Stop.{PlainStop}
 use Rattle.clip_store.specs.ClipLimit.{is_full}
 use Rattle.clip_store.specs.PlainClips.{clip_named, with_clip}
 use Rattle.clip_store.specs.PlainFragment.{PlainFragment, slots_of, whole_fragment}

@@ -1,7 +1,7 @@
 -- The keys that move the cursor.
 use Rattle.std.specs.Prelude.{◌==◌, if◌then◌else◌, length, Option, Some, None}
-use Rattle.template_tree.specs.PlainTree.{Forest}
-use Rattle.template_tree.specs.Stop.{PlainStop}
+use Rattle.template_tree.specs.Programs.PlainTree.{Forest}
+use Rattle.template_tree.specs.Positions.Stop.{PlainStop}
 use Rattle.synth_session.specs.declared.answer.Refusal.TheVariants as why
 use Rattle.synth_session.specs.KeyOutcome.{KeyOutcome, acceptance_outcome, refusal_outcome}
 use Rattle.synth_session.specs.PlainSession.{PlainSession}

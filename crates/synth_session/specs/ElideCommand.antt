@@ -1,10 +1,10 @@
 -- The command that hides the refinement of a comment, or shows it again.
 use Rattle.std.specs.Prelude.{Bool, false, if◌then◌else◌}
 use Rattle.std.specs.Option.{option_map_or}
-use Rattle.template_tree.specs.Elision.{is_comment, with_toggled_at}
-use Rattle.template_tree.specs.Path.{node_at}
-use Rattle.template_tree.specs.PlainTree.{PlainTree}
-use Rattle.template_tree.specs.Stop.{PlainStop}
+use Rattle.template_tree.specs.Edits.Elision.{is_comment, with_toggled_at}
+use Rattle.template_tree.specs.Positions.Path.{node_at}
+use Rattle.template_tree.specs.Programs.PlainTree.{PlainTree}
+use Rattle.template_tree.specs.Positions.Stop.{PlainStop}
 use Rattle.synth_session.specs.declared.answer.Refusal.TheVariants as why
 use Rattle.synth_session.specs.KeyOutcome.{KeyOutcome, line_acceptance_outcome, refusal_outcome}
 use Rattle.synth_session.specs.PlainSession.{PlainSession}

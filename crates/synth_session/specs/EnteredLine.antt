@@ -12,7 +12,7 @@ use Rattle.session_words.specs.CommandLine.{begins_with_point, command_of, comma
 use Rattle.session_words.specs.PlainCommand.{PlainCommand, PlainReading}
 use Rattle.session_words.specs.declared.command.CommandFault.TheVariants as line
 use Rattle.template_tree.specs.declared.side.Side.{Side}
-use Rattle.template_tree.specs.Limit.{longest_phrase}
+use Rattle.template_tree.specs.Programs.Limit.{longest_phrase}
 use Rattle.cursor_moves.specs.Move.{first_stop, last_stop, stop_right}
 use Rattle.session_edit.specs.Here.{category_at}
 use Rattle.session_edit.specs.PlainEdit.{PlainEdit}

@@ -4,8 +4,8 @@ use Rattle.plcs_base.specs.Count.{Rose}
 use Rattle.plcs_base.specs.declared.memory.OutOfMemory.{OutOfMemory}
 use Rattle.synth_outside.specs.Cause.{RisesWith}
 use Rattle.synth_outside.specs.Files.{FileMap, PlainFiles}
-use Rattle.template_tree.specs.PlainTree.{PlainTree}
-use Rattle.template_tree.specs.Tree.{IsTree}
+use Rattle.template_tree.specs.Programs.PlainTree.{PlainTree}
+use Rattle.template_tree.specs.Programs.Tree.{IsTree}
 use Rattle.file_store.specs.declared.refusal.FileRefusal.{FileRefusal}
 use Rattle.file_store.specs.FileReading.{LoadingSays}
 use Rattle.file_store.specs.Saved.{IsSaved}

@@ -2,7 +2,7 @@
 use Rattle.std.specs.Prelude.{◌==◌, if◌then◌else◌, length, Ok, Err}
 use Rattle.session_words.specs.CommandLine.{begins_with_point, command_of}
 use Rattle.session_words.specs.PlainCommand.{PlainCommand, PlainReading}
-use Rattle.template_tree.specs.Listing.{Listing}
+use Rattle.template_tree.specs.Listings.Listing.{Listing}
 use Rattle.synth_session.specs.declared.key.Key.{Key}
 use Rattle.synth_session.specs.declared.key.Key.TheVariants.{Enter}
 use Rattle.synth_session.specs.EnteredLine.{is_unbuilt}

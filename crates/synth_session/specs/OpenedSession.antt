@@ -1,8 +1,8 @@
 -- The session with which an editor is opened.
 use Rattle.std.specs.Prelude.{ℕ, List, [], ◌∷◌, Option, Some, None}
-use Rattle.template_tree.specs.NewTree.{new_tree}
-use Rattle.template_tree.specs.PlainTree.{PlainTree}
-use Rattle.template_tree.specs.Stop.{PlainStop, node_stop}
+use Rattle.template_tree.specs.Programs.NewTree.{new_tree}
+use Rattle.template_tree.specs.Programs.PlainTree.{PlainTree}
+use Rattle.template_tree.specs.Positions.Stop.{PlainStop, node_stop}
 use Rattle.cursor_moves.specs.Move.{first_stop}
 use Rattle.synth_session.specs.PlainScreenSize.{PlainScreenSize}
 use Rattle.synth_session.specs.PlainSession.{PlainSession}

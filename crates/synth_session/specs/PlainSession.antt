@@ -1,7 +1,7 @@
 -- The session as plain data: all that the screen and the next key depend on.
 use Rattle.std.specs.Prelude.{ℕ, List}
-use Rattle.template_tree.specs.PlainTree.{PlainTree}
-use Rattle.template_tree.specs.Stop.{PlainStop}
+use Rattle.template_tree.specs.Programs.PlainTree.{PlainTree}
+use Rattle.template_tree.specs.Positions.Stop.{PlainStop}
 use Rattle.clip_store.specs.PlainClips.{Pair}
 use Rattle.synth_session.specs.PlainScreenSize.{PlainScreenSize}
 

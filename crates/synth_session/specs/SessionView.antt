@@ -3,11 +3,11 @@ use Rattle.std.specs.Prelude.{◌≡◌, ◌+◌, ◌*◌, ◌<◌, ◌≤◌, B
 use Rattle.plcs_base.specs.PlainCounts.{ChecksAtMost, PlainCounts}
 use Rattle.plcs_base.specs.declared.memory.OutOfMemory.{OutOfMemory}
 use Rattle.synth_outside.specs.Files.{PlainFiles}
-use Rattle.template_tree.specs.Limit.{most_slots}
-use Rattle.template_tree.specs.Marks.{Verdicts}
-use Rattle.template_tree.specs.PlainTree.{PlainTree, roomless_tree}
-use Rattle.template_tree.specs.Stop.{IsStop, line_at, plain_stop}
-use Rattle.template_tree.specs.Tree.{IsTree}
+use Rattle.template_tree.specs.Programs.Limit.{most_slots}
+use Rattle.template_tree.specs.Checks.Marks.{Verdicts}
+use Rattle.template_tree.specs.Programs.PlainTree.{PlainTree, roomless_tree}
+use Rattle.template_tree.specs.Positions.Stop.{IsStop, line_at, plain_stop}
+use Rattle.template_tree.specs.Programs.Tree.{IsTree}
 use Rattle.decl_table.specs.Agreement.{IsDeclsOf}
 use Rattle.clip_store.specs.PlainClips.{kept_pairs}
 use Rattle.unparse_layout.specs.Agreement.{IsLayoutOf}

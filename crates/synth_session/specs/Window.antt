@@ -1,6 +1,6 @@
 -- The window over the program's lines, which follows the cursor.
 use Rattle.std.specs.Prelude.{ℕ, ◌+◌, ◌-◌, nat_le, nat_lt, if◌then◌else◌}
-use Rattle.template_tree.specs.Stop.{line_at}
+use Rattle.template_tree.specs.Positions.Stop.{line_at}
 use Rattle.screen_window.specs.Screen.{window_rows}
 use Rattle.synth_session.specs.PlainSession.{PlainSession}
 

@@ -1,6 +1,6 @@
 //! The keys and commands that move the cursor.
 ghost use Rattle.std.specs.Prelude.{◌≡◌, ◌==◌, IfSome, length, if◌then◌else◌};
-ghost use Rattle.template_tree.specs.Stop.{IsStop};
+ghost use Rattle.template_tree.specs.Positions.Stop.{IsStop};
 ghost use Rattle.cursor_moves.specs.Move.{first_stop, last_stop, moved_to, stop_down, stop_left, stop_right, stop_up};
 ghost use Rattle.synth_session.specs.CursorKeys.{cursor_goes, cursor_moved};
 ghost use Rattle.synth_session.specs.KeyOutcome.{line_acceptance_outcome, refusal_outcome};

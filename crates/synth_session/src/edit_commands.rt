@@ -1,8 +1,8 @@
 //! The commands that edit the program at the cursor.
 ghost use Rattle.std.specs.Prelude.{◌≡◌, ◌*◌, ◌≤◌, true};
 ghost use Rattle.plcs_base.specs.PlainCounts.{ChecksAtMost};
-ghost use Rattle.template_tree.specs.Limit.{most_slots};
-ghost use Rattle.template_tree.specs.Stop.{IsStop, plain_stop};
+ghost use Rattle.template_tree.specs.Programs.Limit.{most_slots};
+ghost use Rattle.template_tree.specs.Positions.Stop.{IsStop, plain_stop};
 ghost use Rattle.session_edit.specs.PlainEdit.{BringsWhatMayStand, plain_edit};
 ghost use Rattle.synth_session.specs.EditCommands.{edit_refusal, edited_by, edited_session};
 ghost use Rattle.synth_session.specs.KeyOutcome.{program_acceptance_outcome};

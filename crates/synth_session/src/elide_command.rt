@@ -1,6 +1,6 @@
 //! The command that hides the refinement of a comment, or shows it again.
 ghost use Rattle.std.specs.Prelude.{◌≡◌};
-ghost use Rattle.template_tree.specs.Elision.{is_comment};
+ghost use Rattle.template_tree.specs.Edits.Elision.{is_comment};
 ghost use Rattle.synth_session.specs.ElideCommand.{comment_toggled, is_at_comment};
 ghost use Rattle.synth_session.specs.Private.MemorylessKey.{HasOutcome};
 ghost use Rattle.synth_session.specs.SessionView.{IsSession, plain_session};

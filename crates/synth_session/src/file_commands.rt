@@ -1,9 +1,9 @@
 //! The commands of files, `.save` and `.load`, and the copy that is saved where memory ran out.
 ghost use Rattle.std.specs.Prelude.{◌≡◌, ◌≤◌, codes, true};
 ghost use Rattle.plcs_base.specs.PlainCounts.{ChecksAtMost};
-ghost use Rattle.template_tree.specs.Listing.{Listing};
-ghost use Rattle.template_tree.specs.PlainTree.{roomless_tree};
-ghost use Rattle.template_tree.specs.Tree.{IsTree};
+ghost use Rattle.template_tree.specs.Listings.Listing.{Listing};
+ghost use Rattle.template_tree.specs.Programs.PlainTree.{roomless_tree};
+ghost use Rattle.template_tree.specs.Programs.Tree.{IsTree};
 ghost use Rattle.file_store.specs.Saved.{Saves};
 ghost use Rattle.synth_session.specs.FileCommands.{load_outcome, save_outcome};
 ghost use Rattle.synth_session.specs.FileReply.{Reply, Request};

@@ -1,11 +1,11 @@
 //! The program with all that depends on it, and the four steps of its edits.
 ghost use Rattle.std.specs.Prelude.{◌≡◌, ◌≤◌, true, IfErr, IfOk, IfSome, IsSome, None, option_map};
 ghost use Rattle.plcs_base.specs.PlainCounts.{ChecksAtMost};
-ghost use Rattle.template_tree.specs.Elision.{with_toggled_at};
-ghost use Rattle.template_tree.specs.PlainTree.{roomless_node, roomless_tree};
-ghost use Rattle.template_tree.specs.Program.{IsSubtree};
-ghost use Rattle.template_tree.specs.Stop.{IsStop, plain_stop};
-ghost use Rattle.template_tree.specs.Tree.{IsTree};
+ghost use Rattle.template_tree.specs.Edits.Elision.{with_toggled_at};
+ghost use Rattle.template_tree.specs.Programs.PlainTree.{roomless_node, roomless_tree};
+ghost use Rattle.template_tree.specs.Programs.Program.{IsSubtree};
+ghost use Rattle.template_tree.specs.Positions.Stop.{IsStop, plain_stop};
+ghost use Rattle.template_tree.specs.Programs.Tree.{IsTree};
 ghost use Rattle.session_edit.specs.Edited.{Edited, edited};
 ghost use Rattle.session_edit.specs.Here.{takes_at};
 ghost use Rattle.session_edit.specs.PlainEdit.{BringsWhatMayStand, PlainEdit, plain_edit};

@@ -3,12 +3,12 @@
 ghost use Rattle.std.specs.Prelude.{◌≡◌, ◌≤◌, [], ◌∷◌, None, IfOk, IfSome, length, option_map};
 ghost use Rattle.plcs_base.specs.PlainCounts.{ChecksAtMost};
 ghost use Rattle.plcs_base.specs.Put.{PutsAll};
-ghost use Rattle.template_tree.specs.Listing.{Listing};
-ghost use Rattle.template_tree.specs.PlainTree.{roomless_tree};
-ghost use Rattle.template_tree.specs.Slots.{count};
-ghost use Rattle.template_tree.specs.Stop.{IsStop, plain_stop};
-ghost use Rattle.template_tree.specs.Tree.{IsTree};
-ghost use Rattle.template_tree.specs.NewTree.{new_tree};
+ghost use Rattle.template_tree.specs.Listings.Listing.{Listing};
+ghost use Rattle.template_tree.specs.Programs.PlainTree.{roomless_tree};
+ghost use Rattle.template_tree.specs.Programs.Slots.{count};
+ghost use Rattle.template_tree.specs.Positions.Stop.{IsStop, plain_stop};
+ghost use Rattle.template_tree.specs.Programs.Tree.{IsTree};
+ghost use Rattle.template_tree.specs.Programs.NewTree.{new_tree};
 ghost use Rattle.file_store.specs.Limit.{longest_input};
 ghost use Rattle.screen_window.specs.PlainGrid.{blank_grid};
 ghost use Rattle.synth_session.specs.CheckedPhrases.{phrase_count};

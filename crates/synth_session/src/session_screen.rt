@@ -1,11 +1,11 @@
 //! The screen of a session, with the prompt, drawn and painted.
 ghost use Rattle.std.specs.Prelude.{◌≡◌, ◌+◌, ◌*◌, ◌≤◌, [], None, length, OnErr, OnOk};
 ghost use Rattle.plcs_base.specs.PlainCounts.{LaysAtMost};
-ghost use Rattle.template_tree.specs.Marks.{Marks};
-ghost use Rattle.template_tree.specs.PlainTree.{roomless_tree};
-ghost use Rattle.template_tree.specs.Limit.{most_slots};
-ghost use Rattle.template_tree.specs.Stop.{IsStop, plain_stop};
-ghost use Rattle.template_tree.specs.Tree.{IsTree};
+ghost use Rattle.template_tree.specs.Checks.Marks.{Marks};
+ghost use Rattle.template_tree.specs.Programs.PlainTree.{roomless_tree};
+ghost use Rattle.template_tree.specs.Programs.Limit.{most_slots};
+ghost use Rattle.template_tree.specs.Positions.Stop.{IsStop, plain_stop};
+ghost use Rattle.template_tree.specs.Programs.Tree.{IsTree};
 ghost use Rattle.screen_window.specs.Paint.{Paint};
 ghost use Rattle.screen_window.specs.Screen.{Screen, window_rows};
 ghost use Rattle.screen_window.specs.Writes.{Writes};

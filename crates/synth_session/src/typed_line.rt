@@ -2,9 +2,9 @@
 ghost use Rattle.std.specs.Prelude.{◌≡◌, ◌≤◌, ◌<◌, length, option_map, IfNone, IfSome, None};
 ghost use Rattle.plcs_grammar.specs.Canon.{Canon};
 ghost use Rattle.plcs_grammar.specs.PlainPhrase.{plain_phrase};
-ghost use Rattle.template_tree.specs.PlainTree.{roomless_tree};
-ghost use Rattle.template_tree.specs.Stop.{plain_stop};
-ghost use Rattle.template_tree.specs.Tree.{IsTree};
+ghost use Rattle.template_tree.specs.Programs.PlainTree.{roomless_tree};
+ghost use Rattle.template_tree.specs.Positions.Stop.{plain_stop};
+ghost use Rattle.template_tree.specs.Programs.Tree.{IsTree};
 ghost use Rattle.synth_session.specs.Private.MemorylessKey.{HasOutcome};
 ghost use Rattle.synth_session.specs.SessionView.{IsSession, plain_session};
 ghost use Rattle.synth_session.specs.TypedLine.{char_typed, cursor_phrase, last_erased, phrase_typed};

@@ -1,6 +1,6 @@
 //! Where the window begins, so that a line is seen in it.
 ghost use Rattle.std.specs.Prelude.{◌≡◌, ◌+◌, ◌≤◌, ◌<◌, ◌^◌, ◌*◌};
-ghost use Rattle.template_tree.specs.Limit.{most_slots};
+ghost use Rattle.template_tree.specs.Programs.Limit.{most_slots};
 ghost use Rattle.synth_session.specs.Window.{top_showing};
 
 /// The number of the first line of a window of so many rows that shows this line, where it began at `top`.

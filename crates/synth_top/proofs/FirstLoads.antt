@@ -1,11 +1,11 @@
 -- A program that was loaded before the first screen, without its room.
 use Rattle.std.proofs.Common.{◌≡◌, ℕ, ◌+◌, false, List, Option, Some, None, Ok, refl, sym, ap, ◌∙◌, arith}
 use Rattle.synth_outside.specs.Files.{FileMap, NewContent, PlainFiles}
-use Rattle.template_tree.specs.Edit.{whole}
-use Rattle.template_tree.specs.PlainTree.{Forest, PlainTree, roomless, roomless_tree}
-use Rattle.template_tree.specs.RoomLaws.{CountsIgnoreRoom, ListingIgnoresRoom, TreesIgnoreRoom}
-use Rattle.template_tree.specs.Slots.{count, with_slots_from}
-use Rattle.template_tree.specs.Tree.{IsTree}
+use Rattle.template_tree.specs.Edits.Edit.{whole}
+use Rattle.template_tree.specs.Programs.PlainTree.{Forest, PlainTree, roomless, roomless_tree}
+use Rattle.template_tree.specs.Laws.RoomLaws.{CountsIgnoreRoom, ListingIgnoresRoom, TreesIgnoreRoom}
+use Rattle.template_tree.specs.Programs.Slots.{count, with_slots_from}
+use Rattle.template_tree.specs.Programs.Tree.{IsTree}
 use Rattle.file_store.specs.FileReading.{LoadingSays, OnlyReads}
 use Rattle.file_store.specs.Loaded.{IsListingOf}
 use Rattle.synth_session.specs.FileReply.{Reply}

@@ -4,7 +4,7 @@ use Rattle.std.specs.Prelude.{option_map}
 use Rattle.std.specs.FinMap.{insert}
 use Rattle.plcs_base.specs.PlainCounts.{ChecksAtMost, PlainCounts}
 use Rattle.synth_outside.specs.Files.{FileMap, PlainFiles}
-use Rattle.template_tree.specs.Listing.{Listing}
+use Rattle.template_tree.specs.Listings.Listing.{Listing}
 use Rattle.synth_session.specs.PlainSession.{PlainSession}
 use Rattle.synth_top.specs.declared.status.Status.{Status}
 use Rattle.synth_top.specs.declared.status.Status.TheVariants.{NoMemory}

@@ -2,7 +2,7 @@
 use Rattle.std.specs.Prelude.{◌≡◌, ◌≢◌, ℕ, ◌+◌, ◌≤◌, List, [], length, Option, Some, None}
 use Rattle.std.specs.Option.{option_or}
 use Rattle.synth_outside.specs.Files.{FileMap}
-use Rattle.template_tree.specs.PlainTree.{PlainTree}
+use Rattle.template_tree.specs.Programs.PlainTree.{PlainTree}
 use Rattle.file_store.specs.declared.refusal.FileRefusal.{FileRefusal}
 use Rattle.file_store.specs.FileReading.{Holds, IsFileRefused}
 use Rattle.file_store.specs.Limit.{longest_input}

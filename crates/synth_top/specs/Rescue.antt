@@ -3,7 +3,7 @@ use Rattle.std.specs.Prelude.{◌≡◌, ◌≢◌, ℕ, codes, Option, option_m
 use Rattle.std.specs.FinMap.{insert}
 use Rattle.plcs_base.specs.Count.{Rose}
 use Rattle.synth_outside.specs.Files.{FileMap}
-use Rattle.template_tree.specs.Listing.{Listing}
+use Rattle.template_tree.specs.Listings.Listing.{Listing}
 use Rattle.synth_top.specs.declared.status.Status.{Status}
 use Rattle.synth_top.specs.declared.status.Status.TheVariants.{NoMemory}
 use Rattle.synth_top.specs.Turn.{EditorState}

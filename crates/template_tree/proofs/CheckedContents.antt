@@ -5,13 +5,13 @@ use Rattle.std.specs.Option.{option_or}
 use Rattle.std.proofs.Common.{ap, sym, ◌∙◌}
 use Rattle.plcs_base.specs.declared.declared.Declared.{Declared}
 use Rattle.plcs_base.specs.declared.declared.ItemType.{ItemType}
-use Rattle.template_tree.specs.CheckLaws.{CheckAlike, ChecksIgnoreElision, ChecksIgnoreRoom}
-use Rattle.template_tree.specs.Edit.{edit_at, edit_below, give_way}
-use Rattle.template_tree.specs.Elision.{is_comment, toggled}
-use Rattle.template_tree.specs.Environment.{Heading, Items, Sig, Signature, all_declared, declares, effective, heading_of, items_inside, may_be_called, parameter_kinds, procedure_at, signature_of, type_given}
-use Rattle.template_tree.specs.Marks.{VerdictList, VerdictMap, Verdicts, declared_before, node_verdicts, part_verdicts, procedure_verdicts, procedures_before, surroundings, type_in}
-use Rattle.template_tree.specs.Mention.{mentions, part_mentions}
-use Rattle.template_tree.specs.PlainTree.{Forest, Label, PlainNode, forest, join, roomless}
+use Rattle.template_tree.specs.Laws.CheckLaws.{CheckAlike, ChecksIgnoreElision, ChecksIgnoreRoom}
+use Rattle.template_tree.specs.Edits.Edit.{edit_at, edit_below, give_way}
+use Rattle.template_tree.specs.Edits.Elision.{is_comment, toggled}
+use Rattle.template_tree.specs.Checks.Environment.{Heading, Items, Sig, Signature, all_declared, declares, effective, heading_of, items_inside, may_be_called, parameter_kinds, procedure_at, signature_of, type_given}
+use Rattle.template_tree.specs.Checks.Marks.{VerdictList, VerdictMap, Verdicts, declared_before, node_verdicts, part_verdicts, procedure_verdicts, procedures_before, surroundings, type_in}
+use Rattle.template_tree.specs.Checks.Mention.{mentions, part_mentions}
+use Rattle.template_tree.specs.Programs.PlainTree.{Forest, Label, PlainNode, forest, join, roomless}
 
 -- ---- the content of a program
 

@@ -2,9 +2,9 @@
 use Rattle.std.specs.Prelude.{◌≡◌, refl, Some}
 use Rattle.plcs_grammar.specs.declared.node_kind.NodeKind.{NodeKind}
 use Rattle.plcs_grammar.specs.declared.template.Template.{Template}
-use Rattle.template_tree.specs.PlainTree.{Forest}
-use Rattle.template_tree.specs.NewTree.{bare_label}
-use Rattle.template_tree.specs.Place.{place_at, Start, After}
+use Rattle.template_tree.specs.Programs.PlainTree.{Forest}
+use Rattle.template_tree.specs.Programs.NewTree.{bare_label}
+use Rattle.template_tree.specs.Positions.Place.{place_at, Start, After}
 
 -- main with a while over a group of two holes, then a choice between two holes, then a hole
 abbrev sample : Forest

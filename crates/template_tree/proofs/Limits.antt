@@ -1,6 +1,6 @@
 -- The value of each limit.
 use Rattle.std.specs.Prelude.{◌≡◌, refl}
-use Rattle.template_tree.specs.Limit.{deepest_path, most_slots, most_drawn_slots, longest_phrase, most_cells}
+use Rattle.template_tree.specs.Programs.Limit.{deepest_path, most_slots, most_drawn_slots, longest_phrase, most_cells}
 
 deepest_path_is : deepest_path ≡ 64
 deepest_path_is = refl

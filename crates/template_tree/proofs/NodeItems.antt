@@ -1,8 +1,8 @@
 -- The items of nodes, found at paths of one number.
 use Rattle.std.proofs.Common.{◌≡◌, ℕ, [], ◌∷◌, slice_get, Option, Some, None, refl}
 use Rattle.std.specs.Prelude.{option_and_then}
-use Rattle.template_tree.specs.Path.{node_at}
-use Rattle.template_tree.specs.PlainTree.{Forest, PlainNode, nodes}
+use Rattle.template_tree.specs.Positions.Path.{node_at}
+use Rattle.template_tree.specs.Programs.PlainTree.{Forest, PlainNode, nodes}
 
 -- the node at a path of one number is the item of that number
 pub at_one : (items : Forest) (k : ℕ) → node_at items (k ∷ []) ≡ slice_get (nodes items) k

@@ -1,8 +1,8 @@
 //! What stands around the node at a path: the sections and the nodes among which it stands.
 ghost use Rattle.std.specs.Prelude.{◌≡◌, map};
 ghost use Rattle.plcs_grammar.specs.Template.{plain_section, program_sections};
-ghost use Rattle.template_tree.specs.ListItem.{sections_at, siblings_at};
-ghost use Rattle.template_tree.specs.PlainTree.{forest};
+ghost use Rattle.template_tree.specs.Edits.ListItem.{sections_at, siblings_at};
+ghost use Rattle.template_tree.specs.Programs.PlainTree.{forest};
 
 use crate::node::{Node, Nodes};
 use crate::path::Path;

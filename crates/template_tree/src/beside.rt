@@ -1,6 +1,6 @@
 //! Paths to the items beside an item of a list, and on which side of them it stood.
 ghost use Rattle.std.specs.Prelude.{◌≡◌, ◌<◌, pred, suc};
-ghost use Rattle.template_tree.specs.Path.{added_path, last_child_number, with_last};
+ghost use Rattle.template_tree.specs.Positions.Path.{added_path, last_child_number, with_last};
 ghost use Rattle.template_tree.specs.Private.Restored.{side_of};
 
 use crate::path::{Path, copy_path};

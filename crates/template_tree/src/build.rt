@@ -1,13 +1,13 @@
 //! Nodes and trees built from their leaves, nodes that come into a tree, and the slots that are drawn for them.
 ghost use Rattle.std.specs.Prelude.{◌≡◌, ◌+◌, ◌≤◌, IfErr, IfOk, map};
-ghost use Rattle.template_tree.specs.Build.{IsOverBuildLimit, built_label, built_tree};
-ghost use Rattle.template_tree.specs.Edit.{node_in_slot, whole};
-ghost use Rattle.template_tree.specs.Limit.{deepest_path, most_slots};
-ghost use Rattle.template_tree.specs.PlainPhrasePlace.{plain_phrase_place};
-ghost use Rattle.template_tree.specs.PlainTree.{nodes, forest};
-ghost use Rattle.template_tree.specs.Program.{AreNodes, IsNode, IsProgram, IsSubtree, sorts};
-ghost use Rattle.template_tree.specs.Slots.{count, depth, with_slots_from};
-ghost use Rattle.template_tree.specs.Tree.{IsTree};
+ghost use Rattle.template_tree.specs.Programs.Build.{IsOverBuildLimit, built_label, built_tree};
+ghost use Rattle.template_tree.specs.Edits.Edit.{node_in_slot, whole};
+ghost use Rattle.template_tree.specs.Programs.Limit.{deepest_path, most_slots};
+ghost use Rattle.template_tree.specs.Programs.PlainPhrasePlace.{plain_phrase_place};
+ghost use Rattle.template_tree.specs.Programs.PlainTree.{nodes, forest};
+ghost use Rattle.template_tree.specs.Programs.Program.{AreNodes, IsNode, IsProgram, IsSubtree, sorts};
+ghost use Rattle.template_tree.specs.Programs.Slots.{count, depth, with_slots_from};
+ghost use Rattle.template_tree.specs.Programs.Tree.{IsTree};
 
 use crate::limit::{DEEPEST_PATH, MOST_SLOTS};
 use crate::limit_reached::{is_within_depth, slots_left};

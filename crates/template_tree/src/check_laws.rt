@@ -1,5 +1,5 @@
 //! The laws of checking; each a function that does nothing and whose contract states it.
-ghost use Rattle.template_tree.specs.CheckLaws.{ChecksIgnoreElision, ChecksIgnoreRoom};
+ghost use Rattle.template_tree.specs.Laws.CheckLaws.{ChecksIgnoreElision, ChecksIgnoreRoom};
 
 /// What a program declares and mentions, and the verdicts of its phrases, don't depend on the room of its
 /// lists, nor on which comments are elided.

@@ -1,12 +1,12 @@
 //! Copies of nodes.
 ghost use Rattle.std.specs.Prelude.{◌≡◌, IfErr, IfOk, IsSomeAnd, map};
-ghost use Rattle.template_tree.specs.Copy.{CopyRefused, IsCopy};
-ghost use Rattle.template_tree.specs.EditAnswer.{MayTake};
-ghost use Rattle.template_tree.specs.Path.{node_at};
-ghost use Rattle.template_tree.specs.PlainPhrasePlace.{plain_phrase_place};
-ghost use Rattle.template_tree.specs.Program.{IsSubtree};
-ghost use Rattle.template_tree.specs.Slots.{count, depth};
-ghost use Rattle.template_tree.specs.Tree.{IsTree};
+ghost use Rattle.template_tree.specs.Edits.Copy.{CopyRefused, IsCopy};
+ghost use Rattle.template_tree.specs.Edits.EditAnswer.{MayTake};
+ghost use Rattle.template_tree.specs.Positions.Path.{node_at};
+ghost use Rattle.template_tree.specs.Programs.PlainPhrasePlace.{plain_phrase_place};
+ghost use Rattle.template_tree.specs.Programs.Program.{IsSubtree};
+ghost use Rattle.template_tree.specs.Programs.Slots.{count, depth};
+ghost use Rattle.template_tree.specs.Programs.Tree.{IsTree};
 
 use crate::hole::hole_left;
 use crate::node::{Node, Nodes};

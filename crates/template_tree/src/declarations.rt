@@ -2,7 +2,7 @@
 ghost use Rattle.std.specs.Prelude.{◌≡◌, option_map};
 ghost use Rattle.plcs_base.specs.declared.declared.ItemType.{ItemType};
 ghost use Rattle.plcs_grammar.specs.PlainPhrase.{plain_phrase};
-ghost use Rattle.template_tree.specs.Environment.{cells_in, items_of_list, length_given, list_items, number_of_length, template_type, type_given};
+ghost use Rattle.template_tree.specs.Checks.Environment.{cells_in, items_of_list, length_given, list_items, number_of_length, template_type, type_given};
 
 use crate::filled_part::phrase_in;
 use crate::node::Node;

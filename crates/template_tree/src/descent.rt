@@ -6,8 +6,8 @@ ghost use Rattle.std.specs.Borrow.{LendsIf, sem};
 ghost use Rattle.std.specs.Prelude.{◌≡◌, ℕ, ◌+◌, ◌≤◌, length, option_and_then, option_map, slice_get};
 ghost use Rattle.template_tree.specs.contracts.node.Node as node_row;
 ghost use Rattle.template_tree.specs.contracts.node.Nodes as list_row;
-ghost use Rattle.template_tree.specs.Lend.{put_in};
-ghost use Rattle.template_tree.specs.Path.{below};
+ghost use Rattle.template_tree.specs.Edits.Lend.{put_in};
+ghost use Rattle.template_tree.specs.Positions.Path.{below};
 
 use crate::node::{Node, Nodes};
 use crate::path::halves;

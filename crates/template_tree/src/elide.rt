@@ -1,8 +1,8 @@
 //! Comments whose refinements are hidden or shown.
 ghost use Rattle.std.specs.Prelude.{◌≡◌, ◌∷◌, [], option_and_then};
-ghost use Rattle.template_tree.specs.Elision.{hidden_after_toggle, toggled, with_toggled_at};
-ghost use Rattle.template_tree.specs.Path.{node_at};
-ghost use Rattle.template_tree.specs.Tree.{IsTree};
+ghost use Rattle.template_tree.specs.Edits.Elision.{hidden_after_toggle, toggled, with_toggled_at};
+ghost use Rattle.template_tree.specs.Positions.Path.{node_at};
+ghost use Rattle.template_tree.specs.Programs.Tree.{IsTree};
 
 use crate::node::Node;
 use crate::path::Path;

@@ -1,12 +1,12 @@
 //! A node that comes in place of another, and what the change of an edit says.
 ghost use Rattle.std.specs.Prelude.{◌≡◌, IfSome, IsSome, IsSomeAnd, None, Some};
-ghost use Rattle.template_tree.specs.Edit.{Put};
-ghost use Rattle.template_tree.specs.EditAnswer.{IsEdit, slot_in};
-ghost use Rattle.template_tree.specs.Path.{node_at};
+ghost use Rattle.template_tree.specs.Edits.Edit.{Put};
+ghost use Rattle.template_tree.specs.Edits.EditAnswer.{IsEdit, slot_in};
+ghost use Rattle.template_tree.specs.Positions.Path.{node_at};
 ghost use Rattle.template_tree.specs.Private.Exchange.{IsChangeOf, MayReplace, first_item};
-ghost use Rattle.template_tree.specs.Receipt.{NeedsNoRoom};
-ghost use Rattle.template_tree.specs.Tree.{IsTree};
-ghost use Rattle.template_tree.specs.TreeEdit.{TreeEdit};
+ghost use Rattle.template_tree.specs.Edits.Receipt.{NeedsNoRoom};
+ghost use Rattle.template_tree.specs.Programs.Tree.{IsTree};
+ghost use Rattle.template_tree.specs.Edits.TreeEdit.{TreeEdit};
 ghost use Rattle.template_tree.specs.declared.change.What.{What};
 
 use crate::change::{Change, What};
@@ -62,7 +62,7 @@ impl Tree {
 
     /// The procedure that the change of an edit tells: the slot of main, the procedure or the procedure
     /// hole on the way of the path.
-    #[tactic(auto, using(crate::specs::PlainTree::nodes_forest))]
+    #[tactic(auto, using(crate::specs::Programs::PlainTree::nodes_forest))]
     pub(crate) fn procedure_at(&self, path: &Path) -> Slot
         requires { IsSome (first_item self.now.items path.now.items) }
         ensures { IfSome (first_item self.now.items path.now.items) (λ item. result.0 ≡ item.label.slot) }

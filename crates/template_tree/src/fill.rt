@@ -2,17 +2,17 @@
 ghost use Rattle.std.specs.Prelude.{◌≡◌, ◌+◌, IfErr, IfOk, None, OnOk, length, map, min};
 ghost use Rattle.plcs_grammar.specs.Template.{plain_section, plain_segment};
 ghost use Rattle.plcs_grammar.specs.declared.node_kind.NodeKind.{NodeKind};
-ghost use Rattle.template_tree.specs.Hole.{hole_list, hole_of};
-ghost use Rattle.template_tree.specs.EditAnswer.{Edits, IsHoleFor, Refuses};
-ghost use Rattle.template_tree.specs.FreshNode.{fresh_node, section_holes};
-ghost use Rattle.template_tree.specs.Path.{node_at};
-ghost use Rattle.template_tree.specs.PlainPhrasePlace.{plain_phrase_place};
-ghost use Rattle.template_tree.specs.PlainTree.{forest, join, roomless, roomless_node};
-ghost use Rattle.template_tree.specs.Program.{parts_of};
-ghost use Rattle.template_tree.specs.Slots.{count};
-ghost use Rattle.template_tree.specs.Receipt.{NeedsNoRoom};
-ghost use Rattle.template_tree.specs.Tree.{IsTree};
-ghost use Rattle.template_tree.specs.TreeEdit.{TreeEdit};
+ghost use Rattle.template_tree.specs.Edits.Hole.{hole_list, hole_of};
+ghost use Rattle.template_tree.specs.Edits.EditAnswer.{Edits, IsHoleFor, Refuses};
+ghost use Rattle.template_tree.specs.Edits.FreshNode.{fresh_node, section_holes};
+ghost use Rattle.template_tree.specs.Positions.Path.{node_at};
+ghost use Rattle.template_tree.specs.Programs.PlainPhrasePlace.{plain_phrase_place};
+ghost use Rattle.template_tree.specs.Programs.PlainTree.{forest, join, roomless, roomless_node};
+ghost use Rattle.template_tree.specs.Programs.Program.{parts_of};
+ghost use Rattle.template_tree.specs.Programs.Slots.{count};
+ghost use Rattle.template_tree.specs.Edits.Receipt.{NeedsNoRoom};
+ghost use Rattle.template_tree.specs.Programs.Tree.{IsTree};
+ghost use Rattle.template_tree.specs.Edits.TreeEdit.{TreeEdit};
 
 use crate::hole::{hole_of, is_hole_for};
 use crate::limit_reached::depth_allows;

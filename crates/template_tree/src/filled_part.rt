@@ -1,7 +1,7 @@
 //! The phrases in filled parts of nodes.
 ghost use Rattle.std.specs.Prelude.{◌≡◌, option_map};
 ghost use Rattle.plcs_grammar.specs.PlainPhrase.{plain_phrase};
-ghost use Rattle.template_tree.specs.Part.{part_at};
+ghost use Rattle.template_tree.specs.Programs.Part.{part_at};
 
 use crate::node::Node;
 use crate::phrase_place::PhrasePlace;

@@ -1,7 +1,7 @@
 //! What the headings of procedures say, read from the parts of their nodes, and which names may be called.
 ghost use Rattle.std.specs.Prelude.{◌≡◌, [], Some, option_map};
 ghost use Rattle.plcs_grammar.specs.PlainPhrase.{plain_phrase};
-ghost use Rattle.template_tree.specs.Environment.{heading_of, heading_with, may_be_called, name_given, name_of_procedure, names_of_list, parameters_given, template_heading};
+ghost use Rattle.template_tree.specs.Checks.Environment.{heading_of, heading_with, may_be_called, name_given, name_of_procedure, names_of_list, parameters_given, template_heading};
 
 use crate::filled_part::phrase_in;
 use crate::node::Node;

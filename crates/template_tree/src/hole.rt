@@ -1,8 +1,8 @@
 //! Kinds of nodes that are holes or assignments, and which hole stands for which kind.
 ghost use Rattle.std.specs.Prelude.{◌≡◌, ◌↔◌, IsTrue, Some};
 ghost use Rattle.plcs_grammar.specs.declared.node_kind.NodeKind.{NodeKind};
-ghost use Rattle.template_tree.specs.Hole.{hole_left, hole_of, is_hole};
-ghost use Rattle.template_tree.specs.Program.{sort_of};
+ghost use Rattle.template_tree.specs.Edits.Hole.{hole_left, hole_of, is_hole};
+ghost use Rattle.template_tree.specs.Programs.Program.{sort_of};
 
 use plcs_grammar::{NodeKind, Sort};
 

@@ -1,11 +1,11 @@
 //! Nodes put into holes.
 ghost use Rattle.std.specs.Prelude.{◌≡◌, IfErr, IfOk};
-ghost use Rattle.template_tree.specs.EditAnswer.{Edits, IsHoleFor, Refuses};
-ghost use Rattle.template_tree.specs.Path.{node_at};
-ghost use Rattle.template_tree.specs.Program.{IsSubtree};
-ghost use Rattle.template_tree.specs.Receipt.{NeedsNoRoom};
-ghost use Rattle.template_tree.specs.Tree.{IsTree};
-ghost use Rattle.template_tree.specs.TreeEdit.{TreeEdit};
+ghost use Rattle.template_tree.specs.Edits.EditAnswer.{Edits, IsHoleFor, Refuses};
+ghost use Rattle.template_tree.specs.Positions.Path.{node_at};
+ghost use Rattle.template_tree.specs.Programs.Program.{IsSubtree};
+ghost use Rattle.template_tree.specs.Edits.Receipt.{NeedsNoRoom};
+ghost use Rattle.template_tree.specs.Programs.Tree.{IsTree};
+ghost use Rattle.template_tree.specs.Edits.TreeEdit.{TreeEdit};
 ghost use Rattle.template_tree.specs.declared.tree_fault.TreeFault.{TreeFault};
 
 use crate::hole::is_hole_for;

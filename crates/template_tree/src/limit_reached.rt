@@ -1,10 +1,10 @@
 //! The limits of a tree, asked before nodes come into it.
 ghost use Rattle.std.specs.Prelude.{◌≡◌, ◌↔◌, ◌+◌, ◌<◌, ◌≤◌, IfNone, IfSome, IsTrue, length, min, true};
-ghost use Rattle.template_tree.specs.Limit.{deepest_path, most_drawn_slots, most_slots};
-ghost use Rattle.template_tree.specs.PlainTree.{forest};
+ghost use Rattle.template_tree.specs.Programs.Limit.{deepest_path, most_drawn_slots, most_slots};
+ghost use Rattle.template_tree.specs.Programs.PlainTree.{forest};
 ghost use Rattle.template_tree.specs.Private.Exchange.{MeetsLimit};
-ghost use Rattle.template_tree.specs.Slots.{count, depth};
-ghost use Rattle.template_tree.specs.Tree.{IsTree};
+ghost use Rattle.template_tree.specs.Programs.Slots.{count, depth};
+ghost use Rattle.template_tree.specs.Programs.Tree.{IsTree};
 
 use crate::limit::{DEEPEST_PATH, MOST_DRAWN_SLOTS, MOST_SLOTS};
 use crate::node::{Node, Nodes};

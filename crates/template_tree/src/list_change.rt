@@ -1,10 +1,10 @@
 //! Lists changed by an item, at the end of a path through the nodes.
 ghost use Rattle.std.specs.Prelude.{◌≡◌, ◌<◌, ◌∷◌, [], IfErr, IfNone, IfOk, IfSome, IsSome, slice_get};
-ghost use Rattle.template_tree.specs.Edit.{edit_at};
-ghost use Rattle.template_tree.specs.Lend.{with_node_removed};
-ghost use Rattle.template_tree.specs.Path.{node_at};
-ghost use Rattle.template_tree.specs.PlainTree.{forest, roomless, roomless_node};
-ghost use Rattle.template_tree.specs.Receipt.{list_room, with_beside};
+ghost use Rattle.template_tree.specs.Edits.Edit.{edit_at};
+ghost use Rattle.template_tree.specs.Edits.Lend.{with_node_removed};
+ghost use Rattle.template_tree.specs.Positions.Path.{node_at};
+ghost use Rattle.template_tree.specs.Programs.PlainTree.{forest, roomless, roomless_node};
+ghost use Rattle.template_tree.specs.Edits.Receipt.{list_room, with_beside};
 
 use crate::node::{Node, Nodes};
 use crate::side::Side;
@@ -13,7 +13,7 @@ use plcs_base::OutOfMemory;
 impl Nodes {
     /// Takes the node at a path out of its list, whose room stays: `k` is the first number of the path,
     /// and `path` are the others. `None` where no node is there.
-    #[tactic(auto, using(crate::specs::PlainTree::nodes_forest))]
+    #[tactic(auto, using(crate::specs::Programs::PlainTree::nodes_forest))]
     pub(crate) fn remove_at(&mut self, k: usize, path: &[u32]) -> Option<Node>
         ensures taken { result ≡ node_at (forest self.old.items) (k ∷ path.now) }
         ensures others { roomless (forest self.new.items) ≡ edit_at (λ _. []) (k ∷ path.now)

@@ -1,12 +1,12 @@
 //! Holes added to lists and dropped from them.
 ghost use Rattle.std.specs.Prelude.{◌≡◌, ◌↔◌, ◌<◌, [], IfErr, IfNone, IfOk, IfSome, IsSome, IsSomeAnd, IsTrue};
-ghost use Rattle.template_tree.specs.EditAnswer.{Edits, IsListItem, IsSpareHole, Refuses};
-ghost use Rattle.template_tree.specs.Path.{node_at};
-ghost use Rattle.template_tree.specs.PlainTree.{roomless_node, roomless_tree};
+ghost use Rattle.template_tree.specs.Edits.EditAnswer.{Edits, IsListItem, IsSpareHole, Refuses};
+ghost use Rattle.template_tree.specs.Positions.Path.{node_at};
+ghost use Rattle.template_tree.specs.Programs.PlainTree.{roomless_node, roomless_tree};
 ghost use Rattle.template_tree.specs.Private.Restored.{with_edit};
-ghost use Rattle.template_tree.specs.Receipt.{NeedsNoRoom, list_room, with_beside};
-ghost use Rattle.template_tree.specs.Tree.{IsTree};
-ghost use Rattle.template_tree.specs.TreeEdit.{TreeEdit};
+ghost use Rattle.template_tree.specs.Edits.Receipt.{NeedsNoRoom, list_room, with_beside};
+ghost use Rattle.template_tree.specs.Programs.Tree.{IsTree};
+ghost use Rattle.template_tree.specs.Edits.TreeEdit.{TreeEdit};
 ghost use Rattle.template_tree.specs.declared.tree_fault.TreeFault.{TreeFault};
 
 use crate::beside::{added_path, path_before, side_left};

@@ -1,10 +1,10 @@
 //! Which nodes are items of lists, and whether two of a list are of one sort.
 ghost use Rattle.std.specs.Prelude.{◌≡◌, ◌↔◌, ◌≤◌, IsTrue, if◌then◌else◌, map};
 ghost use Rattle.plcs_grammar.specs.Template.{plain_section};
-ghost use Rattle.template_tree.specs.ListItem.{how_many, is_listed};
-ghost use Rattle.template_tree.specs.PlainTree.{forest};
-ghost use Rattle.template_tree.specs.Program.{sort_of, sorts};
-ghost use Rattle.template_tree.specs.Section.{same_sort};
+ghost use Rattle.template_tree.specs.Edits.ListItem.{how_many, is_listed};
+ghost use Rattle.template_tree.specs.Programs.PlainTree.{forest};
+ghost use Rattle.template_tree.specs.Programs.Program.{sort_of, sorts};
+ghost use Rattle.template_tree.specs.Listings.Section.{same_sort};
 
 use crate::node::Node;
 use plcs_grammar::{Amount, Section, Sort};

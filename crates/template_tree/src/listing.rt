@@ -2,15 +2,15 @@
 ghost use Rattle.std.specs.Prelude.{◌≡◌, ◌+◌, ◌*◌, ◌≤◌, ◌<◌, false, map, option_map, replicate};
 ghost use Rattle.plcs_base.specs.Put.{PutsAll};
 ghost use Rattle.plcs_grammar.specs.Template.{plain_segment};
-ghost use Rattle.template_tree.specs.Limit.{deepest_path};
-ghost use Rattle.template_tree.specs.Line.{fixed_line, lines, part_text, parts_after, segment_text, segments_text};
-ghost use Rattle.template_tree.specs.Listing.{Listing, ListingSplitsInLines, bytes_of_lines};
-ghost use Rattle.template_tree.specs.PlainPhrasePlace.{plain_phrase_place};
-ghost use Rattle.template_tree.specs.PlainTree.{forest};
+ghost use Rattle.template_tree.specs.Programs.Limit.{deepest_path};
+ghost use Rattle.template_tree.specs.Listings.Line.{fixed_line, lines, part_text, parts_after, segment_text, segments_text};
+ghost use Rattle.template_tree.specs.Listings.Listing.{Listing, ListingSplitsInLines, bytes_of_lines};
+ghost use Rattle.template_tree.specs.Programs.PlainPhrasePlace.{plain_phrase_place};
+ghost use Rattle.template_tree.specs.Programs.PlainTree.{forest};
 ghost use Rattle.template_tree.specs.Private.NodeLines.{node_lines};
-ghost use Rattle.template_tree.specs.PlainSectionsLeft.{plain_sections_left};
-ghost use Rattle.template_tree.specs.Slots.{depth};
-ghost use Rattle.template_tree.specs.Tree.{IsTree};
+ghost use Rattle.template_tree.specs.Listings.PlainSectionsLeft.{plain_sections_left};
+ghost use Rattle.template_tree.specs.Programs.Slots.{depth};
+ghost use Rattle.template_tree.specs.Programs.Tree.{IsTree};
 
 use crate::node::Node;
 use crate::phrase_place::PhrasePlace;

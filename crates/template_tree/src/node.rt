@@ -3,10 +3,10 @@ ghost use Rattle.std.specs.Prelude.{◌≡◌, ℕ, ◌+◌, ◌-◌, ◌^◌, �
 ghost use Rattle.std.specs.Borrow.{LendsIf, sem};
 ghost use Rattle.template_tree.specs.contracts.node.Node as node_row;
 ghost use Rattle.template_tree.specs.contracts.node.Nodes as list_row;
-ghost use Rattle.template_tree.specs.Lend.{with_node_set, with_node_inserted, with_node_removed};
-ghost use Rattle.template_tree.specs.NewTree.{bare_label};
-ghost use Rattle.template_tree.specs.PlainTree.{nodes, forest, with_spare};
-ghost use Rattle.template_tree.specs.PlainPhrasePlace.{plain_phrase_place};
+ghost use Rattle.template_tree.specs.Edits.Lend.{with_node_set, with_node_inserted, with_node_removed};
+ghost use Rattle.template_tree.specs.Programs.NewTree.{bare_label};
+ghost use Rattle.template_tree.specs.Programs.PlainTree.{nodes, forest, with_spare};
+ghost use Rattle.template_tree.specs.Programs.PlainPhrasePlace.{plain_phrase_place};
 
 use crate::phrase_place::PhrasePlace;
 use plcs_base::{OutOfMemory, Slot};
@@ -35,7 +35,7 @@ pub struct Nodes {
 
 impl Model for Node {
     ghost use Rattle.std.proofs.Common.{arith};
-    ghost use Rattle.template_tree.specs.PlainTree.{PlainNode};
+    ghost use Rattle.template_tree.specs.Programs.PlainTree.{PlainNode};
     ghost use Rattle.template_tree.specs.Private.NodeCode.{node_code};
     ghost use Rattle.template_tree.specs.Private.Weight.{weight};
 
@@ -55,7 +55,7 @@ impl Model for Node {
 impl Model for Nodes {
     ghost use Rattle.std.proofs.Common.{arith};
     ghost use Rattle.std.specs.Prelude.{◌-◌, vec_len, vec_capacity};
-    ghost use Rattle.template_tree.specs.PlainTree.{PlainNodes};
+    ghost use Rattle.template_tree.specs.Programs.PlainTree.{PlainNodes};
     ghost use Rattle.template_tree.specs.Private.NodeCode.{nodes_code};
     ghost use Rattle.template_tree.specs.Private.Weight.{nodes_weight, most_le_weight};
 
@@ -116,7 +116,7 @@ impl Node {
     }
 
     /// How many nodes stand inside the node, those inside them not counted.
-    #[tactic(auto, using(crate::specs::PlainTree::nodes_forest))]
+    #[tactic(auto, using(crate::specs::Programs::PlainTree::nodes_forest))]
     pub fn children(&self) -> u32
         requires few { length (nodes self.now.inner) < 2 ^ 32 }
         ensures { result ≡ length (nodes self.now.inner) }
@@ -126,7 +126,7 @@ impl Node {
 
     /// The node of this number inside the node, counted from 0 in listing order, or `None` where there
     /// is none.
-    #[tactic(auto, using(crate::specs::PlainTree::nodes_forest))]
+    #[tactic(auto, using(crate::specs::Programs::PlainTree::nodes_forest))]
     pub fn child(&self, k: u32) -> Option<&Node>
         ensures { option_map (λ node. node.now) result ≡ slice_get (nodes self.now.inner) k }
     {

@@ -3,13 +3,13 @@ ghost use Rattle.std.specs.Prelude.{◌≡◌, ◌+◌, ◌<◌, ◌≤◌, IfSo
 ghost use Rattle.std.specs.Borrow.{LendsIf, sem};
 ghost use Rattle.template_tree.specs.contracts.node.Node as node_row;
 ghost use Rattle.template_tree.specs.contracts.tree.Tree as tree_row;
-ghost use Rattle.template_tree.specs.Lend.{with_node};
-ghost use Rattle.template_tree.specs.Limit.{most_slots};
-ghost use Rattle.template_tree.specs.Path.{below, node_at};
-ghost use Rattle.template_tree.specs.PlainTree.{nodes};
-ghost use Rattle.template_tree.specs.Program.{IsSubtree};
-ghost use Rattle.template_tree.specs.Slots.{count};
-ghost use Rattle.template_tree.specs.Tree.{IsTree};
+ghost use Rattle.template_tree.specs.Edits.Lend.{with_node};
+ghost use Rattle.template_tree.specs.Programs.Limit.{most_slots};
+ghost use Rattle.template_tree.specs.Positions.Path.{below, node_at};
+ghost use Rattle.template_tree.specs.Programs.PlainTree.{nodes};
+ghost use Rattle.template_tree.specs.Programs.Program.{IsSubtree};
+ghost use Rattle.template_tree.specs.Programs.Slots.{count};
+ghost use Rattle.template_tree.specs.Programs.Tree.{IsTree};
 
 use crate::descent::{Deepest, Descent};
 use crate::node::Node;
@@ -18,7 +18,7 @@ use crate::tree::Tree;
 
 impl Tree {
     /// The node at the path, or `None` where the tree has none there.
-    #[tactic(auto, using(crate::specs::PlainTree::nodes_forest))]
+    #[tactic(auto, using(crate::specs::Programs::PlainTree::nodes_forest))]
     pub fn node(&self, path: &Path) -> Option<&Node>
         requires tree { IsTree self.now }
         ensures found { option_map (λ node. node.now) result ≡ node_at self.now.items path.now.items }
@@ -57,7 +57,7 @@ impl Tree {
 
 impl Node {
     /// The node found at the path below this one, or `None` where it has none there.
-    #[tactic(auto, using(crate::specs::PlainTree::nodes_forest))]
+    #[tactic(auto, using(crate::specs::Programs::PlainTree::nodes_forest))]
     fn below(&self, path: &[u32]) -> Option<&Node>
         ensures { option_map (λ node. node.now) result ≡ below self.now path.now }
     {

@@ -1,10 +1,10 @@
 //! Paths found by the slots of their nodes.
 ghost use Rattle.std.specs.Prelude.{◌≡◌, ◌+◌, ◌<◌, ◌≤◌, ◌↔◌, ◌∷◌, [], IfNone, IfSome, IsNone, Some, length, option_map};
-ghost use Rattle.template_tree.specs.Limit.{deepest_path, most_slots};
-ghost use Rattle.template_tree.specs.Path.{below, slot_at};
-ghost use Rattle.template_tree.specs.PlainTree.{forest};
-ghost use Rattle.template_tree.specs.Slots.{count, depth, times};
-ghost use Rattle.template_tree.specs.Tree.{IsTree};
+ghost use Rattle.template_tree.specs.Programs.Limit.{deepest_path, most_slots};
+ghost use Rattle.template_tree.specs.Positions.Path.{below, slot_at};
+ghost use Rattle.template_tree.specs.Programs.PlainTree.{forest};
+ghost use Rattle.template_tree.specs.Programs.Slots.{count, depth, times};
+ghost use Rattle.template_tree.specs.Programs.Tree.{IsTree};
 
 use crate::node::Node;
 use crate::path::Path;

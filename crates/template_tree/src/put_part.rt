@@ -1,9 +1,9 @@
 //! Parts of nodes, read and set.
 ghost use Rattle.std.specs.Prelude.{◌≡◌, ◌↔◌, IsOk, IfOk, IfErr, IsTrue, Some, map, slice_get};
 ghost use Rattle.plcs_grammar.specs.Template.{plain_segment};
-ghost use Rattle.template_tree.specs.Part.{IsPhrasePlace, Takes, part_category, with_part};
-ghost use Rattle.template_tree.specs.PlainPhrasePlace.{plain_phrase_place};
-ghost use Rattle.template_tree.specs.Program.{IsSubtree, may_be_empty, parts_of};
+ghost use Rattle.template_tree.specs.Programs.Part.{IsPhrasePlace, Takes, part_category, with_part};
+ghost use Rattle.template_tree.specs.Programs.PlainPhrasePlace.{plain_phrase_place};
+ghost use Rattle.template_tree.specs.Programs.Program.{IsSubtree, may_be_empty, parts_of};
 
 use crate::node::Node;
 use crate::phrase_place::PhrasePlace;

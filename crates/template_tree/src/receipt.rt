@@ -35,7 +35,7 @@ pub struct Receipt {
 }
 
 impl Model for Receipt {
-    ghost use Rattle.template_tree.specs.Receipt.{PlainReceipt};
+    ghost use Rattle.template_tree.specs.Edits.Receipt.{PlainReceipt};
     ghost use Rattle.template_tree.specs.Private.ReceiptCode.{receipt_code};
     ghost use Rattle.template_tree.specs.Private.ReceiptView.{plain_undoing};
 

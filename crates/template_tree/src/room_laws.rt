@@ -1,6 +1,6 @@
 //! The laws of the room of lists, which plays no part in what a tree shows and what edits make of it; each a function
 //! that does nothing and whose contract states it.
-ghost use Rattle.template_tree.specs.RoomLaws.{ChangesIgnoreRoom, CountsIgnoreRoom, DepthsIgnoreRoom, EditsIgnoreRoom, HidingIgnoresRoom, LinesIgnoreRoom, ListingIgnoresRoom, NodesIgnoreRoom, RoomGoesOnce, SlotsIgnoreRoom, StandingIgnoresRoom, StopsIgnoreRoom, TreesIgnoreRoom, TogglesIgnoreRoom, VisibleNodesIgnoreRoom};
+ghost use Rattle.template_tree.specs.Laws.RoomLaws.{ChangesIgnoreRoom, CountsIgnoreRoom, DepthsIgnoreRoom, EditsIgnoreRoom, HidingIgnoresRoom, LinesIgnoreRoom, ListingIgnoresRoom, NodesIgnoreRoom, RoomGoesOnce, SlotsIgnoreRoom, StandingIgnoresRoom, StopsIgnoreRoom, TreesIgnoreRoom, TogglesIgnoreRoom, VisibleNodesIgnoreRoom};
 
 /// The room of lists plays no part in what is a tree, in what stands at a path, in what is shown, and
 /// in where the cursor may stand.

@@ -1,8 +1,8 @@
 //! Which section of a node's row the next item stands in.
 ghost use Rattle.std.specs.Prelude.{◌≡◌, map, option_map};
 ghost use Rattle.plcs_grammar.specs.Template.{plain_section};
-ghost use Rattle.template_tree.specs.PlainSectionsLeft.{plain_sections_left};
-ghost use Rattle.template_tree.specs.Section.{left_after, left_for, next_lead};
+ghost use Rattle.template_tree.specs.Listings.PlainSectionsLeft.{plain_sections_left};
+ghost use Rattle.template_tree.specs.Listings.Section.{left_after, left_for, next_lead};
 
 use plcs_grammar::{Amount, Section, Sort};
 

@@ -1,12 +1,12 @@
 //! Phrases set at stops.
 ghost use Rattle.std.specs.Prelude.{◌≡◌, IfErr, IfOk, IsSomeAnd};
-ghost use Rattle.template_tree.specs.EditAnswer.{Edits, TakesAtStop};
-ghost use Rattle.template_tree.specs.Part.{IsPhrasePlace};
-ghost use Rattle.template_tree.specs.Path.{node_at};
-ghost use Rattle.template_tree.specs.PlainPhrasePlace.{plain_phrase_place};
-ghost use Rattle.template_tree.specs.Receipt.{NeedsNoRoom};
-ghost use Rattle.template_tree.specs.Tree.{IsTree};
-ghost use Rattle.template_tree.specs.TreeEdit.{TreeEdit};
+ghost use Rattle.template_tree.specs.Edits.EditAnswer.{Edits, TakesAtStop};
+ghost use Rattle.template_tree.specs.Programs.Part.{IsPhrasePlace};
+ghost use Rattle.template_tree.specs.Positions.Path.{node_at};
+ghost use Rattle.template_tree.specs.Programs.PlainPhrasePlace.{plain_phrase_place};
+ghost use Rattle.template_tree.specs.Edits.Receipt.{NeedsNoRoom};
+ghost use Rattle.template_tree.specs.Programs.Tree.{IsTree};
+ghost use Rattle.template_tree.specs.Edits.TreeEdit.{TreeEdit};
 ghost use Rattle.template_tree.specs.declared.tree_fault.TreeFault.{TreeFault};
 
 use crate::change::{Change, What};

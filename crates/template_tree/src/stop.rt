@@ -1,6 +1,6 @@
 //! Stops of the cursor, and their copies.
 ghost use Rattle.std.specs.Prelude.{◌≡◌};
-ghost use Rattle.template_tree.specs.Stop.{plain_stop};
+ghost use Rattle.template_tree.specs.Positions.Stop.{plain_stop};
 
 use crate::path::{Path, copy_path};
 

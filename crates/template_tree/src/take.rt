@@ -1,11 +1,11 @@
 //! Nodes taken out of a tree.
 ghost use Rattle.std.specs.Prelude.{◌≡◌, IfErr, IfOk, IsSomeAnd, Some};
-ghost use Rattle.template_tree.specs.Hole.{hole_left};
-ghost use Rattle.template_tree.specs.EditAnswer.{MayTake, TakesOut};
-ghost use Rattle.template_tree.specs.Path.{node_at};
-ghost use Rattle.template_tree.specs.Program.{IsSubtree};
-ghost use Rattle.template_tree.specs.Receipt.{NeedsNoRoom};
-ghost use Rattle.template_tree.specs.Tree.{IsTree};
+ghost use Rattle.template_tree.specs.Edits.Hole.{hole_left};
+ghost use Rattle.template_tree.specs.Edits.EditAnswer.{MayTake, TakesOut};
+ghost use Rattle.template_tree.specs.Positions.Path.{node_at};
+ghost use Rattle.template_tree.specs.Programs.Program.{IsSubtree};
+ghost use Rattle.template_tree.specs.Edits.Receipt.{NeedsNoRoom};
+ghost use Rattle.template_tree.specs.Programs.Tree.{IsTree};
 ghost use Rattle.template_tree.specs.declared.tree_fault.TreeFault.{TreeFault};
 
 use crate::hole::hole_left;

@@ -1,9 +1,9 @@
 //! The tree: main and the procedures, with the slots that were drawn.
 ghost use Rattle.std.specs.Prelude.{◌≡◌, ◌+◌, IfOk, length};
-ghost use Rattle.template_tree.specs.PlainTree.{nodes, roomless};
-ghost use Rattle.template_tree.specs.NewTree.{new_items};
-ghost use Rattle.template_tree.specs.Slots.{count};
-ghost use Rattle.template_tree.specs.Tree.{IsTree};
+ghost use Rattle.template_tree.specs.Programs.PlainTree.{nodes, roomless};
+ghost use Rattle.template_tree.specs.Programs.NewTree.{new_items};
+ghost use Rattle.template_tree.specs.Programs.Slots.{count};
+ghost use Rattle.template_tree.specs.Programs.Tree.{IsTree};
 
 use crate::node::{Node, Nodes};
 use plcs_base::{OutOfMemory, Slot};
@@ -23,7 +23,7 @@ pub struct Tree {
 }
 
 impl Model for Tree {
-    ghost use Rattle.template_tree.specs.PlainTree.{PlainTree, forest};
+    ghost use Rattle.template_tree.specs.Programs.PlainTree.{PlainTree, forest};
     ghost use Rattle.template_tree.specs.Private.NodeCode.{tree_code};
 
     ghost Value = { PlainTree };

@@ -1,12 +1,12 @@
 //! Edits undone.
 ghost use Rattle.std.specs.Prelude.{◌≡◌, ◌<◌, ◌∷◌, []};
-ghost use Rattle.template_tree.specs.Part.{with_part};
-ghost use Rattle.template_tree.specs.PlainPhrasePlace.{plain_phrase_place};
-ghost use Rattle.template_tree.specs.PlainTree.{roomless_node, roomless_tree};
+ghost use Rattle.template_tree.specs.Programs.Part.{with_part};
+ghost use Rattle.template_tree.specs.Programs.PlainPhrasePlace.{plain_phrase_place};
+ghost use Rattle.template_tree.specs.Programs.PlainTree.{roomless_node, roomless_tree};
 ghost use Rattle.template_tree.specs.Private.ReceiptView.{plain_undoing};
 ghost use Rattle.template_tree.specs.Private.Restored.{with_edit};
-ghost use Rattle.template_tree.specs.Receipt.{CanUndo, HasRoomBack, items_before, list_room, node_back, undone, with_beside};
-ghost use Rattle.template_tree.specs.Tree.{IsTree};
+ghost use Rattle.template_tree.specs.Edits.Receipt.{CanUndo, HasRoomBack, items_before, list_room, node_back, undone, with_beside};
+ghost use Rattle.template_tree.specs.Programs.Tree.{IsTree};
 
 use crate::node::Node;
 use crate::path::Path;

@@ -1,10 +1,10 @@
 //! Edits of trees, as cases and walks make them.
 ghost use Rattle.std.specs.Prelude.{◌≡◌, IfErr, IfOk, None};
-ghost use Rattle.template_tree.specs.Part.{IsPhrasePlace};
-ghost use Rattle.template_tree.specs.PlainPhrasePlace.{plain_phrase_place};
-ghost use Rattle.template_tree.specs.PlainTree.{roomless_tree};
-ghost use Rattle.template_tree.specs.Receipt.{CanUndo, NeedsNoRoom, undone};
-ghost use Rattle.template_tree.specs.Tree.{IsTree};
+ghost use Rattle.template_tree.specs.Programs.Part.{IsPhrasePlace};
+ghost use Rattle.template_tree.specs.Programs.PlainPhrasePlace.{plain_phrase_place};
+ghost use Rattle.template_tree.specs.Programs.PlainTree.{roomless_tree};
+ghost use Rattle.template_tree.specs.Edits.Receipt.{CanUndo, NeedsNoRoom, undone};
+ghost use Rattle.template_tree.specs.Programs.Tree.{IsTree};
 
 use crate::told::Told;
 use crate::words::{At, CATEGORIES, SIDES, TEMPLATES, meaning, phrase};

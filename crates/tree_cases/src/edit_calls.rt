@@ -1,5 +1,5 @@
 //! Cases of edits: one alone, many times over, further and further inside, or many that are undone.
-ghost use Rattle.template_tree.specs.Tree.{IsTree};
+ghost use Rattle.template_tree.specs.Programs.Tree.{IsTree};
 
 use crate::edit::{Edit, Step, made, step_of};
 use crate::told::Told;

@@ -1,7 +1,7 @@
 //! Cases of nodes that are lent for writing.
-ghost use Rattle.template_tree.specs.Part.{IsPhrasePlace};
-ghost use Rattle.template_tree.specs.PlainPhrasePlace.{plain_phrase_place};
-ghost use Rattle.template_tree.specs.Tree.{IsTree};
+ghost use Rattle.template_tree.specs.Programs.Part.{IsPhrasePlace};
+ghost use Rattle.template_tree.specs.Programs.PlainPhrasePlace.{plain_phrase_place};
+ghost use Rattle.template_tree.specs.Programs.Tree.{IsTree};
 
 use crate::edit::tell_node;
 use crate::told::Told;

@@ -2,7 +2,7 @@
 //! is written as it is, and after a case what the calls answered.
 #![tactic(auto)]
 
-ghost use Rattle.template_tree.specs.Tree.{IsTree};
+ghost use Rattle.template_tree.specs.Programs.Tree.{IsTree};
 
 mod clip_calls;
 mod edit;

@@ -1,5 +1,5 @@
 //! Cases that read a tree.
-ghost use Rattle.template_tree.specs.Tree.{IsTree};
+ghost use Rattle.template_tree.specs.Programs.Tree.{IsTree};
 
 use crate::edit::tell_node;
 use crate::told::Told;

@@ -1,5 +1,5 @@
 //! Cases that make a tree, hide and show refinements, and compare a tree with one before.
-ghost use Rattle.template_tree.specs.Tree.{IsTree};
+ghost use Rattle.template_tree.specs.Programs.Tree.{IsTree};
 
 use crate::node_calls::tell_tree;
 use crate::told::Told;

@@ -1,8 +1,8 @@
 //! Edits that are made one after the other and undone in reverse order.
 ghost use Rattle.std.specs.Prelude.{◌≡◌, ◌<◌, IfNone, IfSome};
-ghost use Rattle.template_tree.specs.PlainTree.{roomless_tree};
-ghost use Rattle.template_tree.specs.Receipt.{CanUndo, NeedsNoRoom, undone};
-ghost use Rattle.template_tree.specs.Tree.{IsTree};
+ghost use Rattle.template_tree.specs.Programs.PlainTree.{roomless_tree};
+ghost use Rattle.template_tree.specs.Edits.Receipt.{CanUndo, NeedsNoRoom, undone};
+ghost use Rattle.template_tree.specs.Programs.Tree.{IsTree};
 
 use crate::edit::{Edit, Step, made};
 use crate::edit_calls::tell_answer;

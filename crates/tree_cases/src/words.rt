@@ -1,8 +1,8 @@
 //! Words of cases, and what they stand for.
 ghost use Rattle.std.specs.Prelude.{IfSome, Some};
 ghost use Rattle.plcs_grammar.specs.PlainPhrase.{plain_phrase};
-ghost use Rattle.template_tree.specs.Part.{IsPhrasePlace};
-ghost use Rattle.template_tree.specs.Tree.{IsTree};
+ghost use Rattle.template_tree.specs.Programs.Part.{IsPhrasePlace};
+ghost use Rattle.template_tree.specs.Programs.Tree.{IsTree};
 
 use case_script::number_of;
 use phrase_parser::parse;

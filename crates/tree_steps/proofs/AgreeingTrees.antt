@@ -4,14 +4,14 @@ use Rattle.std.specs.Prelude.{◌≡◌, refl, ℕ, zero, suc, ◌<◌, ◌≤�
 use Rattle.std.proofs.Common.{ap, sym, ◌∙◌, subst, arith, inl, inr}
 use Rattle.std.proofs.lemmas.Option.{none-some}
 use Rattle.plcs_grammar.specs.declared.node_kind.NodeKind.{NodeKind}
-use Rattle.template_tree.specs.Edit.{node_in_slot, with_hole}
-use Rattle.template_tree.specs.Part.{with_part}
-use Rattle.template_tree.specs.Path.{node_at}
-use Rattle.template_tree.specs.PlainTree.{Forest, PlainNode, PlainTree}
-use Rattle.template_tree.specs.Program.{sort_of}
-use Rattle.template_tree.specs.Slots.{AllBelow}
-use Rattle.template_tree.specs.Tree.{IsTree}
-use Rattle.template_tree.specs.TreeEdit.{TreeEdit, tree_after}
+use Rattle.template_tree.specs.Edits.Edit.{node_in_slot, with_hole}
+use Rattle.template_tree.specs.Programs.Part.{with_part}
+use Rattle.template_tree.specs.Positions.Path.{node_at}
+use Rattle.template_tree.specs.Programs.PlainTree.{Forest, PlainNode, PlainTree}
+use Rattle.template_tree.specs.Programs.Program.{sort_of}
+use Rattle.template_tree.specs.Programs.Slots.{AllBelow}
+use Rattle.template_tree.specs.Programs.Tree.{IsTree}
+use Rattle.template_tree.specs.Edits.TreeEdit.{TreeEdit, tree_after}
 use Rattle.tree_steps.specs.SlotAgreement.{AgreesWith}
 use Rattle.tree_steps.specs.AgreementLaws.{AgreementKeepsProcedures, EditsAgree, GoingBackAgrees, GoingBackPastAgrees, EditStepsKeepAgreement}
 use Rattle.tree_steps.specs.EditStep.{BringsSort, CameIn, IsEditStep}

@@ -6,15 +6,15 @@ use Rattle.std.proofs.lemmas.Option.{none-some}
 use Rattle.plcs_grammar.specs.declared.node_kind.NodeKind.{NodeKind}
 use Rattle.plcs_grammar.specs.declared.node_kind.Sort.{Sort}
 use Rattle.plcs_grammar.specs.PlainPhrase.{PlainPhrase}
-use Rattle.template_tree.specs.Hole.{hole_left, hole_of, is_hole}
-use Rattle.template_tree.specs.EditAnswer.{Edits, IsHoleFor, IsListItem, IsSpareHole, TakesAssignment, TakesAtStop, hole_in_place}
-use Rattle.template_tree.specs.FreshNode.{assignment_node, fresh_node}
-use Rattle.template_tree.specs.Path.{node_at}
-use Rattle.template_tree.specs.PlainTree.{PlainNode, PlainTree}
-use Rattle.template_tree.specs.Program.{sort_of}
-use Rattle.template_tree.specs.Receipt.{PlainReceipt}
-use Rattle.template_tree.specs.Tree.{IsTree}
-use Rattle.template_tree.specs.TreeEdit.{TreeEdit, tree_after}
+use Rattle.template_tree.specs.Edits.Hole.{hole_left, hole_of, is_hole}
+use Rattle.template_tree.specs.Edits.EditAnswer.{Edits, IsHoleFor, IsListItem, IsSpareHole, TakesAssignment, TakesAtStop, hole_in_place}
+use Rattle.template_tree.specs.Edits.FreshNode.{assignment_node, fresh_node}
+use Rattle.template_tree.specs.Positions.Path.{node_at}
+use Rattle.template_tree.specs.Programs.PlainTree.{PlainNode, PlainTree}
+use Rattle.template_tree.specs.Programs.Program.{sort_of}
+use Rattle.template_tree.specs.Edits.Receipt.{PlainReceipt}
+use Rattle.template_tree.specs.Programs.Tree.{IsTree}
+use Rattle.template_tree.specs.Edits.TreeEdit.{TreeEdit, tree_after}
 use Rattle.tree_steps.specs.EditStep.{BringsSort, CameByEdits, CameIn, IsSameTree, IsEditStep}
 use Rattle.tree_steps.specs.EditStepLaws.{AddHoleIsEditStep, DropHoleIsEditStep, EditsFollow, FillAssignIsEditStep, FillIsEditStep, InsertIsEditStep, RoomIsNoEdit, SetPhraseIsEditStep, EditStepsAreWays, TakeIsEditStep, TogglesAreNoEdits}
 use Rattle.tree_steps.proofs.Substances.{roomless_same, substance_turned}

@@ -7,12 +7,12 @@ use Rattle.plcs_grammar.specs.declared.node_kind.NodeKind.{NodeKind}
 use Rattle.plcs_grammar.specs.declared.node_kind.Sort.{Sort}
 use Rattle.plcs_grammar.specs.PlainPhrase.{PlainPhrase}
 use Rattle.template_tree.specs.declared.side.Side.{Side}
-use Rattle.template_tree.specs.Edit.{edit_slot, node_in_slot, whole, with_hole}
-use Rattle.template_tree.specs.Hole.{hole_list, hole_of}
-use Rattle.template_tree.specs.Part.{with_part}
-use Rattle.template_tree.specs.PlainTree.{Forest, Label, PlainNode, forest, join}
-use Rattle.template_tree.specs.Program.{sort_of}
-use Rattle.template_tree.specs.Slots.{AllBelow, count, with_slots_from}
+use Rattle.template_tree.specs.Edits.Edit.{edit_slot, node_in_slot, whole, with_hole}
+use Rattle.template_tree.specs.Edits.Hole.{hole_list, hole_of}
+use Rattle.template_tree.specs.Programs.Part.{with_part}
+use Rattle.template_tree.specs.Programs.PlainTree.{Forest, Label, PlainNode, forest, join}
+use Rattle.template_tree.specs.Programs.Program.{sort_of}
+use Rattle.template_tree.specs.Programs.Slots.{AllBelow, count, with_slots_from}
 use Rattle.tree_steps.specs.StandingSlot.{Around, StandsBelow}
 
 -- where a slot stood, in a node of the same sort, that stands among nodes now

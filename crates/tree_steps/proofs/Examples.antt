@@ -7,9 +7,9 @@ use Rattle.plcs_grammar.specs.declared.node_kind.NodeKind.{NodeKind}
 use Rattle.plcs_grammar.specs.declared.template.Template.{Template}
 use Rattle.plcs_grammar.specs.Builtin.{is_builtin_name}
 use Rattle.plcs_grammar.specs.PlainPhrase.{PlainExprs, PlainPhrase, PlainVarRef}
-use Rattle.template_tree.specs.NewTree.{bare_label}
-use Rattle.template_tree.specs.Place.{Exists, PlainPlace, Site, Start, place_at, place_exists_at, site}
-use Rattle.template_tree.specs.PlainTree.{Forest, Label}
+use Rattle.template_tree.specs.Programs.NewTree.{bare_label}
+use Rattle.template_tree.specs.Positions.Place.{Exists, PlainPlace, Site, Start, place_at, place_exists_at, site}
+use Rattle.template_tree.specs.Programs.PlainTree.{Forest, Label}
 use Rattle.tree_steps.specs.RunPlace.{HasPlace, is_first_marked}
 use Rattle.tree_steps.specs.StandingSlot.{StandsInside, loops_around, outermost_slot}
 use Rattle.tree_steps.proofs.ListMarks.{list_marks_follow_items}

@@ -5,9 +5,9 @@ use Rattle.std.proofs.Common.{ap, sym, ◌∙◌, subst, inl, inr}
 use Rattle.plcs_grammar.specs.declared.node_kind.NodeKind.{NodeKind}
 use Rattle.plcs_grammar.specs.declared.template.Template.{Template}
 use Rattle.plcs_grammar.specs.PlainPhrase.{PlainPhrase}
-use Rattle.template_tree.specs.Place.{Site, place_at, place_exists_at, has_point, is_statement}
-use Rattle.template_tree.specs.PlainTree.{Label}
-use Rattle.template_tree.specs.Program.{sort_of}
+use Rattle.template_tree.specs.Positions.Place.{Site, place_at, place_exists_at, has_point, is_statement}
+use Rattle.template_tree.specs.Programs.PlainTree.{Label}
+use Rattle.template_tree.specs.Programs.Program.{sort_of}
 use Rattle.tree_steps.specs.PlaceLaws.{AgreementKeepsLoops, AgreementKeepsPlaces, AgreementKeepsStarts}
 use Rattle.tree_steps.specs.RunPlace.{BeginsAt, KeepsPoint}
 use Rattle.tree_steps.specs.StandingSlot.{Around, loops_around}

@@ -11,14 +11,14 @@ use Rattle.plcs_base.specs.Mark.{phrase_cmp}
 use Rattle.plcs_base.specs.declared.mark.MarkKind.{MarkKind}
 use Rattle.plcs_grammar.specs.PlainPhrase.{PlainPhrase, PlainVarRef}
 use Rattle.plcs_grammar.specs.Template.{row_of}
-use Rattle.template_tree.specs.Edit.{procedure_of}
-use Rattle.template_tree.specs.Environment.{items_inside, procedure_at}
-use Rattle.template_tree.specs.Marks.{VerdictList, Verdicts, node_verdicts, part_verdicts, procedure_verdicts, surroundings}
-use Rattle.template_tree.specs.Mention.{phrase_at}
-use Rattle.template_tree.specs.Place.{PlainPlace, Site, place_at, begin, end_at, in_turn, inner_end, site, site_among}
-use Rattle.template_tree.specs.PlainTree.{Forest, Label, PlainNode, forest, nodes}
-use Rattle.template_tree.specs.Slots.{times}
-use Rattle.template_tree.specs.Verdict.{Surroundings, references_offence, verdict}
+use Rattle.template_tree.specs.Edits.Edit.{procedure_of}
+use Rattle.template_tree.specs.Checks.Environment.{items_inside, procedure_at}
+use Rattle.template_tree.specs.Checks.Marks.{VerdictList, Verdicts, node_verdicts, part_verdicts, procedure_verdicts, surroundings}
+use Rattle.template_tree.specs.Checks.Mention.{phrase_at}
+use Rattle.template_tree.specs.Positions.Place.{PlainPlace, Site, place_at, begin, end_at, in_turn, inner_end, site, site_among}
+use Rattle.template_tree.specs.Programs.PlainTree.{Forest, Label, PlainNode, forest, nodes}
+use Rattle.template_tree.specs.Programs.Slots.{times}
+use Rattle.template_tree.specs.Checks.Verdict.{Surroundings, references_offence, verdict}
 use Rattle.tree_steps.specs.ListVerdict.{ListMarksFollowItems}
 use Rattle.tree_steps.specs.RunPlace.{is_first_marked}
 use Rattle.plcs_base.specs.PlaceOrder.{place_ties, places_total}

@@ -13,7 +13,7 @@ use Rattle.plcs_base.specs.Mark.{phrase_cmp}
 use Rattle.plcs_base.specs.PlaceOrder.{places_total, same_place}
 use Rattle.plcs_base.specs.declared.mark.MarkKind.{MarkKind}
 use Rattle.plcs_base.specs.declared.place.PhraseAt.{PhraseAt}
-use Rattle.template_tree.specs.Marks.{VerdictList, VerdictMap, offence_at, offences}
+use Rattle.template_tree.specs.Checks.Marks.{VerdictList, VerdictMap, offence_at, offences}
 
 below_none : (q : PhraseAt) (es : VerdictList) → T (below_all phrase_cmp q es) → find phrase_cmp q es ≡ None
 below_none q [] below = refl

@@ -5,11 +5,11 @@ use Rattle.std.specs.FinMap.{get}
 use Rattle.std.specs.Option.{option_or}
 use Rattle.std.proofs.Common.{ap, sym, ◌∙◌, subst}
 use Rattle.plcs_grammar.specs.Template.{row_of}
-use Rattle.template_tree.specs.Marks.{VerdictMap, Verdicts, offences}
-use Rattle.template_tree.specs.Mention.{phrase_at}
-use Rattle.template_tree.specs.Place.{Exists, PlainPlace, Site, place_at, begin, end_at, place_exists_at, in_turn, inner_end, is_statement, passes_in, site, site_among, site_start}
-use Rattle.template_tree.specs.PlainTree.{Forest, Label}
-use Rattle.template_tree.specs.Program.{sort_of}
+use Rattle.template_tree.specs.Checks.Marks.{VerdictMap, Verdicts, offences}
+use Rattle.template_tree.specs.Checks.Mention.{phrase_at}
+use Rattle.template_tree.specs.Positions.Place.{Exists, PlainPlace, Site, place_at, begin, end_at, place_exists_at, in_turn, inner_end, is_statement, passes_in, site, site_among, site_start}
+use Rattle.template_tree.specs.Programs.PlainTree.{Forest, Label}
+use Rattle.template_tree.specs.Programs.Program.{sort_of}
 use Rattle.tree_steps.specs.EditStep.{substance}
 use Rattle.tree_steps.specs.RunPlace.{HasPlace, PlacesAlike, SitesAlike, is_first_marked, site_substance}
 

@@ -1,8 +1,8 @@
 -- The places of a run ignore room and elision.
-use Rattle.template_tree.specs.CheckLaws.{ChecksIgnoreElision, ChecksIgnoreRoom}
-use Rattle.template_tree.specs.Edit.{edit_at}
-use Rattle.template_tree.specs.Elision.{toggled}
-use Rattle.template_tree.specs.PlainTree.{roomless}
+use Rattle.template_tree.specs.Laws.CheckLaws.{ChecksIgnoreElision, ChecksIgnoreRoom}
+use Rattle.template_tree.specs.Edits.Edit.{edit_at}
+use Rattle.template_tree.specs.Edits.Elision.{toggled}
+use Rattle.template_tree.specs.Programs.PlainTree.{roomless}
 use Rattle.tree_steps.specs.PlaceLaws.{PlacesIgnoreElision, PlacesIgnoreRoom}
 use Rattle.tree_steps.proofs.PlaceSubstances.{places_alike}
 use Rattle.tree_steps.proofs.Substances.{substance_roomless, substance_turned}

@@ -10,10 +10,10 @@ use Rattle.plcs_grammar.specs.declared.node_kind.NodeKind.{NodeKind}
 use Rattle.plcs_grammar.specs.declared.node_kind.Sort.{Sort}
 use Rattle.plcs_grammar.specs.declared.template.Template.{Template}
 use Rattle.plcs_grammar.specs.Template.{list_of, row_of}
-use Rattle.template_tree.specs.Place.{Exists, PlainPlace, Site, place_at, begin, end_at, place_exists_at, has_point, in_turn, inner_end, is_statement, passes_in, site_among, site_start}
-use Rattle.template_tree.specs.PlainTree.{Forest, Label}
-use Rattle.template_tree.specs.Slots.{times}
-use Rattle.template_tree.specs.Program.{AreNodes, Fill, IsNode, sort_of, sorts}
+use Rattle.template_tree.specs.Positions.Place.{Exists, PlainPlace, Site, place_at, begin, end_at, place_exists_at, has_point, in_turn, inner_end, is_statement, passes_in, site_among, site_start}
+use Rattle.template_tree.specs.Programs.PlainTree.{Forest, Label}
+use Rattle.template_tree.specs.Programs.Slots.{times}
+use Rattle.template_tree.specs.Programs.Program.{AreNodes, Fill, IsNode, sort_of, sorts}
 use Rattle.tree_steps.specs.PlaceLaws.{OthersBeginThemselves, SitesStand, StandingSlotsHaveSites, StatementsBegin}
 use Rattle.tree_steps.specs.RunPlace.{BeginsAt, is_first_marked}
 use Rattle.tree_steps.specs.StandingSlot.{Around, StandsBelow, StandsInside, loop_by_kind, loops_around, outermost_slot}

@@ -4,8 +4,8 @@ use Rattle.std.specs.Prelude.{◌≡◌, refl, ℕ, zero, suc, ◌+◌, ◌<◌,
 use Rattle.std.proofs.Common.{ap, sym, ◌∙◌, arith, inl, inr}
 use Rattle.std.proofs.lemmas.Bool.{eq-eqb, eqb-true, lt-ltb, le-ltb}
 use Rattle.plcs_grammar.specs.declared.node_kind.NodeKind.{NodeKind}
-use Rattle.template_tree.specs.PlainTree.{Forest, Label, PlainNode, nodes, forest}
-use Rattle.template_tree.specs.Slots.{times}
+use Rattle.template_tree.specs.Programs.PlainTree.{Forest, Label, PlainNode, nodes, forest}
+use Rattle.template_tree.specs.Programs.Slots.{times}
 use Rattle.tree_steps.specs.StandingSlot.{Around, StandsBelow, outermost_slot}
 use Rattle.tree_steps.specs.AgreementLaws.{LiveSlotsStand, ProceduresStandOutermost, SlotsStandOnce, StandingSlotsLive}
 

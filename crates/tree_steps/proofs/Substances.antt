@@ -3,9 +3,9 @@
 use Rattle.std.specs.Prelude.{◌≡◌, refl, ℕ, zero, suc, Bool, true, false, not, if◌then◌else◌, List, [], ◌∷◌, ◌⊎◌}
 use Rattle.std.proofs.Common.{ap, sym, ◌∙◌}
 use Rattle.plcs_grammar.specs.declared.node_kind.NodeKind.{NodeKind}
-use Rattle.template_tree.specs.Edit.{edit_at, edit_below, give_way}
-use Rattle.template_tree.specs.Elision.{is_comment, toggled}
-use Rattle.template_tree.specs.PlainTree.{Forest, PlainNode, forest, join, roomless}
+use Rattle.template_tree.specs.Edits.Edit.{edit_at, edit_below, give_way}
+use Rattle.template_tree.specs.Edits.Elision.{is_comment, toggled}
+use Rattle.template_tree.specs.Programs.PlainTree.{Forest, PlainNode, forest, join, roomless}
 use Rattle.tree_steps.specs.EditStep.{substance}
 use Rattle.tree_steps.specs.StandingSlot.{Around, StandsBelow}
 

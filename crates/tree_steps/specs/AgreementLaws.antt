@@ -1,10 +1,10 @@
 -- The laws of agreement: edits give it, and steps and going back to a kept tree keep it; what follows from it.
 use Rattle.std.specs.Prelude.{◌≡◌, ℕ, ◌≤◌, Some}
 use Rattle.plcs_grammar.specs.declared.node_kind.NodeKind.{NodeKind}
-use Rattle.template_tree.specs.Edit.{procedure_of}
-use Rattle.template_tree.specs.PlainTree.{Forest, PlainTree}
-use Rattle.template_tree.specs.Slots.{AllBelow, times}
-use Rattle.template_tree.specs.Tree.{IsTree}
+use Rattle.template_tree.specs.Edits.Edit.{procedure_of}
+use Rattle.template_tree.specs.Programs.PlainTree.{Forest, PlainTree}
+use Rattle.template_tree.specs.Programs.Slots.{AllBelow, times}
+use Rattle.template_tree.specs.Programs.Tree.{IsTree}
 use Rattle.tree_steps.specs.SlotAgreement.{AgreesWith}
 use Rattle.tree_steps.specs.StandingSlot.{Around, StandsInside, outermost_slot}
 use Rattle.tree_steps.specs.EditStep.{CameByEdits, IsEditStep, substance}

@@ -1,11 +1,11 @@
 -- Edits as steps from one tree to the next, and trees that came from others by edits.
 use Rattle.std.specs.Prelude.{◌≡◌, ℕ, zero, suc, List, Some}
-use Rattle.template_tree.specs.Edit.{whole}
-use Rattle.template_tree.specs.Path.{node_at}
-use Rattle.template_tree.specs.PlainTree.{Forest, PlainNode, PlainTree, roomless}
-use Rattle.template_tree.specs.Program.{sort_of}
-use Rattle.template_tree.specs.Tree.{IsTree}
-use Rattle.template_tree.specs.TreeEdit.{TreeEdit, tree_after}
+use Rattle.template_tree.specs.Edits.Edit.{whole}
+use Rattle.template_tree.specs.Positions.Path.{node_at}
+use Rattle.template_tree.specs.Programs.PlainTree.{Forest, PlainNode, PlainTree, roomless}
+use Rattle.template_tree.specs.Programs.Program.{sort_of}
+use Rattle.template_tree.specs.Programs.Tree.{IsTree}
+use Rattle.template_tree.specs.Edits.TreeEdit.{TreeEdit, tree_after}
 
 -- the substance of nodes, which edits alone change: nothing elided, and without the room of lists
 abbrev pub substance : Forest → Forest

@@ -4,14 +4,14 @@ use Rattle.plcs_grammar.specs.declared.node_kind.NodeKind.{NodeKind}
 use Rattle.plcs_grammar.specs.declared.template.Template.{Template}
 use Rattle.plcs_grammar.specs.PlainPhrase.{PlainPhrase}
 use Rattle.template_tree.specs.declared.side.Side.{Side}
-use Rattle.template_tree.specs.EditAnswer.{Edits, IsHoleFor, IsListItem, IsSpareHole, TakesAssignment, TakesAtStop, TakesOut}
-use Rattle.template_tree.specs.Elision.{with_toggled_at}
-use Rattle.template_tree.specs.FreshNode.{assignment_node, fresh_node}
-use Rattle.template_tree.specs.Path.{node_at}
-use Rattle.template_tree.specs.PlainTree.{PlainNode, PlainTree, roomless_tree}
-use Rattle.template_tree.specs.Receipt.{PlainReceipt}
-use Rattle.template_tree.specs.Tree.{IsTree}
-use Rattle.template_tree.specs.TreeEdit.{TreeEdit}
+use Rattle.template_tree.specs.Edits.EditAnswer.{Edits, IsHoleFor, IsListItem, IsSpareHole, TakesAssignment, TakesAtStop, TakesOut}
+use Rattle.template_tree.specs.Edits.Elision.{with_toggled_at}
+use Rattle.template_tree.specs.Edits.FreshNode.{assignment_node, fresh_node}
+use Rattle.template_tree.specs.Positions.Path.{node_at}
+use Rattle.template_tree.specs.Programs.PlainTree.{PlainNode, PlainTree, roomless_tree}
+use Rattle.template_tree.specs.Edits.Receipt.{PlainReceipt}
+use Rattle.template_tree.specs.Programs.Tree.{IsTree}
+use Rattle.template_tree.specs.Edits.TreeEdit.{TreeEdit}
 use Rattle.tree_steps.specs.EditStep.{CameByEdits, IsSameTree, IsEditStep}
 
 -- ---- each edit is a step

@@ -1,13 +1,13 @@
 -- The law of variable lists: what is wrong with one depends on what its procedure declares alone.
 use Rattle.std.specs.Prelude.{◌≡◌, ◌≤◌, ℕ, List, ◌∷◌, Option, Some, is_some}
 use Rattle.plcs_grammar.specs.PlainPhrase.{PlainPhrase, PlainVarRef}
-use Rattle.template_tree.specs.Edit.{procedure_of}
-use Rattle.template_tree.specs.Environment.{Items, items_inside}
-use Rattle.template_tree.specs.Marks.{surroundings}
-use Rattle.template_tree.specs.PlainTree.{Forest, PlainNode}
-use Rattle.template_tree.specs.Verdict.{references_offence, verdict}
-use Rattle.template_tree.specs.Place.{Site, site}
-use Rattle.template_tree.specs.Slots.{times}
+use Rattle.template_tree.specs.Edits.Edit.{procedure_of}
+use Rattle.template_tree.specs.Checks.Environment.{Items, items_inside}
+use Rattle.template_tree.specs.Checks.Marks.{surroundings}
+use Rattle.template_tree.specs.Programs.PlainTree.{Forest, PlainNode}
+use Rattle.template_tree.specs.Checks.Verdict.{references_offence, verdict}
+use Rattle.template_tree.specs.Positions.Place.{Site, site}
+use Rattle.template_tree.specs.Programs.Slots.{times}
 use Rattle.tree_steps.specs.RunPlace.{is_first_marked}
 
 -- a list of variables has the same verdict in procedures with the same effective items, whatever stands round them

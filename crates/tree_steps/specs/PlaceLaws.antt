@@ -2,13 +2,13 @@
 use Rattle.std.specs.Prelude.{◌≡◌, ℕ, ◌≤◌, Bool, false, List, Some}
 use Rattle.plcs_grammar.specs.declared.node_kind.NodeKind.{NodeKind}
 use Rattle.plcs_grammar.specs.declared.node_kind.Sort.{Sort}
-use Rattle.template_tree.specs.Edit.{edit_at}
-use Rattle.template_tree.specs.Elision.{toggled}
-use Rattle.template_tree.specs.Place.{Exists, PlainPlace, Site, Start, place_at, passes_in, site}
-use Rattle.template_tree.specs.PlainTree.{Forest, PlainTree, roomless}
-use Rattle.template_tree.specs.Program.{sort_of}
-use Rattle.template_tree.specs.Slots.{times}
-use Rattle.template_tree.specs.Tree.{IsTree}
+use Rattle.template_tree.specs.Edits.Edit.{edit_at}
+use Rattle.template_tree.specs.Edits.Elision.{toggled}
+use Rattle.template_tree.specs.Positions.Place.{Exists, PlainPlace, Site, Start, place_at, passes_in, site}
+use Rattle.template_tree.specs.Programs.PlainTree.{Forest, PlainTree, roomless}
+use Rattle.template_tree.specs.Programs.Program.{sort_of}
+use Rattle.template_tree.specs.Programs.Slots.{times}
+use Rattle.template_tree.specs.Programs.Tree.{IsTree}
 use Rattle.tree_steps.specs.EditStep.{substance}
 use Rattle.tree_steps.specs.RunPlace.{BeginsAt, KeepsPoint, PlacesAlike, SitesAlike}
 use Rattle.tree_steps.specs.SlotAgreement.{AgreesWith}

@@ -3,10 +3,10 @@ use Rattle.std.specs.Prelude.{◌≡◌, ◌↔◌, ◌⊎◌, ℕ, Bool, false,
 use Rattle.plcs_grammar.specs.declared.node_kind.NodeKind.{NodeKind}
 use Rattle.plcs_grammar.specs.declared.node_kind.Sort.{Sort}
 use Rattle.plcs_grammar.specs.declared.template.Template.{Template}
-use Rattle.template_tree.specs.Marks.{is_phrase_marked}
-use Rattle.template_tree.specs.Place.{After, Exists, PlainPlace, Site, Start, passes_in, site}
-use Rattle.template_tree.specs.PlainTree.{Forest, Label}
-use Rattle.template_tree.specs.Program.{sort_of}
+use Rattle.template_tree.specs.Checks.Marks.{is_phrase_marked}
+use Rattle.template_tree.specs.Positions.Place.{After, Exists, PlainPlace, Site, Start, passes_in, site}
+use Rattle.template_tree.specs.Programs.PlainTree.{Forest, Label}
+use Rattle.template_tree.specs.Programs.Program.{sort_of}
 use Rattle.tree_steps.specs.EditStep.{substance}
 use Rattle.tree_steps.specs.StandingSlot.{Around, StandsInside, loops_around, outermost_slot}
 

@@ -1,9 +1,9 @@
 -- When a tree means the same by its slots as an earlier one.
 use Rattle.std.specs.Prelude.{◌≡◌, ℕ}
 use Rattle.plcs_grammar.specs.declared.node_kind.NodeKind.{NodeKind}
-use Rattle.template_tree.specs.PlainTree.{PlainTree}
-use Rattle.template_tree.specs.Program.{sort_of}
-use Rattle.template_tree.specs.Slots.{AllBelow}
+use Rattle.template_tree.specs.Programs.PlainTree.{PlainTree}
+use Rattle.template_tree.specs.Programs.Program.{sort_of}
+use Rattle.template_tree.specs.Programs.Slots.{AllBelow}
 use Rattle.tree_steps.specs.StandingSlot.{Around, StandsInside}
 
 -- the slots of the earlier tree are all drawn in the later one; a slot that is live in both holds nodes of one sort there,

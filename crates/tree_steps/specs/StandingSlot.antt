@@ -2,7 +2,7 @@
 use Rattle.std.specs.Prelude.{◌≡◌, ℕ, ◌⊎◌, List, [], ◌∷◌, ◌++◌}
 use Rattle.plcs_grammar.specs.declared.node_kind.NodeKind.{NodeKind}
 use Rattle.plcs_grammar.specs.declared.template.Template.{Template}
-use Rattle.template_tree.specs.PlainTree.{Forest}
+use Rattle.template_tree.specs.Programs.PlainTree.{Forest}
 
 -- the nodes that enclose a node, each by its slot and its kind, the innermost first
 abbrev pub Around : Type 0

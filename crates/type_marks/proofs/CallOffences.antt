@@ -5,12 +5,12 @@ use Rattle.plcs_base.specs.declared.declared.Declared.{Declared}
 use Rattle.plcs_base.specs.declared.mark.MarkKind.{MarkKind}
 use Rattle.plcs_grammar.specs.declared.expr.Expr.{Expr}
 use Rattle.plcs_grammar.specs.PlainPhrase.{plain_exprs}
-use Rattle.template_tree.specs.ProgramMaps.{items_in}
+use Rattle.template_tree.specs.Checks.ProgramMaps.{items_in}
 use Rattle.decl_table.specs.PlainDecls.{PlainDecls, slot_of}
-use Rattle.template_tree.specs.Environment.{Sig, Signature, items_inside, parameter_kinds, procedure_at}
-use Rattle.template_tree.specs.PlainTree.{Forest, PlainNode}
-use Rattle.template_tree.specs.Slots.{times}
-use Rattle.template_tree.specs.Verdict.{call_offence, kinds_of, offence_in}
+use Rattle.template_tree.specs.Checks.Environment.{Sig, Signature, items_inside, parameter_kinds, procedure_at}
+use Rattle.template_tree.specs.Programs.PlainTree.{Forest, PlainNode}
+use Rattle.template_tree.specs.Programs.Slots.{times}
+use Rattle.template_tree.specs.Checks.Verdict.{call_offence, kinds_of, offence_in}
 use Rattle.type_marks.specs.Agreement.{KnowsHeading, KnowsItems, KnowsParameters, heading_parameters, parameter_names}
 use Rattle.type_marks.specs.Private.CallArguments.{arguments_judged}
 use Rattle.type_marks.proofs.CalledProcedures.{AreFound, are_found, called, kinds_of_parameters, right_count, signature_is, wrong_count}

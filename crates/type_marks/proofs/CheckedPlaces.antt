@@ -3,17 +3,17 @@ use Rattle.std.proofs.Common.{◌≡◌, ℕ, ◌+◌, ◌≤◌, List, [], ◌�
 use Rattle.std.specs.Prelude.{true, is_some, option_and_then}
 use Rattle.std.specs.FinMap.{get}
 use Rattle.plcs_base.specs.declared.place.PhraseAt.{PhraseAt}
-use Rattle.template_tree.specs.Part.{part_at}
-use Rattle.template_tree.specs.Marks.{Verdicts, surroundings}
-use Rattle.template_tree.specs.Path.{below, node_at, slot_at}
-use Rattle.template_tree.specs.PlainTree.{Forest, PlainNode, PlainTree, nodes}
-use Rattle.template_tree.specs.Slots.{count, times}
-use Rattle.template_tree.specs.Tree.{IsTree}
-use Rattle.template_tree.specs.Verdict.{verdict}
+use Rattle.template_tree.specs.Programs.Part.{part_at}
+use Rattle.template_tree.specs.Checks.Marks.{Verdicts, surroundings}
+use Rattle.template_tree.specs.Positions.Path.{below, node_at, slot_at}
+use Rattle.template_tree.specs.Programs.PlainTree.{Forest, PlainNode, PlainTree, nodes}
+use Rattle.template_tree.specs.Programs.Slots.{count, times}
+use Rattle.template_tree.specs.Programs.Tree.{IsTree}
+use Rattle.template_tree.specs.Checks.Verdict.{verdict}
 use Rattle.plcs_grammar.specs.PlainPhrase.{PlainPhrase}
-use Rattle.template_tree.specs.Environment.{procedure_at}
-use Rattle.template_tree.specs.Limit.{most_slots}
-use Rattle.template_tree.specs.Program.{IsSubtree}
+use Rattle.template_tree.specs.Checks.Environment.{procedure_at}
+use Rattle.template_tree.specs.Programs.Limit.{most_slots}
+use Rattle.template_tree.specs.Programs.Program.{IsSubtree}
 use Rattle.type_marks.specs.Agreement.{Stands}
 use Rattle.type_marks.specs.Private.DeclaredItems.{IsListIn}
 use Rattle.type_marks.specs.Private.MarksView.{IsIn, IsProcedureItem, procedure_item_on}

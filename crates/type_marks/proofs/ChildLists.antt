@@ -2,9 +2,9 @@
 use Rattle.std.proofs.Common.{◌≡◌, ℕ, true, false, cond, List, [], ◌++◌, sym, ap, ◌∙◌}
 use Rattle.std.specs.Prelude.{◌||◌, nat_eq}
 use Rattle.std.proofs.lemmas.List.Folds.{list_any-append}
-use Rattle.template_tree.specs.Environment.{declares, type_given}
-use Rattle.template_tree.specs.Marks.{declared_before, type_in}
-use Rattle.template_tree.specs.PlainTree.{Forest, PlainNode}
+use Rattle.template_tree.specs.Checks.Environment.{declares, type_given}
+use Rattle.template_tree.specs.Checks.Marks.{declared_before, type_in}
+use Rattle.template_tree.specs.Programs.PlainTree.{Forest, PlainNode}
 use Rattle.type_marks.specs.Private.DeclaredItems.{has_such, is_such}
 
 -- these begin with a node, and others are behind it

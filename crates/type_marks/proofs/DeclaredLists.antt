@@ -12,13 +12,13 @@ use Rattle.plcs_grammar.specs.Canon.{Canon}
 use Rattle.plcs_grammar.specs.PlainPhrase.{PlainPhrase}
 use Rattle.plcs_grammar.specs.Reads.{HasReading}
 use Rattle.plcs_grammar.specs.Template.{row_of}
-use Rattle.template_tree.specs.Part.{part_at}
-use Rattle.template_tree.specs.Environment.{all_declared, declares, list_items, procedure_at, type_given, with_type}
-use Rattle.template_tree.specs.Marks.{declared_before, type_in}
-use Rattle.template_tree.specs.Path.{below, node_at}
-use Rattle.template_tree.specs.PlainTree.{Forest, PlainNode, forest}
-use Rattle.template_tree.specs.Program.{AreParts, IsPart, parts_of}
-use Rattle.template_tree.specs.Slots.{times}
+use Rattle.template_tree.specs.Programs.Part.{part_at}
+use Rattle.template_tree.specs.Checks.Environment.{all_declared, declares, list_items, procedure_at, type_given, with_type}
+use Rattle.template_tree.specs.Checks.Marks.{declared_before, type_in}
+use Rattle.template_tree.specs.Positions.Path.{below, node_at}
+use Rattle.template_tree.specs.Programs.PlainTree.{Forest, PlainNode, forest}
+use Rattle.template_tree.specs.Programs.Program.{AreParts, IsPart, parts_of}
+use Rattle.template_tree.specs.Programs.Slots.{times}
 use Rattle.type_marks.proofs.LiveSlots.{slot_present}
 use Rattle.type_marks.specs.Private.DeclaredItems.{AreDeclaredIn}
 use Rattle.type_marks.specs.Private.MarksView.{AreListed}

@@ -9,13 +9,13 @@ use Rattle.plcs_base.specs.declared.declared.Declared.{Declared}
 use Rattle.plcs_base.specs.declared.declared.ItemType.{ItemType}
 use Rattle.plcs_base.specs.declared.mark.MarkKind.{MarkKind}
 use Rattle.plcs_grammar.specs.declared.item.Item.{Item}
-use Rattle.template_tree.specs.ProgramMaps.{items_in}
+use Rattle.template_tree.specs.Checks.ProgramMaps.{items_in}
 use Rattle.decl_table.specs.PlainDecls.{PlainDecls}
 use Rattle.type_marks.proofs.EffectiveItems.{effective_append}
-use Rattle.template_tree.specs.Environment.{all_declared, declared_as, effective, item_named, item_offence, with_declared, with_type}
-use Rattle.template_tree.specs.Marks.{declared_before, type_in}
-use Rattle.template_tree.specs.PlainTree.{PlainNode}
-use Rattle.template_tree.specs.Verdict.{declared_offence}
+use Rattle.template_tree.specs.Checks.Environment.{all_declared, declared_as, effective, item_named, item_offence, with_declared, with_type}
+use Rattle.template_tree.specs.Checks.Marks.{declared_before, type_in}
+use Rattle.template_tree.specs.Programs.PlainTree.{PlainNode}
+use Rattle.template_tree.specs.Checks.Verdict.{declared_offence}
 use Rattle.type_marks.specs.Private.DeclaredItems.{AreDeclaredIn, KnowsListed, has_such, is_such, judged_item}
 use Rattle.type_marks.proofs.EffectiveItems.{judged}
 

@@ -7,8 +7,8 @@ use Rattle.plcs_base.specs.declared.value.Kind.{Kind}
 use Rattle.plcs_grammar.specs.declared.builtin.Builtin.{Builtin}
 use Rattle.plcs_grammar.specs.declared.expr.Expr.{Expr}
 use Rattle.plcs_grammar.specs.PlainPhrase.{plain_expr, plain_exprs}
-use Rattle.template_tree.specs.KindTable.{PlainBuiltinRow, builtin_row}
-use Rattle.template_tree.specs.Verdict.{both_found, builtin_found, fit, is_count, kind_of, kinds_of, offence_in, then_found}
+use Rattle.template_tree.specs.Checks.KindTable.{PlainBuiltinRow, builtin_row}
+use Rattle.template_tree.specs.Checks.Verdict.{both_found, builtin_found, fit, is_count, kind_of, kinds_of, offence_in, then_found}
 use Rattle.type_marks.specs.declared.kind_table.BuiltinRow.{BuiltinRow as Row}
 use Rattle.type_marks.specs.Private.Arguments.{fit_found, judged, takes_kind, taken_of}
 use Rattle.type_marks.specs.Private.PlainBuiltinRow.{plain_builtin_row}

@@ -5,8 +5,8 @@ use Rattle.std.specs.Option.{option_or}
 use Rattle.plcs_base.specs.declared.mark.MarkKind.{MarkKind}
 use Rattle.plcs_base.specs.declared.value.Kind.{Kind}
 use Rattle.plcs_grammar.specs.declared.operator.InfixOp.{InfixOp}
-use Rattle.template_tree.specs.KindTable.{infix_gives, infix_takes}
-use Rattle.template_tree.specs.Verdict.{both_found, infix_found, is_pair, offence_in}
+use Rattle.template_tree.specs.Checks.KindTable.{infix_gives, infix_takes}
+use Rattle.template_tree.specs.Checks.Verdict.{both_found, infix_found, is_pair, offence_in}
 use Rattle.type_marks.specs.declared.chain.Link.{Link}
 use Rattle.type_marks.specs.Private.Chain.{with_later}
 

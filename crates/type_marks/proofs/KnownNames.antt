@@ -11,14 +11,14 @@ use Rattle.plcs_base.specs.declared.mark.MarkKind.{MarkKind}
 use Rattle.plcs_base.specs.declared.value.Kind.{Kind}
 use Rattle.plcs_grammar.specs.Builtin.{is_builtin_name}
 use Rattle.plcs_grammar.specs.PlainPhrase.{PlainExpr, PlainExprs, PlainPhrase, PlainVarRef}
-use Rattle.template_tree.specs.ProgramMaps.{items_in}
+use Rattle.template_tree.specs.Checks.ProgramMaps.{items_in}
 use Rattle.decl_table.specs.PlainDecls.{PlainDecls}
-use Rattle.template_tree.specs.Environment.{items_inside, item_named, parameter_kind, parameter_kinds, procedure_at, scalar_kind}
-use Rattle.template_tree.specs.KindTable.{prefix_kind}
-use Rattle.template_tree.specs.Marks.{surroundings}
-use Rattle.template_tree.specs.Mention.{mentioned, names_in, names_in_all, reference_names}
-use Rattle.template_tree.specs.PlainTree.{Forest, PlainNode}
-use Rattle.template_tree.specs.Verdict.{array_kind, both_found, builtin_found, call_offence, cell_found, infix_found, kind_of, kinds_of, name_kind, of_kind, offence_in, parameter_offence, parameters_offence, reference_kind, references_offence, scalar_found, then_found, verdict}
+use Rattle.template_tree.specs.Checks.Environment.{items_inside, item_named, parameter_kind, parameter_kinds, procedure_at, scalar_kind}
+use Rattle.template_tree.specs.Checks.KindTable.{prefix_kind}
+use Rattle.template_tree.specs.Checks.Marks.{surroundings}
+use Rattle.template_tree.specs.Checks.Mention.{mentioned, names_in, names_in_all, reference_names}
+use Rattle.template_tree.specs.Programs.PlainTree.{Forest, PlainNode}
+use Rattle.template_tree.specs.Checks.Verdict.{array_kind, both_found, builtin_found, call_offence, cell_found, infix_found, kind_of, kinds_of, name_kind, of_kind, offence_in, parameter_offence, parameters_offence, reference_kind, references_offence, scalar_found, then_found, verdict}
 use Rattle.type_marks.specs.Agreement.{KnowsItems}
 use Rattle.type_marks.specs.Private.MarksView.{known_surroundings}
 

@@ -16,10 +16,10 @@ use Rattle.plcs_base.specs.declared.mark.MarkKind.{MarkKind}
 use Rattle.plcs_base.specs.declared.place.PhraseAt.{PhraseAt}
 use Rattle.plcs_base.specs.ListLeft.{left_from, none_left}
 use Rattle.plcs_base.specs.PlaceOrder.{place_test_equiv, place_ties, places_total, same_place}
-use Rattle.template_tree.specs.Marks.{VerdictList, VerdictMap, node_verdicts, offence_at, offences, part_verdicts, procedure_verdicts, surroundings}
-use Rattle.template_tree.specs.Mention.{phrase_at}
-use Rattle.template_tree.specs.PlainTree.{Forest, PlainNode, forest, forest_nodes, nodes}
-use Rattle.template_tree.specs.Verdict.{Surroundings, verdict}
+use Rattle.template_tree.specs.Checks.Marks.{VerdictList, VerdictMap, node_verdicts, offence_at, offences, part_verdicts, procedure_verdicts, surroundings}
+use Rattle.template_tree.specs.Checks.Mention.{phrase_at}
+use Rattle.template_tree.specs.Programs.PlainTree.{Forest, PlainNode, forest, forest_nodes, nodes}
+use Rattle.template_tree.specs.Checks.Verdict.{Surroundings, verdict}
 use Rattle.plcs_grammar.specs.PlainPhrase.{PlainPhrase}
 use Rattle.type_marks.specs.Private.MarksView.{with_all}
 

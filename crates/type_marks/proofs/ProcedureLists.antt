@@ -2,9 +2,9 @@
 use Rattle.std.proofs.Common.{◌≡◌, ℕ, Bool, true, false, cond, List, Option, Some, None, refl, sym, ap, ◌∙◌}
 use Rattle.std.specs.Prelude.{is_some, nat_eq}
 use Rattle.std.specs.Option.{option_or}
-use Rattle.template_tree.specs.Environment.{Sig, Signature, procedure_at, signature_for}
-use Rattle.template_tree.specs.Marks.{procedures_before}
-use Rattle.template_tree.specs.PlainTree.{Forest, PlainNode}
+use Rattle.template_tree.specs.Checks.Environment.{Sig, Signature, procedure_at, signature_for}
+use Rattle.template_tree.specs.Checks.Marks.{procedures_before}
+use Rattle.template_tree.specs.Programs.PlainTree.{Forest, PlainNode}
 
 -- these begin with a node, and others are behind it
 module _ (all : Forest) (node : PlainNode) (rest : Forest) (first : all ≡ Forest.cons node.label node.inner rest) (slot : ℕ) where

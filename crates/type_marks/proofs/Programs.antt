@@ -5,13 +5,13 @@ use Rattle.std.proofs.lemmas.Bool.Decides.{nat_tests}
 use Rattle.plcs_grammar.specs.PlainPhrase.{PlainPhrase}
 use Rattle.decl_table.specs.Agreement.{IsDeclsOf}
 use Rattle.decl_table.specs.PlainDecls.{PlainDecls}
-use Rattle.template_tree.specs.Environment.{item_named, procedure_at}
-use Rattle.template_tree.specs.Limit.{most_slots}
-use Rattle.template_tree.specs.Path.{below}
-use Rattle.template_tree.specs.PlainTree.{Forest, PlainNode, PlainTree, forest, nodes}
-use Rattle.template_tree.specs.Program.{IsSubtree}
-use Rattle.template_tree.specs.Slots.{count, times}
-use Rattle.template_tree.specs.Tree.{IsTree}
+use Rattle.template_tree.specs.Checks.Environment.{item_named, procedure_at}
+use Rattle.template_tree.specs.Programs.Limit.{most_slots}
+use Rattle.template_tree.specs.Positions.Path.{below}
+use Rattle.template_tree.specs.Programs.PlainTree.{Forest, PlainNode, PlainTree, forest, nodes}
+use Rattle.template_tree.specs.Programs.Program.{IsSubtree}
+use Rattle.template_tree.specs.Programs.Slots.{count, times}
+use Rattle.template_tree.specs.Programs.Tree.{IsTree}
 use Rattle.type_marks.specs.Agreement.{Knows}
 use Rattle.type_marks.specs.Private.MarksView.{AreListed, IsIn, IsProcedureItem}
 use Rattle.type_marks.proofs.DeclaredLists.{are_listed}

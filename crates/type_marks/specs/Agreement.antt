@@ -3,12 +3,12 @@ use Rattle.std.specs.Prelude.{◌≡◌, ℕ, true, bytes_eq, List, [], Option, 
 use Rattle.std.specs.List.{list_any}
 use Rattle.plcs_base.specs.declared.place.PhraseAt.{PhraseAt}
 use Rattle.plcs_grammar.specs.PlainPhrase.{PlainPhrase}
-use Rattle.template_tree.specs.Part.{part_at}
-use Rattle.template_tree.specs.Environment.{Items, Sig, Signature, heading_of, item_named, procedure_at}
-use Rattle.template_tree.specs.Mention.{mentioned}
-use Rattle.template_tree.specs.Path.{below}
-use Rattle.template_tree.specs.PlainTree.{Forest, PlainNode, nodes}
-use Rattle.template_tree.specs.ProgramMaps.{items_in}
+use Rattle.template_tree.specs.Programs.Part.{part_at}
+use Rattle.template_tree.specs.Checks.Environment.{Items, Sig, Signature, heading_of, item_named, procedure_at}
+use Rattle.template_tree.specs.Checks.Mention.{mentioned}
+use Rattle.template_tree.specs.Positions.Path.{below}
+use Rattle.template_tree.specs.Programs.PlainTree.{Forest, PlainNode, nodes}
+use Rattle.template_tree.specs.Checks.ProgramMaps.{items_in}
 use Rattle.decl_table.specs.PlainDecls.{PlainDecls, slot_of}
 
 -- ---- where a phrase stands

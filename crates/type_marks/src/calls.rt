@@ -1,11 +1,11 @@
 //! Offences of calls, whose arguments are held against parameters, and of the names of procedures.
 ghost use Rattle.std.specs.Prelude.{◌≡◌, [], None, length};
 ghost use Rattle.plcs_grammar.specs.PlainPhrase.{plain_exprs};
-ghost use Rattle.template_tree.specs.ProgramMaps.{items_in};
-ghost use Rattle.template_tree.specs.Environment.{Sig, parameter_kind, parameter_kinds};
-ghost use Rattle.template_tree.specs.Marks.{procedures_before};
-ghost use Rattle.template_tree.specs.Tree.{IsTree};
-ghost use Rattle.template_tree.specs.Verdict.{call_offence, kinds_of, offence_in, procedure_offence};
+ghost use Rattle.template_tree.specs.Checks.ProgramMaps.{items_in};
+ghost use Rattle.template_tree.specs.Checks.Environment.{Sig, parameter_kind, parameter_kinds};
+ghost use Rattle.template_tree.specs.Checks.Marks.{procedures_before};
+ghost use Rattle.template_tree.specs.Programs.Tree.{IsTree};
+ghost use Rattle.template_tree.specs.Checks.Verdict.{call_offence, kinds_of, offence_in, procedure_offence};
 ghost use Rattle.type_marks.specs.Agreement.{KnowsHeading, KnowsParameters};
 ghost use Rattle.type_marks.specs.Private.CallArguments.{arguments_judged, is_taken};
 

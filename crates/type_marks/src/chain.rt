@@ -6,7 +6,7 @@ ghost use Rattle.std.specs.Prelude.{◌≡◌, Ok, Result};
 ghost use Rattle.std.specs.Option.{option_or};
 ghost use Rattle.plcs_base.specs.declared.mark.MarkKind.{MarkKind};
 ghost use Rattle.plcs_base.specs.declared.value.Kind.{Kind};
-ghost use Rattle.template_tree.specs.Verdict.{both_found, infix_found, is_pair, offence_in};
+ghost use Rattle.template_tree.specs.Checks.Verdict.{both_found, infix_found, is_pair, offence_in};
 ghost use Rattle.type_marks.specs.Private.Chain.{EndsBefore, chain_end, with_later};
 
 use crate::kind_table::{infix_gives, infix_takes, same_kind};

@@ -1,11 +1,11 @@
 //! Offences of declared lists: which of their items aren't effective, and why.
 ghost use Rattle.std.specs.Prelude.{◌≡◌, ◌++◌, ◌<◌, [], map};
 ghost use Rattle.plcs_base.specs.declared.declared.ItemType.{ItemType};
-ghost use Rattle.template_tree.specs.Environment.{cells_of, declared_as, declares, effective, with_type};
-ghost use Rattle.template_tree.specs.Limit.{most_slots};
-ghost use Rattle.template_tree.specs.Marks.{declared_before, type_in};
-ghost use Rattle.template_tree.specs.Slots.{count};
-ghost use Rattle.template_tree.specs.Verdict.{declared_offence};
+ghost use Rattle.template_tree.specs.Checks.Environment.{cells_of, declared_as, declares, effective, with_type};
+ghost use Rattle.template_tree.specs.Programs.Limit.{most_slots};
+ghost use Rattle.template_tree.specs.Checks.Marks.{declared_before, type_in};
+ghost use Rattle.template_tree.specs.Programs.Slots.{count};
+ghost use Rattle.template_tree.specs.Checks.Verdict.{declared_offence};
 ghost use Rattle.type_marks.specs.Private.DeclaredItems.{AreDeclaredIn, KnowsListed, has_such, is_such, judged_item};
 
 use crate::procedures::stands_in;

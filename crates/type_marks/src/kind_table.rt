@@ -1,8 +1,8 @@
 //! The tables of kinds: what operators and built-in functions take and give.
 ghost use Rattle.std.specs.Prelude.{◌≡◌, length, slice_get};
-ghost use Rattle.template_tree.specs.Verdict.{is_count};
+ghost use Rattle.template_tree.specs.Checks.Verdict.{is_count};
 ghost use Rattle.type_marks.specs.Private.Arguments.{taken_of};
-ghost use Rattle.template_tree.specs.KindTable.{builtin_row, infix_gives, infix_takes, prefix_kind, same_kind};
+ghost use Rattle.template_tree.specs.Checks.KindTable.{builtin_row, infix_gives, infix_takes, prefix_kind, same_kind};
 ghost use Rattle.type_marks.specs.Private.PlainBuiltinRow.{plain_builtin_row};
 
 use plcs_base::Kind;

@@ -1,8 +1,8 @@
 //! The kinds of expressions: of variables, operators and calls of built-in functions.
 ghost use Rattle.std.specs.Prelude.{◌≡◌, Ok, length, option_to_list, ◌++◌};
 ghost use Rattle.plcs_grammar.specs.PlainPhrase.{plain_expr, plain_exprs, plain_var_ref};
-ghost use Rattle.template_tree.specs.ProgramMaps.{items_in};
-ghost use Rattle.template_tree.specs.Verdict.{kind_of, kinds_of, reference_kind, then_found, of_kind};
+ghost use Rattle.template_tree.specs.Checks.ProgramMaps.{items_in};
+ghost use Rattle.template_tree.specs.Checks.Verdict.{kind_of, kinds_of, reference_kind, then_found, of_kind};
 ghost use Rattle.type_marks.specs.Private.Arguments.{fit_found, judged, takes_kind, taken_of};
 
 use crate::chain::Chain;

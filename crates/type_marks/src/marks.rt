@@ -3,13 +3,13 @@ ghost use Rattle.std.specs.Prelude.{◌≡◌, ◌∷◌, ◌<◌, [], IfOk, OnO
 ghost use Rattle.std.specs.FinMap.{get, insert};
 ghost use Rattle.plcs_base.specs.PlainCounts.{ChecksAtMost};
 ghost use Rattle.decl_table.specs.Agreement.{IsDeclsOf};
-ghost use Rattle.template_tree.specs.Limit.{most_slots};
-ghost use Rattle.template_tree.specs.Marks.{Verdicts, node_verdicts, offences, part_verdicts, procedure_verdicts, surroundings};
-ghost use Rattle.template_tree.specs.PlainTree.{forest};
-ghost use Rattle.template_tree.specs.Program.{IsSubtree};
-ghost use Rattle.template_tree.specs.ProgramMaps.{MarksTell};
-ghost use Rattle.template_tree.specs.Slots.{count};
-ghost use Rattle.template_tree.specs.Tree.{IsTree};
+ghost use Rattle.template_tree.specs.Programs.Limit.{most_slots};
+ghost use Rattle.template_tree.specs.Checks.Marks.{Verdicts, node_verdicts, offences, part_verdicts, procedure_verdicts, surroundings};
+ghost use Rattle.template_tree.specs.Programs.PlainTree.{forest};
+ghost use Rattle.template_tree.specs.Programs.Program.{IsSubtree};
+ghost use Rattle.template_tree.specs.Checks.ProgramMaps.{MarksTell};
+ghost use Rattle.template_tree.specs.Programs.Slots.{count};
+ghost use Rattle.template_tree.specs.Programs.Tree.{IsTree};
 ghost use Rattle.type_marks.specs.Private.MarksView.{AreListed, IsIn, IsProcedureItem, with_all};
 
 use crate::procedures::procedure_item;
@@ -29,7 +29,7 @@ pub struct Marks<W> {
 
 impl<W> Model for Marks<W> {
     ghost use Rattle.std.specs.FinMap.{from_entries};
-    ghost use Rattle.template_tree.specs.Marks.{VerdictMap};
+    ghost use Rattle.template_tree.specs.Checks.Marks.{VerdictMap};
     ghost use Rattle.type_marks.specs.Private.MarksView.{verdicts_code};
 
     ghost Value = { VerdictMap };

@@ -1,8 +1,8 @@
 //! The kinds of names where variables are used, as scalars and as arrays.
 ghost use Rattle.std.specs.Prelude.{◌≡◌, option_and_then};
-ghost use Rattle.template_tree.specs.ProgramMaps.{items_in};
-ghost use Rattle.template_tree.specs.Environment.{item_named, kind_of_type, scalar_kind};
-ghost use Rattle.template_tree.specs.Verdict.{array_kind, cell_found, item_found, name_kind, scalar_found};
+ghost use Rattle.template_tree.specs.Checks.ProgramMaps.{items_in};
+ghost use Rattle.template_tree.specs.Checks.Environment.{item_named, kind_of_type, scalar_kind};
+ghost use Rattle.template_tree.specs.Checks.Verdict.{array_kind, cell_found, item_found, name_kind, scalar_found};
 
 use decl_table::Decls;
 use plcs_base::{Declared, ItemType, Kind, MarkKind, Name, Slot};

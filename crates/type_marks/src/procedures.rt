@@ -1,12 +1,12 @@
 //! Main and the procedures of a program, found by number, slot and name, and their parameters.
 ghost use Rattle.std.specs.Prelude.{◌≡◌, ◌+◌, ◌≤◌, [], IfSome, is_some, nat_eq, option_map, slice_get};
-ghost use Rattle.template_tree.specs.Environment.{Sig, procedure_at, signature_for};
-ghost use Rattle.template_tree.specs.Limit.{most_slots};
-ghost use Rattle.template_tree.specs.Marks.{procedures_before};
-ghost use Rattle.template_tree.specs.PlainTree.{nodes};
-ghost use Rattle.template_tree.specs.Program.{IsSubtree};
-ghost use Rattle.template_tree.specs.Slots.{count};
-ghost use Rattle.template_tree.specs.Tree.{IsTree};
+ghost use Rattle.template_tree.specs.Checks.Environment.{Sig, procedure_at, signature_for};
+ghost use Rattle.template_tree.specs.Programs.Limit.{most_slots};
+ghost use Rattle.template_tree.specs.Checks.Marks.{procedures_before};
+ghost use Rattle.template_tree.specs.Programs.PlainTree.{nodes};
+ghost use Rattle.template_tree.specs.Programs.Program.{IsSubtree};
+ghost use Rattle.template_tree.specs.Programs.Slots.{count};
+ghost use Rattle.template_tree.specs.Programs.Tree.{IsTree};
 ghost use Rattle.type_marks.specs.Agreement.{heading_parameters};
 ghost use Rattle.type_marks.specs.Private.MarksView.{procedure_item_on};
 

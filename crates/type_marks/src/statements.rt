@@ -2,8 +2,8 @@
 ghost use Rattle.std.specs.Prelude.{◌≡◌, count_by, map, bytes_eq};
 ghost use Rattle.plcs_base.specs.declared.value.Kind.{Kind};
 ghost use Rattle.plcs_grammar.specs.PlainPhrase.{plain_expr, plain_exprs, plain_var_ref};
-ghost use Rattle.template_tree.specs.ProgramMaps.{items_in};
-ghost use Rattle.template_tree.specs.Verdict.{both_found, kind_of, kinds_of, name_kind, offence_in, parameter_offence, parameters_offence, reference_kind, references_offence, then_found, of_kind};
+ghost use Rattle.template_tree.specs.Checks.ProgramMaps.{items_in};
+ghost use Rattle.template_tree.specs.Checks.Verdict.{both_found, kind_of, kinds_of, name_kind, offence_in, parameter_offence, parameters_offence, reference_kind, references_offence, then_found, of_kind};
 
 use crate::kinds::{found_wanted, kind_of, reference_kind};
 use crate::names::{name_kind, scalar_named};

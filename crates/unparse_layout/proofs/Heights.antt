@@ -4,10 +4,10 @@ use Rattle.std.proofs.Common.{ap, sym, ◌∙◌, arith}
 use Rattle.std.proofs.lemmas.List.Sums.{sum_by-cons}
 use mir.Val.{bool_byte}
 use Rattle.plcs_grammar.specs.Template.{PlainSection, row_of}
-use Rattle.template_tree.specs.PlainTree.{Forest, PlainNode, nodes}
-use Rattle.template_tree.specs.Program.{sort_of}
-use Rattle.template_tree.specs.Section.{left_for, left_after}
-use Rattle.template_tree.specs.Slots.{count}
+use Rattle.template_tree.specs.Programs.PlainTree.{Forest, PlainNode, nodes}
+use Rattle.template_tree.specs.Programs.Program.{sort_of}
+use Rattle.template_tree.specs.Listings.Section.{left_for, left_after}
+use Rattle.template_tree.specs.Programs.Slots.{count}
 use Rattle.unparse_layout.specs.Bones.{Bone, PlainLayout, bones_of}
 use Rattle.unparse_layout.specs.Private.PlainNodeLayout.{PlainNodeLayout, node_layouts, bones, node_layouts_bones}
 use Rattle.unparse_layout.specs.Private.Height.{line_count, one_if, height_around, height, heights, bone_count}

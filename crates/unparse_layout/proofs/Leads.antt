@@ -2,9 +2,9 @@
 use Rattle.std.specs.Prelude.{◌≡◌, refl, ℕ, zero, suc, ◌+◌, ◌-◌, ◌<◌, ◌≤◌, List, ◌∷◌, length, drop, Some, None, slice_get}
 use Rattle.std.proofs.Common.{ap, sym, ◌∙◌, arith}
 use Rattle.plcs_grammar.specs.Template.{PlainSection}
-use Rattle.template_tree.specs.PlainTree.{Forest, PlainNode, nodes, forest, forest_nodes}
-use Rattle.template_tree.specs.Program.{sort_of}
-use Rattle.template_tree.specs.Section.{left_for, left_after, next_lead}
+use Rattle.template_tree.specs.Programs.PlainTree.{Forest, PlainNode, nodes, forest, forest_nodes}
+use Rattle.template_tree.specs.Programs.Program.{sort_of}
+use Rattle.template_tree.specs.Listings.Section.{left_for, left_after, next_lead}
 use Rattle.unparse_layout.specs.Private.ItemLines.{lead_at}
 use Rattle.unparse_layout.proofs.MadeBones.{left_from}
 

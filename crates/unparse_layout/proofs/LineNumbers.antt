@@ -6,12 +6,12 @@ use Rattle.std.proofs.lemmas.List.Concat.{flat_map-cons}
 use Rattle.plcs_grammar.specs.declared.category.Category.{Category}
 use Rattle.plcs_grammar.specs.PlainPhrase.{PlainPhrase}
 use Rattle.plcs_grammar.specs.Template.{PlainSegment, PlainSection, row_of}
-use Rattle.template_tree.specs.PlainTree.{Label, Forest, PlainNode}
-use Rattle.template_tree.specs.Program.{sort_of}
-use Rattle.template_tree.specs.Section.{left_for, left_after, next_lead}
-use Rattle.template_tree.specs.Line.{Line, lines, fixed_line, elision_line, segment_text, segments_text, parts_after, part_text}
+use Rattle.template_tree.specs.Programs.PlainTree.{Label, Forest, PlainNode}
+use Rattle.template_tree.specs.Programs.Program.{sort_of}
+use Rattle.template_tree.specs.Listings.Section.{left_for, left_after, next_lead}
+use Rattle.template_tree.specs.Listings.Line.{Line, lines, fixed_line, elision_line, segment_text, segments_text, parts_after, part_text}
 use Rattle.unparse_layout.specs.declared.line.LineKind.{LineKind}
-use Rattle.template_tree.specs.Part.{part_at}
+use Rattle.template_tree.specs.Programs.Part.{part_at}
 use Rattle.unparse_layout.specs.OwnedLine.{OwnedLine, Stretch, bare_line, first_line, owned_lines, partless_line, stretches_of, table_line}
 use Rattle.unparse_layout.specs.Bones.{bones_of}
 use Rattle.unparse_layout.specs.Private.PlainNodeLayout.{node_layout_of}

@@ -9,11 +9,11 @@ use Rattle.std.proofs.lemmas.Bool.Decides.{Decides-eqb}
 use Rattle.std.proofs.lemmas.List.Elements.{All-append, All-cons, All-head, All-map, All-nil, All-same, All-tail, All-weaker}
 use Rattle.std.proofs.lemmas.Slice.Eq.{bytes_eq-Decides}
 use Rattle.plcs_grammar.specs.Template.{PlainSection, row_of, program_sections}
-use Rattle.template_tree.specs.PlainTree.{Forest, Label, PlainNode}
-use Rattle.template_tree.specs.Program.{sort_of}
-use Rattle.template_tree.specs.Section.{left_for, left_after, next_lead}
-use Rattle.template_tree.specs.Line.{fixed_line, lines}
-use Rattle.template_tree.specs.Stop.{IsStop, MayStand, PlainStop, VisibleNode, VisibleStop, inside, line_at, listed_stop, part_stops, same_stop, stops_of, visible_at, visible_nodes}
+use Rattle.template_tree.specs.Programs.PlainTree.{Forest, Label, PlainNode}
+use Rattle.template_tree.specs.Programs.Program.{sort_of}
+use Rattle.template_tree.specs.Listings.Section.{left_for, left_after, next_lead}
+use Rattle.template_tree.specs.Listings.Line.{fixed_line, lines}
+use Rattle.template_tree.specs.Positions.Stop.{IsStop, MayStand, PlainStop, VisibleNode, VisibleStop, inside, line_at, listed_stop, part_stops, same_stop, stops_of, visible_at, visible_nodes}
 use Rattle.unparse_layout.specs.Bones.{Bone, PlainLayout, bones_of}
 use Rattle.unparse_layout.specs.Private.PlainNodeLayout.{node_layout_of}
 use Rattle.unparse_layout.specs.Private.Height.{height, heights}

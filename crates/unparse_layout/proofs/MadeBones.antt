@@ -4,10 +4,10 @@ use Rattle.std.proofs.Common.{ap, sym, ◌∙◌, arith, append_assoc, add-one}
 use Rattle.std.proofs.lemmas.List.{append-nil}
 use Rattle.std.proofs.Math.ListN.{drop_of_length-le}
 use Rattle.plcs_grammar.specs.Template.{PlainSection, row_of}
-use Rattle.template_tree.specs.PlainTree.{Forest, PlainNode, nodes, forest, forest_nodes}
-use Rattle.template_tree.specs.Program.{sort_of}
-use Rattle.template_tree.specs.Section.{left_for, left_after, next_lead}
-use Rattle.template_tree.specs.Slots.{count}
+use Rattle.template_tree.specs.Programs.PlainTree.{Forest, PlainNode, nodes, forest, forest_nodes}
+use Rattle.template_tree.specs.Programs.Program.{sort_of}
+use Rattle.template_tree.specs.Listings.Section.{left_for, left_after, next_lead}
+use Rattle.template_tree.specs.Programs.Slots.{count}
 use Rattle.unparse_layout.specs.Bones.{PlainLayout, bones_of}
 use Rattle.unparse_layout.specs.Private.PlainNodeLayout.{PlainNodeLayout, node_layouts, bones, node_layouts_bones, bones_node_layouts, node_layout_of}
 use Rattle.unparse_layout.specs.Private.Height.{height, heights, bone_count}

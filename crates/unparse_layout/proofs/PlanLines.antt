@@ -3,11 +3,11 @@ use Rattle.std.specs.Prelude.{◌≡◌, refl, ℕ, zero, suc, ◌+◌, ◌-◌,
 use Rattle.std.proofs.Common.{ap, sym, ◌∙◌, arith, subst}
 use Rattle.std.proofs.lemmas.List.{length-map}
 use Rattle.plcs_grammar.specs.Template.{PlainSection, row_of, program_sections}
-use Rattle.template_tree.specs.PlainTree.{Forest, PlainNode, nodes}
-use Rattle.template_tree.specs.Path.{node_at}
-use Rattle.template_tree.specs.Program.{sort_of}
-use Rattle.template_tree.specs.Section.{left_for, left_after}
-use Rattle.template_tree.specs.Slots.{depth}
+use Rattle.template_tree.specs.Programs.PlainTree.{Forest, PlainNode, nodes}
+use Rattle.template_tree.specs.Positions.Path.{node_at}
+use Rattle.template_tree.specs.Programs.Program.{sort_of}
+use Rattle.template_tree.specs.Listings.Section.{left_for, left_after}
+use Rattle.template_tree.specs.Programs.Slots.{depth}
 use Rattle.unparse_layout.specs.declared.line.LineKind.{LineKind}
 use Rattle.unparse_layout.specs.declared.node_layout.NodeLayout.TheInside.{Inside}
 use Rattle.unparse_layout.specs.OwnedLine.{OwnedLines, partless_line, table_line}

@@ -2,9 +2,9 @@
 use Rattle.std.specs.Prelude.{◌≡◌, refl, ℕ, ◌+◌, ◌-◌, if◌then◌else◌, List, [], ◌∷◌, ◌++◌, codes, is_some}
 use Rattle.std.proofs.Common.{sym, ◌∙◌}
 use Rattle.plcs_grammar.specs.Template.{PlainSection, row_of, program_sections}
-use Rattle.template_tree.specs.PlainTree.{Forest, roomless}
-use Rattle.template_tree.specs.Program.{sort_of}
-use Rattle.template_tree.specs.Section.{left_for, left_after, next_lead}
+use Rattle.template_tree.specs.Programs.PlainTree.{Forest, roomless}
+use Rattle.template_tree.specs.Programs.Program.{sort_of}
+use Rattle.template_tree.specs.Listings.Section.{left_for, left_after, next_lead}
 use Rattle.unparse_layout.specs.declared.line.LineKind.{LineKind}
 use Rattle.unparse_layout.specs.Agreement.{LayoutsIgnoreRoom}
 use Rattle.unparse_layout.specs.Bones.{PlainLayout, bones_of}

@@ -9,11 +9,11 @@ use Rattle.std.proofs.lemmas.List.Sums.{sum_by-cons, sum_by-take-le}
 use Rattle.std.proofs.lemmas.List.FromFn.{get_or-range_with_len, length-range_with_len}
 use Rattle.plcs_grammar.specs.declared.node_kind.NodeKind.{NodeKind}
 use Rattle.plcs_grammar.specs.Template.{PlainSection, row_of, program_sections}
-use Rattle.template_tree.specs.PlainTree.{Forest, PlainNode, nodes}
-use Rattle.template_tree.specs.Program.{sort_of}
-use Rattle.template_tree.specs.Section.{left_for, left_after, next_lead}
-use Rattle.template_tree.specs.Line.{Lines, fixed_line, lines}
-use Rattle.template_tree.specs.Stop.{VisibleNode, VisibleStop, PlainStop, IsStop, MayStand, Stops, inside, part_stops, stops_of, visible_at, visible_below, visible_nodes}
+use Rattle.template_tree.specs.Programs.PlainTree.{Forest, PlainNode, nodes}
+use Rattle.template_tree.specs.Programs.Program.{sort_of}
+use Rattle.template_tree.specs.Listings.Section.{left_for, left_after, next_lead}
+use Rattle.template_tree.specs.Listings.Line.{Lines, fixed_line, lines}
+use Rattle.template_tree.specs.Positions.Stop.{VisibleNode, VisibleStop, PlainStop, IsStop, MayStand, Stops, inside, part_stops, stops_of, visible_at, visible_below, visible_nodes}
 use Rattle.unparse_layout.specs.OwnedLine.{bare_line, owned_lines}
 use Rattle.unparse_layout.specs.Bones.{Bone, PlainLayout, bones_of}
 use Rattle.unparse_layout.specs.Private.PlainNodeLayout.{PlainNodeLayout, node_layouts, node_layout_of}

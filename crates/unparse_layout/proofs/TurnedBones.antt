@@ -4,12 +4,12 @@ use Rattle.std.specs.Option.{unwrap_or}
 use Rattle.std.proofs.Common.{ap, sym, ◌∙◌, arith}
 use Rattle.std.proofs.lemmas.List.Sums.{sum_by-set}
 use Rattle.plcs_grammar.specs.Template.{PlainSection, row_of, program_sections}
-use Rattle.template_tree.specs.PlainTree.{Label, Forest, PlainNode, nodes}
-use Rattle.template_tree.specs.Path.{below, node_at}
-use Rattle.template_tree.specs.Program.{sort_of}
-use Rattle.template_tree.specs.Section.{left_for, left_after, next_lead}
-use Rattle.template_tree.specs.Edit.{edit_at, edit_below, give_way}
-use Rattle.template_tree.specs.Elision.{is_comment, toggled}
+use Rattle.template_tree.specs.Programs.PlainTree.{Label, Forest, PlainNode, nodes}
+use Rattle.template_tree.specs.Positions.Path.{below, node_at}
+use Rattle.template_tree.specs.Programs.Program.{sort_of}
+use Rattle.template_tree.specs.Listings.Section.{left_for, left_after, next_lead}
+use Rattle.template_tree.specs.Edits.Edit.{edit_at, edit_below, give_way}
+use Rattle.template_tree.specs.Edits.Elision.{is_comment, toggled}
 use Rattle.unparse_layout.specs.Bones.{Bone, PlainLayout, bones_of}
 use Rattle.unparse_layout.specs.Private.PlainNodeLayout.{PlainNodeLayout, bones, bones_node_layouts, node_layouts}
 use Rattle.unparse_layout.specs.Private.Height.{bone_count}

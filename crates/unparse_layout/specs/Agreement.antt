@@ -1,8 +1,8 @@
 -- Which layout is that of which tree.
 use Rattle.std.specs.Prelude.{◌≡◌, ◌↔◌, ℕ, List}
 use Rattle.plcs_grammar.specs.Template.{program_sections}
-use Rattle.template_tree.specs.PlainTree.{PlainTree, roomless_tree}
-use Rattle.template_tree.specs.Elision.{with_toggled_at}
+use Rattle.template_tree.specs.Programs.PlainTree.{PlainTree, roomless_tree}
+use Rattle.template_tree.specs.Edits.Elision.{with_toggled_at}
 use Rattle.unparse_layout.specs.Bones.{PlainLayout, bones_of}
 
 -- the layout is that of the tree

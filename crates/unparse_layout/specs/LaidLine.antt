@@ -2,7 +2,7 @@
 use Rattle.std.specs.Prelude.{ℕ, ◌+◌, ◌*◌, Bool, true, false, ◌&&◌, List, ◌++◌, map, flat_map, take, replicate, Option, Some, None, is_some}
 use Rattle.std.specs.FinMap.{get}
 use Rattle.plcs_base.specs.Mark.{MarkMap}
-use Rattle.template_tree.specs.PlainTree.{Forest}
+use Rattle.template_tree.specs.Programs.PlainTree.{Forest}
 use Rattle.unparse_layout.specs.declared.line.LineKind.{LineKind}
 use Rattle.unparse_layout.specs.declared.line.TheConstants.{LONGEST_LINE}
 use Rattle.unparse_layout.specs.OwnedLine.{Stretch, OwnedLine, OwnedLines}

@@ -1,7 +1,7 @@
 //! Lines laid as cells.
 ghost use Rattle.std.specs.Prelude.{◌≡◌, ◌*◌, ◌≤◌, ◌<◌, false, flat_map, length, replicate, take, ◌++◌};
 ghost use Rattle.plcs_grammar.specs.Template.{PlainSegment, plain_segment, row_of};
-ghost use Rattle.template_tree.specs.Limit.{deepest_path};
+ghost use Rattle.template_tree.specs.Programs.Limit.{deepest_path};
 ghost use Rattle.unparse_layout.specs.LaidLine.{laid_line, longest_line, stretch_cells};
 ghost use Rattle.unparse_layout.specs.OwnedLine.{first_line, next_after, stretch_of, stretches_of};
 ghost use Rattle.unparse_layout.specs.Private.Cells.{PutsAside};

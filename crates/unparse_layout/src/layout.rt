@@ -1,10 +1,10 @@
 //! Layouts of trees.
 ghost use Rattle.std.specs.Prelude.{◌≡◌, ◌≤◌, ◌*◌, length, slice_get};
 ghost use Rattle.plcs_base.specs.PlainCounts.{LaysOne};
-ghost use Rattle.template_tree.specs.Limit.{most_slots};
-ghost use Rattle.template_tree.specs.Line.{Lines};
-ghost use Rattle.template_tree.specs.PlainTree.{PlainTree, roomless_tree};
-ghost use Rattle.template_tree.specs.Tree.{IsTree};
+ghost use Rattle.template_tree.specs.Programs.Limit.{most_slots};
+ghost use Rattle.template_tree.specs.Listings.Line.{Lines};
+ghost use Rattle.template_tree.specs.Programs.PlainTree.{PlainTree, roomless_tree};
+ghost use Rattle.template_tree.specs.Programs.Tree.{IsTree};
 ghost use Rattle.unparse_layout.specs.Agreement.{IsLayoutOf};
 ghost use Rattle.unparse_layout.specs.LaidLine.{LaidLines};
 

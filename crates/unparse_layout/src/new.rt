@@ -1,8 +1,8 @@
 //! Layouts made anew, item by item of the program.
 ghost use Rattle.std.specs.Prelude.{◌≡◌, ◌<◌, IfOk};
-ghost use Rattle.template_tree.specs.Limit.{most_slots};
-ghost use Rattle.template_tree.specs.Slots.{count};
-ghost use Rattle.template_tree.specs.Tree.{IsTree};
+ghost use Rattle.template_tree.specs.Programs.Limit.{most_slots};
+ghost use Rattle.template_tree.specs.Programs.Slots.{count};
+ghost use Rattle.template_tree.specs.Programs.Tree.{IsTree};
 ghost use Rattle.unparse_layout.specs.Agreement.{IsLayoutOf};
 ghost use Rattle.unparse_layout.specs.Private.PlainNodeLayout.{node_layout_of};
 

@@ -1,15 +1,15 @@
 //! Lines found by their numbers.
 ghost use Rattle.std.specs.Prelude.{◌≡◌, ◌+◌, ◌<◌, ◌∷◌, codes, ◌≤◌, option_map, slice_get};
-ghost use Rattle.template_tree.specs.Limit.{deepest_path, most_slots};
-ghost use Rattle.template_tree.specs.Slots.{count, depth};
-ghost use Rattle.template_tree.specs.Tree.{IsTree};
+ghost use Rattle.template_tree.specs.Programs.Limit.{deepest_path, most_slots};
+ghost use Rattle.template_tree.specs.Programs.Slots.{count, depth};
+ghost use Rattle.template_tree.specs.Programs.Tree.{IsTree};
 ghost use Rattle.unparse_layout.specs.Agreement.{IsLayoutOf};
 ghost use Rattle.unparse_layout.specs.OwnedLine.{OwnedLines, first_line, partless_line, table_line};
 ghost use Rattle.plcs_grammar.specs.Template.{row_of};
 ghost use Rattle.unparse_layout.specs.Private.ItemLines.{lead_at, node_lines};
 ghost use Rattle.unparse_layout.specs.Private.PlainNodeLayout.{node_layout_of};
 ghost use Rattle.unparse_layout.specs.Private.PlainPlan.{planned};
-ghost use Rattle.template_tree.specs.PlainTree.{PlainTree, roomless};
+ghost use Rattle.template_tree.specs.Programs.PlainTree.{PlainTree, roomless};
 
 use crate::line::LineKind;
 use crate::node_layout::NodeLayout;

@@ -3,7 +3,7 @@ use Rattle.std.specs.Prelude.{◌≡◌, ◌⊎◌, ℕ, List, refl}
 use Rattle.std.proofs.Common.{inl, inr}
 use Rattle.std.specs.Coded.{Coded, code_by, coded×, coded⊎, coded_ℕ, coded_list}
 use Rattle.plcs_grammar.specs.PlainPhrase.{PlainPhrase}
-use Rattle.template_tree.specs.PlainTree.{PlainNode}
+use Rattle.template_tree.specs.Programs.PlainTree.{PlainNode}
 use Rattle.template_tree.specs.contracts.node.Node as node_row
 use Rattle.plcs_grammar.specs.Private.PhraseCode.{phrase_code}
 use Rattle.clip_store.specs.PlainFragment.{PlainFragment}

@@ -3,7 +3,7 @@ use Rattle.std.specs.Prelude.{◌≡◌, refl, ℕ, suc, ◌+◌, ◌-◌, nat_l
 use Rattle.std.proofs.Common.{ap, sym, ◌∙◌, arith}
 use Rattle.std.proofs.lemmas.Bool.{lt-ltb, ltb-true}
 use Rattle.std.proofs.lemmas.Option.{none-some, same_Some}
-use Rattle.template_tree.specs.PlainTree.{PlainNode, nodes}
+use Rattle.template_tree.specs.Programs.PlainTree.{PlainNode, nodes}
 use Rattle.cursor_moves.specs.Private.NextPath.{first_inside}
 use Rattle.cursor_moves.specs.Private.Number.{last_number}
 

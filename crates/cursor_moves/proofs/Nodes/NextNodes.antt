@@ -5,11 +5,11 @@ use Rattle.std.proofs.Common.{ap, sym, ◌∙◌, subst, arith, append_assoc, ad
 use Rattle.std.proofs.lemmas.List.{map-append}
 use Rattle.std.proofs.lemmas.Option.{none-some}
 use Rattle.plcs_grammar.specs.Template.{PlainSection, row_of}
-use Rattle.template_tree.specs.PlainTree.{Label, Forest, PlainNode, nodes}
-use Rattle.template_tree.specs.Program.{sort_of}
-use Rattle.template_tree.specs.Section.{left_for, left_after, next_lead}
-use Rattle.template_tree.specs.Line.{lines, fixed_line}
-use Rattle.template_tree.specs.Stop.{VisibleNode, inside, part_stops, visible_at, visible_nodes}
+use Rattle.template_tree.specs.Programs.PlainTree.{Label, Forest, PlainNode, nodes}
+use Rattle.template_tree.specs.Programs.Program.{sort_of}
+use Rattle.template_tree.specs.Listings.Section.{left_for, left_after, next_lead}
+use Rattle.template_tree.specs.Listings.Line.{lines, fixed_line}
+use Rattle.template_tree.specs.Positions.Stop.{VisibleNode, inside, part_stops, visible_at, visible_nodes}
 use Rattle.cursor_moves.specs.Move.{first_of}
 use Rattle.cursor_moves.specs.Private.NextPath.{first_inside, inner_of, item_behind, next_with}
 

@@ -4,10 +4,10 @@ use Rattle.std.specs.Option.{is_some}
 use Rattle.std.proofs.Common.{ap, sym, ◌∙◌, arith}
 use Rattle.std.proofs.Math.Bool.{false≢true}
 use Rattle.std.proofs.lemmas.Option.{none-some}
-use Rattle.template_tree.specs.PlainTree.{Forest, PlainNode, nodes}
-use Rattle.template_tree.specs.Path.{node_at}
-use Rattle.template_tree.specs.Slots.{depth}
-use Rattle.template_tree.specs.Stop.{visible_at}
+use Rattle.template_tree.specs.Programs.PlainTree.{Forest, PlainNode, nodes}
+use Rattle.template_tree.specs.Positions.Path.{node_at}
+use Rattle.template_tree.specs.Programs.Slots.{depth}
+use Rattle.template_tree.specs.Positions.Stop.{visible_at}
 use Rattle.cursor_moves.specs.Private.NextPath.{first_inside, next_of, next_with}
 use Rattle.cursor_moves.proofs.FoundNodes.{known}
 use Rattle.cursor_moves.proofs.Nodes.PathSteps.{entered, item_smaller, path_shallow, seen}

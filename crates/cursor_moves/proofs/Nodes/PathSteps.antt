@@ -3,10 +3,10 @@ use Rattle.std.specs.Prelude.{◌≡◌, refl, ℕ, zero, suc, ◌+◌, ◌<◌,
 use Rattle.std.specs.Option.{option_map_or, option_or}
 use Rattle.std.proofs.Common.{ap, sym, ◌∙◌, subst, arith}
 use Rattle.std.proofs.lemmas.Option.{none-some, same_Some}
-use Rattle.template_tree.specs.PlainTree.{Forest, PlainNode, nodes}
-use Rattle.template_tree.specs.Path.{below, node_at}
-use Rattle.template_tree.specs.Slots.{count, depth}
-use Rattle.template_tree.specs.Stop.{visible_at, visible_below}
+use Rattle.template_tree.specs.Programs.PlainTree.{Forest, PlainNode, nodes}
+use Rattle.template_tree.specs.Positions.Path.{below, node_at}
+use Rattle.template_tree.specs.Programs.Slots.{count, depth}
+use Rattle.template_tree.specs.Positions.Stop.{visible_at, visible_below}
 use Rattle.cursor_moves.specs.Private.NextPath.{LeadsOn, inner_of, item_behind, next_with}
 use Rattle.cursor_moves.proofs.ListEnds.{map_map, map_or, or_assoc}
 

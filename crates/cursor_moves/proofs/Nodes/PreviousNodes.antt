@@ -4,9 +4,9 @@ use Rattle.std.specs.Option.{option_or}
 use Rattle.std.proofs.Common.{ap, sym, ◌∙◌, arith, append_assoc}
 use Rattle.std.proofs.lemmas.Option.{none-some, same_Some, slice_get_within, slice_get-get_or}
 use Rattle.std.proofs.lemmas.List.{append-nil}
-use Rattle.template_tree.specs.PlainTree.{Forest, PlainNode, nodes}
-use Rattle.template_tree.specs.Path.{below, node_at}
-use Rattle.template_tree.specs.Stop.{visible_at, visible_below}
+use Rattle.template_tree.specs.Programs.PlainTree.{Forest, PlainNode, nodes}
+use Rattle.template_tree.specs.Positions.Path.{below, node_at}
+use Rattle.template_tree.specs.Positions.Stop.{visible_at, visible_below}
 use Rattle.cursor_moves.specs.Private.NextPath.{IsLastBelow, first_inside, next_of, next_with}
 use Rattle.std.proofs.Math.Bool.{false≢true}
 use Rattle.cursor_moves.proofs.FoundNodes.{known}

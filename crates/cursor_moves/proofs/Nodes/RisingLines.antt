@@ -3,11 +3,11 @@ use Rattle.std.specs.Prelude.{◌≡◌, refl, ℕ, ◌+◌, ◌-◌, ◌≤◌,
 use Rattle.std.proofs.Common.{arith}
 use Rattle.std.proofs.lemmas.List.{length-append}
 use Rattle.plcs_grammar.specs.Template.{PlainSection, row_of}
-use Rattle.template_tree.specs.PlainTree.{Label, Forest}
-use Rattle.template_tree.specs.Program.{sort_of}
-use Rattle.template_tree.specs.Section.{left_for, left_after, next_lead}
-use Rattle.template_tree.specs.Line.{Line, elision_line, fixed_line, head_line, lines}
-use Rattle.template_tree.specs.Stop.{VisibleNode, inside, part_stops, visible_nodes}
+use Rattle.template_tree.specs.Programs.PlainTree.{Label, Forest}
+use Rattle.template_tree.specs.Programs.Program.{sort_of}
+use Rattle.template_tree.specs.Listings.Section.{left_for, left_after, next_lead}
+use Rattle.template_tree.specs.Listings.Line.{Line, elision_line, fixed_line, head_line, lines}
+use Rattle.template_tree.specs.Positions.Stop.{VisibleNode, inside, part_stops, visible_nodes}
 
 -- the lines rise from the one number on, up to the other
 abbrev pub Rises : ℕ → ℕ → List VisibleNode → Type 0

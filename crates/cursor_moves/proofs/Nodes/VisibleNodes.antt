@@ -3,11 +3,11 @@ use Rattle.std.specs.Prelude.{◌≡◌, refl, ℕ, suc, ◌+◌, Bool, true, fa
 use Rattle.std.proofs.Common.{ap, sym, ◌∙◌, arith, add-zero}
 use Rattle.std.proofs.lemmas.List.Elements.{All-append, All-cons, All-map, All-nil, All-weaker}
 use Rattle.plcs_grammar.specs.Template.{PlainSection, row_of}
-use Rattle.template_tree.specs.PlainTree.{Label, Forest, PlainNode}
-use Rattle.template_tree.specs.Program.{sort_of}
-use Rattle.template_tree.specs.Section.{left_for, left_after, next_lead}
-use Rattle.template_tree.specs.Line.{lines, fixed_line}
-use Rattle.template_tree.specs.Stop.{VisibleNode, inside, part_stops, visible_at, visible_nodes}
+use Rattle.template_tree.specs.Programs.PlainTree.{Label, Forest, PlainNode}
+use Rattle.template_tree.specs.Programs.Program.{sort_of}
+use Rattle.template_tree.specs.Listings.Section.{left_for, left_after, next_lead}
+use Rattle.template_tree.specs.Listings.Line.{lines, fixed_line}
+use Rattle.template_tree.specs.Positions.Stop.{VisibleNode, inside, part_stops, visible_at, visible_nodes}
 use Rattle.cursor_moves.proofs.Nodes.NextNodes.{from}
 
 -- a listed node is the visible one at its path, where the items are counted from a number

@@ -7,9 +7,9 @@ use Rattle.std.proofs.lemmas.Option.{none-some, same_Some}
 use Rattle.std.proofs.lemmas.List.Elements.{All-contains}
 use Rattle.plcs_grammar.specs.Template.{program_sections}
 use Rattle.plcs_grammar.specs.declared.node_kind.NodeKind.{NodeKind}
-use Rattle.template_tree.specs.Path.{node_at}
-use Rattle.template_tree.specs.PlainTree.{Forest, PlainNode}
-use Rattle.template_tree.specs.Stop.{IsStop, MayStand, PlainStop, Stops, node_stop, part_stops, visible_at}
+use Rattle.template_tree.specs.Positions.Path.{node_at}
+use Rattle.template_tree.specs.Programs.PlainTree.{Forest, PlainNode}
+use Rattle.template_tree.specs.Positions.Stop.{IsStop, MayStand, PlainStop, Stops, node_stop, part_stops, visible_at}
 use Rattle.cursor_moves.specs.Move.{next_stop, previous_stop, stop_above, stop_below}
 use Rattle.cursor_moves.specs.Private.Number.{last_number, next_number, number_behind}
 use Rattle.cursor_moves.specs.Private.NextPath.{next_of}

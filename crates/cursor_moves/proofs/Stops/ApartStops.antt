@@ -1,7 +1,7 @@
 -- Stops that are apart since their nodes are.
 use Rattle.std.specs.Prelude.{List, [], ◌∷◌, flat_map, All}
 use Rattle.std.proofs.lemmas.List.Elements.{All-append, All-head, All-nil, All-tail}
-use Rattle.template_tree.specs.Stop.{VisibleNode, VisibleStop, stops_of}
+use Rattle.template_tree.specs.Positions.Stop.{VisibleNode, VisibleStop, stops_of}
 use Rattle.cursor_moves.proofs.ApartLists.{Apart, apart_append}
 
 -- the stops of a node and those of nodes that are apart from it

@@ -8,9 +8,9 @@ use Rattle.std.proofs.lemmas.Bool.{false≢true}
 use Rattle.std.proofs.lemmas.Bool.Decides.{Decides-eqb}
 use Rattle.std.proofs.lemmas.Option.{none-some, same_Some}
 use Rattle.std.proofs.lemmas.Slice.Eq.{bytes_eq-Decides}
-use Rattle.template_tree.specs.PlainTree.{Forest, roomless}
-use Rattle.template_tree.specs.RoomLaws.{StandingIgnoresRoom, StopsIgnoreRoom}
-use Rattle.template_tree.specs.Stop.{IsStop, PlainStop, Stops, VisibleStop, listed_stop, node_stop, same_stop}
+use Rattle.template_tree.specs.Programs.PlainTree.{Forest, roomless}
+use Rattle.template_tree.specs.Laws.RoomLaws.{StandingIgnoresRoom, StopsIgnoreRoom}
+use Rattle.template_tree.specs.Positions.Stop.{IsStop, PlainStop, Stops, VisibleStop, listed_stop, node_stop, same_stop}
 use Rattle.cursor_moves.specs.Move.{Choice, chosen_among, first_of, first_stop, last_of, last_stop, moved, next_stop, previous_stop, stop_above, stop_below, stop_down, stop_left, stop_right, stop_up, stops_before, stops_behind}
 use Rattle.cursor_moves.proofs.Stops.DistinctStops.{distinct}
 use Rattle.cursor_moves.proofs.Stops.MoveRelation.{IsMove}

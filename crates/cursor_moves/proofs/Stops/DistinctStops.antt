@@ -5,7 +5,7 @@ use Rattle.std.proofs.Common.{ap, sym, ◌∙◌, arith}
 use Rattle.std.proofs.lemmas.Option.{none-some}
 use Rattle.std.proofs.lemmas.List.Elements.{All-cons, All-map, All-nil, All-weaker}
 use Rattle.plcs_grammar.specs.Template.{program_sections}
-use Rattle.template_tree.specs.Stop.{PlainStop, Stops, VisibleNode, VisibleStop, stops_of}
+use Rattle.template_tree.specs.Positions.Stop.{PlainStop, Stops, VisibleNode, VisibleStop, stops_of}
 use Rattle.cursor_moves.specs.StopLaws.{StopsAreDistinct}
 use Rattle.cursor_moves.proofs.ApartLists.{Apart, apart_map, apart_weaker, pairs_apart}
 use Rattle.cursor_moves.proofs.Nodes.DistinctNodes.{IsElsewhere, nodes_apart}

@@ -4,7 +4,7 @@ use Rattle.std.specs.List.{range_with_len}
 use Rattle.std.proofs.Common.{ap, sym, ◌∙◌, arith, append_assoc, add-zero}
 use Rattle.std.proofs.lemmas.List.{map-append}
 use Rattle.std.proofs.lemmas.List.Concat.{flat_map-append}
-use Rattle.template_tree.specs.Stop.{VisibleNode, VisibleStop, stops_of}
+use Rattle.template_tree.specs.Positions.Stop.{VisibleNode, VisibleStop, stops_of}
 
 -- a stop of a node
 abbrev pub stop_of : VisibleNode → Option ℕ → VisibleStop

@@ -3,10 +3,10 @@ use Rattle.std.specs.Prelude.{◌≡◌, refl, ℕ, ◌+◌, List, [], ◌∷◌
 use Rattle.std.proofs.Common.{ap, sym, ◌∙◌, subst, arith}
 use Rattle.std.proofs.lemmas.Option.{none-some, same_Some, slice_get_past}
 use Rattle.plcs_grammar.specs.declared.node_kind.Sort.{Sort}
-use Rattle.template_tree.specs.PlainTree.{Forest, PlainNode, nodes}
-use Rattle.template_tree.specs.Path.{node_at}
-use Rattle.template_tree.specs.Program.{IsProgram}
-use Rattle.template_tree.specs.Stop.{IsStop, PlainStop, Stops, VisibleNode, node_stop, part_stops, stops_of, visible_at}
+use Rattle.template_tree.specs.Programs.PlainTree.{Forest, PlainNode, nodes}
+use Rattle.template_tree.specs.Positions.Path.{node_at}
+use Rattle.template_tree.specs.Programs.Program.{IsProgram}
+use Rattle.template_tree.specs.Positions.Stop.{IsStop, PlainStop, Stops, VisibleNode, node_stop, part_stops, stops_of, visible_at}
 use Rattle.cursor_moves.specs.Move.{first_of, last_of}
 use Rattle.cursor_moves.specs.Private.Number.{last_number}
 use Rattle.cursor_moves.specs.Private.NextPath.{IsLastBelow, next_of}

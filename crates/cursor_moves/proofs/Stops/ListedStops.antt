@@ -7,8 +7,8 @@ use Rattle.std.proofs.lemmas.List.FromFn.{get_or-range_with_len, length-range_wi
 use Rattle.std.proofs.lemmas.List.Elements.{All-append, All-cons, All-contains, All-head, All-map, All-nil, All-tail, All-weaker}
 use Rattle.plcs_grammar.specs.declared.node_kind.NodeKind.{NodeKind}
 use Rattle.plcs_grammar.specs.Template.{program_sections}
-use Rattle.template_tree.specs.PlainTree.{Forest, PlainNode}
-use Rattle.template_tree.specs.Stop.{IsStop, MayStand, PlainStop, Stops, VisibleNode, VisibleStop, part_stops, stops_of, visible_at, visible_nodes}
+use Rattle.template_tree.specs.Programs.PlainTree.{Forest, PlainNode}
+use Rattle.template_tree.specs.Positions.Stop.{IsStop, MayStand, PlainStop, Stops, VisibleNode, VisibleStop, part_stops, stops_of, visible_at, visible_nodes}
 use Rattle.cursor_moves.specs.StopLaws.{StopsAreListed}
 use Rattle.cursor_moves.proofs.Nodes.NextNodes.{from, placed}
 use Rattle.cursor_moves.proofs.Nodes.VisibleNodes.{IsListedFrom, all_listed}

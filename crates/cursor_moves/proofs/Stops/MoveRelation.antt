@@ -1,6 +1,6 @@
 -- Where a move goes, as a relation.
 use Rattle.std.specs.Prelude.{◌≡◌, List, ◌∷◌, ◌++◌, Option, option_map}
-use Rattle.template_tree.specs.Stop.{PlainStop, VisibleStop}
+use Rattle.template_tree.specs.Positions.Stop.{PlainStop, VisibleStop}
 use Rattle.cursor_moves.specs.Move.{Choice}
 
 -- a move from a stop among the visible stops goes where the choice says: the stop stands there, and what is chosen from

@@ -4,10 +4,10 @@ use Rattle.std.specs.Option.{option_or}
 use Rattle.std.proofs.Common.{ap, sym, ◌∙◌, subst, arith}
 use Rattle.std.proofs.lemmas.Bool.{le-ltb, lt-ltb}
 use Rattle.std.proofs.lemmas.List.Folds.{find-append}
-use Rattle.template_tree.specs.PlainTree.{Forest, PlainNode}
+use Rattle.template_tree.specs.Programs.PlainTree.{Forest, PlainNode}
 use Rattle.plcs_grammar.specs.Template.{program_sections}
-use Rattle.template_tree.specs.Line.{lines}
-use Rattle.template_tree.specs.Stop.{MayStand, PlainStop, Stops, VisibleNode, VisibleStop, node_stop, part_stops, stops_of, visible_at}
+use Rattle.template_tree.specs.Listings.Line.{lines}
+use Rattle.template_tree.specs.Positions.Stop.{MayStand, PlainStop, Stops, VisibleNode, VisibleStop, node_stop, part_stops, stops_of, visible_at}
 use Rattle.cursor_moves.specs.Move.{first_of, next_stop, stop_below}
 use Rattle.cursor_moves.specs.Private.Number.{next_number}
 use Rattle.cursor_moves.specs.Private.NextPath.{next_of}

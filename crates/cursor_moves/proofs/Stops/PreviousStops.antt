@@ -9,9 +9,9 @@ use Rattle.std.proofs.lemmas.List.Concat.{flat_map-append}
 use Rattle.std.proofs.lemmas.List.Elements.{All-cons, All-contains, All-nil, All-weaker, filter-append}
 use Rattle.std.proofs.lemmas.List.Folds.{find-append}
 use Rattle.plcs_grammar.specs.Template.{program_sections}
-use Rattle.template_tree.specs.Line.{lines}
-use Rattle.template_tree.specs.PlainTree.{Forest, PlainNode}
-use Rattle.template_tree.specs.Stop.{MayStand, PlainStop, Stops, VisibleNode, VisibleStop, node_stop, part_stops, stops_of, visible_at}
+use Rattle.template_tree.specs.Listings.Line.{lines}
+use Rattle.template_tree.specs.Programs.PlainTree.{Forest, PlainNode}
+use Rattle.template_tree.specs.Positions.Stop.{MayStand, PlainStop, Stops, VisibleNode, VisibleStop, node_stop, part_stops, stops_of, visible_at}
 use Rattle.cursor_moves.specs.Move.{above_line, first_of, last_of, previous_stop, stop_above}
 use Rattle.cursor_moves.specs.Private.Number.{last_number}
 use Rattle.cursor_moves.specs.Private.NextPath.{first_inside, next_of, next_with}

@@ -4,8 +4,8 @@ use Rattle.std.specs.List.{range_with_len}
 use Rattle.std.proofs.Common.{inl, inr, arith}
 use Rattle.std.proofs.lemmas.List.Elements.{All-cons, All-map, All-nil, All-weaker}
 use Rattle.plcs_grammar.specs.Template.{program_sections}
-use Rattle.template_tree.specs.Line.{lines}
-use Rattle.template_tree.specs.Stop.{Stops, VisibleNode, VisibleStop, stops_of}
+use Rattle.template_tree.specs.Listings.Line.{lines}
+use Rattle.template_tree.specs.Positions.Stop.{Stops, VisibleNode, VisibleStop, stops_of}
 use Rattle.cursor_moves.specs.StopLaws.{StopsRise}
 use Rattle.cursor_moves.proofs.ApartLists.{Apart, apart_any, apart_map, pairs_apart}
 use Rattle.cursor_moves.proofs.Nodes.RisingLines.{Rises, rises}

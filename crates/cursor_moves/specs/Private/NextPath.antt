@@ -1,8 +1,8 @@
 -- Paths of visible nodes, one after the other in listing order.
 use Rattle.std.specs.Prelude.{◌≡◌, ℕ, ◌+◌, false, if◌then◌else◌, List, [], ◌∷◌, Option, None, option_and_then, option_map, slice_get, IsSomeAnd}
 use Rattle.std.specs.Option.{option_map_or, option_or}
-use Rattle.template_tree.specs.PlainTree.{Forest, PlainNode, nodes}
-use Rattle.template_tree.specs.Stop.{visible_at}
+use Rattle.template_tree.specs.Programs.PlainTree.{Forest, PlainNode, nodes}
+use Rattle.template_tree.specs.Positions.Stop.{visible_at}
 
 -- the nodes that stand inside the item of this number
 abbrev pub inner_of : Forest → ℕ → Forest

@@ -4,8 +4,8 @@ use Rattle.std.specs.Coded.{Coded, code_by, coded×, coded_list, coded_ℕ}
 use Rattle.std.specs.FinMap.{code, insert}
 use Rattle.std.specs.Option.{option_or}
 use Rattle.plcs_base.specs.Scope.{ItemMap}
-use Rattle.template_tree.specs.Environment.{items_inside, signature_for}
-use Rattle.template_tree.specs.PlainTree.{PlainNode, forest}
+use Rattle.template_tree.specs.Checks.Environment.{items_inside, signature_for}
+use Rattle.template_tree.specs.Programs.PlainTree.{PlainNode, forest}
 use Rattle.decl_table.specs.PlainDecls.{PlainHeadings, PlainDecls, PlainUses, slot_of}
 use Rattle.decl_table.specs.Private.ItemsView.{items_code}
 use Rattle.decl_table.specs.Private.UsesView.{AddsNodes, uses_code}

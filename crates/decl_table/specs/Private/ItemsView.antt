@@ -5,8 +5,8 @@ use Rattle.std.specs.List.{IsDistinct}
 use Rattle.std.specs.Map.{keys_of}
 use Rattle.plcs_base.specs.declared.declared.Declared.{Declared}
 use Rattle.plcs_base.specs.contracts.declared.Declared as declared_row
-use Rattle.template_tree.specs.Environment.{cells}
-use Rattle.template_tree.specs.Limit.{most_cells}
+use Rattle.template_tree.specs.Checks.Environment.{cells}
+use Rattle.template_tree.specs.Programs.Limit.{most_cells}
 use Rattle.decl_table.specs.declared.items.Shape.{Shape}
 use Rattle.decl_table.specs.declared.items.Items.TheInside.{Inside}
 

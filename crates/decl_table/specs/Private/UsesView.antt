@@ -8,8 +8,8 @@ use Rattle.plcs_base.specs.Mark.{phrase_cmp}
 use Rattle.plcs_base.specs.declared.place.PhraseAt.{PhraseAt}
 use Rattle.plcs_base.specs.contracts.place.PhraseAt as place_row
 use Rattle.plcs_grammar.specs.PlainPhrase.{PlainPhrase}
-use Rattle.template_tree.specs.Mention.{mention, mentions, part_mentions}
-use Rattle.template_tree.specs.PlainTree.{Forest}
+use Rattle.template_tree.specs.Checks.Mention.{mention, mentions, part_mentions}
+use Rattle.template_tree.specs.Programs.PlainTree.{Forest}
 use Rattle.decl_table.specs.PlainDecls.{PlainUses, mentions_of}
 
 -- the code of places

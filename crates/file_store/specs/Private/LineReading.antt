@@ -5,8 +5,8 @@ use Rattle.plcs_grammar.specs.declared.node_kind.NodeKind.{NodeKind}
 use Rattle.plcs_grammar.specs.PlainPhrase.{PlainPhrase}
 use Rattle.plcs_grammar.specs.Template.{PlainSegment}
 use Rattle.phrase_parser.specs.LineParts.{Divides}
-use Rattle.template_tree.specs.Line.{part_text, segments_text}
-use Rattle.template_tree.specs.Program.{AreParts, IsPart, parts_of}
+use Rattle.template_tree.specs.Listings.Line.{part_text, segments_text}
+use Rattle.template_tree.specs.Programs.Program.{AreParts, IsPart, parts_of}
 use Rattle.file_store.specs.Private.Reader.{Said, IsSaying, text_of}
 
 -- the blanks with which the text of a line of the level begins

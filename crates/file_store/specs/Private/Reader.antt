@@ -6,11 +6,11 @@ use Rattle.plcs_grammar.specs.declared.row.Amount.{Amount}
 use Rattle.plcs_grammar.specs.declared.template.Template.{Template}
 use Rattle.plcs_grammar.specs.PlainPhrase.{PlainPhrase}
 use Rattle.plcs_grammar.specs.Template.{PlainSection, row_of, program_sections}
-use Rattle.template_tree.specs.Build.{built_label}
-use Rattle.template_tree.specs.Line.{segments_text}
-use Rattle.template_tree.specs.PlainTree.{Forest, join}
-use Rattle.template_tree.specs.Program.{AreParts, parts_of, sort_of}
-use Rattle.template_tree.specs.Section.{same_sort, left_for, left_after, next_lead}
+use Rattle.template_tree.specs.Programs.Build.{built_label}
+use Rattle.template_tree.specs.Listings.Line.{segments_text}
+use Rattle.template_tree.specs.Programs.PlainTree.{Forest, join}
+use Rattle.template_tree.specs.Programs.Program.{AreParts, parts_of, sort_of}
+use Rattle.template_tree.specs.Listings.Section.{same_sort, left_for, left_after, next_lead}
 
 -- ---- what a line says
 

@@ -1,6 +1,6 @@
 -- What one line does to the reader, and what the reader has taken.
 use Rattle.std.specs.Prelude.{◌≡◌, ℕ, Bool, Option, ◌+◌, ◌<◌, ◌≤◌, true, if◌then◌else◌, List, Some, None}
-use Rattle.template_tree.specs.Limit.{deepest_path, most_slots}
+use Rattle.template_tree.specs.Programs.Limit.{deepest_path, most_slots}
 use Rattle.file_store.specs.declared.refusal.FileRefusal.{FileRefusal}
 use Rattle.file_store.specs.Private.LineReading.{Says}
 use Rattle.file_store.specs.Private.Reader.{Said, OpenNodes, opens, line_taken}

@@ -1,8 +1,8 @@
 -- What the reader's values stand for.
 use Rattle.std.specs.Prelude.{Bool, true, false, List, [], ◌∷◌, map, codes, None}
 use Rattle.plcs_grammar.specs.Template.{PlainSection, plain_section}
-use Rattle.template_tree.specs.PlainPhrasePlace.{plain_phrase_place}
-use Rattle.template_tree.specs.PlainTree.{forest, roomless}
+use Rattle.template_tree.specs.Programs.PlainPhrasePlace.{plain_phrase_place}
+use Rattle.template_tree.specs.Programs.PlainTree.{forest, roomless}
 use Rattle.file_store.specs.Private.Reader as machine
 use Rattle.file_store.specs.declared.reader.filling.Filling.{Filling}
 use Rattle.file_store.specs.declared.reader.said.Said.{Said}

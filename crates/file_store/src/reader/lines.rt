@@ -2,7 +2,7 @@
 ghost use Rattle.std.specs.Prelude.{◌≡◌, ◌≢◌, ◌≤◌, IfOk, length, ◌∷◌, ◌++◌, ℕ, List, MatchOption, map};
 ghost use Rattle.std.specs.Bool.{Decides};
 ghost use Rattle.plcs_grammar.specs.Template.{row_of};
-ghost use Rattle.template_tree.specs.PlainPhrasePlace.{plain_phrase_place};
+ghost use Rattle.template_tree.specs.Programs.PlainPhrasePlace.{plain_phrase_place};
 ghost use Rattle.file_store.specs.Private.Gives.{Finds};
 ghost use Rattle.file_store.specs.Private.LineReading.{AreNoSegments, IsSegmentsText, OfEach, Says, SaysNothing, blank_bytes};
 ghost use Rattle.file_store.specs.Private.Reader as machine;

@@ -1,8 +1,8 @@
 //! The open lists and nodes, and what each line does to them.
 ghost use Rattle.std.specs.Prelude.{◌≡◌, ◌<◌, ◌^◌, ◌-◌, [], Some, map, codes, length, min};
 ghost use Rattle.plcs_grammar.specs.Template.{row_of};
-ghost use Rattle.template_tree.specs.PlainPhrasePlace.{plain_phrase_place};
-ghost use Rattle.template_tree.specs.PlainTree.{Forest, forest, join, nodes, roomless};
+ghost use Rattle.template_tree.specs.Programs.PlainPhrasePlace.{plain_phrase_place};
+ghost use Rattle.template_tree.specs.Programs.PlainTree.{Forest, forest, join, nodes, roomless};
 ghost use Rattle.file_store.specs.Private.Gives.{Gives};
 ghost use Rattle.file_store.specs.Private.Reader.{begun, closed, ended_in, kind_with, led_in, lowered, lowered_to, program_of, shut, line_taken, unread};
 ghost use Rattle.file_store.specs.Private.Views.{filling_of, open_node_of, open_list_of, said_of, open_nodes_of};

@@ -6,9 +6,9 @@ use Rattle.plcs_grammar.specs.declared.node_kind.NodeKind.{NodeKind}
 use Rattle.plcs_grammar.specs.declared.template.Template.{Template}
 use Rattle.plcs_grammar.specs.Builtin.{is_builtin_name}
 use Rattle.plcs_grammar.specs.PlainPhrase.{PlainExpr, PlainExprs, PlainPhrase, PlainVarRef}
-use Rattle.template_tree.specs.NewTree.{bare_label}
-use Rattle.template_tree.specs.Place.{PlainPlace, place_at}
-use Rattle.template_tree.specs.PlainTree.{Forest, Label}
+use Rattle.template_tree.specs.Programs.NewTree.{bare_label}
+use Rattle.template_tree.specs.Positions.Place.{PlainPlace, place_at}
+use Rattle.template_tree.specs.Programs.PlainTree.{Forest, Label}
 use Rattle.plcs_store.specs.declared.cell.Cell.{Cell}
 use Rattle.plcs_store.specs.declared.fault_kind.FaultKind.{FaultKind}
 use Rattle.plcs_store.specs.declared.frame.Frame.{Frame}

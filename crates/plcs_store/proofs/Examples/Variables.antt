@@ -4,7 +4,7 @@ use Rattle.plcs_base.specs.declared.declared.ItemType.{ItemType}
 use Rattle.plcs_base.specs.declared.value.Value.{Value}
 use Rattle.plcs_grammar.specs.declared.operator.InfixOp.{InfixOp}
 use Rattle.plcs_grammar.specs.PlainPhrase.{PlainExpr, PlainVarRef}
-use Rattle.template_tree.specs.Place.{place_at}
+use Rattle.template_tree.specs.Positions.Place.{place_at}
 use Rattle.plcs_store.specs.declared.argument.Argument.{Argument}
 use Rattle.plcs_store.specs.declared.cell.Cell.{Cell}
 use Rattle.plcs_store.specs.declared.cell.Location.{Location}

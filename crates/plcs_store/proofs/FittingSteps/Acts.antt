@@ -5,9 +5,9 @@ use Rattle.plcs_base.specs.declared.declared.Declared.{Declared}
 use Rattle.plcs_base.specs.declared.value.Kind.{Kind}
 use Rattle.plcs_base.specs.declared.value.Value.{Value}
 use Rattle.plcs_grammar.specs.PlainPhrase.{PlainExpr, PlainExprs, PlainVarRef}
-use Rattle.template_tree.specs.Environment.{kind_of_type, parameter_kinds}
-use Rattle.template_tree.specs.Place.{PlainPlace}
-use Rattle.template_tree.specs.Verdict.{kind_of, kinds_of, name_kind, reference_kind}
+use Rattle.template_tree.specs.Checks.Environment.{kind_of_type, parameter_kinds}
+use Rattle.template_tree.specs.Positions.Place.{PlainPlace}
+use Rattle.template_tree.specs.Checks.Verdict.{kind_of, kinds_of, name_kind, reference_kind}
 use Rattle.plcs_store.specs.declared.argument.Argument.{Argument}
 use Rattle.plcs_store.specs.declared.cell.Location.{Location}
 use Rattle.plcs_store.specs.declared.fault_kind.FaultKind.{FaultKind}

@@ -10,12 +10,12 @@ use Rattle.plcs_base.specs.declared.declared.ItemType.{ItemType}
 use Rattle.plcs_base.specs.declared.mark.MarkKind.{MarkKind}
 use Rattle.plcs_base.specs.declared.value.Kind.{Kind}
 use Rattle.plcs_base.specs.declared.value.Value.{Value}
-use Rattle.template_tree.specs.Environment.{Heading, Sig, Signature, heading_of, item_named, kind_of_type, may_be_called, parameter_kind, parameter_kinds, procedure_at, scalar_kind, signature_for, signature_of}
-use Rattle.template_tree.specs.KindTable.{same_kind}
-use Rattle.template_tree.specs.ParameterItem.{scalar_item}
-use Rattle.template_tree.specs.PlainTree.{Forest, PlainNode}
-use Rattle.template_tree.specs.Slots.{times}
-use Rattle.template_tree.specs.Verdict.{arguments_offence, call_offence}
+use Rattle.template_tree.specs.Checks.Environment.{Heading, Sig, Signature, heading_of, item_named, kind_of_type, may_be_called, parameter_kind, parameter_kinds, procedure_at, scalar_kind, signature_for, signature_of}
+use Rattle.template_tree.specs.Checks.KindTable.{same_kind}
+use Rattle.template_tree.specs.Checks.ParameterItem.{scalar_item}
+use Rattle.template_tree.specs.Programs.PlainTree.{Forest, PlainNode}
+use Rattle.template_tree.specs.Programs.Slots.{times}
+use Rattle.template_tree.specs.Checks.Verdict.{arguments_offence, call_offence}
 use Rattle.plcs_store.specs.declared.argument.Argument.{Argument}
 use Rattle.plcs_store.specs.declared.cell.Cell.{Cell}
 use Rattle.plcs_store.specs.declared.frame.Frame.{Frame}

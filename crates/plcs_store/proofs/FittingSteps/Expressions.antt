@@ -5,9 +5,9 @@ use Rattle.std.proofs.Common.{ap, sym, ◌∙◌, subst}
 use Rattle.plcs_base.specs.declared.declared.Declared.{Declared}
 use Rattle.plcs_base.specs.declared.value.Kind.{Kind}
 use Rattle.plcs_grammar.specs.PlainPhrase.{PlainExpr, PlainExprs, PlainVarRef}
-use Rattle.template_tree.specs.Environment.{item_named, kind_of_type}
-use Rattle.template_tree.specs.KindTable.{infix_takes, prefix_kind}
-use Rattle.template_tree.specs.Verdict.{array_kind, builtin_found, infix_found, is_pair, kind_of, kinds_of, of_kind, reference_kind, then_found}
+use Rattle.template_tree.specs.Checks.Environment.{item_named, kind_of_type}
+use Rattle.template_tree.specs.Checks.KindTable.{infix_takes, prefix_kind}
+use Rattle.template_tree.specs.Checks.Verdict.{array_kind, builtin_found, infix_found, is_pair, kind_of, kinds_of, of_kind, reference_kind, then_found}
 use Rattle.plcs_store.specs.declared.argument.Argument.{Argument}
 use Rattle.plcs_store.specs.declared.frame.Frame.{Frame}
 use Rattle.plcs_store.specs.BuiltinValue.{builtin_value}

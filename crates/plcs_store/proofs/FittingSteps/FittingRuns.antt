@@ -14,16 +14,16 @@ use Rattle.plcs_grammar.specs.declared.node_kind.NodeKind.{NodeKind}
 use Rattle.plcs_grammar.specs.declared.node_kind.Sort.{Sort}
 use Rattle.plcs_grammar.specs.declared.template.Template.{Template}
 use Rattle.plcs_grammar.specs.PlainPhrase.{PlainPhrase}
-use Rattle.template_tree.specs.Environment.{Items, items_inside, procedure_at}
-use Rattle.template_tree.specs.Marks.{Marks, is_phrase_marked, surroundings}
-use Rattle.template_tree.specs.Mention.{phrase_at}
-use Rattle.template_tree.specs.Part.{part_at}
-use Rattle.template_tree.specs.Place.{PlainPlace, Site, Start, has_point, is_statement, passes_in, place_at, place_exists_at, site}
-use Rattle.template_tree.specs.PlainTree.{Forest, Label, PlainNode, PlainTree}
-use Rattle.template_tree.specs.Program.{sort_of}
-use Rattle.template_tree.specs.Slots.{times}
-use Rattle.template_tree.specs.Tree.{IsTree}
-use Rattle.template_tree.specs.Verdict.{verdict}
+use Rattle.template_tree.specs.Checks.Environment.{Items, items_inside, procedure_at}
+use Rattle.template_tree.specs.Checks.Marks.{Marks, is_phrase_marked, surroundings}
+use Rattle.template_tree.specs.Checks.Mention.{phrase_at}
+use Rattle.template_tree.specs.Programs.Part.{part_at}
+use Rattle.template_tree.specs.Positions.Place.{PlainPlace, Site, Start, has_point, is_statement, passes_in, place_at, place_exists_at, site}
+use Rattle.template_tree.specs.Programs.PlainTree.{Forest, Label, PlainNode, PlainTree}
+use Rattle.template_tree.specs.Programs.Program.{sort_of}
+use Rattle.template_tree.specs.Programs.Slots.{times}
+use Rattle.template_tree.specs.Programs.Tree.{IsTree}
+use Rattle.template_tree.specs.Checks.Verdict.{verdict}
 use Rattle.tree_steps.specs.AgreementLaws.{SlotsStandOnce}
 use Rattle.tree_steps.specs.PlaceLaws.{SitesStand, StandingSlotsHaveSites, StatementsBegin}
 use Rattle.tree_steps.specs.StandingSlot.{Around, StandsInside, loop_by_kind, loops_around, outermost_slot}

@@ -10,9 +10,9 @@ use Rattle.plcs_base.specs.declared.value.Kind.{Kind}
 use Rattle.plcs_grammar.specs.declared.operator.InfixOp.{InfixOp}
 use Rattle.plcs_grammar.specs.declared.builtin.Builtin.{Builtin}
 use Rattle.plcs_grammar.specs.Builtin.{is_builtin_name}
-use Rattle.template_tree.specs.Environment.{item_named, kind_of_type}
-use Rattle.template_tree.specs.KindTable.{builtin_row, infix_gives, infix_takes, same_kind}
-use Rattle.template_tree.specs.Verdict.{array_kind, both_found, builtin_found, cell_found, fit, infix_found, is_count, is_pair, item_found, name_kind, of_kind, offence_in, scalar_found, then_found}
+use Rattle.template_tree.specs.Checks.Environment.{item_named, kind_of_type}
+use Rattle.template_tree.specs.Checks.KindTable.{builtin_row, infix_gives, infix_takes, same_kind}
+use Rattle.template_tree.specs.Checks.Verdict.{array_kind, both_found, builtin_found, cell_found, fit, infix_found, is_count, is_pair, item_found, name_kind, of_kind, offence_in, scalar_found, then_found}
 
 -- ---- truth values
 

@@ -8,8 +8,8 @@ use Rattle.plcs_base.specs.declared.declared.Declared.{Declared}
 use Rattle.plcs_base.specs.declared.declared.ItemType.{ItemType}
 use Rattle.plcs_base.specs.declared.value.Kind.{Kind}
 use Rattle.plcs_base.specs.declared.value.Value.{Value}
-use Rattle.template_tree.specs.Environment.{cells_in, item_named, kind_of_type}
-use Rattle.template_tree.specs.KindTable.{same_kind}
+use Rattle.template_tree.specs.Checks.Environment.{cells_in, item_named, kind_of_type}
+use Rattle.template_tree.specs.Checks.KindTable.{same_kind}
 use Rattle.plcs_store.specs.declared.cell.Cell.{Cell}
 use Rattle.plcs_store.specs.declared.cell.Location.{Location}
 use Rattle.plcs_store.specs.declared.fault_kind.FaultKind.{FaultKind}

@@ -20,15 +20,15 @@ use Rattle.plcs_base.specs.declared.place.PhraseAt.{PhraseAt}
 use Rattle.plcs_grammar.specs.declared.node_kind.NodeKind.{NodeKind}
 use Rattle.plcs_grammar.specs.PlainPhrase.{PlainPhrase}
 use Rattle.plcs_grammar.specs.Template.{row_of}
-use Rattle.template_tree.specs.Environment.{procedure_at}
-use Rattle.template_tree.specs.Marks.{Marks, VerdictList, VerdictMap, Verdicts, node_verdicts, offence_at, offences, part_verdicts, procedure_verdicts, surroundings}
-use Rattle.template_tree.specs.Mention.{phrase_at}
-use Rattle.template_tree.specs.Part.{part_at}
-use Rattle.template_tree.specs.Place.{PlainPlace, Site, begin, end_at, in_turn, inner_end, site_among}
-use Rattle.template_tree.specs.PlainTree.{Forest, Label, PlainNode}
-use Rattle.template_tree.specs.Program.{AreNodes, IsNode, sorts}
-use Rattle.template_tree.specs.Slots.{times}
-use Rattle.template_tree.specs.Verdict.{Surroundings, verdict}
+use Rattle.template_tree.specs.Checks.Environment.{procedure_at}
+use Rattle.template_tree.specs.Checks.Marks.{Marks, VerdictList, VerdictMap, Verdicts, node_verdicts, offence_at, offences, part_verdicts, procedure_verdicts, surroundings}
+use Rattle.template_tree.specs.Checks.Mention.{phrase_at}
+use Rattle.template_tree.specs.Programs.Part.{part_at}
+use Rattle.template_tree.specs.Positions.Place.{PlainPlace, Site, begin, end_at, in_turn, inner_end, site_among}
+use Rattle.template_tree.specs.Programs.PlainTree.{Forest, Label, PlainNode}
+use Rattle.template_tree.specs.Programs.Program.{AreNodes, IsNode, sorts}
+use Rattle.template_tree.specs.Programs.Slots.{times}
+use Rattle.template_tree.specs.Checks.Verdict.{Surroundings, verdict}
 use Rattle.tree_steps.specs.StandingSlot.{Around, StandsBelow, StandsInside, outermost_slot}
 
 -- ---- nodes that stand somewhere

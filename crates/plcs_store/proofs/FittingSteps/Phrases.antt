@@ -7,8 +7,8 @@ use Rattle.plcs_grammar.specs.declared.category.Category.{Category}
 use Rattle.plcs_grammar.specs.Canon.{Canon}
 use Rattle.plcs_grammar.specs.PlainPhrase.{PlainExpr, PlainExprs, PlainPhrase, PlainVarRef, category_of}
 use Rattle.plcs_grammar.specs.Reads.{HasReading}
-use Rattle.template_tree.specs.Part.{part_at}
-use Rattle.template_tree.specs.Program.{AreParts, IsPartPhrase}
+use Rattle.template_tree.specs.Programs.Part.{part_at}
+use Rattle.template_tree.specs.Programs.Program.{AreParts, IsPartPhrase}
 
 -- ---- categories
 

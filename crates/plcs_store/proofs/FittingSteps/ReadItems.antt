@@ -7,7 +7,7 @@ use Rattle.plcs_base.specs.declared.declared.ItemType.{ItemType}
 use Rattle.plcs_base.specs.declared.value.Kind.{Kind}
 use Rattle.plcs_base.specs.declared.value.Value.{Value}
 use Rattle.plcs_grammar.specs.Token.{is_quote, numeral_value}
-use Rattle.template_tree.specs.Environment.{kind_of_type}
+use Rattle.template_tree.specs.Checks.Environment.{kind_of_type}
 use Rattle.plcs_store.specs.declared.input_item.ItemFault.{ItemFault}
 use Rattle.plcs_store.specs.InputItem.{are_digits, behind_blanks, bit_item, blanks_before, closed_at, cut_item, cut_or_wanted, fixed_item, item_at_front, item_length, item_value, negative_item, next_item, number_in_range, positive_item, readable_text, separator_length, text_item, unquoted, whole_constant}
 use Rattle.plcs_store.specs.Operator.{is_fixed}

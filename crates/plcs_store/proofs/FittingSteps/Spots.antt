@@ -14,14 +14,14 @@ use Rattle.plcs_grammar.specs.declared.node_kind.NodeKind.{NodeKind}
 use Rattle.plcs_grammar.specs.declared.template.Template.{Template}
 use Rattle.plcs_grammar.specs.PlainPhrase.{PlainPhrase, PlainVarRef}
 use Rattle.plcs_grammar.specs.Template.{row_of}
-use Rattle.template_tree.specs.Environment.{Sig, items_inside}
-use Rattle.template_tree.specs.Marks.{surroundings}
-use Rattle.template_tree.specs.Part.{part_at}
-use Rattle.template_tree.specs.Place.{PlainPlace, Site, begin, has_point, is_statement, item_count, passes_in, place_at, place_exists_at}
-use Rattle.template_tree.specs.PlainTree.{Forest, PlainNode}
-use Rattle.template_tree.specs.Program.{AreParts, IsPartPhrase, parts_of, sort_of}
-use Rattle.template_tree.specs.Slots.{times}
-use Rattle.template_tree.specs.Verdict.{Surroundings, both_found, kind_of, kinds_of, name_kind, of_kind, offence_in, reference_kind, references_offence, then_found, verdict}
+use Rattle.template_tree.specs.Checks.Environment.{Sig, items_inside}
+use Rattle.template_tree.specs.Checks.Marks.{surroundings}
+use Rattle.template_tree.specs.Programs.Part.{part_at}
+use Rattle.template_tree.specs.Positions.Place.{PlainPlace, Site, begin, has_point, is_statement, item_count, passes_in, place_at, place_exists_at}
+use Rattle.template_tree.specs.Programs.PlainTree.{Forest, PlainNode}
+use Rattle.template_tree.specs.Programs.Program.{AreParts, IsPartPhrase, parts_of, sort_of}
+use Rattle.template_tree.specs.Programs.Slots.{times}
+use Rattle.template_tree.specs.Checks.Verdict.{Surroundings, both_found, kind_of, kinds_of, name_kind, of_kind, offence_in, reference_kind, references_offence, then_found, verdict}
 use Rattle.plcs_store.specs.declared.reason.Reason.{Reason}
 use Rattle.plcs_store.specs.Configuration.{PlainConfiguration}
 use Rattle.plcs_store.specs.Fits.{is_waiting_place}

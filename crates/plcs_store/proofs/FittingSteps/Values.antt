@@ -12,8 +12,8 @@ use Rattle.plcs_base.specs.Text.{longest_text}
 use Rattle.plcs_grammar.specs.declared.builtin.Builtin.{Builtin}
 use Rattle.plcs_grammar.specs.declared.operator.InfixOp.{InfixOp}
 use Rattle.plcs_grammar.specs.declared.operator.PrefixOp.{PrefixOp}
-use Rattle.template_tree.specs.KindTable.{builtin_row, infix_gives, infix_takes, prefix_kind, same_kind}
-use Rattle.template_tree.specs.Verdict.{builtin_found, fit, is_count, is_pair}
+use Rattle.template_tree.specs.Checks.KindTable.{builtin_row, infix_gives, infix_takes, prefix_kind, same_kind}
+use Rattle.template_tree.specs.Checks.Verdict.{builtin_found, fit, is_count, is_pair}
 use Rattle.plcs_store.specs.declared.fault_kind.FaultKind.{FaultKind}
 use Rattle.plcs_store.specs.BuiltinValue.{builtin_value, found_in, modulo, on_one, on_two, on_two_or_three, text_from, text_part}
 use Rattle.plcs_store.specs.Fits.{kind_of_value}

@@ -10,10 +10,10 @@ use Rattle.std.proofs.lemmas.Option.{none-some, same_Some}
 use Rattle.plcs_grammar.specs.declared.node_kind.NodeKind.{NodeKind}
 use Rattle.plcs_grammar.specs.declared.template.Template.{Template}
 use Rattle.plcs_grammar.specs.PlainPhrase.{PlainPhrase}
-use Rattle.template_tree.specs.Environment.{Heading, Items, Sig, Signature, heading_of, items_inside, may_be_called, parameter_kinds, procedure_at, signature_for, signature_of, template_heading}
-use Rattle.template_tree.specs.Place.{inner_end, place_at}
-use Rattle.template_tree.specs.PlainTree.{Forest, Label, PlainNode}
-use Rattle.template_tree.specs.Slots.{times}
+use Rattle.template_tree.specs.Checks.Environment.{Heading, Items, Sig, Signature, heading_of, items_inside, may_be_called, parameter_kinds, procedure_at, signature_for, signature_of, template_heading}
+use Rattle.template_tree.specs.Positions.Place.{inner_end, place_at}
+use Rattle.template_tree.specs.Programs.PlainTree.{Forest, Label, PlainNode}
+use Rattle.template_tree.specs.Programs.Slots.{times}
 use Rattle.tree_steps.specs.StandingSlot.{StandsInside, loop_by_kind}
 use Rattle.plcs_store.specs.Spot.{Callee, callee_named, callee_of, callee_with, procedure_start}
 use Rattle.plcs_store.proofs.NewCells.{item_names, names_distinct}

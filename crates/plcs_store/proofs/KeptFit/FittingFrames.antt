@@ -4,9 +4,9 @@
 use Rattle.std.specs.Prelude.{◌≡◌, refl, ℕ, zero, suc, ◌<◌, ◌≤◌, Bool, true, false, List, [], ◌∷◌, length, map, slice_get, slice_index_or, Some, All}
 use Rattle.std.proofs.Common.{ap, sym, ◌∙◌, subst, arith}
 use Rattle.std.proofs.lemmas.Option.{get_or_from_slice_get, none-some, same_Some, slice_get-get_or, slice_get_within}
-use Rattle.template_tree.specs.Environment.{Items}
-use Rattle.template_tree.specs.PlainTree.{Forest}
-use Rattle.template_tree.specs.Slots.{times}
+use Rattle.template_tree.specs.Checks.Environment.{Items}
+use Rattle.template_tree.specs.Programs.PlainTree.{Forest}
+use Rattle.template_tree.specs.Programs.Slots.{times}
 use Rattle.plcs_store.specs.declared.frame.Frame.{Frame}
 use Rattle.plcs_store.specs.Configuration.{PlainConfiguration, frame_place}
 use Rattle.plcs_store.specs.Fits.{AllStand, AreVariables, Fits, HasLoops, IsOfMain, StandsAt, StandsAtStart, ValuesFit, loops_at}

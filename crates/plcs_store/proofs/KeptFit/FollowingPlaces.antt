@@ -8,11 +8,11 @@ use Rattle.std.proofs.lemmas.Option.{none-some}
 use Rattle.plcs_grammar.specs.declared.node_kind.NodeKind.{NodeKind}
 use Rattle.plcs_grammar.specs.declared.template.Template.{Template}
 use Rattle.plcs_grammar.specs.PlainPhrase.{PlainPhrase, PlainVarRef}
-use Rattle.template_tree.specs.Part.{part_at}
-use Rattle.template_tree.specs.Place.{PlainPlace, Site, begin, has_point, inner_end, is_statement, item_count, place_at, place_exists_at, site}
-use Rattle.template_tree.specs.PlainTree.{Forest}
-use Rattle.template_tree.specs.Program.{sort_of}
-use Rattle.template_tree.specs.Slots.{times}
+use Rattle.template_tree.specs.Programs.Part.{part_at}
+use Rattle.template_tree.specs.Positions.Place.{PlainPlace, Site, begin, has_point, inner_end, is_statement, item_count, place_at, place_exists_at, site}
+use Rattle.template_tree.specs.Programs.PlainTree.{Forest}
+use Rattle.template_tree.specs.Programs.Program.{sort_of}
+use Rattle.template_tree.specs.Programs.Slots.{times}
 use Rattle.tree_steps.specs.RunPlace.{HasPlace, is_first_marked}
 use Rattle.tree_steps.specs.StandingSlot.{Around, loop_by_kind, loops_around, outermost_slot}
 use Rattle.plcs_store.specs.declared.reason.Reason.{Reason}

@@ -10,10 +10,10 @@ use Rattle.plcs_grammar.specs.declared.node_kind.NodeKind.{NodeKind}
 use Rattle.plcs_grammar.specs.declared.node_kind.Sort.{Sort}
 use Rattle.plcs_grammar.specs.declared.template.Template.{Template}
 use Rattle.plcs_grammar.specs.Template.{program_sections, row_of}
-use Rattle.template_tree.specs.Place.{PlainPlace, Site, Start, begin, end_at, has_point, in_turn, inner_end, is_statement, passes_in, place_at, place_exists_at, site, site_among, template_end}
-use Rattle.template_tree.specs.PlainTree.{Forest, Label}
-use Rattle.template_tree.specs.Program.{AreNodes, Fill, sort_of, sorts}
-use Rattle.template_tree.specs.Slots.{times}
+use Rattle.template_tree.specs.Positions.Place.{PlainPlace, Site, Start, begin, end_at, has_point, in_turn, inner_end, is_statement, passes_in, place_at, place_exists_at, site, site_among, template_end}
+use Rattle.template_tree.specs.Programs.PlainTree.{Forest, Label}
+use Rattle.template_tree.specs.Programs.Program.{AreNodes, Fill, sort_of, sorts}
+use Rattle.template_tree.specs.Programs.Slots.{times}
 use Rattle.tree_steps.specs.AgreementLaws.{SlotsStandOnce}
 use Rattle.tree_steps.specs.PlaceLaws.{OthersBeginThemselves, SitesStand, StandingSlotsHaveSites}
 use Rattle.tree_steps.specs.RunPlace.{HasPlace, is_first_marked}

@@ -5,10 +5,10 @@ use Rattle.std.proofs.Common.{ap, sym, ◌∙◌, subst, arith, inl, inr}
 use Rattle.std.proofs.lemmas.List.{length-append, length-take}
 use Rattle.std.proofs.lemmas.Option.{none-some, same_Some}
 use Rattle.plcs_base.specs.declared.value.Kind.{Kind}
-use Rattle.template_tree.specs.Environment.{Items, kind_of_type}
-use Rattle.template_tree.specs.Place.{PlainPlace, place_at}
-use Rattle.template_tree.specs.PlainTree.{Forest}
-use Rattle.template_tree.specs.Slots.{times}
+use Rattle.template_tree.specs.Checks.Environment.{Items, kind_of_type}
+use Rattle.template_tree.specs.Positions.Place.{PlainPlace, place_at}
+use Rattle.template_tree.specs.Programs.PlainTree.{Forest}
+use Rattle.template_tree.specs.Programs.Slots.{times}
 use Rattle.plcs_store.specs.declared.cell.Cell.{Cell}
 use Rattle.plcs_store.specs.declared.frame.Frame.{Frame}
 use Rattle.plcs_store.specs.declared.variable.Variable.{Variable}

@@ -15,9 +15,9 @@ use Rattle.plcs_base.specs.declared.declared.Declared.{Declared}
 use Rattle.plcs_base.specs.declared.declared.ItemType.{ItemType}
 use Rattle.plcs_base.specs.declared.value.Kind.{Kind}
 use Rattle.plcs_base.specs.declared.value.Value.{Value}
-use Rattle.template_tree.specs.Environment.{cells_in, item_named, kind_of_type, parameter_kind, parameter_kinds, scalar_kind}
-use Rattle.template_tree.specs.KindTable.{same_kind}
-use Rattle.template_tree.specs.ParameterItem.{scalar_item}
+use Rattle.template_tree.specs.Checks.Environment.{cells_in, item_named, kind_of_type, parameter_kind, parameter_kinds, scalar_kind}
+use Rattle.template_tree.specs.Checks.KindTable.{same_kind}
+use Rattle.template_tree.specs.Checks.ParameterItem.{scalar_item}
 use Rattle.plcs_store.specs.declared.argument.Argument.{Argument}
 use Rattle.plcs_store.specs.declared.cell.Cell.{Cell}
 use Rattle.plcs_store.specs.declared.cell.Location.{Location}

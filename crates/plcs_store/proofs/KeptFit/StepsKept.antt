@@ -7,12 +7,12 @@ use Rattle.std.proofs.lemmas.Bool.{leb-false}
 use Rattle.plcs_base.specs.declared.declared.Declared.{Declared}
 use Rattle.plcs_base.specs.declared.value.Value.{Value}
 use Rattle.plcs_grammar.specs.PlainPhrase.{PlainExpr, PlainExprs, PlainVarRef}
-use Rattle.template_tree.specs.Place.{PlainPlace, Site, place_at, site}
-use Rattle.template_tree.specs.PlainTree.{Forest, PlainTree}
-use Rattle.template_tree.specs.Tree.{IsTree}
+use Rattle.template_tree.specs.Positions.Place.{PlainPlace, Site, place_at, site}
+use Rattle.template_tree.specs.Programs.PlainTree.{Forest, PlainTree}
+use Rattle.template_tree.specs.Programs.Tree.{IsTree}
 use Rattle.tree_steps.specs.RunPlace.{is_first_marked}
 use Rattle.tree_steps.specs.StandingSlot.{Around, StandsInside, outermost_slot}
-use Rattle.template_tree.specs.Marks.{is_phrase_marked}
+use Rattle.template_tree.specs.Checks.Marks.{is_phrase_marked}
 use Rattle.plcs_store.specs.declared.argument.Argument.{Argument}
 use Rattle.plcs_store.specs.declared.cell.Location.{Location}
 use Rattle.plcs_store.specs.declared.fault_kind.FaultKind.{FaultKind}

@@ -1,4 +1,4 @@
-use Rattle.template_tree.specs.Tree.{IsTree}
+use Rattle.template_tree.specs.Programs.Tree.{IsTree}
 use Rattle.program_cases.proofs.main.Given as goal
 
 abbrev pub invariant-loop-line : goal.invariant-loop-line

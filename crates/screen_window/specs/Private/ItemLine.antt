@@ -1,6 +1,6 @@
 -- The line of a place of a run in one item of a list.
 use Rattle.std.specs.Prelude.{ℕ, Option, Some, None}
-use Rattle.template_tree.specs.PlainTree.{Forest, PlainNode}
+use Rattle.template_tree.specs.Programs.PlainTree.{Forest, PlainNode}
 use Rattle.screen_window.specs.declared.node_line.NodeLine.{NodeLine}
 use Rattle.screen_window.specs.NodeLine.{place_line}
 

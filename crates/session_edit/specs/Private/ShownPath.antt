@@ -1,8 +1,8 @@
 -- Paths on which nothing is elided, and the numbers of a path up to the first elided comment on it.
 use Rattle.std.specs.Prelude.{ℕ, if◌then◌else◌, List, [], ◌∷◌, IsSomeAnd, slice_get}
 use Rattle.std.specs.Option.{option_map_or}
-use Rattle.template_tree.specs.PlainTree.{Forest, PlainNode, nodes}
-use Rattle.template_tree.specs.Stop.{visible_at}
+use Rattle.template_tree.specs.Programs.PlainTree.{Forest, PlainNode, nodes}
+use Rattle.template_tree.specs.Positions.Stop.{visible_at}
 
 -- nothing is elided on the path: it has no number, or a visible node stands at it
 abbrev pub IsShown : Forest → List ℕ → Type 0

@@ -1,7 +1,7 @@
 -- What comes of taking something out of the program.
 use Rattle.std.specs.Prelude.{◌≡◌, IfErr, IfOk, Result, Some}
-use Rattle.template_tree.specs.PlainTree.{roomless_tree}
-use Rattle.template_tree.specs.Stop.{IsStop, plain_stop}
+use Rattle.template_tree.specs.Programs.PlainTree.{roomless_tree}
+use Rattle.template_tree.specs.Positions.Stop.{IsStop, plain_stop}
 use Rattle.template_tree.specs.declared.stop.Stop.{Stop}
 use Rattle.template_tree.specs.declared.tree_fault.TreeFault.{TreeFault}
 use Rattle.clip_store.specs.PlainFragment.{IsFragment, plain_fragment, roomless_fragment}

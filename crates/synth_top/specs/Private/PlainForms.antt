@@ -1,7 +1,7 @@
 -- The plain forms of the types of this crate: of what words give, of options and tasks, and of the first loads.
 use Rattle.std.specs.Prelude.{ℕ, Vec, option_map}
 use Rattle.std.specs.declared.alloc.Global.{Global}
-use Rattle.template_tree.specs.PlainTree.{PlainTree, roomless_tree}
+use Rattle.template_tree.specs.Programs.PlainTree.{PlainTree, roomless_tree}
 use Rattle.synth_session.specs.FileReply.{Reply}
 use Rattle.synth_top.specs.declared.command.Given.{Given}
 use Rattle.synth_top.specs.declared.loading.FileLoad.{FileLoad}

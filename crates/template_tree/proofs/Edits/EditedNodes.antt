@@ -2,10 +2,10 @@
 use Rattle.std.specs.Prelude.{◌≡◌, refl, ℕ, zero, suc, ◌+◌, ◌≤◌, List, [], ◌∷◌, length, Some, option_map}
 use Rattle.std.proofs.Common.{ap, sym, ◌∙◌, arith}
 use Rattle.std.proofs.lemmas.Option.{none-some}
-use Rattle.template_tree.specs.PlainTree.{Forest, PlainNode}
-use Rattle.template_tree.specs.Path.{node_at}
-use Rattle.template_tree.specs.Slots.{count, depth}
-use Rattle.template_tree.specs.Edit.{edit_at}
+use Rattle.template_tree.specs.Programs.PlainTree.{Forest, PlainNode}
+use Rattle.template_tree.specs.Positions.Path.{node_at}
+use Rattle.template_tree.specs.Programs.Slots.{count, depth}
+use Rattle.template_tree.specs.Edits.Edit.{edit_at}
 use Rattle.template_tree.specs.Private.Exchange.{first_item}
 use Rattle.template_tree.proofs.Edits.SameEdits.{taken}
 

@@ -3,10 +3,10 @@ use Rattle.std.specs.Prelude.{◌≡◌, refl, ℕ, zero, suc, ◌≤◌, nat_lt
 use Rattle.std.proofs.Common.{ap, sym, ◌∙◌, subst, arith}
 use Rattle.std.proofs.lemmas.Bool.{lt-ltb, le-ltb}
 use Rattle.std.proofs.lemmas.Option.{none-some}
-use Rattle.template_tree.specs.PlainTree.{Forest, PlainNode, nodes, forest}
-use Rattle.template_tree.specs.Path.{node_at}
-use Rattle.template_tree.specs.Slots.{times}
-use Rattle.template_tree.specs.Edit.{edit_at, procedure_of}
+use Rattle.template_tree.specs.Programs.PlainTree.{Forest, PlainNode, nodes, forest}
+use Rattle.template_tree.specs.Positions.Path.{node_at}
+use Rattle.template_tree.specs.Programs.Slots.{times}
+use Rattle.template_tree.specs.Edits.Edit.{edit_at, procedure_of}
 use Rattle.template_tree.specs.Private.Exchange.{first_item}
 use Rattle.template_tree.proofs.Edits.SlotEdits.{present}
 use Rattle.template_tree.proofs.Edits.EditedNodes.{node_there, first_slot}

@@ -2,8 +2,8 @@
 use Rattle.std.specs.Prelude.{◌≡◌, refl, ℕ, zero, suc, ◌+◌, ◌≤◌, false, List, [], ◌∷◌, length, slice_get, slice_set, Some}
 use Rattle.std.proofs.Common.{ap, sym, ◌∙◌, arith, add-one}
 use Rattle.std.proofs.lemmas.Option.{none-some}
-use Rattle.template_tree.specs.PlainTree.{Label, Forest, PlainNode, PlainNodes, nodes, forest, forest_nodes}
-use Rattle.template_tree.specs.Edit.{whole}
+use Rattle.template_tree.specs.Programs.PlainTree.{Label, Forest, PlainNode, PlainNodes, nodes, forest, forest_nodes}
+use Rattle.template_tree.specs.Edits.Edit.{whole}
 use Rattle.template_tree.proofs.Edits.SameEdits.{taken}
 
 -- a list whose nodes after so many have nothing elided

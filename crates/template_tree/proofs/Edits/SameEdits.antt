@@ -2,9 +2,9 @@
 use Rattle.std.specs.Prelude.{◌≡◌, refl, ℕ, zero, suc, List, [], ◌∷◌, Option, Some, None}
 use Rattle.std.proofs.Common.{ap, sym, ◌∙◌}
 use Rattle.std.proofs.lemmas.Option.{none-some}
-use Rattle.template_tree.specs.PlainTree.{Forest, PlainNode, forest, join}
-use Rattle.template_tree.specs.Path.{node_at}
-use Rattle.template_tree.specs.Edit.{edit_at}
+use Rattle.template_tree.specs.Programs.PlainTree.{Forest, PlainNode, forest, join}
+use Rattle.template_tree.specs.Positions.Path.{node_at}
+use Rattle.template_tree.specs.Edits.Edit.{edit_at}
 
 -- what is there, or else the node
 abbrev pub taken : PlainNode → Option PlainNode → PlainNode

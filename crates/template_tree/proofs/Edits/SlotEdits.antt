@@ -3,10 +3,10 @@ use Rattle.std.specs.Prelude.{◌≡◌, refl, ℕ, zero, suc, ◌+◌, ◌≤�
 use Rattle.std.proofs.Common.{ap, sym, ◌∙◌, arith}
 use Rattle.std.proofs.lemmas.Bool.{eq-eqb}
 use Rattle.std.proofs.lemmas.Option.{none-some}
-use Rattle.template_tree.specs.PlainTree.{Label, Forest, PlainNode, forest, join}
-use Rattle.template_tree.specs.Slots.{times}
-use Rattle.template_tree.specs.Path.{node_at}
-use Rattle.template_tree.specs.Edit.{edit_at, edit_slot}
+use Rattle.template_tree.specs.Programs.PlainTree.{Label, Forest, PlainNode, forest, join}
+use Rattle.template_tree.specs.Programs.Slots.{times}
+use Rattle.template_tree.specs.Positions.Path.{node_at}
+use Rattle.template_tree.specs.Edits.Edit.{edit_at, edit_slot}
 
 zero_if : (b : Bool) (n : ℕ) → (if b then 1 else 0) + n ≡ 0 → b ≡ false
 zero_if true n e = absurd (omega arith)

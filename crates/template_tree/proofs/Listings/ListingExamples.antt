@@ -3,10 +3,10 @@ use Rattle.std.specs.Prelude.{◌≡◌, refl, ℕ, Bool, true, false, List, [],
 use Rattle.plcs_grammar.specs.declared.node_kind.NodeKind.{NodeKind}
 use Rattle.plcs_grammar.specs.declared.template.Template.{Template}
 use Rattle.plcs_grammar.specs.PlainPhrase.{PlainExpr, PlainVarRef, PlainPhrase}
-use Rattle.template_tree.specs.PlainTree.{Forest}
-use Rattle.template_tree.specs.Line.{line_bytes, listing_lines, Lines}
-use Rattle.template_tree.specs.Listing.{Listing}
-use Rattle.template_tree.specs.Stop.{VisibleStop, Stops}
+use Rattle.template_tree.specs.Programs.PlainTree.{Forest}
+use Rattle.template_tree.specs.Listings.Line.{line_bytes, listing_lines, Lines}
+use Rattle.template_tree.specs.Listings.Listing.{Listing}
+use Rattle.template_tree.specs.Positions.Stop.{VisibleStop, Stops}
 
 -- a node, elided or not, before others
 abbrev item : Bool → NodeKind → List (Option PlainPhrase) → Forest → Forest → Forest

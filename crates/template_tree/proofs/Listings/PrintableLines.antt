@@ -16,11 +16,11 @@ use Rattle.plcs_grammar.specs.Canon.{Canon}
 use Rattle.plcs_grammar.specs.ShownText.{CanonicalTextsShow}
 use Rattle.plcs_grammar.specs.Placeholder.{placeholder}
 use Rattle.plcs_grammar.specs.Template.{PlainSegment, PlainSection, PlainRow, row_of, program_sections}
-use Rattle.template_tree.specs.PlainTree.{Forest}
-use Rattle.template_tree.specs.Program.{parts_of, sort_of, AreParts, AreNodes}
-use Rattle.template_tree.specs.Section.{same_sort, left_for, left_in, left_after, next_lead}
-use Rattle.template_tree.specs.Line.{Line, line_bytes, segments_text, fixed_line, head_line, lines, listing_lines}
-use Rattle.template_tree.specs.Listing.{bytes_of_lines, split_at_ends, ListingSplitsInLines}
+use Rattle.template_tree.specs.Programs.PlainTree.{Forest}
+use Rattle.template_tree.specs.Programs.Program.{parts_of, sort_of, AreParts, AreNodes}
+use Rattle.template_tree.specs.Listings.Section.{same_sort, left_for, left_in, left_after, next_lead}
+use Rattle.template_tree.specs.Listings.Line.{Line, line_bytes, segments_text, fixed_line, head_line, lines, listing_lines}
+use Rattle.template_tree.specs.Listings.Listing.{bytes_of_lines, split_at_ends, ListingSplitsInLines}
 
 -- each byte can be shown
 abbrev printable : List ℕ → Bool

@@ -8,12 +8,12 @@ use Rattle.plcs_base.specs.Putting.{puts_append, puts_same}
 use Rattle.plcs_grammar.specs.declared.row.Segment.{Segment}
 use Rattle.plcs_grammar.specs.PlainPhrase.{PlainPhrase}
 use Rattle.plcs_grammar.specs.Template.{PlainSection, row_of, plain_segment}
-use Rattle.template_tree.specs.PlainTree.{Forest, PlainNode, forest}
-use Rattle.template_tree.specs.Program.{sort_of}
-use Rattle.template_tree.specs.Slots.{depth}
-use Rattle.template_tree.specs.Section.{left_for, left_after, next_lead}
-use Rattle.template_tree.specs.Line.{Line, line_bytes, fixed_line, head_line, lines, parts_after, segment_text, segments_text}
-use Rattle.template_tree.specs.Listing.{bytes_of_lines}
+use Rattle.template_tree.specs.Programs.PlainTree.{Forest, PlainNode, forest}
+use Rattle.template_tree.specs.Programs.Program.{sort_of}
+use Rattle.template_tree.specs.Programs.Slots.{depth}
+use Rattle.template_tree.specs.Listings.Section.{left_for, left_after, next_lead}
+use Rattle.template_tree.specs.Listings.Line.{Line, line_bytes, fixed_line, head_line, lines, parts_after, segment_text, segments_text}
+use Rattle.template_tree.specs.Listings.Listing.{bytes_of_lines}
 use Rattle.template_tree.specs.Private.NodeLines.{node_lines, LacksRest}
 use Rattle.template_tree.specs.Private.Weight.{forest_weight, weight}
 

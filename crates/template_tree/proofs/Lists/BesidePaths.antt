@@ -8,11 +8,11 @@ use Rattle.std.proofs.Math.Seq.{drop-cons}
 use Rattle.std.proofs.Common.{add-one}
 use Rattle.plcs_grammar.specs.declared.node_kind.Sort.{Sort}
 use Rattle.plcs_grammar.specs.Template.{PlainSection, row_of}
-use Rattle.template_tree.specs.PlainTree.{Forest, PlainNode, forest, nodes_forest}
-use Rattle.template_tree.specs.Program.{sorts, sort_of}
-use Rattle.template_tree.specs.Section.{same_sort}
-use Rattle.template_tree.specs.ListItem.{sections_at, siblings_at, how_many}
-use Rattle.template_tree.specs.Path.{last_child_number, with_last}
+use Rattle.template_tree.specs.Programs.PlainTree.{Forest, PlainNode, forest, nodes_forest}
+use Rattle.template_tree.specs.Programs.Program.{sorts, sort_of}
+use Rattle.template_tree.specs.Listings.Section.{same_sort}
+use Rattle.template_tree.specs.Edits.ListItem.{sections_at, siblings_at, how_many}
+use Rattle.template_tree.specs.Positions.Path.{last_child_number, with_last}
 use Rattle.template_tree.specs.Private.Restored.{side_of}
 use Rattle.template_tree.specs.declared.side.Side.{Side}
 

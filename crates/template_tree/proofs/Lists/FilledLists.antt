@@ -6,10 +6,10 @@ use Rattle.std.proofs.lemmas.Option.{none-some}
 use Rattle.plcs_grammar.specs.declared.node_kind.Sort.{Sort}
 use Rattle.plcs_grammar.specs.declared.row.Amount.{Amount}
 use Rattle.plcs_grammar.specs.Template.{PlainSection}
-use Rattle.template_tree.specs.Section.{same_sort}
-use Rattle.template_tree.specs.Program.{AreItems, Fill}
-use Rattle.template_tree.specs.Hole.{hole_of}
-use Rattle.template_tree.specs.ListItem.{is_list, is_listed, how_many}
+use Rattle.template_tree.specs.Listings.Section.{same_sort}
+use Rattle.template_tree.specs.Programs.Program.{AreItems, Fill}
+use Rattle.template_tree.specs.Edits.Hole.{hole_of}
+use Rattle.template_tree.specs.Edits.ListItem.{is_list, is_listed, how_many}
 use Rattle.template_tree.specs.Private.Apart.{sections_have_sort, IsApart, AreApart}
 
 -- sorts that are found to be one are one

@@ -6,11 +6,11 @@ use Rattle.std.proofs.Common.{ap, sym, ◌∙◌, subst, arith}
 use Rattle.std.proofs.Math.Bool.{false≢true}
 use Rattle.std.proofs.lemmas.Option.{none-some}
 use Rattle.template_tree.specs.declared.side.Side.{Side}
-use Rattle.template_tree.specs.PlainTree.{Label, Forest, PlainNode, PlainNodes, forest, nodes, nodes_forest, roomless, roomless_node}
-use Rattle.template_tree.specs.Lend.{with_node_set, with_node_removed}
-use Rattle.template_tree.specs.Path.{below, node_at}
-use Rattle.template_tree.specs.Edit.{edit_at}
-use Rattle.template_tree.specs.Receipt.{list_room, with_beside}
+use Rattle.template_tree.specs.Programs.PlainTree.{Label, Forest, PlainNode, PlainNodes, forest, nodes, nodes_forest, roomless, roomless_node}
+use Rattle.template_tree.specs.Edits.Lend.{with_node_set, with_node_removed}
+use Rattle.template_tree.specs.Positions.Path.{below, node_at}
+use Rattle.template_tree.specs.Edits.Edit.{edit_at}
+use Rattle.template_tree.specs.Edits.Receipt.{list_room, with_beside}
 use Rattle.template_tree.proofs.Edits.SameEdits.{taken}
 use Rattle.template_tree.proofs.Room.RoomlessEdits.{SameWithoutRoom, roomless_edit}
 

@@ -10,18 +10,18 @@ use Rattle.template_tree.specs.declared.side.Side.{Side}
 use Rattle.template_tree.specs.declared.tree_fault.TreeFault.{TreeFault}
 use Rattle.template_tree.specs.declared.change.Change.{Change}
 use Rattle.template_tree.specs.declared.change.What.{What}
-use Rattle.template_tree.specs.PlainTree.{Forest, PlainNode, PlainTree, nodes, roomless, roomless_node, roomless_tree}
-use Rattle.template_tree.specs.Program.{sorts, sort_of}
-use Rattle.template_tree.specs.Path.{added_path, last_child_number, node_at, with_last}
-use Rattle.template_tree.specs.Slots.{count, depth, times}
-use Rattle.template_tree.specs.Limit.{most_slots, most_drawn_slots}
-use Rattle.template_tree.specs.Tree.{IsTree}
-use Rattle.template_tree.specs.Edit.{Add, Drop, Differs, DifferBy, changed_in, edit_at, edit_below, edit_slot, give_way, procedure_of}
-use Rattle.template_tree.specs.Hole.{hole_of, lone}
-use Rattle.template_tree.specs.TreeEdit.{TreeEdit}
-use Rattle.template_tree.specs.Receipt.{PlainUndoing, PlainReceipt, list_room, undone, with_beside}
-use Rattle.template_tree.specs.EditAnswer.{IsEdit, IsListItem, IsOverTreeLimit, IsSpareHole, IsWithin}
-use Rattle.template_tree.specs.ListItem.{siblings_at}
+use Rattle.template_tree.specs.Programs.PlainTree.{Forest, PlainNode, PlainTree, nodes, roomless, roomless_node, roomless_tree}
+use Rattle.template_tree.specs.Programs.Program.{sorts, sort_of}
+use Rattle.template_tree.specs.Positions.Path.{added_path, last_child_number, node_at, with_last}
+use Rattle.template_tree.specs.Programs.Slots.{count, depth, times}
+use Rattle.template_tree.specs.Programs.Limit.{most_slots, most_drawn_slots}
+use Rattle.template_tree.specs.Programs.Tree.{IsTree}
+use Rattle.template_tree.specs.Edits.Edit.{Add, Drop, Differs, DifferBy, changed_in, edit_at, edit_below, edit_slot, give_way, procedure_of}
+use Rattle.template_tree.specs.Edits.Hole.{hole_of, lone}
+use Rattle.template_tree.specs.Edits.TreeEdit.{TreeEdit}
+use Rattle.template_tree.specs.Edits.Receipt.{PlainUndoing, PlainReceipt, list_room, undone, with_beside}
+use Rattle.template_tree.specs.Edits.EditAnswer.{IsEdit, IsListItem, IsOverTreeLimit, IsSpareHole, IsWithin}
+use Rattle.template_tree.specs.Edits.ListItem.{siblings_at}
 use Rattle.template_tree.specs.Private.Exchange.{MeetsLimit, first_item}
 use Rattle.template_tree.specs.Private.Restored.{side_of}
 use Rattle.template_tree.proofs.Edits.SameEdits.{taken}

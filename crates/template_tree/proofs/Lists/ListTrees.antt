@@ -9,17 +9,17 @@ use Rattle.plcs_grammar.specs.declared.node_kind.NodeKind.{NodeKind}
 use Rattle.plcs_grammar.specs.declared.node_kind.Sort.{Sort}
 use Rattle.plcs_grammar.specs.Template.{PlainSection, row_of, program_sections}
 use Rattle.template_tree.specs.declared.side.Side.{Side}
-use Rattle.template_tree.specs.PlainTree.{Forest, Label, PlainNode, PlainTree, nodes, forest}
-use Rattle.template_tree.specs.Program.{sorts, sort_of, Fill, AreNodes, IsProgram, IsSubtree}
-use Rattle.template_tree.specs.Slots.{count, depth, first_slot, times, AllBelow}
-use Rattle.template_tree.specs.Path.{below, last_child_number, node_at}
-use Rattle.template_tree.specs.Limit.{most_slots, most_drawn_slots}
-use Rattle.template_tree.specs.Tree.{IsTree}
-use Rattle.template_tree.specs.Edit.{Add, Drop, edit_at, give_way, with_hole}
-use Rattle.template_tree.specs.Hole.{is_hole, hole_list, hole_of, lone}
-use Rattle.template_tree.specs.ListItem.{is_listed, sections_at, siblings_at, how_many}
-use Rattle.template_tree.specs.EditAnswer.{IsListItem, IsSpareHole}
-use Rattle.template_tree.specs.Receipt.{with_beside}
+use Rattle.template_tree.specs.Programs.PlainTree.{Forest, Label, PlainNode, PlainTree, nodes, forest}
+use Rattle.template_tree.specs.Programs.Program.{sorts, sort_of, Fill, AreNodes, IsProgram, IsSubtree}
+use Rattle.template_tree.specs.Programs.Slots.{count, depth, first_slot, times, AllBelow}
+use Rattle.template_tree.specs.Positions.Path.{below, last_child_number, node_at}
+use Rattle.template_tree.specs.Programs.Limit.{most_slots, most_drawn_slots}
+use Rattle.template_tree.specs.Programs.Tree.{IsTree}
+use Rattle.template_tree.specs.Edits.Edit.{Add, Drop, edit_at, give_way, with_hole}
+use Rattle.template_tree.specs.Edits.Hole.{is_hole, hole_list, hole_of, lone}
+use Rattle.template_tree.specs.Edits.ListItem.{is_listed, sections_at, siblings_at, how_many}
+use Rattle.template_tree.specs.Edits.EditAnswer.{IsListItem, IsSpareHole}
+use Rattle.template_tree.specs.Edits.Receipt.{with_beside}
 use Rattle.template_tree.specs.Private.Apart.{AreApart}
 use Rattle.template_tree.proofs.Edits.SameEdits.{taken, edits_alike}
 use Rattle.template_tree.proofs.Edits.SlotEdits.{slot_edit_is_path_edit}

@@ -9,15 +9,15 @@ use Rattle.plcs_grammar.specs.declared.template.Template.{Template}
 use Rattle.plcs_grammar.specs.declared.template.Template.TheVariants.{Comment}
 use Rattle.plcs_grammar.specs.PlainPhrase.{PlainPhrase}
 use Rattle.plcs_grammar.specs.Template.{row_of, program_sections}
-use Rattle.template_tree.specs.PlainTree.{Label, Forest, PlainNode, PlainTree}
-use Rattle.template_tree.specs.Program.{sorts, sort_of, parts_of, Fill, AreParts, IsNode, IsPartPhrase, AreNodes, IsSubtree}
-use Rattle.template_tree.specs.Part.{Takes, IsPhrasePlace, part_category, with_part}
-use Rattle.template_tree.specs.Slots.{count, depth, first_slot, times, AllBelow}
-use Rattle.template_tree.specs.Path.{node_at}
-use Rattle.template_tree.specs.Tree.{IsTree}
-use Rattle.template_tree.specs.Edit.{edit_at, Part, edit_slot, with_items}
-use Rattle.template_tree.specs.Lend.{with_node}
-use Rattle.template_tree.specs.Elision.{is_comment, toggled}
+use Rattle.template_tree.specs.Programs.PlainTree.{Label, Forest, PlainNode, PlainTree}
+use Rattle.template_tree.specs.Programs.Program.{sorts, sort_of, parts_of, Fill, AreParts, IsNode, IsPartPhrase, AreNodes, IsSubtree}
+use Rattle.template_tree.specs.Programs.Part.{Takes, IsPhrasePlace, part_category, with_part}
+use Rattle.template_tree.specs.Programs.Slots.{count, depth, first_slot, times, AllBelow}
+use Rattle.template_tree.specs.Positions.Path.{node_at}
+use Rattle.template_tree.specs.Programs.Tree.{IsTree}
+use Rattle.template_tree.specs.Edits.Edit.{edit_at, Part, edit_slot, with_items}
+use Rattle.template_tree.specs.Edits.Lend.{with_node}
+use Rattle.template_tree.specs.Edits.Elision.{is_comment, toggled}
 use Rattle.template_tree.proofs.Edits.SameEdits.{taken, edits_alike}
 use Rattle.template_tree.proofs.Edits.SlotEdits.{slot_edit_is_path_edit}
 use Rattle.template_tree.proofs.Trees.Subtrees.{subtree_at}

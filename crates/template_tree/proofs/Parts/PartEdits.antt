@@ -7,18 +7,18 @@ use Rattle.plcs_grammar.specs.declared.node_kind.NodeKind.{NodeKind}
 use Rattle.plcs_grammar.specs.PlainPhrase.{PlainPhrase}
 use Rattle.plcs_grammar.specs.Template.{row_of}
 use Rattle.template_tree.specs.declared.change.What.{What}
-use Rattle.template_tree.specs.PlainTree.{Forest, PlainNode, PlainTree, roomless, roomless_tree}
-use Rattle.template_tree.specs.Part.{IsPhrasePlace, Takes, part_category, with_part}
-use Rattle.template_tree.specs.Program.{parts_of}
-use Rattle.template_tree.specs.Stop.{part_stops}
-use Rattle.template_tree.specs.Path.{node_at}
-use Rattle.template_tree.specs.Slots.{times}
-use Rattle.template_tree.specs.Tree.{IsTree}
-use Rattle.template_tree.specs.Lend.{with_node}
-use Rattle.template_tree.specs.Edit.{Part, DifferBy, edit_at, edit_slot, procedure_of}
-use Rattle.template_tree.specs.TreeEdit.{TreeEdit}
-use Rattle.template_tree.specs.Receipt.{PlainUndoing, PlainReceipt, undone}
-use Rattle.template_tree.specs.EditAnswer.{IsEdit}
+use Rattle.template_tree.specs.Programs.PlainTree.{Forest, PlainNode, PlainTree, roomless, roomless_tree}
+use Rattle.template_tree.specs.Programs.Part.{IsPhrasePlace, Takes, part_category, with_part}
+use Rattle.template_tree.specs.Programs.Program.{parts_of}
+use Rattle.template_tree.specs.Positions.Stop.{part_stops}
+use Rattle.template_tree.specs.Positions.Path.{node_at}
+use Rattle.template_tree.specs.Programs.Slots.{times}
+use Rattle.template_tree.specs.Programs.Tree.{IsTree}
+use Rattle.template_tree.specs.Edits.Lend.{with_node}
+use Rattle.template_tree.specs.Edits.Edit.{Part, DifferBy, edit_at, edit_slot, procedure_of}
+use Rattle.template_tree.specs.Edits.TreeEdit.{TreeEdit}
+use Rattle.template_tree.specs.Edits.Receipt.{PlainUndoing, PlainReceipt, undone}
+use Rattle.template_tree.specs.Edits.EditAnswer.{IsEdit}
 use Rattle.template_tree.specs.Private.Exchange.{first_item}
 use Rattle.template_tree.proofs.Edits.SameEdits.{edits_alike}
 use Rattle.template_tree.proofs.Edits.SlotEdits.{slot_edit_is_path_edit}

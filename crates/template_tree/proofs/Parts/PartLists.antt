@@ -5,13 +5,13 @@ use Rattle.std.proofs.lemmas.List.{map-set}
 use Rattle.std.proofs.lemmas.Option.{slice_get-map, slice_get_read}
 use Rattle.plcs_grammar.specs.declared.category.Category.{Category}
 use Rattle.plcs_grammar.specs.PlainPhrase.{PlainPhrase}
-use Rattle.template_tree.specs.Program.{AreParts}
+use Rattle.template_tree.specs.Programs.Program.{AreParts}
 use Rattle.plcs_grammar.specs.Template.{row_of}
 use Rattle.template_tree.specs.declared.phrase_place.PhrasePlace.{PhrasePlace}
-use Rattle.template_tree.specs.PlainPhrasePlace.{plain_phrase_place}
-use Rattle.template_tree.specs.PlainTree.{PlainNode}
-use Rattle.template_tree.specs.Program.{parts_of}
-use Rattle.template_tree.specs.Part.{Takes, part_category}
+use Rattle.template_tree.specs.Programs.PlainPhrasePlace.{plain_phrase_place}
+use Rattle.template_tree.specs.Programs.PlainTree.{PlainNode}
+use Rattle.template_tree.specs.Programs.Program.{parts_of}
+use Rattle.template_tree.specs.Programs.Part.{Takes, part_category}
 
 -- as many parts as categories
 pub parts_length : (categories : List Category) (parts : List (Option PlainPhrase)) → AreParts categories parts → length categories ≡ length parts

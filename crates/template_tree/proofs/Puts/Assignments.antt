@@ -6,14 +6,14 @@ use Rattle.plcs_grammar.specs.declared.category.Category.{Category}
 use Rattle.plcs_grammar.specs.declared.node_kind.NodeKind.{NodeKind}
 use Rattle.plcs_grammar.specs.declared.node_kind.Sort.{Sort}
 use Rattle.plcs_grammar.specs.PlainPhrase.{PlainPhrase, category_of}
-use Rattle.template_tree.specs.PlainTree.{PlainNode, PlainTree, roomless_node}
-use Rattle.template_tree.specs.Part.{IsPhrasePlace}
-use Rattle.template_tree.specs.Path.{node_at}
-use Rattle.template_tree.specs.Program.{IsPartPhrase, IsSubtree, sort_of}
-use Rattle.template_tree.specs.Tree.{IsTree}
-use Rattle.template_tree.specs.Edit.{Put}
-use Rattle.template_tree.specs.FreshNode.{assignment_node}
-use Rattle.template_tree.specs.EditAnswer.{IsWithin, TakesAssignment}
+use Rattle.template_tree.specs.Programs.PlainTree.{PlainNode, PlainTree, roomless_node}
+use Rattle.template_tree.specs.Programs.Part.{IsPhrasePlace}
+use Rattle.template_tree.specs.Positions.Path.{node_at}
+use Rattle.template_tree.specs.Programs.Program.{IsPartPhrase, IsSubtree, sort_of}
+use Rattle.template_tree.specs.Programs.Tree.{IsTree}
+use Rattle.template_tree.specs.Edits.Edit.{Put}
+use Rattle.template_tree.specs.Edits.FreshNode.{assignment_node}
+use Rattle.template_tree.specs.Edits.EditAnswer.{IsWithin, TakesAssignment}
 use Rattle.template_tree.specs.Private.Exchange.{MayReplace}
 use Rattle.template_tree.proofs.Puts.PutLimits.{path_short, put_within}
 use Rattle.template_tree.proofs.Room.RoomlessEdits.{same_roomless}

@@ -11,12 +11,12 @@ use Rattle.plcs_grammar.specs.declared.row.Segment.{Segment}
 use Rattle.plcs_grammar.specs.declared.template.Template.{Template}
 use Rattle.plcs_grammar.specs.PlainPhrase.{PlainPhrase}
 use Rattle.plcs_grammar.specs.Template.{PlainSection, plain_segment, row_of, template_row}
-use Rattle.template_tree.specs.PlainTree.{Forest, PlainNode, forest, join, roomless, roomless_node}
-use Rattle.template_tree.specs.Slots.{count, depth}
-use Rattle.template_tree.specs.Limit.{deepest_path}
-use Rattle.template_tree.specs.Program.{parts_of, sorts, may_be_empty, AreItems, AreNodes, AreParts, Fill, IsSubtree}
-use Rattle.template_tree.specs.Hole.{hole_list, hole_of, lone}
-use Rattle.template_tree.specs.FreshNode.{fresh_node, section_holes}
+use Rattle.template_tree.specs.Programs.PlainTree.{Forest, PlainNode, forest, join, roomless, roomless_node}
+use Rattle.template_tree.specs.Programs.Slots.{count, depth}
+use Rattle.template_tree.specs.Programs.Limit.{deepest_path}
+use Rattle.template_tree.specs.Programs.Program.{parts_of, sorts, may_be_empty, AreItems, AreNodes, AreParts, Fill, IsSubtree}
+use Rattle.template_tree.specs.Edits.Hole.{hole_list, hole_of, lone}
+use Rattle.template_tree.specs.Edits.FreshNode.{fresh_node, section_holes}
 use Rattle.template_tree.proofs.Puts.Holes.{hole_subtree}
 use Rattle.template_tree.proofs.Puts.Refusals.{Asked}
 

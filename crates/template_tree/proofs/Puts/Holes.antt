@@ -6,16 +6,16 @@ use Rattle.std.proofs.lemmas.Option.{none-some}
 use Rattle.plcs_grammar.specs.declared.node_kind.NodeKind.{NodeKind}
 use Rattle.plcs_grammar.specs.declared.node_kind.Sort.{Sort}
 use Rattle.plcs_grammar.specs.Template.{row_of}
-use Rattle.template_tree.specs.PlainTree.{Forest, PlainNode, PlainTree, forest, roomless_node, with_spare}
-use Rattle.template_tree.specs.NewTree.{bare_label}
-use Rattle.template_tree.specs.Path.{node_at}
-use Rattle.template_tree.specs.Program.{Fill, IsSubtree, sorts, sort_of}
-use Rattle.template_tree.specs.Slots.{count, depth}
-use Rattle.template_tree.specs.Tree.{IsTree}
-use Rattle.template_tree.specs.Hole.{hole_left, hole_of, is_hole, lone}
-use Rattle.template_tree.specs.TreeEdit.{TreeEdit}
-use Rattle.template_tree.specs.Receipt.{PlainReceipt}
-use Rattle.template_tree.specs.EditAnswer.{IsEdit, TakesOut}
+use Rattle.template_tree.specs.Programs.PlainTree.{Forest, PlainNode, PlainTree, forest, roomless_node, with_spare}
+use Rattle.template_tree.specs.Programs.NewTree.{bare_label}
+use Rattle.template_tree.specs.Positions.Path.{node_at}
+use Rattle.template_tree.specs.Programs.Program.{Fill, IsSubtree, sorts, sort_of}
+use Rattle.template_tree.specs.Programs.Slots.{count, depth}
+use Rattle.template_tree.specs.Programs.Tree.{IsTree}
+use Rattle.template_tree.specs.Edits.Hole.{hole_left, hole_of, is_hole, lone}
+use Rattle.template_tree.specs.Edits.TreeEdit.{TreeEdit}
+use Rattle.template_tree.specs.Edits.Receipt.{PlainReceipt}
+use Rattle.template_tree.specs.Edits.EditAnswer.{IsEdit, TakesOut}
 use Rattle.template_tree.specs.Private.Exchange.{MayReplace}
 use Rattle.template_tree.proofs.Room.Rooms.{sorts_roomless, nodes_roomless}
 use Rattle.template_tree.proofs.Puts.PutLimits.{path_short, put_within}

@@ -4,15 +4,15 @@ use Rattle.std.proofs.Common.{ap, sym, ◌∙◌, subst, arith}
 use Rattle.plcs_base.specs.declared.place.Slot.{Slot}
 use Rattle.template_tree.specs.declared.change.Change.{Change}
 use Rattle.template_tree.specs.declared.change.What.{What}
-use Rattle.template_tree.specs.PlainTree.{Forest, PlainNode, PlainTree, roomless, roomless_node, roomless_tree}
-use Rattle.template_tree.specs.Path.{node_at}
-use Rattle.template_tree.specs.Slots.{count, times}
-use Rattle.template_tree.specs.Tree.{IsTree}
-use Rattle.template_tree.specs.Lend.{with_node}
-use Rattle.template_tree.specs.Edit.{Put, Differs, DifferBy, changed_in, edit_at, node_in_slot, procedure_of}
-use Rattle.template_tree.specs.TreeEdit.{TreeEdit}
-use Rattle.template_tree.specs.Receipt.{PlainUndoing, PlainReceipt, HasRoomBack, items_before, undone}
-use Rattle.template_tree.specs.EditAnswer.{Edits, IsEdit, slot_in}
+use Rattle.template_tree.specs.Programs.PlainTree.{Forest, PlainNode, PlainTree, roomless, roomless_node, roomless_tree}
+use Rattle.template_tree.specs.Positions.Path.{node_at}
+use Rattle.template_tree.specs.Programs.Slots.{count, times}
+use Rattle.template_tree.specs.Programs.Tree.{IsTree}
+use Rattle.template_tree.specs.Edits.Lend.{with_node}
+use Rattle.template_tree.specs.Edits.Edit.{Put, Differs, DifferBy, changed_in, edit_at, node_in_slot, procedure_of}
+use Rattle.template_tree.specs.Edits.TreeEdit.{TreeEdit}
+use Rattle.template_tree.specs.Edits.Receipt.{PlainUndoing, PlainReceipt, HasRoomBack, items_before, undone}
+use Rattle.template_tree.specs.Edits.EditAnswer.{Edits, IsEdit, slot_in}
 use Rattle.template_tree.specs.Private.Exchange.{MayReplace, IsChangeOf, first_item}
 use Rattle.template_tree.proofs.Edits.SlotEdits.{slot_edit_is_path_edit}
 use Rattle.template_tree.proofs.Puts.PutTrees.{put_keeps_tree}

@@ -2,13 +2,13 @@
 use Rattle.std.specs.Prelude.{◌≡◌, refl, ℕ, ◌+◌, ◌<◌, ◌≤◌, max, Bool, true, false, List, length, Some}
 use Rattle.std.proofs.Common.{ap, ◌∙◌, subst, arith}
 use Rattle.template_tree.specs.declared.tree_fault.TreeFault.{TreeFault}
-use Rattle.template_tree.specs.Limit.{deepest_path, most_slots, most_drawn_slots}
-use Rattle.template_tree.specs.PlainTree.{Forest, PlainNode, PlainTree}
-use Rattle.template_tree.specs.Path.{node_at}
-use Rattle.template_tree.specs.Slots.{count, depth}
-use Rattle.template_tree.specs.Tree.{IsTree}
-use Rattle.template_tree.specs.Edit.{Put, whole}
-use Rattle.template_tree.specs.EditAnswer.{IsWithin, IsOverTreeLimit}
+use Rattle.template_tree.specs.Programs.Limit.{deepest_path, most_slots, most_drawn_slots}
+use Rattle.template_tree.specs.Programs.PlainTree.{Forest, PlainNode, PlainTree}
+use Rattle.template_tree.specs.Positions.Path.{node_at}
+use Rattle.template_tree.specs.Programs.Slots.{count, depth}
+use Rattle.template_tree.specs.Programs.Tree.{IsTree}
+use Rattle.template_tree.specs.Edits.Edit.{Put, whole}
+use Rattle.template_tree.specs.Edits.EditAnswer.{IsWithin, IsOverTreeLimit}
 use Rattle.template_tree.specs.Private.Exchange.{MeetsLimit}
 use Rattle.template_tree.proofs.Trees.DrawnSlots.{depth_numbered}
 use Rattle.template_tree.proofs.Edits.EditedNodes.{deep_enough, no_deeper, edit_same}

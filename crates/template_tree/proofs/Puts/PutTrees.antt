@@ -5,13 +5,13 @@ use Rattle.std.proofs.Math.Bool.{false≢true}
 use Rattle.std.proofs.lemmas.Bool.{cases_lt, ne_eqb}
 use Rattle.std.proofs.lemmas.Option.{none-some}
 use Rattle.plcs_grammar.specs.Template.{row_of, program_sections}
-use Rattle.template_tree.specs.PlainTree.{Label, Forest, PlainNode, PlainTree}
-use Rattle.template_tree.specs.Program.{sorts, sort_of, Fill, IsNode, AreNodes, IsSubtree}
-use Rattle.template_tree.specs.Slots.{count, depth, first_slot, times, AllBelow, with_slots_from}
-use Rattle.template_tree.specs.Path.{node_at}
-use Rattle.template_tree.specs.Limit.{deepest_path, most_slots, most_drawn_slots}
-use Rattle.template_tree.specs.Tree.{IsTree}
-use Rattle.template_tree.specs.Edit.{edit_at, Put, edit_slot, node_in_slot, whole}
+use Rattle.template_tree.specs.Programs.PlainTree.{Label, Forest, PlainNode, PlainTree}
+use Rattle.template_tree.specs.Programs.Program.{sorts, sort_of, Fill, IsNode, AreNodes, IsSubtree}
+use Rattle.template_tree.specs.Programs.Slots.{count, depth, first_slot, times, AllBelow, with_slots_from}
+use Rattle.template_tree.specs.Positions.Path.{node_at}
+use Rattle.template_tree.specs.Programs.Limit.{deepest_path, most_slots, most_drawn_slots}
+use Rattle.template_tree.specs.Programs.Tree.{IsTree}
+use Rattle.template_tree.specs.Edits.Edit.{edit_at, Put, edit_slot, node_in_slot, whole}
 use Rattle.template_tree.proofs.Edits.SameEdits.{taken}
 use Rattle.template_tree.proofs.Trees.DrawnSlots.{count_numbered, sorts_numbered, nodes_numbered, below_numbered, none_before, once_numbered}
 use Rattle.template_tree.proofs.Edits.SlotEdits.{slot_edit_is_path_edit}

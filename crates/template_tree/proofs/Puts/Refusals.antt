@@ -4,16 +4,16 @@ use Rattle.std.proofs.Common.{ap, sym, arith, ◌∙◌, inl, inr}
 use Rattle.std.proofs.Math.Bool.{false≢true}
 use Rattle.std.proofs.lemmas.Bool.{cases_lt}
 use Rattle.template_tree.specs.declared.tree_fault.TreeFault.{TreeFault}
-use Rattle.template_tree.specs.Limit.{deepest_path, most_slots, most_drawn_slots}
-use Rattle.template_tree.specs.PlainTree.{Forest, PlainNode, PlainTree, roomless_node, roomless_tree}
-use Rattle.template_tree.specs.Path.{node_at}
-use Rattle.template_tree.specs.Program.{IsSubtree, sort_of}
-use Rattle.template_tree.specs.Slots.{count, depth}
-use Rattle.template_tree.specs.Tree.{IsTree}
-use Rattle.template_tree.specs.Edit.{Put}
+use Rattle.template_tree.specs.Programs.Limit.{deepest_path, most_slots, most_drawn_slots}
+use Rattle.template_tree.specs.Programs.PlainTree.{Forest, PlainNode, PlainTree, roomless_node, roomless_tree}
+use Rattle.template_tree.specs.Positions.Path.{node_at}
+use Rattle.template_tree.specs.Programs.Program.{IsSubtree, sort_of}
+use Rattle.template_tree.specs.Programs.Slots.{count, depth}
+use Rattle.template_tree.specs.Programs.Tree.{IsTree}
+use Rattle.template_tree.specs.Edits.Edit.{Put}
 use Rattle.template_tree.specs.Private.Exchange.{MayReplace, MeetsLimit}
-use Rattle.template_tree.specs.TreeEdit.{TreeEdit, tree_after}
-use Rattle.template_tree.specs.EditAnswer.{IsHoleFor, IsOverTreeLimit, IsWithin, Refuses}
+use Rattle.template_tree.specs.Edits.TreeEdit.{TreeEdit, tree_after}
+use Rattle.template_tree.specs.Edits.EditAnswer.{IsHoleFor, IsOverTreeLimit, IsWithin, Refuses}
 use Rattle.template_tree.proofs.Puts.PutEdits.{at_there}
 use Rattle.template_tree.proofs.Puts.PutLimits.{put_over, put_under}
 use Rattle.template_tree.proofs.Puts.Holes.{hole_empty, hole_sort}

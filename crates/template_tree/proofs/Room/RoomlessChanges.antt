@@ -5,14 +5,14 @@ use Rattle.plcs_grammar.specs.declared.node_kind.NodeKind.{NodeKind}
 use Rattle.template_tree.specs.declared.change.Change.{Change}
 use Rattle.template_tree.specs.declared.change.What.{What}
 use Rattle.template_tree.specs.declared.side.Side.{Side}
-use Rattle.template_tree.specs.PlainTree.{Forest, PlainNode, PlainTree, nodes, forest, roomless, roomless_node, roomless_tree}
-use Rattle.template_tree.specs.Part.{with_part}
-use Rattle.template_tree.specs.Program.{sort_of}
-use Rattle.template_tree.specs.Slots.{count, times}
-use Rattle.template_tree.specs.TreeEdit.{TreeEdit, changed_slot, roomless_tree_edit, tree_after, what_of}
-use Rattle.template_tree.specs.Edit.{DifferBy, Differs, changed_in, procedure_of, edit_slot, node_in_slot, with_hole, with_items}
-use Rattle.template_tree.specs.Hole.{hole_list, hole_of}
-use Rattle.template_tree.specs.RoomLaws.{IsSameAfter}
+use Rattle.template_tree.specs.Programs.PlainTree.{Forest, PlainNode, PlainTree, nodes, forest, roomless, roomless_node, roomless_tree}
+use Rattle.template_tree.specs.Programs.Part.{with_part}
+use Rattle.template_tree.specs.Programs.Program.{sort_of}
+use Rattle.template_tree.specs.Programs.Slots.{count, times}
+use Rattle.template_tree.specs.Edits.TreeEdit.{TreeEdit, changed_slot, roomless_tree_edit, tree_after, what_of}
+use Rattle.template_tree.specs.Edits.Edit.{DifferBy, Differs, changed_in, procedure_of, edit_slot, node_in_slot, with_hole, with_items}
+use Rattle.template_tree.specs.Edits.Hole.{hole_list, hole_of}
+use Rattle.template_tree.specs.Laws.RoomLaws.{IsSameAfter}
 use Rattle.template_tree.proofs.Room.Rooms.{count_roomless, times_roomless}
 use Rattle.template_tree.proofs.Room.RoomlessEdits.{SameWithoutRoom, as_many, roomless_edit_slot, roomless_placed, roomless_twice}
 

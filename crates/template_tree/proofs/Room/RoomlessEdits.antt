@@ -1,10 +1,10 @@
 -- The room of lists makes no difference to an edit.
 use Rattle.std.specs.Prelude.{◌≡◌, refl, ℕ, zero, suc, ◌+◌, Bool, true, false, if◌then◌else◌, ◌==◌, List, [], ◌∷◌, map, None}
 use Rattle.std.proofs.Common.{ap, sym, ◌∙◌}
-use Rattle.template_tree.specs.PlainTree.{Forest, PlainNode, PlainTree, forest, join, roomless, roomless_node, roomless_tree}
-use Rattle.template_tree.specs.Slots.{count, with_slots_from}
-use Rattle.template_tree.specs.Edit.{give_way, edit_below, edit_at, edit_slot, whole, node_in_slot, Put}
-use Rattle.template_tree.specs.Path.{node_at}
+use Rattle.template_tree.specs.Programs.PlainTree.{Forest, PlainNode, PlainTree, forest, join, roomless, roomless_node, roomless_tree}
+use Rattle.template_tree.specs.Programs.Slots.{count, with_slots_from}
+use Rattle.template_tree.specs.Edits.Edit.{give_way, edit_below, edit_at, edit_slot, whole, node_in_slot, Put}
+use Rattle.template_tree.specs.Positions.Path.{node_at}
 use Rattle.template_tree.specs.Private.Restored.{with_edit}
 use Rattle.template_tree.proofs.Room.Rooms.{count_roomless}
 use Rattle.template_tree.proofs.Edits.SameEdits.{edit_nowhere}

@@ -1,9 +1,9 @@
 -- Nodes at paths, and where the cursor may stand, with and without the room of lists.
 use Rattle.std.specs.Prelude.{◌≡◌, refl, ℕ, zero, suc, Bool, true, false, if◌then◌else◌, List, [], ◌∷◌, Option, Some, None, IsSomeAnd, option_map, option_and_then, slice_get}
 use Rattle.std.proofs.Common.{ap, ◌∙◌, subst}
-use Rattle.template_tree.specs.PlainTree.{Forest, PlainNode, nodes, roomless, roomless_node}
-use Rattle.template_tree.specs.Path.{below, node_at, slot_at}
-use Rattle.template_tree.specs.Stop.{IsStop, MayStand, PlainStop, visible_below, visible_at}
+use Rattle.template_tree.specs.Programs.PlainTree.{Forest, PlainNode, nodes, roomless, roomless_node}
+use Rattle.template_tree.specs.Positions.Path.{below, node_at, slot_at}
+use Rattle.template_tree.specs.Positions.Stop.{IsStop, MayStand, PlainStop, visible_below, visible_at}
 
 pub item_roomless : (items : Forest) (k : ℕ) → slice_get (nodes (roomless items)) k ≡ option_map roomless_node (slice_get (nodes items) k)
 item_roomless Forest.nil k = refl

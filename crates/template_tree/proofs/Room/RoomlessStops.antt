@@ -2,11 +2,11 @@
 use Rattle.std.specs.Prelude.{◌≡◌, refl, ℕ, ◌+◌, ◌-◌, ◌&&◌, Bool, true, if◌then◌else◌, List, [], ◌∷◌, ◌++◌, length, map, flat_map}
 use Rattle.std.proofs.Common.{ap, ◌∙◌}
 use Rattle.plcs_grammar.specs.Template.{PlainSection, row_of, program_sections}
-use Rattle.template_tree.specs.PlainTree.{Forest, roomless}
-use Rattle.template_tree.specs.Program.{sort_of}
-use Rattle.template_tree.specs.Section.{left_for, left_after, next_lead}
-use Rattle.template_tree.specs.Line.{lines, elision_line, fixed_line, head_line}
-use Rattle.template_tree.specs.Stop.{Stops, inside, part_stops, stops_of, visible_nodes}
+use Rattle.template_tree.specs.Programs.PlainTree.{Forest, roomless}
+use Rattle.template_tree.specs.Programs.Program.{sort_of}
+use Rattle.template_tree.specs.Listings.Section.{left_for, left_after, next_lead}
+use Rattle.template_tree.specs.Listings.Line.{lines, elision_line, fixed_line, head_line}
+use Rattle.template_tree.specs.Positions.Stop.{Stops, inside, part_stops, stops_of, visible_nodes}
 
 pub lines_roomless : (elides : Bool) (level : ℕ) (left : List PlainSection) (items : Forest)
     → lines elides level left (roomless items) ≡ lines elides level left items

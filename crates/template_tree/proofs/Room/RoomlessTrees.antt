@@ -2,10 +2,10 @@
 use Rattle.std.specs.Prelude.{ℕ}
 use Rattle.std.proofs.Common.{sym, ◌∙◌, subst, arith}
 use Rattle.plcs_grammar.specs.Template.{row_of, program_sections}
-use Rattle.template_tree.specs.PlainTree.{Forest, PlainTree, roomless, roomless_tree}
-use Rattle.template_tree.specs.Program.{Fill, AreNodes}
-use Rattle.template_tree.specs.Slots.{AllBelow}
-use Rattle.template_tree.specs.Tree.{IsTree}
+use Rattle.template_tree.specs.Programs.PlainTree.{Forest, PlainTree, roomless, roomless_tree}
+use Rattle.template_tree.specs.Programs.Program.{Fill, AreNodes}
+use Rattle.template_tree.specs.Programs.Slots.{AllBelow}
+use Rattle.template_tree.specs.Programs.Tree.{IsTree}
 use Rattle.template_tree.proofs.Room.Rooms.{sorts_roomless, count_roomless, depth_roomless, times_roomless, first_roomless, below_roomless, nodes_roomless}
 
 nodes_without_room : (items : Forest) → AreNodes items → AreNodes (roomless items)

@@ -1,9 +1,9 @@
 -- Comments turned, with and without the room of lists.
 use Rattle.std.specs.Prelude.{◌≡◌, refl, ℕ, Bool, true, false, not, if◌then◌else◌, List, [], ◌∷◌, Option, Some, None, option_and_then, option_map}
 use Rattle.std.proofs.Common.{ap, sym, ◌∙◌}
-use Rattle.template_tree.specs.Elision.{hidden_after_toggle, is_comment, toggled, with_toggled_at}
-use Rattle.template_tree.specs.Path.{node_at}
-use Rattle.template_tree.specs.PlainTree.{Forest, PlainNode, PlainTree, roomless, roomless_node, roomless_tree}
+use Rattle.template_tree.specs.Edits.Elision.{hidden_after_toggle, is_comment, toggled, with_toggled_at}
+use Rattle.template_tree.specs.Positions.Path.{node_at}
+use Rattle.template_tree.specs.Programs.PlainTree.{Forest, PlainNode, PlainTree, roomless, roomless_node, roomless_tree}
 use Rattle.template_tree.proofs.Room.RoomlessEdits.{SameWithoutRoom, roomless_edit}
 use Rattle.template_tree.proofs.Room.RoomlessNodes.{node_roomless}
 

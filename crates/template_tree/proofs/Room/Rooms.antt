@@ -2,9 +2,9 @@
 use Rattle.std.specs.Prelude.{◌≡◌, refl, ℕ, ◌+◌, max, if◌then◌else◌, ◌==◌, ◌∷◌}
 use Rattle.std.proofs.Common.{ap, subst}
 use Rattle.plcs_grammar.specs.Template.{row_of}
-use Rattle.template_tree.specs.PlainTree.{Forest, roomless}
-use Rattle.template_tree.specs.Program.{sorts, sort_of, Fill, AreNodes}
-use Rattle.template_tree.specs.Slots.{count, depth, first_slot, times, AllBelow}
+use Rattle.template_tree.specs.Programs.PlainTree.{Forest, roomless}
+use Rattle.template_tree.specs.Programs.Program.{sorts, sort_of, Fill, AreNodes}
+use Rattle.template_tree.specs.Programs.Slots.{count, depth, first_slot, times, AllBelow}
 
 pub sorts_roomless : (items : Forest) → sorts (roomless items) ≡ sorts items
 sorts_roomless Forest.nil = refl

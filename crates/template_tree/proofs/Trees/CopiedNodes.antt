@@ -5,11 +5,11 @@ use Rattle.std.proofs.Math.Bool.{false≢true}
 use Rattle.std.proofs.lemmas.List.{take_all}
 use Rattle.plcs_grammar.specs.PlainPhrase.{PlainPhrase}
 use Rattle.plcs_grammar.specs.Template.{row_of}
-use Rattle.template_tree.specs.PlainTree.{Label, Forest, PlainNode, forest, roomless, roomless_node}
-use Rattle.template_tree.specs.Program.{sorts, Fill, AreNodes, IsNode, IsSubtree}
-use Rattle.template_tree.specs.Slots.{count, depth}
-use Rattle.template_tree.specs.Edit.{whole}
-use Rattle.template_tree.specs.Copy.{whole_node, IsCopy}
+use Rattle.template_tree.specs.Programs.PlainTree.{Label, Forest, PlainNode, forest, roomless, roomless_node}
+use Rattle.template_tree.specs.Programs.Program.{sorts, Fill, AreNodes, IsNode, IsSubtree}
+use Rattle.template_tree.specs.Programs.Slots.{count, depth}
+use Rattle.template_tree.specs.Edits.Edit.{whole}
+use Rattle.template_tree.specs.Edits.Copy.{whole_node, IsCopy}
 use Rattle.template_tree.proofs.Room.Rooms.{sorts_roomless, count_roomless, depth_roomless, nodes_roomless}
 use Rattle.template_tree.proofs.Puts.PutTrees.{sorts_whole, count_whole, nodes_whole}
 

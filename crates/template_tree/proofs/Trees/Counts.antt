@@ -4,12 +4,12 @@ use Rattle.std.proofs.Common.{ap, sym, arith}
 use Rattle.std.proofs.Math.Seq.{drop-cons}
 use Rattle.std.proofs.Common.{add-one}
 use Rattle.std.proofs.lemmas.Option.{none-some}
-use Rattle.template_tree.specs.PlainTree.{Forest, PlainNode, nodes, forest}
-use Rattle.template_tree.specs.Path.{node_at}
+use Rattle.template_tree.specs.Programs.PlainTree.{Forest, PlainNode, nodes, forest}
+use Rattle.template_tree.specs.Positions.Path.{node_at}
 use Rattle.template_tree.specs.Private.Weight.{forest_weight, weight}
 use Rattle.template_tree.proofs.Edits.SameEdits.{taken}
-use Rattle.template_tree.specs.Program.{sorts, IsProgram}
-use Rattle.template_tree.specs.Slots.{count}
+use Rattle.template_tree.specs.Programs.Program.{sorts, IsProgram}
+use Rattle.template_tree.specs.Programs.Slots.{count}
 
 -- a list has no more items than there are nodes
 pub items_few : (items : Forest) → length (nodes items) ≤ count items

@@ -5,12 +5,12 @@ use Rattle.std.proofs.lemmas.Bool.{ne_eqb, cases_lt}
 use Rattle.std.proofs.lemmas.Option.{none-some}
 use Rattle.plcs_grammar.specs.declared.node_kind.Sort.{Sort}
 use Rattle.plcs_grammar.specs.Template.{row_of, program_sections}
-use Rattle.template_tree.specs.Build.{built_tree}
-use Rattle.template_tree.specs.Limit.{deepest_path, most_slots}
-use Rattle.template_tree.specs.Program.{sorts, sort_of, Fill, AreNodes, IsProgram}
-use Rattle.template_tree.specs.Tree.{IsTree}
-use Rattle.template_tree.specs.PlainTree.{Label, Forest, PlainNode, PlainNodes, nodes, forest, forest_nodes}
-use Rattle.template_tree.specs.Slots.{count, depth, first_slot, times, AllBelow, with_slots_from}
+use Rattle.template_tree.specs.Programs.Build.{built_tree}
+use Rattle.template_tree.specs.Programs.Limit.{deepest_path, most_slots}
+use Rattle.template_tree.specs.Programs.Program.{sorts, sort_of, Fill, AreNodes, IsProgram}
+use Rattle.template_tree.specs.Programs.Tree.{IsTree}
+use Rattle.template_tree.specs.Programs.PlainTree.{Label, Forest, PlainNode, PlainNodes, nodes, forest, forest_nodes}
+use Rattle.template_tree.specs.Programs.Slots.{count, depth, first_slot, times, AllBelow, with_slots_from}
 use Rattle.template_tree.proofs.Edits.SameEdits.{taken}
 
 -- a list whose nodes after so many have the slots from a number on

@@ -3,9 +3,9 @@ use Rattle.std.specs.Prelude.{◌≡◌, refl, ℕ, List, [], ◌∷◌, ◌++�
 use Rattle.std.proofs.Common.{ap, sym, ◌∙◌}
 use Rattle.std.proofs.lemmas.List.{set-get_or}
 use Rattle.std.proofs.lemmas.Option.{none-some, get_or_from_slice_get}
-use Rattle.template_tree.specs.PlainTree.{Label, PlainNode, PlainNodes, nodes, forest, forest_nodes, nodes_forest}
-use Rattle.template_tree.specs.Path.{below}
-use Rattle.template_tree.specs.Lend.{put_below, put_in, with_node_set}
+use Rattle.template_tree.specs.Programs.PlainTree.{Label, PlainNode, PlainNodes, nodes, forest, forest_nodes, nodes_forest}
+use Rattle.template_tree.specs.Positions.Path.{below}
+use Rattle.template_tree.specs.Edits.Lend.{put_below, put_in, with_node_set}
 
 -- what is there, or else the node
 abbrev taken : PlainNode → Option PlainNode → PlainNode

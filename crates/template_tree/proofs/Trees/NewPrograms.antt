@@ -6,11 +6,11 @@ use Rattle.std.proofs.lemmas.Bool.{ne_eqb}
 use Rattle.plcs_grammar.specs.declared.node_kind.NodeKind.{NodeKind}
 use Rattle.plcs_grammar.specs.declared.node_kind.Sort.{Sort}
 use Rattle.plcs_grammar.specs.Template.{program_sections, procedure_sections}
-use Rattle.template_tree.specs.PlainTree.{Forest, PlainNode, forest, roomless, with_spare}
-use Rattle.template_tree.specs.Program.{sorts, Fill, AreNodes, IsNode}
-use Rattle.template_tree.specs.Slots.{count, first_slot, times, AllBelow}
-use Rattle.template_tree.specs.Tree.{IsTree}
-use Rattle.template_tree.specs.NewTree.{bare_label, new_items}
+use Rattle.template_tree.specs.Programs.PlainTree.{Forest, PlainNode, forest, roomless, with_spare}
+use Rattle.template_tree.specs.Programs.Program.{sorts, Fill, AreNodes, IsNode}
+use Rattle.template_tree.specs.Programs.Slots.{count, first_slot, times, AllBelow}
+use Rattle.template_tree.specs.Programs.Tree.{IsTree}
+use Rattle.template_tree.specs.Programs.NewTree.{bare_label, new_items}
 use Rattle.template_tree.proofs.Room.Rooms.{sorts_roomless, count_roomless, depth_roomless, first_roomless, times_roomless, below_roomless, nodes_roomless}
 
 -- a bare node before others, without room

@@ -1,10 +1,10 @@
 -- Putting a node below an item is the edit at the path.
 use Rattle.std.specs.Prelude.{◌≡◌, refl, ℕ, zero, suc, List, [], ◌∷◌, option_and_then, slice_get, slice_set, slice_index_or}
 use Rattle.std.proofs.Common.{ap, sym, ◌∙◌}
-use Rattle.template_tree.specs.PlainTree.{Forest, PlainNode, PlainNodes, PlainTree, nodes, forest, forest_nodes, nodes_forest}
-use Rattle.template_tree.specs.Path.{below, node_at}
-use Rattle.template_tree.specs.Edit.{give_way, edit_below, edit_at}
-use Rattle.template_tree.specs.Lend.{put_below, put_in, with_node}
+use Rattle.template_tree.specs.Programs.PlainTree.{Forest, PlainNode, PlainNodes, PlainTree, nodes, forest, forest_nodes, nodes_forest}
+use Rattle.template_tree.specs.Positions.Path.{below, node_at}
+use Rattle.template_tree.specs.Edits.Edit.{give_way, edit_below, edit_at}
+use Rattle.template_tree.specs.Edits.Lend.{put_below, put_in, with_node}
 
 -- an item is set where it gives way to one item
 pub set_is_give_way : (change : PlainNode → List PlainNode) (put : PlainNode → PlainNode)

@@ -3,9 +3,9 @@ use Rattle.std.specs.Prelude.{◌≡◌, refl, ℕ, zero, suc, ◌+◌, ◌<◌,
 use Rattle.std.proofs.Common.{ap, sym, subst, arith, add-one, drop-cons}
 use Rattle.std.proofs.Math.Bool.{false≢true}
 use Rattle.std.proofs.lemmas.Option.{none-some, slice_get_read}
-use Rattle.template_tree.specs.PlainTree.{Forest, PlainNode, forest, nodes_forest}
-use Rattle.template_tree.specs.Slots.{count, times}
-use Rattle.template_tree.specs.Path.{below, node_at, slot_at}
+use Rattle.template_tree.specs.Programs.PlainTree.{Forest, PlainNode, forest, nodes_forest}
+use Rattle.template_tree.specs.Programs.Slots.{count, times}
+use Rattle.template_tree.specs.Positions.Path.{below, node_at, slot_at}
 use Rattle.template_tree.proofs.Edits.SlotEdits.{present}
 
 -- a path below an item is one from its list on

@@ -3,8 +3,8 @@ use Rattle.std.specs.Prelude.{◌≡◌, Bool, true, false, ◌||◌, is_some, L
 use Rattle.plcs_grammar.specs.declared.node_kind.Sort.{Sort}
 use Rattle.plcs_grammar.specs.declared.row.Amount.{Amount}
 use Rattle.plcs_grammar.specs.Template.{PlainSection}
-use Rattle.template_tree.specs.Section.{same_sort}
-use Rattle.template_tree.specs.Hole.{hole_of}
+use Rattle.template_tree.specs.Listings.Section.{same_sort}
+use Rattle.template_tree.specs.Edits.Hole.{hole_of}
 
 -- whether one of the sections behind a list holds items of the sort
 abbrev pub sections_have_sort : Sort → List PlainSection → Bool

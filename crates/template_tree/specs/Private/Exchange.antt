@@ -3,11 +3,11 @@ use Rattle.std.specs.Prelude.{◌≡◌, ℕ, ◌<◌, ◌≤◌, Bool, true, fa
 use Rattle.template_tree.specs.declared.change.Change.{Change}
 use Rattle.template_tree.specs.declared.change.What.{What}
 use Rattle.template_tree.specs.declared.tree_fault.TreeFault.{TreeFault}
-use Rattle.template_tree.specs.Limit.{most_slots, most_drawn_slots}
-use Rattle.template_tree.specs.PlainTree.{Forest, PlainNode, PlainTree, nodes}
-use Rattle.template_tree.specs.Program.{IsSubtree, sort_of}
-use Rattle.template_tree.specs.Edit.{Put, procedure_of}
-use Rattle.template_tree.specs.EditAnswer.{IsWithin}
+use Rattle.template_tree.specs.Programs.Limit.{most_slots, most_drawn_slots}
+use Rattle.template_tree.specs.Programs.PlainTree.{Forest, PlainNode, PlainTree, nodes}
+use Rattle.template_tree.specs.Programs.Program.{IsSubtree, sort_of}
+use Rattle.template_tree.specs.Edits.Edit.{Put, procedure_of}
+use Rattle.template_tree.specs.Edits.EditAnswer.{IsWithin}
 
 -- the item of the program on the way of a path: main, the procedure or the procedure hole in which a change is
 abbrev pub first_item : Forest → List ℕ → Option PlainNode

@@ -6,7 +6,7 @@ use base.Stored.{Gv, gnil, gcons}
 use Rattle.plcs_grammar.specs.declared.node_kind.NodeKind.{NodeKind}
 use Rattle.plcs_grammar.specs.contracts.node_kind.NodeKind as kind_row
 use Rattle.plcs_grammar.specs.PlainPhrase.{PlainPhrase}
-use Rattle.template_tree.specs.PlainTree.{Label, Forest, PlainNode, PlainNodes, PlainTree}
+use Rattle.template_tree.specs.Programs.PlainTree.{Label, Forest, PlainNode, PlainNodes, PlainTree}
 use Rattle.plcs_grammar.specs.Private.PhraseCode.{phrase_code, head, tail, IsCons}
 
 -- a label of a node is told apart by its fields

@@ -2,8 +2,8 @@
 use Rattle.std.specs.Prelude.{ℕ, ◌+◌, false, List, ◌∷◌, ◌++◌}
 use Rattle.plcs_base.specs.Put.{PutsAll}
 use Rattle.plcs_grammar.specs.Template.{row_of}
-use Rattle.template_tree.specs.Line.{Line, fixed_line, head_line, lines}
-use Rattle.template_tree.specs.PlainTree.{PlainNode}
+use Rattle.template_tree.specs.Listings.Line.{Line, fixed_line, head_line, lines}
+use Rattle.template_tree.specs.Programs.PlainTree.{PlainNode}
 
 -- the lines of one node in the listing, without the line before it
 abbrev pub node_lines : ℕ → PlainNode → List Line

@@ -1,8 +1,8 @@
 -- What a node in memory is seen as.
 use Rattle.std.specs.Prelude.{map}
 use Rattle.template_tree.specs.declared.node.Node.TheInside.{Inside}
-use Rattle.template_tree.specs.PlainTree.{PlainNode, forest}
-use Rattle.template_tree.specs.PlainPhrasePlace.{plain_phrase_place}
+use Rattle.template_tree.specs.Programs.PlainTree.{PlainNode, forest}
+use Rattle.template_tree.specs.Programs.PlainPhrasePlace.{plain_phrase_place}
 
 -- a node in memory as plain data: its fields, with the parts in plain form and the list of what stands inside as a
 -- forest

@@ -6,8 +6,8 @@ use Rattle.template_tree.specs.declared.change.Change.{Change}
 use Rattle.template_tree.specs.declared.side.Side.{Side}
 use Rattle.template_tree.specs.contracts.change.Change as change_row
 use Rattle.template_tree.specs.contracts.side.Side as side_row
-use Rattle.template_tree.specs.PlainTree.{PlainNode}
-use Rattle.template_tree.specs.Receipt.{PlainUndoing, PlainReceipt}
+use Rattle.template_tree.specs.Programs.PlainTree.{PlainNode}
+use Rattle.template_tree.specs.Edits.Receipt.{PlainUndoing, PlainReceipt}
 use Rattle.template_tree.specs.Private.NodeCode.{node_code}
 use Rattle.plcs_grammar.specs.Private.PhraseCode.{phrase_code}
 

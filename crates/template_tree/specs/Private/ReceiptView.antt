@@ -1,8 +1,8 @@
 -- What the undoing of an edit in memory is seen as.
 use Rattle.template_tree.specs.declared.receipt.Undoing.{Undoing}
-use Rattle.template_tree.specs.PlainPhrasePlace.{plain_phrase_place}
-use Rattle.template_tree.specs.PlainTree.{roomless_node}
-use Rattle.template_tree.specs.Receipt.{PlainUndoing}
+use Rattle.template_tree.specs.Programs.PlainPhrasePlace.{plain_phrase_place}
+use Rattle.template_tree.specs.Programs.PlainTree.{roomless_node}
+use Rattle.template_tree.specs.Edits.Receipt.{PlainUndoing}
 
 -- the plain form of an undoing, without the room of lists
 abbrev pub plain_undoing : Undoing → PlainUndoing

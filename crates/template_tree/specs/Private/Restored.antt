@@ -1,8 +1,8 @@
 -- What undoing needs of trees and paths: nodes that are edited with the counts left as they are, and the side of a dropped item.
 use Rattle.std.specs.Prelude.{ℕ, zero, suc, List}
 use Rattle.template_tree.specs.declared.side.Side.{Side}
-use Rattle.template_tree.specs.PlainTree.{PlainNode, PlainTree}
-use Rattle.template_tree.specs.Edit.{edit_at}
+use Rattle.template_tree.specs.Programs.PlainTree.{PlainNode, PlainTree}
+use Rattle.template_tree.specs.Edits.Edit.{edit_at}
 
 -- the tree, with its counts left as they are, where the node at a path gave way to a list of items
 abbrev pub with_edit : (PlainNode → List PlainNode) → List ℕ → PlainTree → PlainTree

@@ -2,7 +2,7 @@
 use Rattle.std.specs.Prelude.{ℕ, suc, ◌+◌, ◌≤◌, List, [], ◌∷◌}
 use Rattle.std.proofs.Common.{arith}
 use denote.Param.Weighed.{most}
-use Rattle.template_tree.specs.PlainTree.{Forest, PlainNode, PlainNodes, forest}
+use Rattle.template_tree.specs.Programs.PlainTree.{Forest, PlainNode, PlainNodes, forest}
 
 -- how large nodes in order are: two for each node, since a node and its list take turns
 abbrev pub forest_weight : Forest → ℕ

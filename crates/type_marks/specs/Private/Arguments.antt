@@ -2,8 +2,8 @@
 use Rattle.std.specs.Prelude.{ℕ, Bool, true, if◌then◌else◌, List, ◌++◌, length, Option, Some, None, option_to_list, Result, Ok, Err}
 use Rattle.plcs_base.specs.declared.mark.MarkKind.{MarkKind}
 use Rattle.plcs_base.specs.declared.value.Kind.{Kind}
-use Rattle.template_tree.specs.KindTable.{same_kind}
-use Rattle.template_tree.specs.Verdict.{fit, is_count, then_found}
+use Rattle.template_tree.specs.Checks.KindTable.{same_kind}
+use Rattle.template_tree.specs.Checks.Verdict.{fit, is_count, then_found}
 use Rattle.type_marks.specs.declared.kind_table.BuiltinRow.{BuiltinRow}
 
 -- the kinds that a built-in function takes, with the one that it perhaps takes

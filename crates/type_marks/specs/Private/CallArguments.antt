@@ -2,8 +2,8 @@
 use Rattle.std.specs.Prelude.{Bool, false, List, Option, Some, None, Result, Ok, Err}
 use Rattle.plcs_base.specs.declared.mark.MarkKind.{MarkKind}
 use Rattle.plcs_base.specs.declared.value.Kind.{Kind}
-use Rattle.template_tree.specs.KindTable.{same_kind}
-use Rattle.template_tree.specs.Verdict.{arguments_offence}
+use Rattle.template_tree.specs.Checks.KindTable.{same_kind}
+use Rattle.template_tree.specs.Checks.Verdict.{arguments_offence}
 
 -- whether the parameter's kind is the one that is found in the argument
 abbrev pub is_taken : Option Kind → Result Kind MarkKind → Bool

@@ -3,7 +3,7 @@ use Rattle.std.specs.Prelude.{◌≡◌, Option, Some, None, Result, Ok, Err}
 use Rattle.plcs_base.specs.declared.mark.MarkKind.{MarkKind}
 use Rattle.plcs_base.specs.declared.value.Kind.{Kind}
 use Rattle.plcs_grammar.specs.declared.operator.InfixOp.{InfixOp}
-use Rattle.template_tree.specs.Verdict.{both_found, infix_found}
+use Rattle.template_tree.specs.Checks.Verdict.{both_found, infix_found}
 use Rattle.type_marks.specs.declared.chain.Chain.{Chain}
 use Rattle.type_marks.specs.declared.chain.Link.{Link}
 

@@ -6,10 +6,10 @@ use Rattle.plcs_base.specs.declared.mark.MarkKind.{MarkKind}
 use Rattle.plcs_grammar.specs.declared.item.Item.{Item}
 use Rattle.plcs_grammar.specs.Builtin.{is_builtin_name}
 use Rattle.plcs_grammar.specs.PlainPhrase.{PlainPhrase}
-use Rattle.template_tree.specs.Environment.{all_declared, cells_of, item_named, items_inside, with_type}
-use Rattle.template_tree.specs.Marks.{declared_before, type_in}
-use Rattle.template_tree.specs.PlainTree.{Forest, PlainNode}
-use Rattle.template_tree.specs.ProgramMaps.{items_in}
+use Rattle.template_tree.specs.Checks.Environment.{all_declared, cells_of, item_named, items_inside, with_type}
+use Rattle.template_tree.specs.Checks.Marks.{declared_before, type_in}
+use Rattle.template_tree.specs.Programs.PlainTree.{Forest, PlainNode}
+use Rattle.template_tree.specs.Checks.ProgramMaps.{items_in}
 use Rattle.decl_table.specs.PlainDecls.{PlainDecls}
 
 -- whether the item has the name and takes so many cells

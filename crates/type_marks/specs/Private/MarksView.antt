@@ -5,19 +5,19 @@ use Rattle.std.specs.FinMap.{code, insert}
 use Rattle.plcs_base.specs.declared.mark.MarkKind.{MarkKind}
 use Rattle.plcs_base.specs.contracts.mark.MarkKind as mark_row
 use Rattle.plcs_base.specs.contracts.place.PhraseAt as place_row
-use Rattle.template_tree.specs.ProgramMaps.{items_in}
+use Rattle.template_tree.specs.Checks.ProgramMaps.{items_in}
 use Rattle.decl_table.specs.PlainDecls.{PlainDecls}
-use Rattle.template_tree.specs.Marks.{VerdictList, VerdictMap, surroundings}
-use Rattle.template_tree.specs.Part.{part_at}
-use Rattle.template_tree.specs.Environment.{procedure_at}
-use Rattle.template_tree.specs.Limit.{most_slots}
-use Rattle.template_tree.specs.Path.{below}
-use Rattle.template_tree.specs.PlainTree.{Forest, Label, PlainNode, forest, nodes}
-use Rattle.template_tree.specs.Program.{IsSubtree}
-use Rattle.template_tree.specs.Slots.{count, times}
+use Rattle.template_tree.specs.Checks.Marks.{VerdictList, VerdictMap, surroundings}
+use Rattle.template_tree.specs.Programs.Part.{part_at}
+use Rattle.template_tree.specs.Checks.Environment.{procedure_at}
+use Rattle.template_tree.specs.Programs.Limit.{most_slots}
+use Rattle.template_tree.specs.Positions.Path.{below}
+use Rattle.template_tree.specs.Programs.PlainTree.{Forest, Label, PlainNode, forest, nodes}
+use Rattle.template_tree.specs.Programs.Program.{IsSubtree}
+use Rattle.template_tree.specs.Programs.Slots.{count, times}
 use Rattle.plcs_grammar.specs.PlainPhrase.{PlainPhrase}
 use Rattle.type_marks.specs.Private.DeclaredItems.{IsListIn}
-use Rattle.template_tree.specs.Verdict.{Surroundings}
+use Rattle.template_tree.specs.Checks.Verdict.{Surroundings}
 
 -- the code of a verdict
 abbrev pub verdict_code : Coded (Option MarkKind)

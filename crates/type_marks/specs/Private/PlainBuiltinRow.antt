@@ -1,5 +1,5 @@
 -- The plain form of a row of the table of built-in functions.
-use Rattle.template_tree.specs.KindTable.{PlainBuiltinRow}
+use Rattle.template_tree.specs.Checks.KindTable.{PlainBuiltinRow}
 use Rattle.type_marks.specs.declared.kind_table.BuiltinRow.{BuiltinRow as Row}
 
 abbrev pub plain_builtin_row : Row → PlainBuiltinRow

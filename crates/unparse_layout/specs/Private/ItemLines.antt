@@ -1,9 +1,9 @@
 -- The lines of the screen that one node has, and where they stand.
 use Rattle.std.specs.Prelude.{ℕ, zero, suc, None, ◌+◌, ◌-◌, if◌then◌else◌, List, [], ◌∷◌, ◌++◌, map, sum, take, codes, Option, option_map, unwrap_or, slice_get}
 use Rattle.plcs_grammar.specs.Template.{PlainSection, row_of}
-use Rattle.template_tree.specs.Program.{sort_of}
-use Rattle.template_tree.specs.Section.{left_for, left_after, next_lead}
-use Rattle.template_tree.specs.PlainTree.{Forest, PlainNode}
+use Rattle.template_tree.specs.Programs.Program.{sort_of}
+use Rattle.template_tree.specs.Listings.Section.{left_for, left_after, next_lead}
+use Rattle.template_tree.specs.Programs.PlainTree.{Forest, PlainNode}
 use Rattle.unparse_layout.specs.declared.line.LineKind.{LineKind}
 use Rattle.unparse_layout.specs.Bones.{PlainLayout}
 use Rattle.unparse_layout.specs.OwnedLine.{OwnedLine, first_line, owned_lines, partless_line, table_line}

@@ -2,7 +2,7 @@
 use Rattle.std.specs.Prelude.{Bool, ◌≡◌, ℕ, List, [], ◌∷◌, ◌++◌, refl}
 use Rattle.std.proofs.Common.{ap}
 use Rattle.plcs_grammar.specs.Template.{row_of}
-use Rattle.template_tree.specs.PlainTree.{PlainNode}
+use Rattle.template_tree.specs.Programs.PlainTree.{PlainNode}
 use Rattle.unparse_layout.specs.Bones.{Bone, PlainLayout, bones_of}
 
 -- a node of a layout: what is kept of a node of the tree, and of the nodes inside it

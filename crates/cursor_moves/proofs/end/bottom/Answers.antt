@@ -1,6 +1,6 @@
 use Rattle.std.specs.Prelude.{◌++◌, ◌∷◌, []}
 use Rattle.std.proofs.Common.{ap, ◌∙◌}
-use Rattle.template_tree.specs.Stop.{plain_stop}
+use Rattle.template_tree.specs.Positions.Stop.{plain_stop}
 use Rattle.cursor_moves.proofs.Stops.AnsweredStops.{last_stands}
 use Rattle.cursor_moves.proofs.Stops.ChosenStops.{last_is}
 use Rattle.cursor_moves.proofs.Stops.EndStops.{IsEnd, end_at, end_there, last_listed}

@@ -1,6 +1,6 @@
 use Rattle.std.specs.Prelude.{◌++◌, ◌∷◌, []}
 use Rattle.std.proofs.Common.{ap, ◌∙◌}
-use Rattle.template_tree.specs.Stop.{node_stop}
+use Rattle.template_tree.specs.Positions.Stop.{node_stop}
 use Rattle.cursor_moves.proofs.Stops.ChosenStops.{first_is}
 use Rattle.cursor_moves.proofs.Stops.EndStops.{first_listed, first_stands}
 use Rattle.cursor_moves.proofs.end.top.Goals as goal

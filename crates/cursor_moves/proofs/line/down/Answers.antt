@@ -1,4 +1,4 @@
-use Rattle.template_tree.specs.Stop.{plain_stop}
+use Rattle.template_tree.specs.Positions.Stop.{plain_stop}
 use Rattle.cursor_moves.specs.Private.NextPath.{next_of}
 use Rattle.cursor_moves.specs.Move.{moved_to}
 use Rattle.cursor_moves.proofs.Stops.AnsweredStops.{by_paths, down_moved, next_stands, stop_visible}

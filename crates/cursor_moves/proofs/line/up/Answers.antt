@@ -1,4 +1,4 @@
-use Rattle.template_tree.specs.Stop.{plain_stop}
+use Rattle.template_tree.specs.Positions.Stop.{plain_stop}
 use Rattle.cursor_moves.specs.Move.{moved_to}
 use Rattle.cursor_moves.proofs.Stops.AnsweredStops.{stop_visible, up_moved, up_stands}
 use Rattle.cursor_moves.proofs.Stops.ChosenStops.{goes_up, stands_without_room}

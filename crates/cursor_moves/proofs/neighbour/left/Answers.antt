@@ -1,5 +1,5 @@
 use Rattle.std.specs.Prelude.{Some, None}
-use Rattle.template_tree.specs.Stop.{plain_stop}
+use Rattle.template_tree.specs.Positions.Stop.{plain_stop}
 use Rattle.cursor_moves.proofs.Stops.AnsweredStops.{last_stands, left_from_first, left_from_node, left_from_part, previous_there, stop_visible}
 use Rattle.cursor_moves.proofs.Stops.ChosenStops.{goes_left}
 use Rattle.cursor_moves.proofs.Stops.PreviousStops.{next_visible}

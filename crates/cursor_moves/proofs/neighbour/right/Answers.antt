@@ -2,7 +2,7 @@
 -- without room as of that with it. Both are visible, since the node is, and the part is one that is a stop.
 use Rattle.std.specs.Prelude.{Some, None, Option, ℕ}
 use Rattle.std.proofs.Common.{ap, sym, ◌∙◌, subst}
-use Rattle.template_tree.specs.Stop.{MayStand, part_stops, plain_stop}
+use Rattle.template_tree.specs.Positions.Stop.{MayStand, part_stops, plain_stop}
 use Rattle.cursor_moves.specs.Move.{moved_to}
 use Rattle.cursor_moves.specs.Private.Number.{next_number}
 use Rattle.cursor_moves.specs.Private.NextPath.{next_of}

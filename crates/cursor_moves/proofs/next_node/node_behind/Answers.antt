@@ -1,7 +1,7 @@
 use Rattle.std.specs.Prelude.{◌≡◌, refl, ◌+◌, ◌-◌, ◌∷◌, [], length, take, None, Some}
 use Rattle.std.proofs.Common.{ap, sym, ◌∙◌, arith, subst, length-append, lit<}
 use Rattle.std.proofs.lemmas.List.{take_at}
-use Rattle.template_tree.specs.Path.{node_at}
+use Rattle.template_tree.specs.Positions.Path.{node_at}
 use Rattle.cursor_moves.specs.Private.NextPath.{LeadsOn, next_with}
 use Rattle.cursor_moves.proofs.FoundNodes.{told, untold}
 use Rattle.cursor_moves.proofs.Nodes.PathSteps.{climbed_on, climbed_to, leads_shallow, leads_shorter}

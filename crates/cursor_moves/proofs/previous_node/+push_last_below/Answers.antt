@@ -2,7 +2,7 @@ use Rattle.std.specs.Prelude.{◌++◌, ◌∷◌, [], ◌+◌, slice_get}
 use Rattle.std.proofs.Common.{ap, sym, ◌∙◌, arith, append_assoc, lit<}
 use Rattle.std.proofs.lemmas.List.{append-nil}
 use Rattle.std.proofs.lemmas.Option.{none-some, slice_get-get_or, slice_get_past}
-use Rattle.template_tree.specs.PlainTree.{nodes}
+use Rattle.template_tree.specs.Programs.PlainTree.{nodes}
 use Rattle.cursor_moves.specs.Private.NextPath.{IsLastBelow}
 use Rattle.cursor_moves.proofs.FoundNodes.{holds}
 use Rattle.cursor_moves.proofs.Nodes.LastItems.{last_item, none_shown}

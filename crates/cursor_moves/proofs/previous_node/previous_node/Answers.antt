@@ -1,7 +1,7 @@
 use Rattle.std.specs.Prelude.{◌++◌}
 use Rattle.std.specs.Option.{IsSome, IsSomeAnd}
 use Rattle.std.proofs.Common.{ap, sym, ◌∙◌, arith, subst}
-use Rattle.template_tree.specs.Stop.{visible_at}
+use Rattle.template_tree.specs.Positions.Stop.{visible_at}
 use Rattle.cursor_moves.specs.Private.NextPath.{IsLastBelow, next_of}
 use Rattle.cursor_moves.proofs.Nodes.PreviousNodes.{before_first_is, before_other_is, item_before_is}
 use Rattle.cursor_moves.proofs.previous_node.previous_node.Goals as goal

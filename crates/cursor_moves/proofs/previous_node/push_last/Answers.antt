@@ -1,5 +1,5 @@
 use Rattle.std.proofs.Common.{sym, arith}
-use Rattle.template_tree.specs.Stop.{visible_at}
+use Rattle.template_tree.specs.Positions.Stop.{visible_at}
 use Rattle.cursor_moves.specs.Private.NextPath.{IsLastBelow}
 use Rattle.cursor_moves.proofs.FoundNodes.{holds}
 use Rattle.cursor_moves.proofs.Nodes.NextPaths.{not_missing, visible_is}

@@ -2,7 +2,7 @@ use Rattle.std.proofs.Common.{List, take, refl, sym, ◌∙◌}
 use Rattle.plcs_base.specs.Mark.{MarkMap}
 use Rattle.plcs_base.specs.declared.declared.Declared.{Declared}
 use Rattle.plcs_grammar.specs.declared.node_kind.NodeKind.{NodeKind}
-use Rattle.template_tree.specs.PlainTree.{Label}
+use Rattle.template_tree.specs.Programs.PlainTree.{Label}
 use Rattle.plcs_code.specs.Pieces.{kind_pieces, suspension}
 use Rattle.plcs_code.specs.PlainInstr.{PlainInstr}
 use Rattle.plcs_code.proofs.LaidPieces.{laid_nothing}

@@ -1,7 +1,7 @@
 use Rattle.std.proofs.Common.{List, [], Option, None, refl}
 use Rattle.std.specs.Prelude.{option_map}
 use Rattle.plcs_grammar.specs.declared.template.Template.{Template}
-use Rattle.template_tree.specs.PlainTree.{Label}
+use Rattle.template_tree.specs.Programs.PlainTree.{Label}
 use Rattle.plcs_code.specs.Pieces.{template_pieces}
 use Rattle.plcs_code.specs.PlainInstr.{PlainInstr, plain_instr}
 use Rattle.plcs_code.proofs.LaidPieces.{laid_nothing}

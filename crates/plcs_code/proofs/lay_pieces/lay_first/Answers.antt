@@ -1,6 +1,6 @@
 use Rattle.std.proofs.Common.{sym, ◌∙◌}
 use Rattle.std.specs.Prelude.{option_map}
-use Rattle.template_tree.specs.Part.{part_at}
+use Rattle.template_tree.specs.Programs.Part.{part_at}
 use Rattle.plcs_code.specs.ExprCode.{part_instrs}
 use Rattle.plcs_code.specs.PlainInstr.{plain_instr}
 use Rattle.plcs_code.proofs.LaidPieces.{laid_piece}

@@ -1,7 +1,7 @@
 use Rattle.std.specs.Prelude.{◌≡◌, ◌||◌, ◌+◌, true, false, Some, drop, is_none, slice_get}
 use Rattle.std.proofs.Common.{arith, ap, sym, ◌∙◌}
 use Rattle.std.proofs.lemmas.Option.{slice_get_within}
-use Rattle.template_tree.specs.PlainPhrasePlace.{plain_phrase_place}
+use Rattle.template_tree.specs.Programs.PlainPhrasePlace.{plain_phrase_place}
 use Rattle.plcs_code.specs.Pieces.{has_empty}
 use Rattle.plcs_code.proofs.ReadParts.{empty_next, left_none}
 use Rattle.plcs_code.proofs.suspension.has_empty.Goals as goal

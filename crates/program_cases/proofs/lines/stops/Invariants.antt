@@ -1,5 +1,5 @@
-use Rattle.template_tree.specs.PlainTree.{roomless_tree}
-use Rattle.template_tree.specs.Stop.{IsStop, plain_stop}
+use Rattle.template_tree.specs.Programs.PlainTree.{roomless_tree}
+use Rattle.template_tree.specs.Positions.Stop.{IsStop, plain_stop}
 use Rattle.program_cases.proofs.lines.stops.Given as goal
 
 abbrev pub invariant-loop : goal.invariant-loop

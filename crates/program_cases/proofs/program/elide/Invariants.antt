@@ -1,4 +1,4 @@
-use Rattle.template_tree.specs.Tree.{IsTree}
+use Rattle.template_tree.specs.Programs.Tree.{IsTree}
 use Rattle.unparse_layout.specs.Agreement.{IsLayoutOf}
 use Rattle.program_cases.proofs.program.elide.Given as goal
 

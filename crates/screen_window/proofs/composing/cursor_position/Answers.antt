@@ -1,7 +1,7 @@
 use Rattle.std.proofs.Common.{◌-◌, length, sym, ◌∙◌, arith}
 use Rattle.std.proofs.lemmas.Bool.{eqb-true}
-use Rattle.template_tree.specs.Path.{slot_at}
-use Rattle.template_tree.specs.PlainTree.{roomless, roomless_node}
+use Rattle.template_tree.specs.Positions.Path.{slot_at}
+use Rattle.template_tree.specs.Programs.PlainTree.{roomless, roomless_node}
 use Rattle.screen_window.specs.View.{plain_view}
 use Rattle.screen_window.proofs.FoundRows.{cursor_row, row_within}
 use Rattle.screen_window.proofs.composing.cursor_position.Goals as goal

@@ -1,7 +1,7 @@
 use Rattle.std.proofs.Common.{◌≡◌, ◌<◌, ◌+◌, ◌-◌, length, ap, sym, ◌∙◌, arith}
 use Rattle.std.proofs.lemmas.List.{length-set}
-use Rattle.template_tree.specs.Path.{slot_at}
-use Rattle.template_tree.specs.PlainTree.{roomless}
+use Rattle.template_tree.specs.Positions.Path.{slot_at}
+use Rattle.template_tree.specs.Programs.PlainTree.{roomless}
 use Rattle.screen_window.specs.View.{plain_view}
 use Rattle.screen_window.specs.Private.Drawing.{begins_stop, found_before, found_or, row_from, row_line}
 use Rattle.screen_window.proofs.ComposedRows.{more_drawn}

@@ -1,7 +1,7 @@
 use Rattle.std.proofs.Common.{◌≡◌, ◌-◌, min, length}
 use Rattle.plcs_base.specs.PlainCounts.{LaysAtMost}
-use Rattle.template_tree.specs.Path.{slot_at}
-use Rattle.template_tree.specs.PlainTree.{roomless}
+use Rattle.template_tree.specs.Positions.Path.{slot_at}
+use Rattle.template_tree.specs.Programs.PlainTree.{roomless}
 use Rattle.screen_window.specs.Screen.{screen_row, window_rows}
 use Rattle.screen_window.specs.ShownRow.{shown_row}
 use Rattle.screen_window.specs.View.{plain_view}

@@ -1,5 +1,5 @@
 use Rattle.std.proofs.Common.{ap, sym, ◌∙◌}
-use Rattle.template_tree.specs.PlainTree.{roomless}
+use Rattle.template_tree.specs.Programs.PlainTree.{roomless}
 use Rattle.screen_window.specs.Window.{run_line}
 use Rattle.screen_window.proofs.RoomlessPlaces.{place_roomless}
 use Rattle.screen_window.proofs.composing.run_line.Goals as goal

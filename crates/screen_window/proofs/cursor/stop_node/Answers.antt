@@ -1,6 +1,6 @@
 use Rattle.std.proofs.Common.{ap, sym, ◌∙◌}
 use Rattle.std.specs.Prelude.{option_map}
-use Rattle.template_tree.specs.PlainTree.{roomless_node}
+use Rattle.template_tree.specs.Programs.PlainTree.{roomless_node}
 use Rattle.screen_window.proofs.RoomlessPlaces.{map_in}
 use Rattle.screen_window.proofs.cursor.stop_node.Goals as goal
 

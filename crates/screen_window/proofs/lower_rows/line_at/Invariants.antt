@@ -1,5 +1,5 @@
 use Rattle.std.proofs.Common.{◌≡◌, ◌≤◌, [], drop, get_or}
-use Rattle.template_tree.specs.Listing.{split_at_ends}
+use Rattle.template_tree.specs.Listings.Listing.{split_at_ends}
 use Rattle.screen_window.proofs.OutputLines.{so_far}
 use Rattle.screen_window.proofs.lower_rows.line_at.Given as goal
 

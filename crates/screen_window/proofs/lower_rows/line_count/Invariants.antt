@@ -1,5 +1,5 @@
 use Rattle.std.proofs.Common.{◌≡◌, ◌≤◌, ◌+◌, [], length, drop}
-use Rattle.template_tree.specs.Listing.{split_at_ends}
+use Rattle.template_tree.specs.Listings.Listing.{split_at_ends}
 use Rattle.screen_window.proofs.lower_rows.line_count.Given as goal
 
 -- the line ends so far, and the lines behind

@@ -1,6 +1,6 @@
 use Rattle.std.proofs.Common.{◌≡◌, ◌+◌, ◌*◌, drop}
-use Rattle.template_tree.specs.PlainTree.{forest, nodes}
-use Rattle.template_tree.specs.Slots.{count}
+use Rattle.template_tree.specs.Programs.PlainTree.{forest, nodes}
+use Rattle.template_tree.specs.Programs.Slots.{count}
 use Rattle.screen_window.specs.NodeLine.{place_line}
 use Rattle.screen_window.proofs.node_line.+line.Given as goal
 

@@ -1,5 +1,5 @@
 use Rattle.std.proofs.Common.{◌≡◌, drop}
-use Rattle.template_tree.specs.PlainTree.{forest, nodes}
+use Rattle.template_tree.specs.Programs.PlainTree.{forest, nodes}
 use Rattle.screen_window.specs.NodeLine.{place_line}
 use Rattle.screen_window.proofs.node_line.place_line.Given as goal
 

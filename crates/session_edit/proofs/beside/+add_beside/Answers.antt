@@ -1,12 +1,12 @@
 use Rattle.std.specs.Prelude.{◌≡◌, suc, length, None}
 use Rattle.std.proofs.Common.{ap, sym, ◌∙◌, subst, arith}
 use Rattle.std.proofs.lemmas.Bool.{false≢true}
-use Rattle.template_tree.specs.EditAnswer.{IsListItem, Refuses}
-use Rattle.template_tree.specs.Path.{node_at}
-use Rattle.template_tree.specs.PlainTree.{PlainTree}
-use Rattle.template_tree.specs.Tree.{IsTree}
-use Rattle.template_tree.specs.TreeEdit.{TreeEdit}
-use Rattle.template_tree.specs.Stop.{node_stop}
+use Rattle.template_tree.specs.Edits.EditAnswer.{IsListItem, Refuses}
+use Rattle.template_tree.specs.Positions.Path.{node_at}
+use Rattle.template_tree.specs.Programs.PlainTree.{PlainTree}
+use Rattle.template_tree.specs.Programs.Tree.{IsTree}
+use Rattle.template_tree.specs.Edits.TreeEdit.{TreeEdit}
+use Rattle.template_tree.specs.Positions.Stop.{node_stop}
 use Rattle.session_edit.specs.Private.ShownPath.{IsShown}
 use Rattle.session_edit.proofs.BesideCommands.{added_small, answer_outer, beside_applied, beside_refused, one_longer, outer_shown}
 use Rattle.session_edit.proofs.beside.+add_beside.Goals as goal

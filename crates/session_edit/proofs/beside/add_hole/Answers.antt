@@ -1,7 +1,7 @@
 use Rattle.std.specs.Prelude.{ℕ, List, true}
 use Rattle.std.proofs.Common.{sym, ◌∙◌, subst, ap}
-use Rattle.template_tree.specs.PlainTree.{roomless_tree}
-use Rattle.template_tree.specs.Stop.{plain_stop}
+use Rattle.template_tree.specs.Programs.PlainTree.{roomless_tree}
+use Rattle.template_tree.specs.Positions.Stop.{plain_stop}
 use Rattle.session_edit.specs.AppliedEdit.{IsAnswer}
 use Rattle.session_edit.specs.Edited.{outcome_of_hole_beside}
 use Rattle.session_edit.specs.Here.{enclosing_item}

@@ -1,5 +1,5 @@
 use Rattle.plcs_grammar.specs.PlainPhrase.{plain_phrase}
-use Rattle.template_tree.specs.Stop.{plain_stop}
+use Rattle.template_tree.specs.Positions.Stop.{plain_stop}
 use Rattle.session_edit.proofs.PutCommands.{assign_applied, assign_refused, assign_stands}
 use Rattle.session_edit.proofs.entry.enter_assignment.Goals as goal
 

@@ -1,6 +1,6 @@
 use Rattle.std.specs.Prelude.{Some}
 use Rattle.plcs_grammar.specs.PlainPhrase.{plain_phrase}
-use Rattle.template_tree.specs.Stop.{plain_stop}
+use Rattle.template_tree.specs.Positions.Stop.{plain_stop}
 use Rattle.session_edit.proofs.PartCommands.{enter_applied, enter_refused, part_stands}
 use Rattle.session_edit.proofs.entry.enter_in_part.Goals as goal
 

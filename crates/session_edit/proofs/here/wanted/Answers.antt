@@ -1,7 +1,7 @@
 use Rattle.std.specs.Prelude.{option_and_then}
 use Rattle.std.proofs.Common.{ap, sym, ◌∙◌}
-use Rattle.template_tree.specs.PlainTree.{PlainNode}
-use Rattle.template_tree.specs.Stop.{plain_stop}
+use Rattle.template_tree.specs.Programs.PlainTree.{PlainNode}
+use Rattle.template_tree.specs.Positions.Stop.{plain_stop}
 use Rattle.session_edit.specs.Here.{category_in}
 use Rattle.session_edit.proofs.StopNodes.{category_is}
 use Rattle.session_edit.proofs.here.wanted.Goals as goal

@@ -1,6 +1,6 @@
 use Rattle.std.specs.Prelude.{refl}
 use Rattle.std.proofs.Common.{sym, ◌∙◌}
-use Rattle.template_tree.specs.Stop.{plain_stop}
+use Rattle.template_tree.specs.Positions.Stop.{plain_stop}
 use Rattle.session_edit.proofs.PutCommands.{insert_applied, insert_at_part, insert_refused}
 use Rattle.session_edit.proofs.StopTests.{no_part}
 use Rattle.session_edit.proofs.insertion.insert_node.Goals as goal

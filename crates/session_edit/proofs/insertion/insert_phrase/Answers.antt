@@ -1,7 +1,7 @@
 use Rattle.std.specs.Prelude.{refl}
 use Rattle.std.proofs.Common.{sym, ◌∙◌}
 use Rattle.plcs_grammar.specs.PlainPhrase.{plain_phrase}
-use Rattle.template_tree.specs.Stop.{plain_stop}
+use Rattle.template_tree.specs.Positions.Stop.{plain_stop}
 use Rattle.session_edit.proofs.PartCommands.{insert_applied, insert_full, insert_refused}
 use Rattle.session_edit.proofs.insertion.insert_phrase.Goals as goal
 

@@ -1,6 +1,6 @@
 use Rattle.std.specs.Option.{option_map_or}
 use Rattle.std.proofs.Common.{ap, ◌∙◌}
-use Rattle.template_tree.specs.Stop.{plain_stop}
+use Rattle.template_tree.specs.Positions.Stop.{plain_stop}
 use Rattle.session_edit.specs.Cursor.{stop_or_next}
 use Rattle.session_edit.proofs.next_stop.onward.Goals as goal
 

@@ -1,9 +1,9 @@
 use Rattle.std.specs.Prelude.{None}
 use Rattle.std.proofs.Common.{ap, sym, ◌∙◌}
 use Rattle.plcs_grammar.specs.declared.node_kind.Sort.{Sort}
-use Rattle.template_tree.specs.PlainTree.{PlainNode}
-use Rattle.template_tree.specs.Program.{sort_of}
-use Rattle.template_tree.specs.Stop.{plain_stop, node_stop}
+use Rattle.template_tree.specs.Programs.PlainTree.{PlainNode}
+use Rattle.template_tree.specs.Programs.Program.{sort_of}
+use Rattle.template_tree.specs.Positions.Stop.{plain_stop, node_stop}
 use Rattle.session_edit.proofs.StopTests.{no_part}
 use Rattle.session_edit.proofs.DropCommands.{drop_applied, drop_is_tree, no_node, not_dropped, part_not_dropped}
 use Rattle.session_edit.proofs.removal.drop_hole.Goals as goal

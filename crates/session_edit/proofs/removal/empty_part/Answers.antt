@@ -1,6 +1,6 @@
 use Rattle.std.specs.Prelude.{refl}
 use Rattle.std.proofs.Common.{sym, ◌∙◌}
-use Rattle.template_tree.specs.Stop.{plain_stop}
+use Rattle.template_tree.specs.Positions.Stop.{plain_stop}
 use Rattle.session_edit.proofs.PartCommands.{empties_there, empty_applied, empty_missing}
 use Rattle.session_edit.proofs.removal.empty_part.Goals as goal
 

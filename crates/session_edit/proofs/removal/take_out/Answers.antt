@@ -1,5 +1,5 @@
 use Rattle.std.proofs.Common.{sym, ◌∙◌}
-use Rattle.template_tree.specs.Stop.{plain_stop}
+use Rattle.template_tree.specs.Positions.Stop.{plain_stop}
 use Rattle.session_edit.proofs.PutCommands.{take_applied, take_refused}
 use Rattle.session_edit.proofs.StopTests.{no_part}
 use Rattle.session_edit.proofs.removal.take_out.Goals as goal

@@ -1,8 +1,8 @@
 use Rattle.std.specs.Prelude.{◌≡◌, refl, ℕ, List, Option, Some, None, option_map}
 use Rattle.std.proofs.Common.{ap, sym, ◌∙◌}
-use Rattle.template_tree.specs.Path.{node_at}
-use Rattle.template_tree.specs.PlainTree.{PlainTree, roomless_tree}
-use Rattle.template_tree.specs.Stop.{node_stop}
+use Rattle.template_tree.specs.Positions.Path.{node_at}
+use Rattle.template_tree.specs.Programs.PlainTree.{PlainTree, roomless_tree}
+use Rattle.template_tree.specs.Positions.Stop.{node_stop}
 use Rattle.session_edit.specs.ShownStop.{shown_at, shown_path}
 use Rattle.session_edit.specs.Private.ShownPath.{shown_numbers}
 use Rattle.session_edit.proofs.Room.{stop_roomless}

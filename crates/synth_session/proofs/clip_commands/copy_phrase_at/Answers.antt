@@ -1,5 +1,5 @@
-use Rattle.template_tree.specs.PlainTree.{roomless_tree}
-use Rattle.template_tree.specs.Stop.{plain_stop}
+use Rattle.template_tree.specs.Programs.PlainTree.{roomless_tree}
+use Rattle.template_tree.specs.Positions.Stop.{plain_stop}
 use Rattle.plcs_grammar.specs.PlainPhrase.{plain_phrase}
 use Rattle.synth_session.proofs.SoundPhrases.{copied_sound}
 use Rattle.synth_session.proofs.clip_commands.copy_phrase_at.Goals as goal

@@ -1,9 +1,9 @@
 use Rattle.std.proofs.Common.{Option, option_map, refl, subst, sym, ap, ◌∙◌, ℕ}
 use Rattle.std.specs.Prelude.{IsSome}
 use Rattle.plcs_grammar.specs.PlainPhrase.{plain_phrase}
-use Rattle.template_tree.specs.Path.{node_at}
-use Rattle.template_tree.specs.PlainTree.{PlainNode, roomless_tree}
-use Rattle.template_tree.specs.Stop.{plain_stop}
+use Rattle.template_tree.specs.Positions.Path.{node_at}
+use Rattle.template_tree.specs.Programs.PlainTree.{PlainNode, roomless_tree}
+use Rattle.template_tree.specs.Positions.Stop.{plain_stop}
 use Rattle.clip_store.specs.PlainFragment.{PlainFragment, whole_fragment}
 use Rattle.synth_session.specs.ClipCommands.{fragment_there}
 use Rattle.synth_session.proofs.ClipFragments.{copied_node, copy_wants, phrase_there, takes_node, whole_twice}

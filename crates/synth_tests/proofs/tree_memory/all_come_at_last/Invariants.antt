@@ -1,4 +1,4 @@
-use Rattle.template_tree.specs.Tree.{IsTree}
+use Rattle.template_tree.specs.Programs.Tree.{IsTree}
 use Rattle.synth_tests.proofs.tree_memory.all_come_at_last.Given as goal
 
 abbrev pub invariant-loop-edit : goal.invariant-loop-edit

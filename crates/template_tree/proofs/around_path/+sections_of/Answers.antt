@@ -2,8 +2,8 @@ use Rattle.std.specs.Prelude.{◌≡◌, suc, ◌∷◌, Some, length, map, slic
 use Rattle.std.proofs.Common.{arith, ap, sym, ◌∙◌}
 use Rattle.plcs_grammar.specs.declared.node_kind.NodeKind.{NodeKind}
 use Rattle.plcs_grammar.specs.Template.{PlainRow, PlainSection, plain_section, row_of}
-use Rattle.template_tree.specs.PlainTree.{PlainNode, forest}
-use Rattle.template_tree.specs.ListItem.{sections_at}
+use Rattle.template_tree.specs.Programs.PlainTree.{PlainNode, forest}
+use Rattle.template_tree.specs.Edits.ListItem.{sections_at}
 use Rattle.template_tree.specs.contracts.node.Node.{the_view}
 use Rattle.template_tree.proofs.Lists.BesidePaths.{here_sections, no_sections, item_sections}
 use Rattle.template_tree.proofs.around_path.+sections_of.Goals as goal

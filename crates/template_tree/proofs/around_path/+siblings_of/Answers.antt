@@ -1,6 +1,6 @@
 use Rattle.std.specs.Prelude.{◌≡◌, suc, ◌∷◌, Some, length, slice_get}
 use Rattle.std.proofs.Common.{arith, ap, sym, ◌∙◌}
-use Rattle.template_tree.specs.PlainTree.{PlainNode, forest}
+use Rattle.template_tree.specs.Programs.PlainTree.{PlainNode, forest}
 use Rattle.template_tree.specs.contracts.node.Node.{the_view}
 use Rattle.template_tree.proofs.Lists.BesidePaths.{here_siblings, no_siblings, item_siblings}
 use Rattle.template_tree.proofs.around_path.+siblings_of.Goals as goal

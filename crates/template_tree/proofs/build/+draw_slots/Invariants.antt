@@ -1,6 +1,6 @@
 use Rattle.std.specs.Prelude.{◌≡◌, ◌+◌, ◌≤◌, drop, length}
-use Rattle.template_tree.specs.PlainTree.{nodes, forest}
-use Rattle.template_tree.specs.Slots.{count, with_slots_from}
+use Rattle.template_tree.specs.Programs.PlainTree.{nodes, forest}
+use Rattle.template_tree.specs.Programs.Slots.{count, with_slots_from}
 use Rattle.template_tree.proofs.Trees.DrawnSlots.{numbered_after}
 use Rattle.template_tree.proofs.build.+draw_slots.Given as goal
 

@@ -1,7 +1,7 @@
 use Rattle.std.specs.Prelude.{◌≡◌, ◌≤◌, drop, length}
-use Rattle.template_tree.specs.PlainTree.{nodes, forest}
-use Rattle.template_tree.specs.Edit.{whole}
-use Rattle.template_tree.specs.Slots.{count}
+use Rattle.template_tree.specs.Programs.PlainTree.{nodes, forest}
+use Rattle.template_tree.specs.Edits.Edit.{whole}
+use Rattle.template_tree.specs.Programs.Slots.{count}
 use Rattle.template_tree.proofs.Edits.RevealedNodes.{whole_after}
 use Rattle.template_tree.proofs.build.+reveal.Given as goal
 

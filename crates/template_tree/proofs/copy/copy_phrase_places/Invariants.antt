@@ -1,5 +1,5 @@
 use Rattle.std.specs.Prelude.{◌≡◌, take, map}
-use Rattle.template_tree.specs.PlainPhrasePlace.{plain_phrase_place}
+use Rattle.template_tree.specs.Programs.PlainPhrasePlace.{plain_phrase_place}
 use Rattle.template_tree.proofs.copy.copy_phrase_places.Given as goal
 
 abbrev pub invariant-loop-place : goal.invariant-loop-place

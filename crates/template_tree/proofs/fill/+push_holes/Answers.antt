@@ -2,9 +2,9 @@ use Rattle.std.specs.Prelude.{◌≡◌, ◌∷◌, [], map}
 use Rattle.std.proofs.Common.{sym, ap, ◌∙◌}
 use Rattle.std.proofs.lemmas.List.{nil_from_length}
 use Rattle.plcs_grammar.specs.Template.{plain_section}
-use Rattle.template_tree.specs.PlainTree.{forest, join, roomless}
-use Rattle.template_tree.specs.Hole.{hole_list, hole_of}
-use Rattle.template_tree.specs.FreshNode.{section_holes}
+use Rattle.template_tree.specs.Programs.PlainTree.{forest, join, roomless}
+use Rattle.template_tree.specs.Edits.Hole.{hole_list, hole_of}
+use Rattle.template_tree.specs.Edits.FreshNode.{section_holes}
 use Rattle.template_tree.proofs.Puts.FreshNodes.{one_more, join_nil, on_ok}
 use Rattle.template_tree.proofs.fill.+push_holes.Goals as goal
 

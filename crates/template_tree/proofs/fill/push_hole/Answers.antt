@@ -1,6 +1,6 @@
 use Rattle.std.proofs.Common.{sym, ap, ◌∙◌}
-use Rattle.template_tree.specs.PlainTree.{forest, join, roomless}
-use Rattle.template_tree.specs.Hole.{hole_list}
+use Rattle.template_tree.specs.Programs.PlainTree.{forest, join, roomless}
+use Rattle.template_tree.specs.Edits.Hole.{hole_list}
 use Rattle.template_tree.proofs.Puts.FreshNodes.{pushed, join_nil}
 use Rattle.template_tree.proofs.Puts.Holes.{bare_is}
 use Rattle.template_tree.proofs.fill.push_hole.Goals as goal

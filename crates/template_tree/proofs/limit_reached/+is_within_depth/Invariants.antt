@@ -1,6 +1,6 @@
 use Rattle.std.specs.Prelude.{◌≤◌, drop}
-use Rattle.template_tree.specs.PlainTree.{forest}
-use Rattle.template_tree.specs.Slots.{depth}
+use Rattle.template_tree.specs.Programs.PlainTree.{forest}
+use Rattle.template_tree.specs.Programs.Slots.{depth}
 use Rattle.template_tree.proofs.limit_reached.+is_within_depth.Given as goal
 
 abbrev pub decreases-is_within_depth : goal.decreases-is_within_depth

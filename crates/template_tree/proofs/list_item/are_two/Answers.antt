@@ -2,9 +2,9 @@ use Rattle.std.specs.Prelude.{◌≡◌, ◌≤◌, drop, refl}
 use Rattle.std.proofs.Common.{arith, ap}
 use Rattle.std.proofs.Math.Bool.{false≢true}
 use Rattle.std.proofs.lemmas.List.{drop_all}
-use Rattle.template_tree.specs.ListItem.{how_many}
-use Rattle.template_tree.specs.PlainTree.{forest}
-use Rattle.template_tree.specs.Program.{sorts}
+use Rattle.template_tree.specs.Edits.ListItem.{how_many}
+use Rattle.template_tree.specs.Programs.PlainTree.{forest}
+use Rattle.template_tree.specs.Programs.Program.{sorts}
 use Rattle.template_tree.proofs.Lists.BesidePaths.{next_counts, one_at_most}
 use Rattle.template_tree.proofs.list_item.are_two.Goals as goal
 

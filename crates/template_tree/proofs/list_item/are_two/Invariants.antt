@@ -1,7 +1,7 @@
 use Rattle.std.specs.Prelude.{◌≡◌, ◌+◌, ◌≤◌, drop}
-use Rattle.template_tree.specs.ListItem.{how_many}
-use Rattle.template_tree.specs.PlainTree.{forest}
-use Rattle.template_tree.specs.Program.{sorts}
+use Rattle.template_tree.specs.Edits.ListItem.{how_many}
+use Rattle.template_tree.specs.Programs.PlainTree.{forest}
+use Rattle.template_tree.specs.Programs.Program.{sorts}
 use Rattle.template_tree.proofs.list_item.are_two.Given as goal
 
 abbrev pub invariant-loop-node : goal.invariant-loop-node

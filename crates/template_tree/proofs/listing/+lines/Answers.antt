@@ -4,12 +4,12 @@ use Rattle.std.proofs.Common.{rules, ◌≡◌, ◌+◌, ◌<◌, ◌∙◌, sym
 use Rattle.plcs_base.specs.Put.{puts_nothing, puts_next}
 use Rattle.plcs_base.specs.Putting.{puts_append, puts_same}
 use Rattle.plcs_grammar.specs.Template.{PlainRow, row_of, plain_row}
-use Rattle.template_tree.specs.Line.{fixed_line, lines, segments_text}
-use Rattle.template_tree.specs.Listing.{bytes_of_lines}
-use Rattle.template_tree.specs.PlainPhrasePlace.{plain_phrase_place}
-use Rattle.template_tree.specs.PlainTree.{PlainNode, forest}
-use Rattle.template_tree.specs.PlainSectionsLeft.{plain_sections_left}
-use Rattle.template_tree.specs.Section.{left_for}
+use Rattle.template_tree.specs.Listings.Line.{fixed_line, lines, segments_text}
+use Rattle.template_tree.specs.Listings.Listing.{bytes_of_lines}
+use Rattle.template_tree.specs.Programs.PlainPhrasePlace.{plain_phrase_place}
+use Rattle.template_tree.specs.Programs.PlainTree.{PlainNode, forest}
+use Rattle.template_tree.specs.Listings.PlainSectionsLeft.{plain_sections_left}
+use Rattle.template_tree.specs.Listings.Section.{left_for}
 use Rattle.template_tree.proofs.Listings.PutLines.{item_light, item_shallow, bytes_append, put_next, nothing_left}
 use Rattle.template_tree.proofs.listing.+lines.Goals as goal
 

@@ -1,9 +1,9 @@
 use Rattle.std.proofs.Common.{◌+◌, drop, false}
-use Rattle.template_tree.specs.PlainTree.{forest}
-use Rattle.template_tree.specs.Line.{lines}
-use Rattle.template_tree.specs.Listing.{bytes_of_lines}
+use Rattle.template_tree.specs.Programs.PlainTree.{forest}
+use Rattle.template_tree.specs.Listings.Line.{lines}
+use Rattle.template_tree.specs.Listings.Listing.{bytes_of_lines}
 use Rattle.template_tree.specs.Private.NodeLines.{LacksRest}
-use Rattle.template_tree.specs.PlainSectionsLeft.{plain_sections_left}
+use Rattle.template_tree.specs.Listings.PlainSectionsLeft.{plain_sections_left}
 use Rattle.template_tree.specs.Private.Weight.{forest_weight, weight}
 use Rattle.template_tree.proofs.listing.+lines.Given as goal
 

@@ -1,8 +1,8 @@
 use Rattle.std.proofs.Common.{sym, ap, option_map}
 use Rattle.plcs_base.specs.Put.{puts_nothing}
 use Rattle.plcs_base.specs.Putting.{puts_append, puts_behind, puts_same}
-use Rattle.template_tree.specs.Line.{fixed_line}
-use Rattle.template_tree.specs.Listing.{bytes_of_lines}
+use Rattle.template_tree.specs.Listings.Line.{fixed_line}
+use Rattle.template_tree.specs.Listings.Listing.{bytes_of_lines}
 use Rattle.template_tree.proofs.listing.put_fixed_line.Goals as goal
 
 pub returns-in-Some : goal.returns-in-Some

@@ -2,8 +2,8 @@ use Rattle.std.proofs.Common.{arith, ap, sym, map}
 use Rattle.plcs_base.specs.Put.{puts_nothing}
 use Rattle.plcs_base.specs.Putting.{puts_same}
 use Rattle.plcs_grammar.specs.Template.{plain_segment}
-use Rattle.template_tree.specs.Line.{segments_text}
-use Rattle.template_tree.specs.PlainPhrasePlace.{plain_phrase_place}
+use Rattle.template_tree.specs.Listings.Line.{segments_text}
+use Rattle.template_tree.specs.Programs.PlainPhrasePlace.{plain_phrase_place}
 use Rattle.template_tree.proofs.Listings.PutLines.{nothing_left, put_next_segment}
 use Rattle.template_tree.proofs.listing.put_segments.Goals as goal
 

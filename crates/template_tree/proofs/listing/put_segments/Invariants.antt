@@ -1,7 +1,7 @@
 use Rattle.std.proofs.Common.{drop, map}
 use Rattle.plcs_grammar.specs.Template.{plain_segment}
-use Rattle.template_tree.specs.Line.{segments_text}
-use Rattle.template_tree.specs.PlainPhrasePlace.{plain_phrase_place}
+use Rattle.template_tree.specs.Listings.Line.{segments_text}
+use Rattle.template_tree.specs.Programs.PlainPhrasePlace.{plain_phrase_place}
 use Rattle.template_tree.specs.Private.NodeLines.{LacksRest}
 use Rattle.template_tree.proofs.listing.put_segments.Given as goal
 

@@ -1,6 +1,6 @@
 use Rattle.std.proofs.Common.{◌≡◌, ◌+◌, drop}
-use Rattle.template_tree.specs.PlainTree.{forest}
-use Rattle.template_tree.specs.Slots.{times}
+use Rattle.template_tree.specs.Programs.PlainTree.{forest}
+use Rattle.template_tree.specs.Programs.Slots.{times}
 use Rattle.template_tree.specs.Private.Weight.{forest_weight, weight}
 use Rattle.template_tree.proofs.path_of.+find.Given as goal
 

@@ -1,7 +1,7 @@
 use Rattle.std.specs.Prelude.{false, true}
 use Rattle.std.proofs.Common.{ap}
 use Rattle.plcs_grammar.specs.Template.{program_sections}
-use Rattle.template_tree.specs.Listing.{bytes_of_lines}
+use Rattle.template_tree.specs.Listings.Listing.{bytes_of_lines}
 use Rattle.template_tree.proofs.Room.Rooms.{count_roomless}
 use Rattle.template_tree.proofs.Room.RoomlessEdits.{roomless_twice}
 use Rattle.template_tree.proofs.Room.RoomlessNodes.{node_roomless, slot_at_roomless, stop_roomless, stop_with_room, visible_roomless}

@@ -1,7 +1,7 @@
 use Rattle.template_tree.proofs.tree_laws.set_part_keeps_tree.Goals as goal
 use Rattle.template_tree.proofs.Parts.KeptTrees.{kept_tree, part_relabels}
 use Rattle.template_tree.proofs.Trees.Subtrees.{subtree_at}
-use Rattle.template_tree.specs.Part.{with_part}
+use Rattle.template_tree.specs.Programs.Part.{with_part}
 
 pub returns : goal.returns
 returns c tree path node part place t there takes place_is =

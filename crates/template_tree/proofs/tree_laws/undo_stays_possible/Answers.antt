@@ -1,6 +1,6 @@
 use Rattle.std.proofs.Common.{ap, subst}
-use Rattle.template_tree.specs.Receipt.{undone}
-use Rattle.template_tree.specs.Tree.{IsTree}
+use Rattle.template_tree.specs.Edits.Receipt.{undone}
+use Rattle.template_tree.specs.Programs.Tree.{IsTree}
 use Rattle.template_tree.proofs.tree_laws.undo_stays_possible.Goals as goal
 
 pub returns : goal.returns

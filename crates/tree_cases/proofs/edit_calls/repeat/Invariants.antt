@@ -1,4 +1,4 @@
-use Rattle.template_tree.specs.Tree.{IsTree}
+use Rattle.template_tree.specs.Programs.Tree.{IsTree}
 use Rattle.tree_cases.proofs.edit_calls.repeat.Given as goal
 
 abbrev pub invariant-loop : goal.invariant-loop

@@ -1,6 +1,6 @@
 use Rattle.std.specs.Prelude.{◌≡◌, ◌≤◌}
-use Rattle.template_tree.specs.PlainTree.{roomless_tree}
-use Rattle.template_tree.specs.Tree.{IsTree}
+use Rattle.template_tree.specs.Programs.PlainTree.{roomless_tree}
+use Rattle.template_tree.specs.Programs.Tree.{IsTree}
 use Rattle.tree_cases.proofs.walk.first_made.Given as goal
 
 abbrev pub invariant-loop-rest : goal.invariant-loop-rest

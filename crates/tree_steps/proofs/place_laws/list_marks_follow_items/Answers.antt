@@ -1,7 +1,7 @@
 use Rattle.std.specs.Prelude.{List}
 use Rattle.std.proofs.Common.{ap}
 use Rattle.plcs_base.specs.declared.declared.Declared.{Declared}
-use Rattle.template_tree.specs.Verdict.{references_offence}
+use Rattle.template_tree.specs.Checks.Verdict.{references_offence}
 use Rattle.tree_steps.proofs.ListMarks.{list_marks_follow_items}
 use Rattle.tree_steps.proofs.place_laws.list_marks_follow_items.Goals as goal
 

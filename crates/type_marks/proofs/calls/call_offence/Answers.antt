@@ -1,8 +1,8 @@
 use Rattle.std.proofs.Common.{◌∙◌, [], length, sym, ap}
 use Rattle.plcs_grammar.specs.PlainPhrase.{plain_exprs}
-use Rattle.template_tree.specs.ProgramMaps.{items_in}
-use Rattle.template_tree.specs.Environment.{parameter_kinds}
-use Rattle.template_tree.specs.Verdict.{kinds_of}
+use Rattle.template_tree.specs.Checks.ProgramMaps.{items_in}
+use Rattle.template_tree.specs.Checks.Environment.{parameter_kinds}
+use Rattle.template_tree.specs.Checks.Verdict.{kinds_of}
 use Rattle.type_marks.specs.Private.CallArguments.{arguments_judged}
 use Rattle.type_marks.proofs.CallOffences.{another_count, not_missing, same_count}
 use Rattle.type_marks.proofs.calls.call_offence.Goals as goal

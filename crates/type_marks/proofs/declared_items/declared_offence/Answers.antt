@@ -1,9 +1,9 @@
 use Rattle.std.proofs.Common.{rules, ◌≡◌, ◌∙◌, ◌+◌, [], ◌∷◌, suc, add-one, drop, drop-cons, sym, ap, false}
 use Rattle.std.specs.Option.{is_none}
-use Rattle.template_tree.specs.ProgramMaps.{items_in}
-use Rattle.template_tree.specs.Environment.{declared_as, effective, item_named, with_type}
-use Rattle.template_tree.specs.Marks.{declared_before, type_in}
-use Rattle.template_tree.specs.Verdict.{declared_offence}
+use Rattle.template_tree.specs.Checks.ProgramMaps.{items_in}
+use Rattle.template_tree.specs.Checks.Environment.{declared_as, effective, item_named, with_type}
+use Rattle.template_tree.specs.Checks.Marks.{declared_before, type_in}
+use Rattle.template_tree.specs.Checks.Verdict.{declared_offence}
 use Rattle.type_marks.specs.Private.DeclaredItems.{judged_item}
 use Rattle.type_marks.proofs.DeclaredOffences.{earlier, judged_there, offence_behind, offence_here, some_given}
 use Rattle.type_marks.proofs.declared_items.declared_offence.Goals as goal

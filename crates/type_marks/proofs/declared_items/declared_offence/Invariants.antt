@@ -1,8 +1,8 @@
 use Rattle.std.proofs.Common.{◌≡◌, [], ◌++◌, Some, drop, map, take}
 use Rattle.plcs_base.specs.declared.declared.ItemType.{ItemType}
-use Rattle.template_tree.specs.Environment.{declared_as, effective}
-use Rattle.template_tree.specs.Marks.{declared_before, type_in}
-use Rattle.template_tree.specs.Verdict.{declared_offence}
+use Rattle.template_tree.specs.Checks.Environment.{declared_as, effective}
+use Rattle.template_tree.specs.Checks.Marks.{declared_before, type_in}
+use Rattle.template_tree.specs.Checks.Verdict.{declared_offence}
 use Rattle.type_marks.proofs.declared_items.declared_offence.Given as goal
 
 abbrev pub invariant-loop-i : goal.invariant-loop-i

@@ -3,7 +3,7 @@ use Rattle.std.proofs.lemmas.Iterator.{YieldsList-from_slice}
 use Rattle.std.proofs.lemmas.Iterator.Search.{any_from_yields_List}
 use Rattle.plcs_base.specs.declared.declared.ItemType.{ItemType}
 use Rattle.plcs_grammar.specs.declared.item.Item.{Item}
-use Rattle.template_tree.specs.Environment.{declared_as}
+use Rattle.template_tree.specs.Checks.Environment.{declared_as}
 use Rattle.type_marks.specs.Private.DeclaredItems.{is_such}
 use Rattle.type_marks.proofs.DeclaredOffences.{such_listed}
 use Rattle.type_marks.proofs.declared_items.has_such.Goals as goal

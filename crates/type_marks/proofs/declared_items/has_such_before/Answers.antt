@@ -2,9 +2,9 @@
 -- passed by has none, and isn't in the slot. So the first node that decides, or the end, decides for all.
 use Rattle.std.proofs.Common.{◌≡◌, ◌∙◌, ◌+◌, drop, sym, ap, arith}
 use Rattle.std.proofs.lemmas.Option.{slice_get_within}
-use Rattle.template_tree.specs.PlainTree.{Forest, forest, forest_nodes, nodes}
+use Rattle.template_tree.specs.Programs.PlainTree.{Forest, forest, forest_nodes, nodes}
 use Rattle.plcs_base.specs.ListLeft.{left_from, none_left}
-use Rattle.template_tree.specs.Marks.{declared_before}
+use Rattle.template_tree.specs.Checks.Marks.{declared_before}
 use Rattle.type_marks.specs.Private.DeclaredItems.{has_such}
 use Rattle.type_marks.proofs.ChildLists.{such_behind, such_here, such_own}
 use Rattle.type_marks.proofs.declared_items.has_such_before.Goals as goal

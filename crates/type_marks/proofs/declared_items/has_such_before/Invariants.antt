@@ -1,6 +1,6 @@
 use Rattle.std.proofs.Common.{◌≡◌, ◌-◌, ◌≤◌, drop, length}
-use Rattle.template_tree.specs.Marks.{declared_before}
-use Rattle.template_tree.specs.PlainTree.{forest, nodes}
+use Rattle.template_tree.specs.Checks.Marks.{declared_before}
+use Rattle.template_tree.specs.Programs.PlainTree.{forest, nodes}
 use Rattle.type_marks.specs.Private.DeclaredItems.{has_such}
 use Rattle.type_marks.proofs.declared_items.has_such_before.Given as goal
 

@@ -1,6 +1,6 @@
 use Rattle.std.proofs.Common.{rules, ◌∙◌, map, sym, ap}
-use Rattle.template_tree.specs.Environment.{declared_as}
-use Rattle.template_tree.specs.Marks.{declared_before}
+use Rattle.template_tree.specs.Checks.Environment.{declared_as}
+use Rattle.template_tree.specs.Checks.Marks.{declared_before}
 use Rattle.type_marks.specs.Private.DeclaredItems.{has_such, judged_item}
 use Rattle.type_marks.proofs.EffectiveItems.{is_free, judged_apart, judged_same}
 use Rattle.type_marks.proofs.declared_items.item_offence.Goals as goal

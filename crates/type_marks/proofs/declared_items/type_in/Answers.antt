@@ -1,8 +1,8 @@
 use Rattle.std.proofs.Common.{◌≡◌, ◌∙◌, ◌+◌, drop, sym, ap, arith}
 use Rattle.std.proofs.lemmas.Option.{slice_get_within}
-use Rattle.template_tree.specs.PlainTree.{Forest, forest, forest_nodes, nodes}
+use Rattle.template_tree.specs.Programs.PlainTree.{Forest, forest, forest_nodes, nodes}
 use Rattle.plcs_base.specs.ListLeft.{left_from, none_left}
-use Rattle.template_tree.specs.Marks.{type_in}
+use Rattle.template_tree.specs.Checks.Marks.{type_in}
 use Rattle.type_marks.proofs.ChildLists.{type_behind, type_here}
 use Rattle.type_marks.proofs.declared_items.type_in.Goals as goal
 

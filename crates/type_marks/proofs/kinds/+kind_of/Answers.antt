@@ -2,8 +2,8 @@ use Rattle.std.proofs.Common.{◌≡◌, ◌∙◌, ◌+◌, ◌∷◌, suc, add
 use Rattle.std.specs.Prelude.{◌&&◌}
 use Rattle.std.proofs.Math.ListN.{drop_of_length-le}
 use Rattle.plcs_grammar.specs.PlainPhrase.{plain_expr, plain_exprs}
-use Rattle.template_tree.specs.ProgramMaps.{items_in}
-use Rattle.template_tree.specs.Verdict.{kind_of, kinds_of}
+use Rattle.template_tree.specs.Checks.ProgramMaps.{items_in}
+use Rattle.template_tree.specs.Checks.Verdict.{kind_of, kinds_of}
 use Rattle.type_marks.specs.Private.Arguments.{fit_found, judged, takes_kind, taken_of}
 use Rattle.type_marks.specs.Private.Chain.{chain_end}
 use Rattle.type_marks.proofs.FoundArguments.{fit_end, fit_left, fit_next, judged_is, kinds_length}

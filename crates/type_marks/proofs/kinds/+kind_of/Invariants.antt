@@ -1,8 +1,8 @@
 use Rattle.std.proofs.Common.{◌≡◌, ◌≤◌, drop}
 use Rattle.plcs_grammar.specs.declared.expr.Expr.{size-Expr}
 use Rattle.plcs_grammar.specs.PlainPhrase.{plain_expr, plain_exprs}
-use Rattle.template_tree.specs.ProgramMaps.{items_in}
-use Rattle.template_tree.specs.Verdict.{kind_of, kinds_of}
+use Rattle.template_tree.specs.Checks.ProgramMaps.{items_in}
+use Rattle.template_tree.specs.Checks.Verdict.{kind_of, kinds_of}
 use Rattle.type_marks.specs.Private.Arguments.{fit_found, taken_of}
 use Rattle.type_marks.specs.Private.Chain.{chain_end}
 use Rattle.type_marks.proofs.FoundArguments.{fit_left}

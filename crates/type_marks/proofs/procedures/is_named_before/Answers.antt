@@ -3,10 +3,10 @@
 use Rattle.std.proofs.Common.{◌≡◌, ◌∙◌, ◌+◌, drop, sym, ap, arith}
 use Rattle.std.proofs.lemmas.Option.{slice_get_within}
 use Rattle.std.specs.Prelude.{is_some}
-use Rattle.template_tree.specs.PlainTree.{Forest, forest, forest_nodes, nodes}
+use Rattle.template_tree.specs.Programs.PlainTree.{Forest, forest, forest_nodes, nodes}
 use Rattle.plcs_base.specs.ListLeft.{left_from, none_left}
-use Rattle.template_tree.specs.Environment.{Sig}
-use Rattle.template_tree.specs.Marks.{procedures_before}
+use Rattle.template_tree.specs.Checks.Environment.{Sig}
+use Rattle.template_tree.specs.Checks.Marks.{procedures_before}
 use Rattle.type_marks.proofs.ProcedureLists.{named_behind, named_here, named_own}
 use Rattle.type_marks.proofs.procedures.is_named_before.Goals as goal
 

@@ -1,8 +1,8 @@
 use Rattle.std.proofs.Common.{◌≡◌, ◌-◌, ◌≤◌, drop, length}
 use Rattle.std.specs.Prelude.{is_some}
-use Rattle.template_tree.specs.Environment.{Sig}
-use Rattle.template_tree.specs.Marks.{procedures_before}
-use Rattle.template_tree.specs.PlainTree.{forest, nodes}
+use Rattle.template_tree.specs.Checks.Environment.{Sig}
+use Rattle.template_tree.specs.Checks.Marks.{procedures_before}
+use Rattle.template_tree.specs.Programs.PlainTree.{forest, nodes}
 use Rattle.type_marks.proofs.procedures.is_named_before.Given as goal
 
 abbrev pub decreases-loop-node : goal.decreases-loop-node

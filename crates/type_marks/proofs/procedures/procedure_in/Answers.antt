@@ -1,8 +1,8 @@
 use Rattle.std.proofs.Common.{◌≡◌, ◌∙◌, ◌+◌, drop, sym, ap, arith}
 use Rattle.std.proofs.lemmas.Option.{slice_get_within}
-use Rattle.template_tree.specs.PlainTree.{Forest, forest, forest_nodes, nodes}
+use Rattle.template_tree.specs.Programs.PlainTree.{Forest, forest, forest_nodes, nodes}
 use Rattle.plcs_base.specs.ListLeft.{left_from, none_left}
-use Rattle.template_tree.specs.Environment.{procedure_at}
+use Rattle.template_tree.specs.Checks.Environment.{procedure_at}
 use Rattle.type_marks.proofs.ProcedureLists.{found_behind, found_here}
 use Rattle.type_marks.proofs.procedures.procedure_in.Goals as goal
 

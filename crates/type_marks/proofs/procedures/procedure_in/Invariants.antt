@@ -1,6 +1,6 @@
 use Rattle.std.proofs.Common.{◌≡◌, ◌-◌, ◌≤◌, drop, length}
-use Rattle.template_tree.specs.Environment.{procedure_at}
-use Rattle.template_tree.specs.PlainTree.{forest, nodes}
+use Rattle.template_tree.specs.Checks.Environment.{procedure_at}
+use Rattle.template_tree.specs.Programs.PlainTree.{forest, nodes}
 use Rattle.type_marks.proofs.procedures.procedure_in.Given as goal
 
 abbrev pub decreases-loop-node : goal.decreases-loop-node

@@ -1,5 +1,5 @@
 use Rattle.std.proofs.Common.{◌∙◌, ap}
-use Rattle.template_tree.specs.Path.{node_at}
+use Rattle.template_tree.specs.Positions.Path.{node_at}
 use Rattle.type_marks.proofs.procedures.procedure_item.Goals as goal
 
 pub returns-clause-item : goal.returns-clause-item

@@ -1,7 +1,7 @@
 use Rattle.std.proofs.Common.{◌≡◌, drop}
 use Rattle.plcs_grammar.specs.PlainPhrase.{plain_exprs}
-use Rattle.template_tree.specs.ProgramMaps.{items_in}
-use Rattle.template_tree.specs.Verdict.{kinds_of, offence_in}
+use Rattle.template_tree.specs.Checks.ProgramMaps.{items_in}
+use Rattle.template_tree.specs.Checks.Verdict.{kinds_of, offence_in}
 use Rattle.type_marks.proofs.statements.exprs_offence.Given as goal
 
 abbrev pub invariant-loop-expr : goal.invariant-loop-expr

@@ -1,7 +1,7 @@
 use Rattle.std.proofs.Common.{◌≡◌, ◌∙◌, ◌+◌, ◌∷◌, suc, add-one, drop, drop-cons, sym, ap}
 use Rattle.std.specs.Option.{option_or}
-use Rattle.template_tree.specs.ProgramMaps.{items_in}
-use Rattle.template_tree.specs.Verdict.{parameters_offence}
+use Rattle.template_tree.specs.Checks.ProgramMaps.{items_in}
+use Rattle.template_tree.specs.Checks.Verdict.{parameters_offence}
 use Rattle.type_marks.proofs.statements.parameters_offence.Goals as goal
 
 pub returns-in-Some : goal.returns-in-Some

@@ -1,6 +1,6 @@
 use Rattle.std.proofs.Common.{◌≡◌, drop}
-use Rattle.template_tree.specs.ProgramMaps.{items_in}
-use Rattle.template_tree.specs.Verdict.{parameters_offence}
+use Rattle.template_tree.specs.Checks.ProgramMaps.{items_in}
+use Rattle.template_tree.specs.Checks.Verdict.{parameters_offence}
 use Rattle.type_marks.proofs.statements.parameters_offence.Given as goal
 
 abbrev pub invariant-loop-name : goal.invariant-loop-name

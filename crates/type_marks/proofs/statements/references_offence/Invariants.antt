@@ -1,7 +1,7 @@
 use Rattle.std.proofs.Common.{◌≡◌, drop, map}
 use Rattle.plcs_grammar.specs.PlainPhrase.{plain_var_ref}
-use Rattle.template_tree.specs.ProgramMaps.{items_in}
-use Rattle.template_tree.specs.Verdict.{references_offence}
+use Rattle.template_tree.specs.Checks.ProgramMaps.{items_in}
+use Rattle.template_tree.specs.Checks.Verdict.{references_offence}
 use Rattle.type_marks.proofs.statements.references_offence.Given as goal
 
 abbrev pub invariant-loop-reference : goal.invariant-loop-reference

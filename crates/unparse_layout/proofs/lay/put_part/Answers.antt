@@ -2,7 +2,7 @@ use Rattle.std.specs.Prelude.{◌≡◌, ℕ, false, ◌&&◌, Option, Some, Non
 use Rattle.std.specs.FinMap.{get}
 use Rattle.std.proofs.Common.{ap, sym, ◌∙◌, subst}
 use Rattle.plcs_grammar.specs.PlainPhrase.{PlainPhrase, plain_phrase}
-use Rattle.template_tree.specs.Line.{part_text}
+use Rattle.template_tree.specs.Listings.Line.{part_text}
 use Rattle.unparse_layout.specs.LaidLine.{screen_cell, has_mark}
 use Rattle.unparse_layout.specs.Private.Cells.{PutsAside}
 use Rattle.unparse_layout.proofs.PutCells.{part_put, plain_cells, plain_put}

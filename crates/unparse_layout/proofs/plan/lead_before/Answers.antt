@@ -1,8 +1,8 @@
 use Rattle.std.proofs.Common.{arith, ap, sym, ◌∙◌}
 use Rattle.plcs_grammar.specs.Template.{PlainRow, row_of}
-use Rattle.template_tree.specs.PlainTree.{nodes}
-use Rattle.template_tree.specs.Section.{left_for}
-use Rattle.template_tree.specs.PlainSectionsLeft.{plain_sections_left}
+use Rattle.template_tree.specs.Programs.PlainTree.{nodes}
+use Rattle.template_tree.specs.Listings.Section.{left_for}
+use Rattle.template_tree.specs.Listings.PlainSectionsLeft.{plain_sections_left}
 use Rattle.unparse_layout.proofs.Leads.{lead_first, lead_next, lead_here, lead_past}
 use Rattle.unparse_layout.proofs.PlanLines.{past_where_none}
 use Rattle.unparse_layout.proofs.plan.lead_before.Goals as goal

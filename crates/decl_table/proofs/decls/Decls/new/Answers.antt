@@ -1,7 +1,7 @@
 use Rattle.std.proofs.Common.{◌≡◌, ◌∙◌, ◌+◌, ◌-◌, ◌≤◌, Some, None, drop, length, slice_get, refl, sym, ap, subst, arith}
 use Rattle.std.proofs.Math.ListN.{drop_of_length-le}
-use Rattle.template_tree.specs.Path.{node_at}
-use Rattle.template_tree.specs.PlainTree.{Forest, forest, forest_nodes, nodes}
+use Rattle.template_tree.specs.Positions.Path.{node_at}
+use Rattle.template_tree.specs.Programs.PlainTree.{Forest, forest, forest_nodes, nodes}
 use Rattle.decl_table.specs.PlainDecls.{PlainDecls}
 use Rattle.plcs_base.specs.ListLeft.{left_from, past_where_none}
 use Rattle.decl_table.proofs.ReadProcedures.{IsRead, read_all, read_next, read_none}

@@ -1,5 +1,5 @@
 use Rattle.std.proofs.Common.{◌≤◌, drop, length}
-use Rattle.template_tree.specs.PlainTree.{forest, nodes}
+use Rattle.template_tree.specs.Programs.PlainTree.{forest, nodes}
 use Rattle.decl_table.proofs.ReadProcedures.{IsRead}
 use Rattle.decl_table.proofs.decls.Decls.new.Given as goal
 

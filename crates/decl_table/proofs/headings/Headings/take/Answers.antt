@@ -1,7 +1,7 @@
 use Rattle.std.proofs.Common.{◌∙◌, cond, Some, option_map, refl, sym, ap}
 use Rattle.std.specs.Prelude.{bytes_eq}
 use Rattle.std.specs.Option.{option_or}
-use Rattle.template_tree.specs.Environment.{Signature, heading_of, signature_for}
+use Rattle.template_tree.specs.Checks.Environment.{Signature, heading_of, signature_for}
 use Rattle.decl_table.specs.PlainDecls.{PlainHeadings, slot_of}
 use Rattle.decl_table.proofs.TableMaps.{first, given}
 use Rattle.decl_table.proofs.headings.Headings.take.Goals as goal

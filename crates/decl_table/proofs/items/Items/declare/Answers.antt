@@ -1,5 +1,5 @@
 use Rattle.std.proofs.Common.{◌≡◌, ◌∙◌, ◌+◌, ◌∷◌, ◌++◌, [], false, is_some, sym, ap, subst, arith}
-use Rattle.template_tree.specs.Environment.{cells, item_offence}
+use Rattle.template_tree.specs.Checks.Environment.{cells, item_offence}
 use Rattle.decl_table.specs.Private.ItemsView.{items_of, shaped}
 use Rattle.decl_table.proofs.ItemLists.{cells_push, few_told, has_no_offence, inserted, one_more}
 use Rattle.decl_table.proofs.items.Items.declare.Goals as goal

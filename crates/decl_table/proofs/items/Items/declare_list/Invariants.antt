@@ -1,5 +1,5 @@
 use Rattle.std.proofs.Common.{◌≡◌, Some, drop}
-use Rattle.template_tree.specs.Environment.{effective, with_type}
+use Rattle.template_tree.specs.Checks.Environment.{effective, with_type}
 use Rattle.decl_table.proofs.items.Items.declare_list.Given as goal
 
 abbrev pub invariant-loop-item : goal.invariant-loop-item

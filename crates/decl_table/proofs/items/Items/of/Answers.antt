@@ -1,7 +1,7 @@
 use Rattle.std.proofs.Common.{◌∙◌, drop, sym, ap, refl, ◌+◌, arith}
 use Rattle.std.proofs.lemmas.Option.{slice_get_within}
-use Rattle.template_tree.specs.Environment.{all_declared, declares, effective}
-use Rattle.template_tree.specs.PlainTree.{forest, forest_nodes, nodes}
+use Rattle.template_tree.specs.Checks.Environment.{all_declared, declares, effective}
+use Rattle.template_tree.specs.Programs.PlainTree.{forest, forest_nodes, nodes}
 use Rattle.decl_table.proofs.ItemLists.{effective_append}
 use Rattle.plcs_base.specs.ListLeft.{left_from, none_left}
 use Rattle.decl_table.proofs.items.Items.of.Goals as goal

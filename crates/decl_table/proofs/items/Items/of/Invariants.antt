@@ -1,6 +1,6 @@
 use Rattle.std.specs.Prelude.{◌≡◌, ◌-◌, ◌≤◌, drop, length}
-use Rattle.template_tree.specs.Environment.{all_declared, effective, items_inside}
-use Rattle.template_tree.specs.PlainTree.{forest, nodes}
+use Rattle.template_tree.specs.Checks.Environment.{all_declared, effective, items_inside}
+use Rattle.template_tree.specs.Programs.PlainTree.{forest, nodes}
 use Rattle.decl_table.proofs.items.Items.of.Given as goal
 
 abbrev pub decreases-loop-node : goal.decreases-loop-node

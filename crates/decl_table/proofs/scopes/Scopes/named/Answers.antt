@@ -1,8 +1,8 @@
 use Rattle.std.proofs.Common.{◌∙◌, [], sym, ap}
 use Rattle.std.specs.Prelude.{unwrap_or}
 use Rattle.plcs_base.specs.Scope.{ItemMap}
-use Rattle.template_tree.specs.Environment.{item_named}
-use Rattle.template_tree.specs.ProgramMaps.{items_in}
+use Rattle.template_tree.specs.Checks.Environment.{item_named}
+use Rattle.template_tree.specs.Checks.ProgramMaps.{items_in}
 use Rattle.decl_table.proofs.TableMaps.{found}
 use Rattle.decl_table.proofs.scopes.Scopes.named.Goals as goal
 

@@ -6,7 +6,7 @@ use Rattle.plcs_grammar.specs.declared.expr.Expr.TheVariants.{Infix}
 use Rattle.plcs_grammar.specs.declared.expr.Expr.TheViews.{the_lemmas}
 use Rattle.plcs_grammar.specs.PlainExprCases.{expr_builtin, expr_infix, expr_paren, expr_prefix, expr_variable, reference_subscripted}
 use Rattle.plcs_grammar.specs.PlainPhrase.{plain_expr, plain_exprs, plain_var_ref}
-use Rattle.template_tree.specs.Mention.{names_in, names_in_all, reference_names}
+use Rattle.template_tree.specs.Checks.Mention.{names_in, names_in_all, reference_names}
 use Rattle.decl_table.specs.Private.UsesView.{AddsNames}
 use Rattle.decl_table.proofs.AddedUses.{adds_both, adds_last, Leaves, leaves_next, left_behind, of_names, of_names-append, or_comm, then_ok}
 use Rattle.decl_table.proofs.uses.Uses.+note_expr.Goals as goal

@@ -1,7 +1,7 @@
 use Rattle.std.proofs.Common.{◌≡◌, ◌≤◌, drop}
 use Rattle.plcs_grammar.specs.declared.expr.Expr.{size-Expr}
 use Rattle.plcs_grammar.specs.PlainPhrase.{plain_expr, plain_exprs}
-use Rattle.template_tree.specs.Mention.{names_in, names_in_all}
+use Rattle.template_tree.specs.Checks.Mention.{names_in, names_in_all}
 use Rattle.decl_table.proofs.AddedUses.{Leaves, of_names}
 use Rattle.decl_table.proofs.uses.Uses.+note_expr.Given as goal
 

@@ -1,6 +1,6 @@
 use Rattle.std.proofs.Common.{◌≡◌, ◌+◌, ◌∷◌, Some, [], drop, slice_get, sym, ap, subst, arith}
 use Rattle.std.proofs.lemmas.Option.{slice_get_within}
-use Rattle.template_tree.specs.PlainTree.{forest, forest_nodes, nodes}
+use Rattle.template_tree.specs.Programs.PlainTree.{forest, forest_nodes, nodes}
 use Rattle.decl_table.proofs.AddedUses.{Leaves, leaves_all, leaves_next, leaves_none, of_node, of_nodes, of_nodes-first, of_parts}
 use Rattle.plcs_base.specs.ListLeft.{left_from, none_left}
 use Rattle.decl_table.proofs.uses.Uses.+note_node.Goals as goal

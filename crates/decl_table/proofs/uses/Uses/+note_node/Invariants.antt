@@ -1,6 +1,6 @@
 use Rattle.std.proofs.Common.{◌∷◌, [], ◌-◌, ◌≤◌, drop, length}
-use Rattle.template_tree.specs.PlainTree.{forest, nodes}
-use Rattle.template_tree.specs.Slots.{count}
+use Rattle.template_tree.specs.Programs.PlainTree.{forest, nodes}
+use Rattle.template_tree.specs.Programs.Slots.{count}
 use Rattle.decl_table.proofs.AddedUses.{Leaves, of_nodes}
 use Rattle.decl_table.proofs.uses.Uses.+note_node.Given as goal
 

@@ -1,8 +1,8 @@
 use Rattle.std.proofs.Common.{◌≡◌, ◌+◌, ℕ, Some, drop, slice_get, sym, ap, subst, arith}
 use Rattle.std.proofs.lemmas.Option.{slice_get_within}
 use Rattle.plcs_base.specs.declared.place.PhraseAt.{PhraseAt}
-use Rattle.template_tree.specs.Mention.{phrase_at}
-use Rattle.template_tree.specs.PlainPhrasePlace.{plain_phrase_place}
+use Rattle.template_tree.specs.Checks.Mention.{phrase_at}
+use Rattle.template_tree.specs.Programs.PlainPhrasePlace.{plain_phrase_place}
 use Rattle.decl_table.specs.Private.UsesView.{AddsPart}
 use Rattle.decl_table.proofs.AddedUses.{leaves_next, leaves_none, of_parts, of_parts-next, of_place}
 use Rattle.plcs_base.specs.ListLeft.{left_from, none_left}

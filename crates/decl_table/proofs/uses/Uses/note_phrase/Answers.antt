@@ -2,7 +2,7 @@ use Rattle.std.proofs.Common.{[], ◌∷◌, ◌++◌, map, sym, subst}
 use Rattle.std.specs.Prelude.{flat_map, OnOk}
 use Rattle.plcs_grammar.specs.declared.item.Item.{Item}
 use Rattle.plcs_grammar.specs.PlainPhrase.{plain_expr, plain_exprs, plain_phrase, plain_var_ref}
-use Rattle.template_tree.specs.Mention.{mentioned, names_in, names_in_all, reference_names}
+use Rattle.template_tree.specs.Checks.Mention.{mentioned, names_in, names_in_all, reference_names}
 use Rattle.decl_table.specs.Private.UsesView.{AddsNames}
 use Rattle.decl_table.proofs.AddedUses.{adds_both, of_names, of_names-append, then_ok}
 use Rattle.decl_table.proofs.uses.Uses.note_phrase.Goals as goal

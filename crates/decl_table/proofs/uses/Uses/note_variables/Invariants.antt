@@ -1,7 +1,7 @@
 use Rattle.std.proofs.Common.{drop, map}
 use Rattle.std.specs.Prelude.{flat_map}
 use Rattle.plcs_grammar.specs.PlainPhrase.{plain_var_ref}
-use Rattle.template_tree.specs.Mention.{reference_names}
+use Rattle.template_tree.specs.Checks.Mention.{reference_names}
 use Rattle.decl_table.proofs.AddedUses.{Leaves, of_names}
 use Rattle.decl_table.proofs.uses.Uses.note_variables.Given as goal
 

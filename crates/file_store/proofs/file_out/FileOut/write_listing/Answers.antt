@@ -1,4 +1,4 @@
-use Rattle.template_tree.specs.Listing.{Listing}
+use Rattle.template_tree.specs.Listings.Listing.{Listing}
 use Rattle.file_store.proofs.Sending.{written_more}
 use Rattle.file_store.proofs.file_out.FileOut.write_listing.Goals as goal
 

@@ -1,7 +1,7 @@
 use Rattle.std.proofs.Common.{Some, ap, sym, ◌∙◌, subst}
-use Rattle.template_tree.specs.Build.{built_label}
-use Rattle.template_tree.specs.PlainTree.{Forest, PlainNode, forest, join, roomless}
-use Rattle.template_tree.specs.PlainPhrasePlace.{plain_phrase_place}
+use Rattle.template_tree.specs.Programs.Build.{built_label}
+use Rattle.template_tree.specs.Programs.PlainTree.{Forest, PlainNode, forest, join, roomless}
+use Rattle.template_tree.specs.Programs.PlainPhrasePlace.{plain_phrase_place}
 use Rattle.std.specs.Prelude.{◌-◌, ◌^◌, map, min}
 use Rattle.file_store.specs.Private.Gives.{Gives}
 use Rattle.file_store.specs.Private.Reader as machine

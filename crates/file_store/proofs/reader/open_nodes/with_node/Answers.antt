@@ -1,5 +1,5 @@
 use Rattle.std.proofs.Common.{Some, ap, sym, ◌∙◌}
-use Rattle.template_tree.specs.PlainTree.{Forest, forest, roomless}
+use Rattle.template_tree.specs.Programs.PlainTree.{Forest, forest, roomless}
 use Rattle.file_store.specs.Private.Reader as machine
 use Rattle.file_store.specs.Private.Views.{filling_of}
 use Rattle.file_store.proofs.OpenNodes.{roomless_push}

@@ -1,6 +1,6 @@
 use Rattle.std.proofs.Common.{Global, Vec, map}
 use Rattle.plcs_grammar.specs.Template.{plain_segment}
-use Rattle.template_tree.specs.PlainPhrasePlace.{plain_phrase_place}
+use Rattle.template_tree.specs.Programs.PlainPhrasePlace.{plain_phrase_place}
 use Rattle.template_tree.specs.declared.phrase_place.PhrasePlace.{PhrasePlace}
 use Rattle.file_store.specs.Private.LineReading.{AreNoSegments, AreReadAfter}
 use Rattle.file_store.proofs.PartTexts.{finds_too, no_words_read, words_read}

@@ -1,6 +1,6 @@
 use Rattle.std.proofs.Common.{◌∷◌, map, refl}
 use Rattle.plcs_grammar.specs.Template.{PlainSegment, plain_segment}
-use Rattle.template_tree.specs.PlainPhrasePlace.{plain_phrase_place}
+use Rattle.template_tree.specs.Programs.PlainPhrasePlace.{plain_phrase_place}
 use Rattle.file_store.specs.Private.LineReading.{AreNoSegments, IsNoPart}
 use Rattle.file_store.proofs.PartTexts.{divided_front, fault_too, no_divided_part, undivided}
 use Rattle.file_store.proofs.reader.parts.read_divided.Goals as goal

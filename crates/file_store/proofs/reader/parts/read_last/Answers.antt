@@ -1,6 +1,6 @@
 use Rattle.std.proofs.Common.{[], ◌∷◌, refl}
 use Rattle.plcs_grammar.specs.Template.{PlainSegment}
-use Rattle.template_tree.specs.PlainPhrasePlace.{plain_phrase_place}
+use Rattle.template_tree.specs.Programs.PlainPhrasePlace.{plain_phrase_place}
 use Rattle.template_tree.specs.declared.phrase_place.PhrasePlace.{PhrasePlace}
 use Rattle.file_store.specs.Private.LineReading.{AreNoSegments, IsLineFront, IsNoPart, IsPartText}
 use Rattle.file_store.proofs.PartTexts.{finds_too, last_front, no_last_front, no_last_part}

@@ -1,6 +1,6 @@
 use Rattle.std.proofs.Common.{rules, option_map, sym, ap, ◌∙◌}
-use Rattle.template_tree.specs.PlainTree.{roomless_node, roomless_tree}
-use Rattle.template_tree.specs.Stop.{plain_stop}
+use Rattle.template_tree.specs.Programs.PlainTree.{roomless_node, roomless_tree}
+use Rattle.template_tree.specs.Positions.Stop.{plain_stop}
 use Rattle.synth_session.proofs.ClipFragments.{fragment_given, node_there}
 use Rattle.synth_session.proofs.TakenNodes.{node_taken}
 use Rattle.synth_session.proofs.program.Program.take_node.Goals as goal

@@ -1,7 +1,7 @@
 use Rattle.std.proofs.Common.{option_map, sym, ap, ◌∙◌}
 use Rattle.plcs_grammar.specs.PlainPhrase.{plain_phrase}
-use Rattle.template_tree.specs.PlainTree.{roomless_tree}
-use Rattle.template_tree.specs.Stop.{plain_stop}
+use Rattle.template_tree.specs.Programs.PlainTree.{roomless_tree}
+use Rattle.template_tree.specs.Positions.Stop.{plain_stop}
 use Rattle.synth_session.proofs.ClipFragments.{phrase_there}
 use Rattle.synth_session.proofs.program.Program.take_phrase.Goals as goal
 

@@ -1,6 +1,6 @@
 use Rattle.std.proofs.Common.{sym, subst, ◌∙◌}
-use Rattle.template_tree.specs.CheckLaws.{CheckAlike}
-use Rattle.template_tree.specs.PlainTree.{PlainTree}
+use Rattle.template_tree.specs.Laws.CheckLaws.{CheckAlike}
+use Rattle.template_tree.specs.Programs.PlainTree.{PlainTree}
 use Rattle.synth_session.proofs.AgreeingDependents.{decls_stay}
 use Rattle.synth_session.proofs.program.Program.toggle_elision.Goals as goal
 

@@ -1,5 +1,5 @@
 use Rattle.std.proofs.Common.{rules}
-use Rattle.template_tree.specs.PlainTree.{roomless_tree}
+use Rattle.template_tree.specs.Programs.PlainTree.{roomless_tree}
 use Rattle.file_store.specs.declared.refusal.FileRefusal.{FileRefusal}
 use Rattle.synth_session.specs.FileReply.{Reply}
 use Rattle.synth_session.proofs.CheckedPhrases.{checks_free}

@@ -1,6 +1,6 @@
 use Rattle.std.proofs.Common.{sym, subst}
-use Rattle.template_tree.specs.PlainTree.{PlainTree, roomless_tree}
-use Rattle.template_tree.specs.Stop.{IsStop, plain_stop}
+use Rattle.template_tree.specs.Programs.PlainTree.{PlainTree, roomless_tree}
+use Rattle.template_tree.specs.Positions.Stop.{IsStop, plain_stop}
 use Rattle.synth_session.proofs.TurnedStops.{turned_stop}
 use Rattle.synth_session.proofs.session.Session.toggle_comment.Goals as goal
 

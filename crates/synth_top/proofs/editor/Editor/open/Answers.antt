@@ -2,7 +2,7 @@
 -- definition. A message changes neither the size nor the grids.
 use Rattle.std.proofs.Common.{◌≡◌, Option, Some, None, refl, sym, ap, subst, ◌∙◌, List, ℕ, option_map}
 use Rattle.plcs_base.specs.PlainCounts.{ChecksAtMost}
-use Rattle.template_tree.specs.PlainTree.{PlainTree, roomless_tree}
+use Rattle.template_tree.specs.Programs.PlainTree.{PlainTree, roomless_tree}
 use Rattle.file_store.specs.declared.refusal.FileRefusal.{FileRefusal}
 use Rattle.screen_window.specs.PlainGrid.{blank_grid}
 use Rattle.synth_session.specs.CheckedPhrases.{phrase_count}

@@ -4,9 +4,9 @@ use mathlib.Core.Path.{fun_ext}
 use borrow.Follows.Closed.{read_of}
 use Rattle.std.specs.Option.{ghost_name_of}
 use Rattle.template_tree.specs.contracts.node.Node as node_row
-use Rattle.template_tree.specs.PlainTree.{PlainNode}
-use Rattle.template_tree.specs.Lend.{put_in}
-use Rattle.template_tree.specs.Path.{below}
+use Rattle.template_tree.specs.Programs.PlainTree.{PlainNode}
+use Rattle.template_tree.specs.Edits.Lend.{put_in}
+use Rattle.template_tree.specs.Positions.Path.{below}
 use Rattle.template_tree.proofs.Trees.LentNodes.{lost_below, lost_in, with_below, lent_twice, lent_back, found_twice, both}
 use Rattle.template_tree.proofs.descent.TwiceDescent.down.Goals as goal
 

@@ -1,9 +1,9 @@
 use Rattle.std.specs.Prelude.{◌≡◌, ◌≤◌, map, false}
 use Rattle.std.proofs.Common.{arith, subst, ap, sym, ◌∙◌}
-use Rattle.template_tree.specs.Copy.{IsCopy}
-use Rattle.template_tree.specs.PlainPhrasePlace.{plain_phrase_place}
-use Rattle.template_tree.specs.PlainTree.{PlainNode, forest, roomless}
-use Rattle.template_tree.specs.Edit.{whole}
+use Rattle.template_tree.specs.Edits.Copy.{IsCopy}
+use Rattle.template_tree.specs.Programs.PlainPhrasePlace.{plain_phrase_place}
+use Rattle.template_tree.specs.Programs.PlainTree.{PlainNode, forest, roomless}
+use Rattle.template_tree.specs.Edits.Edit.{whole}
 use Rattle.template_tree.specs.contracts.node.Node.{the_view}
 use Rattle.template_tree.specs.Private.Weight.{weight, forest_weight}
 use Rattle.template_tree.proofs.Trees.Counts.{item_lighter}

@@ -1,6 +1,6 @@
 use Rattle.std.specs.Prelude.{◌≡◌, take, map}
-use Rattle.template_tree.specs.PlainTree.{forest, roomless_node}
-use Rattle.template_tree.specs.Copy.{whole_node}
+use Rattle.template_tree.specs.Programs.PlainTree.{forest, roomless_node}
+use Rattle.template_tree.specs.Edits.Copy.{whole_node}
 use Rattle.template_tree.specs.Private.Weight.{weight}
 use Rattle.template_tree.proofs.node.Node.+copy.Given as goal
 

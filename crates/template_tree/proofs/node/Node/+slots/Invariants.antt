@@ -1,6 +1,6 @@
 use Rattle.std.specs.Prelude.{◌≡◌, ◌+◌, drop}
-use Rattle.template_tree.specs.PlainTree.{forest}
-use Rattle.template_tree.specs.Slots.{count}
+use Rattle.template_tree.specs.Programs.PlainTree.{forest}
+use Rattle.template_tree.specs.Programs.Slots.{count}
 use Rattle.template_tree.specs.Private.Weight.{weight}
 use Rattle.template_tree.proofs.node.Node.+slots.Given as goal
 

@@ -3,11 +3,11 @@ use Rattle.std.proofs.Common.{arith, sym, ap, ◌∙◌, subst}
 use Rattle.std.proofs.lemmas.List.{length-map}
 use Rattle.plcs_grammar.specs.PlainPhrase.{PlainPhrase}
 use Rattle.plcs_grammar.specs.Template.{row_of}
-use Rattle.template_tree.specs.Program.{AreParts, parts_of}
+use Rattle.template_tree.specs.Programs.Program.{AreParts, parts_of}
 use Rattle.template_tree.specs.contracts.node.Node.{the_view}
-use Rattle.template_tree.specs.Part.{Takes, part_category}
-use Rattle.template_tree.specs.PlainPhrasePlace.{plain_phrase_place}
-use Rattle.template_tree.specs.PlainTree.{PlainNode}
+use Rattle.template_tree.specs.Programs.Part.{Takes, part_category}
+use Rattle.template_tree.specs.Programs.PlainPhrasePlace.{plain_phrase_place}
+use Rattle.template_tree.specs.Programs.PlainTree.{PlainNode}
 use Rattle.template_tree.proofs.Parts.PartLists.{takes_in_node, part_read, part_written}
 use Rattle.template_tree.proofs.node.Node.put_part.Goals as goal
 

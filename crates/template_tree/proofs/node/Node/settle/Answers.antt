@@ -1,9 +1,9 @@
 use Rattle.std.specs.Prelude.{◌≡◌, false}
 use Rattle.std.proofs.Common.{arith, ap, ◌∙◌}
 use Rattle.template_tree.specs.contracts.node.Node.{the_view}
-use Rattle.template_tree.specs.PlainTree.{PlainNode, PlainNodes, forest, forest_nodes}
-use Rattle.template_tree.specs.Edit.{whole}
-use Rattle.template_tree.specs.Slots.{count, with_slots_from}
+use Rattle.template_tree.specs.Programs.PlainTree.{PlainNode, PlainNodes, forest, forest_nodes}
+use Rattle.template_tree.specs.Edits.Edit.{whole}
+use Rattle.template_tree.specs.Programs.Slots.{count, with_slots_from}
 use Rattle.template_tree.proofs.Edits.RevealedNodes.{revealed}
 use Rattle.template_tree.proofs.Room.RoomlessEdits.{count_whole}
 use Rattle.template_tree.proofs.node.Node.settle.Goals as goal

@@ -1,9 +1,9 @@
 use Rattle.std.specs.Prelude.{◌≡◌, refl, suc, ◌∷◌, [], Some, slice_get, length}
 use Rattle.std.proofs.Common.{arith, ap, sym, ◌∙◌}
 use Rattle.template_tree.specs.contracts.node.Node.{the_view}
-use Rattle.template_tree.specs.PlainTree.{forest, roomless_node}
-use Rattle.template_tree.specs.Edit.{edit_at}
-use Rattle.template_tree.specs.Receipt.{with_beside}
+use Rattle.template_tree.specs.Programs.PlainTree.{forest, roomless_node}
+use Rattle.template_tree.specs.Edits.Edit.{edit_at}
+use Rattle.template_tree.specs.Edits.Receipt.{with_beside}
 use Rattle.template_tree.proofs.Lists.ListChanges.{beside_here, level_ok, err_same, stands_below, stands_in_item}
 use Rattle.template_tree.proofs.node.Nodes.+add_at.Goals as goal
 

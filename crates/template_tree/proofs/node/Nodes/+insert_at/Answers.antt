@@ -1,8 +1,8 @@
 use Rattle.std.specs.Prelude.{◌≡◌, refl, ◌<◌, suc, ◌∷◌, Some, slice_get, length}
 use Rattle.std.proofs.Common.{arith, ap, sym, ◌∙◌}
 use Rattle.template_tree.specs.contracts.node.Node.{the_view}
-use Rattle.template_tree.specs.PlainTree.{forest, roomless_node}
-use Rattle.template_tree.specs.Receipt.{list_room, with_beside}
+use Rattle.template_tree.specs.Programs.PlainTree.{forest, roomless_node}
+use Rattle.template_tree.specs.Edits.Receipt.{list_room, with_beside}
 use Rattle.template_tree.proofs.Lists.ListChanges.{beside_here, level_of, room_of, room_at_end, no_room}
 use Rattle.template_tree.proofs.node.Nodes.+insert_at.Goals as goal
 

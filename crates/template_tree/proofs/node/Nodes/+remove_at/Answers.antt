@@ -3,8 +3,8 @@
 use Rattle.std.specs.Prelude.{◌≡◌, refl, ◌∷◌, [], Some, slice_get, length, suc}
 use Rattle.std.proofs.Common.{arith, ap, sym, ◌∙◌}
 use Rattle.template_tree.specs.contracts.node.Node.{the_view}
-use Rattle.template_tree.specs.PlainTree.{PlainNode, forest}
-use Rattle.template_tree.specs.Receipt.{list_room}
+use Rattle.template_tree.specs.Programs.PlainTree.{PlainNode, forest}
+use Rattle.template_tree.specs.Edits.Receipt.{list_room}
 use Rattle.template_tree.proofs.Lists.ListChanges.{item_there, taken_here, room_here, no_item, level_of, none_same, room_up, some_room}
 use Rattle.template_tree.proofs.node.Nodes.+remove_at.Goals as goal
 

@@ -1,9 +1,9 @@
 use Rattle.std.specs.Prelude.{◌∷◌, []}
 use Rattle.std.specs.List.{insert}
 use Rattle.std.proofs.Common.{arith, ap, sym, ◌∙◌, add-one}
-use Rattle.template_tree.specs.PlainTree.{PlainNodes, forest}
-use Rattle.template_tree.specs.Edit.{edit_at}
-use Rattle.template_tree.specs.Receipt.{with_beside}
+use Rattle.template_tree.specs.Programs.PlainTree.{PlainNodes, forest}
+use Rattle.template_tree.specs.Edits.Edit.{edit_at}
+use Rattle.template_tree.specs.Edits.Receipt.{with_beside}
 use Rattle.template_tree.proofs.Lists.ListChanges.{put_nowhere, put_before, put_behind}
 use Rattle.template_tree.proofs.node.Nodes.insert_beside.Goals as goal
 

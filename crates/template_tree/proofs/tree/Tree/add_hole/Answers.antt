@@ -8,18 +8,18 @@ use Rattle.plcs_grammar.specs.Template.{PlainRow, row_of}
 use Rattle.template_tree.specs.declared.change.Change.{Change}
 use Rattle.template_tree.specs.declared.change.What.{What}
 use Rattle.template_tree.specs.contracts.tree.Tree.{the_view}
-use Rattle.template_tree.specs.PlainTree.{PlainTree, roomless, roomless_node}
-use Rattle.template_tree.specs.Path.{node_at}
-use Rattle.template_tree.specs.Program.{sort_of}
-use Rattle.template_tree.specs.Slots.{count}
-use Rattle.template_tree.specs.Edit.{edit_at}
-use Rattle.template_tree.specs.Hole.{hole_of, lone}
-use Rattle.template_tree.specs.EditAnswer.{IsEdit, IsListItem}
-use Rattle.template_tree.specs.ListItem.{is_listed}
+use Rattle.template_tree.specs.Programs.PlainTree.{PlainTree, roomless, roomless_node}
+use Rattle.template_tree.specs.Positions.Path.{node_at}
+use Rattle.template_tree.specs.Programs.Program.{sort_of}
+use Rattle.template_tree.specs.Programs.Slots.{count}
+use Rattle.template_tree.specs.Edits.Edit.{edit_at}
+use Rattle.template_tree.specs.Edits.Hole.{hole_of, lone}
+use Rattle.template_tree.specs.Edits.EditAnswer.{IsEdit, IsListItem}
+use Rattle.template_tree.specs.Edits.ListItem.{is_listed}
 use Rattle.template_tree.specs.Private.Exchange.{first_item}
-use Rattle.template_tree.specs.Path.{added_path}
-use Rattle.template_tree.specs.Receipt.{PlainReceipt, PlainUndoing, with_beside}
-use Rattle.template_tree.specs.TreeEdit.{TreeEdit}
+use Rattle.template_tree.specs.Positions.Path.{added_path}
+use Rattle.template_tree.specs.Edits.Receipt.{PlainReceipt, PlainUndoing, with_beside}
+use Rattle.template_tree.specs.Edits.TreeEdit.{TreeEdit}
 use Rattle.template_tree.proofs.Puts.Holes.{bare_is}
 use Rattle.template_tree.proofs.Puts.PutEdits.{at_there, edits_at}
 use Rattle.template_tree.proofs.Puts.Refusals.{refused_by}

@@ -1,9 +1,9 @@
 use Rattle.std.specs.Prelude.{◌≤◌}
 use Rattle.std.proofs.Common.{arith, sym, subst}
-use Rattle.template_tree.specs.Limit.{deepest_path, most_slots}
-use Rattle.template_tree.specs.PlainTree.{forest}
-use Rattle.template_tree.specs.Slots.{count, depth}
-use Rattle.template_tree.specs.Tree.{IsTree}
+use Rattle.template_tree.specs.Programs.Limit.{deepest_path, most_slots}
+use Rattle.template_tree.specs.Programs.PlainTree.{forest}
+use Rattle.template_tree.specs.Programs.Slots.{count, depth}
+use Rattle.template_tree.specs.Programs.Tree.{IsTree}
 use Rattle.template_tree.proofs.Trees.DrawnSlots.{built_is, built_is_tree}
 use Rattle.template_tree.proofs.tree.Tree.built.Goals as goal
 

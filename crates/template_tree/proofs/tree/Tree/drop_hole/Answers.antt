@@ -5,12 +5,12 @@ use Rattle.std.proofs.Common.{arith, ap, sym, ◌∙◌, subst}
 use Rattle.template_tree.specs.declared.change.Change.{Change}
 use Rattle.template_tree.specs.declared.change.What.{What}
 use Rattle.template_tree.specs.contracts.tree.Tree.{the_view}
-use Rattle.template_tree.specs.PlainTree.{PlainNode, PlainTree, roomless, roomless_node}
-use Rattle.template_tree.specs.Path.{node_at}
-use Rattle.template_tree.specs.Edit.{edit_at}
-use Rattle.template_tree.specs.EditAnswer.{IsEdit, IsSpareHole}
-use Rattle.template_tree.specs.Receipt.{PlainReceipt, PlainUndoing, list_room}
-use Rattle.template_tree.specs.TreeEdit.{TreeEdit}
+use Rattle.template_tree.specs.Programs.PlainTree.{PlainNode, PlainTree, roomless, roomless_node}
+use Rattle.template_tree.specs.Positions.Path.{node_at}
+use Rattle.template_tree.specs.Edits.Edit.{edit_at}
+use Rattle.template_tree.specs.Edits.EditAnswer.{IsEdit, IsSpareHole}
+use Rattle.template_tree.specs.Edits.Receipt.{PlainReceipt, PlainUndoing, list_room}
+use Rattle.template_tree.specs.Edits.TreeEdit.{TreeEdit}
 use Rattle.template_tree.proofs.Edits.Procedures.{way_where}
 use Rattle.template_tree.proofs.Trees.Counts.{counted_below}
 use Rattle.template_tree.proofs.Puts.PutEdits.{edits_at, of_there}

@@ -1,7 +1,7 @@
 use Rattle.std.specs.Prelude.{◌∷◌, []}
 use Rattle.std.proofs.Common.{ap, sym}
-use Rattle.template_tree.specs.PlainTree.{Forest}
-use Rattle.template_tree.specs.Elision.{toggled}
+use Rattle.template_tree.specs.Programs.PlainTree.{Forest}
+use Rattle.template_tree.specs.Edits.Elision.{toggled}
 use Rattle.template_tree.proofs.Parts.KeptTrees.{kept_tree, turned_relabels}
 use Rattle.template_tree.proofs.Edits.SameEdits.{edits_alike, edit_nowhere}
 use Rattle.template_tree.proofs.tree.Tree.elide.Goals as goal

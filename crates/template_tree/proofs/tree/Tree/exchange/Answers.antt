@@ -3,10 +3,10 @@
 use Rattle.std.specs.Prelude.{◌≡◌, refl, ◌+◌, ◌-◌, ◌≤◌, Some}
 use Rattle.std.proofs.Common.{arith, sym, ap, ◌∙◌}
 use Rattle.template_tree.specs.contracts.tree.Tree.{the_view}
-use Rattle.template_tree.specs.PlainTree.{PlainNode, PlainTree}
-use Rattle.template_tree.specs.Path.{node_at}
-use Rattle.template_tree.specs.Slots.{count}
-use Rattle.template_tree.specs.Edit.{node_in_slot}
+use Rattle.template_tree.specs.Programs.PlainTree.{PlainNode, PlainTree}
+use Rattle.template_tree.specs.Positions.Path.{node_at}
+use Rattle.template_tree.specs.Programs.Slots.{count}
+use Rattle.template_tree.specs.Edits.Edit.{node_in_slot}
 use Rattle.template_tree.specs.Private.Exchange.{MayReplace}
 use Rattle.template_tree.proofs.Edits.Procedures.{way_where}
 use Rattle.template_tree.proofs.Trees.Counts.{counted_below}

@@ -4,14 +4,14 @@ use Rattle.std.specs.Prelude.{◌≡◌, min, length, Some, None}
 use Rattle.std.proofs.Common.{ap, sym, ◌∙◌, subst}
 use Rattle.plcs_grammar.specs.declared.node_kind.NodeKind.{NodeKind}
 use Rattle.plcs_grammar.specs.Template.{PlainRow}
-use Rattle.template_tree.specs.PlainTree.{PlainNode, roomless_node}
-use Rattle.template_tree.specs.Path.{node_at}
-use Rattle.template_tree.specs.Program.{IsSubtree, sort_of}
-use Rattle.template_tree.specs.Slots.{count}
-use Rattle.template_tree.specs.FreshNode.{fresh_node, section_holes}
-use Rattle.template_tree.specs.Edit.{Put}
-use Rattle.template_tree.specs.Hole.{hole_of}
-use Rattle.template_tree.specs.EditAnswer.{IsHoleFor, IsWithin, slot_in}
+use Rattle.template_tree.specs.Programs.PlainTree.{PlainNode, roomless_node}
+use Rattle.template_tree.specs.Positions.Path.{node_at}
+use Rattle.template_tree.specs.Programs.Program.{IsSubtree, sort_of}
+use Rattle.template_tree.specs.Programs.Slots.{count}
+use Rattle.template_tree.specs.Edits.FreshNode.{fresh_node, section_holes}
+use Rattle.template_tree.specs.Edits.Edit.{Put}
+use Rattle.template_tree.specs.Edits.Hole.{hole_of}
+use Rattle.template_tree.specs.Edits.EditAnswer.{IsHoleFor, IsWithin, slot_in}
 use Rattle.template_tree.proofs.Puts.PutEdits.{at_there, edit_like}
 use Rattle.template_tree.proofs.Room.RoomlessEdits.{same_roomless}
 use Rattle.template_tree.proofs.Puts.Holes.{subtree_with_room}

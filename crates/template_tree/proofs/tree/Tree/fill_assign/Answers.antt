@@ -2,11 +2,11 @@ use Rattle.std.specs.Prelude.{◌≡◌, ◌⊎◌, None}
 use Rattle.std.proofs.Common.{ap, sym, subst}
 use Rattle.plcs_grammar.specs.declared.node_kind.NodeKind.{NodeKind}
 use Rattle.plcs_grammar.specs.PlainPhrase.{plain_phrase}
-use Rattle.template_tree.specs.PlainTree.{PlainNode}
-use Rattle.template_tree.specs.Path.{node_at}
-use Rattle.template_tree.specs.FreshNode.{assignment_node}
-use Rattle.template_tree.specs.Edit.{Put}
-use Rattle.template_tree.specs.EditAnswer.{IsWithin, TakesAssignment, slot_in}
+use Rattle.template_tree.specs.Programs.PlainTree.{PlainNode}
+use Rattle.template_tree.specs.Positions.Path.{node_at}
+use Rattle.template_tree.specs.Edits.FreshNode.{assignment_node}
+use Rattle.template_tree.specs.Edits.Edit.{Put}
+use Rattle.template_tree.specs.Edits.EditAnswer.{IsWithin, TakesAssignment, slot_in}
 use Rattle.template_tree.specs.Private.Exchange.{MayReplace}
 use Rattle.template_tree.proofs.Puts.PutEdits.{at_there, edit_like}
 use Rattle.template_tree.proofs.Room.RoomlessEdits.{same_roomless}

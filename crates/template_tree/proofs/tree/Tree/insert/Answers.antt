@@ -1,12 +1,12 @@
 use Rattle.std.specs.Prelude.{◌+◌, min, Some, length}
 use Rattle.std.proofs.Common.{ap, sym, ◌∙◌, arith}
-use Rattle.template_tree.specs.Limit.{most_slots}
-use Rattle.template_tree.specs.PlainTree.{PlainNode, forest}
-use Rattle.template_tree.specs.Program.{sort_of}
-use Rattle.template_tree.specs.Slots.{count}
-use Rattle.template_tree.specs.Hole.{hole_of}
-use Rattle.template_tree.specs.EditAnswer.{IsHoleFor}
-use Rattle.template_tree.specs.Path.{node_at}
+use Rattle.template_tree.specs.Programs.Limit.{most_slots}
+use Rattle.template_tree.specs.Programs.PlainTree.{PlainNode, forest}
+use Rattle.template_tree.specs.Programs.Program.{sort_of}
+use Rattle.template_tree.specs.Programs.Slots.{count}
+use Rattle.template_tree.specs.Edits.Hole.{hole_of}
+use Rattle.template_tree.specs.Edits.EditAnswer.{IsHoleFor}
+use Rattle.template_tree.specs.Positions.Path.{node_at}
 use Rattle.template_tree.proofs.Puts.PutEdits.{at_there}
 use Rattle.template_tree.proofs.Puts.PutLimits.{path_short}
 use Rattle.template_tree.proofs.Puts.Refusals.{limit_refused, limit_kept, may_come, asked_of}

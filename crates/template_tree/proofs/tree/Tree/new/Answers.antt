@@ -2,9 +2,9 @@ use Rattle.std.specs.Prelude.{◌≡◌, List, Option, map}
 use Rattle.std.proofs.Common.{ap}
 use Rattle.plcs_grammar.specs.PlainPhrase.{PlainPhrase}
 use Rattle.plcs_grammar.specs.declared.node_kind.NodeKind.{NodeKind}
-use Rattle.template_tree.specs.PlainPhrasePlace.{plain_phrase_place}
-use Rattle.template_tree.specs.PlainTree.{PlainNode, forest, roomless}
-use Rattle.template_tree.specs.NewTree.{bare_label, new_items}
+use Rattle.template_tree.specs.Programs.PlainPhrasePlace.{plain_phrase_place}
+use Rattle.template_tree.specs.Programs.PlainTree.{PlainNode, forest, roomless}
+use Rattle.template_tree.specs.Programs.NewTree.{bare_label, new_items}
 use Rattle.template_tree.proofs.Trees.NewPrograms.{new_is, new_is_tree}
 use Rattle.template_tree.proofs.tree.Tree.new.Goals as goal
 

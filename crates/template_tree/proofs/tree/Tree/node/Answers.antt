@@ -1,10 +1,10 @@
 use Rattle.std.specs.Prelude.{◌≡◌, ◌∷◌, ◌+◌, ◌<◌, ◌≤◌, length, option_map, option_and_then}
 use Rattle.std.proofs.Common.{ap, sym, ◌∙◌, arith}
-use Rattle.template_tree.specs.Limit.{most_slots}
-use Rattle.template_tree.specs.PlainTree.{nodes}
-use Rattle.template_tree.specs.Path.{below, node_at}
-use Rattle.template_tree.specs.Program.{IsSubtree}
-use Rattle.template_tree.specs.Slots.{count}
+use Rattle.template_tree.specs.Programs.Limit.{most_slots}
+use Rattle.template_tree.specs.Programs.PlainTree.{nodes}
+use Rattle.template_tree.specs.Positions.Path.{below, node_at}
+use Rattle.template_tree.specs.Programs.Program.{IsSubtree}
+use Rattle.template_tree.specs.Programs.Slots.{count}
 use Rattle.template_tree.proofs.Trees.Counts.{counted_below, items_few}
 use Rattle.template_tree.proofs.Trees.PutNodes.{found_in_tree}
 use Rattle.template_tree.proofs.Trees.Subtrees.{subtree_at, lent}

@@ -3,11 +3,11 @@ use Rattle.std.proofs.Common.{sym, ◌∙◌, arith}
 use mathlib.Core.Path.{fun_ext}
 use borrow.Follows.Closed.{read_of}
 use Rattle.std.specs.Option.{ghost_name_of}
-use Rattle.template_tree.specs.Limit.{most_slots}
-use Rattle.template_tree.specs.PlainTree.{nodes}
-use Rattle.template_tree.specs.Path.{node_at}
-use Rattle.template_tree.specs.Program.{IsSubtree}
-use Rattle.template_tree.specs.Slots.{count}
+use Rattle.template_tree.specs.Programs.Limit.{most_slots}
+use Rattle.template_tree.specs.Programs.PlainTree.{nodes}
+use Rattle.template_tree.specs.Positions.Path.{node_at}
+use Rattle.template_tree.specs.Programs.Program.{IsSubtree}
+use Rattle.template_tree.specs.Programs.Slots.{count}
 use Rattle.template_tree.proofs.Trees.Counts.{counted_below, items_few}
 use Rattle.template_tree.proofs.Trees.LentNodes.{both}
 use Rattle.template_tree.proofs.Trees.PutNodes.{put_in_tree, found_in_tree}

@@ -1,7 +1,7 @@
 use Rattle.std.proofs.Common.{◌≡◌, ◌∙◌, ap, subst}
 use Rattle.std.specs.Prelude.{IsNone, ◌↔◌}
-use Rattle.template_tree.specs.PlainTree.{PlainTree, Forest, forest}
-use Rattle.template_tree.specs.Slots.{times}
+use Rattle.template_tree.specs.Programs.PlainTree.{PlainTree, Forest, forest}
+use Rattle.template_tree.specs.Programs.Slots.{times}
 use Rattle.template_tree.proofs.Trees.SlotPaths.{settled}
 use Rattle.template_tree.proofs.tree.Tree.path_of.Goals as goal
 

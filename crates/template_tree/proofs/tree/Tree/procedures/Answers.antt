@@ -1,7 +1,7 @@
 use Rattle.std.specs.Prelude.{◌≡◌, length}
 use Rattle.std.proofs.Common.{arith, sym, ap, ◌∙◌}
 use Rattle.template_tree.proofs.tree.Tree.procedures.Goals as goal
-use Rattle.template_tree.specs.PlainTree.{PlainTree, nodes, nodes_forest}
+use Rattle.template_tree.specs.Programs.PlainTree.{PlainTree, nodes, nodes_forest}
 use Rattle.template_tree.proofs.Trees.Counts.{items_few, program_has_main}
 
 -- its items are those of the plain tree

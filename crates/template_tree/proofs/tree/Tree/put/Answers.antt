@@ -1,9 +1,9 @@
 use Rattle.std.specs.Prelude.{◌≡◌, refl, None}
 use Rattle.std.proofs.Common.{ap}
-use Rattle.template_tree.specs.PlainTree.{PlainTree, roomless_node}
-use Rattle.template_tree.specs.Path.{node_at}
-use Rattle.template_tree.specs.Receipt.{PlainUndoing}
-use Rattle.template_tree.specs.TreeEdit.{TreeEdit}
+use Rattle.template_tree.specs.Programs.PlainTree.{PlainTree, roomless_node}
+use Rattle.template_tree.specs.Positions.Path.{node_at}
+use Rattle.template_tree.specs.Edits.Receipt.{PlainUndoing}
+use Rattle.template_tree.specs.Edits.TreeEdit.{TreeEdit}
 use Rattle.template_tree.specs.Private.Exchange.{MayReplace}
 use Rattle.template_tree.proofs.Puts.PutEdits.{edit_there, put_receipt, of_there}
 use Rattle.template_tree.proofs.tree.Tree.put.Goals as goal

@@ -1,6 +1,6 @@
 use Rattle.std.specs.Prelude.{refl, [], ◌∷◌}
 use Rattle.std.proofs.Common.{ap, sym}
-use Rattle.template_tree.specs.PlainTree.{Forest, PlainTree, roomless_node, roomless_tree}
+use Rattle.template_tree.specs.Programs.PlainTree.{Forest, PlainTree, roomless_node, roomless_tree}
 use Rattle.template_tree.proofs.Room.RoomlessEdits.{with_edit_is, nowhere_is, stays}
 use Rattle.template_tree.proofs.tree.Tree.restore_node.Goals as goal
 

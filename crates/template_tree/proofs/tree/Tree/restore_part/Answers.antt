@@ -1,8 +1,8 @@
 use Rattle.std.specs.Prelude.{refl, List, [], ◌∷◌}
 use Rattle.std.proofs.Common.{ap, sym, ◌∙◌}
-use Rattle.template_tree.specs.Part.{with_part}
-use Rattle.template_tree.specs.PlainPhrasePlace.{plain_phrase_place}
-use Rattle.template_tree.specs.PlainTree.{Forest, PlainNode, PlainTree, roomless, roomless_tree}
+use Rattle.template_tree.specs.Programs.Part.{with_part}
+use Rattle.template_tree.specs.Programs.PlainPhrasePlace.{plain_phrase_place}
+use Rattle.template_tree.specs.Programs.PlainTree.{Forest, PlainNode, PlainTree, roomless, roomless_tree}
 use Rattle.template_tree.proofs.Room.RoomlessEdits.{with_edit_is, nowhere_is}
 use Rattle.template_tree.proofs.Edits.SameEdits.{edits_alike}
 use Rattle.template_tree.proofs.tree.Tree.restore_part.Goals as goal

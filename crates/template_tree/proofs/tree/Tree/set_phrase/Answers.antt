@@ -4,14 +4,14 @@ use Rattle.std.specs.Prelude.{refl}
 use Rattle.std.proofs.Common.{ap, sym, ◌∙◌, subst}
 use Rattle.std.proofs.Math.Bool.{false≢true}
 use Rattle.template_tree.specs.declared.change.What.{What}
-use Rattle.template_tree.specs.PlainPhrasePlace.{plain_phrase_place}
-use Rattle.template_tree.specs.PlainTree.{PlainNode, PlainTree}
-use Rattle.template_tree.specs.Path.{node_at}
-use Rattle.template_tree.specs.Receipt.{PlainUndoing}
-use Rattle.template_tree.specs.Tree.{IsTree}
-use Rattle.template_tree.specs.TreeEdit.{TreeEdit}
-use Rattle.template_tree.specs.EditAnswer.{TakesAtStop}
-use Rattle.template_tree.specs.Lend.{with_node}
+use Rattle.template_tree.specs.Programs.PlainPhrasePlace.{plain_phrase_place}
+use Rattle.template_tree.specs.Programs.PlainTree.{PlainNode, PlainTree}
+use Rattle.template_tree.specs.Positions.Path.{node_at}
+use Rattle.template_tree.specs.Edits.Receipt.{PlainUndoing}
+use Rattle.template_tree.specs.Programs.Tree.{IsTree}
+use Rattle.template_tree.specs.Edits.TreeEdit.{TreeEdit}
+use Rattle.template_tree.specs.Edits.EditAnswer.{TakesAtStop}
+use Rattle.template_tree.specs.Edits.Lend.{with_node}
 use Rattle.template_tree.proofs.Edits.Procedures.{on_the_way}
 use Rattle.template_tree.proofs.Puts.PutEdits.{edits_at}
 use Rattle.template_tree.proofs.Parts.KeptTrees.{part_keeps_tree}

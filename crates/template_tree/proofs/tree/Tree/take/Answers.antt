@@ -1,11 +1,11 @@
 use Rattle.std.specs.Prelude.{◌≡◌, refl, Some}
 use Rattle.std.proofs.Common.{ap, sym, ◌∙◌, subst}
-use Rattle.template_tree.specs.Path.{node_at}
-use Rattle.template_tree.specs.Hole.{hole_left, lone}
-use Rattle.template_tree.specs.PlainTree.{PlainNode, PlainTree}
-use Rattle.template_tree.specs.EditAnswer.{IsEdit}
-use Rattle.template_tree.specs.TreeEdit.{TreeEdit}
-use Rattle.template_tree.specs.Receipt.{PlainUndoing}
+use Rattle.template_tree.specs.Positions.Path.{node_at}
+use Rattle.template_tree.specs.Edits.Hole.{hole_left, lone}
+use Rattle.template_tree.specs.Programs.PlainTree.{PlainNode, PlainTree}
+use Rattle.template_tree.specs.Edits.EditAnswer.{IsEdit}
+use Rattle.template_tree.specs.Edits.TreeEdit.{TreeEdit}
+use Rattle.template_tree.specs.Edits.Receipt.{PlainUndoing}
 use Rattle.template_tree.specs.Private.Exchange.{MayReplace}
 use Rattle.template_tree.proofs.Edits.SameEdits.{taken}
 use Rattle.template_tree.proofs.Puts.PutEdits.{at_there, edit_like, put_receipt}

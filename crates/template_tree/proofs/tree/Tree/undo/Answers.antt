@@ -1,7 +1,7 @@
 use Rattle.std.proofs.Common.{ap, sym, ◌∙◌, subst}
-use Rattle.template_tree.specs.PlainTree.{PlainTree, roomless_tree}
-use Rattle.template_tree.specs.Receipt.{PlainReceipt, undone}
-use Rattle.template_tree.specs.Tree.{IsTree}
+use Rattle.template_tree.specs.Programs.PlainTree.{PlainTree, roomless_tree}
+use Rattle.template_tree.specs.Edits.Receipt.{PlainReceipt, undone}
+use Rattle.template_tree.specs.Programs.Tree.{IsTree}
 use Rattle.template_tree.proofs.Room.RoomlessTrees.{tree_with_room}
 use Rattle.template_tree.proofs.tree.Tree.undo.Goals as goal
 

@@ -1,7 +1,7 @@
 use Rattle.std.proofs.Common.{◌∙◌, sym, ap}
 use Rattle.std.specs.Prelude.{Ok}
 use Rattle.std.specs.Option.{option_or}
-use Rattle.template_tree.specs.Verdict.{both_found, infix_found, offence_in}
+use Rattle.template_tree.specs.Checks.Verdict.{both_found, infix_found, offence_in}
 use Rattle.type_marks.specs.Private.Chain.{chain_ended}
 use Rattle.type_marks.proofs.FoundChains.{ends_before}
 use Rattle.type_marks.proofs.chain.Chain.before.Goals as goal

@@ -2,8 +2,8 @@
 -- At 0 all that stands in the node is noted, and its parts come before that, as its verdicts list them.
 use Rattle.std.proofs.Common.{◌≡◌, ◌+◌, ◌-◌, [], ◌∷◌, Some, drop, length, slice_get, sym, arith}
 use Rattle.plcs_base.specs.ListLeft.{past_where_none}
-use Rattle.template_tree.specs.Marks.{node_verdicts, part_verdicts, surroundings}
-use Rattle.template_tree.specs.PlainTree.{forest, nodes}
+use Rattle.template_tree.specs.Checks.Marks.{node_verdicts, part_verdicts, surroundings}
+use Rattle.template_tree.specs.Programs.PlainTree.{forest, nodes}
 use Rattle.type_marks.proofs.NotedVerdicts.{all_more, node_more, noted_all, noted_node, then_ok}
 use Rattle.type_marks.proofs.Programs.{child_in, listed_in}
 use Rattle.type_marks.proofs.marks.Marks.+note_node.Goals as goal

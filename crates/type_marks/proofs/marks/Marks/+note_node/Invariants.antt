@@ -1,8 +1,8 @@
 use Rattle.std.proofs.Common.{◌≡◌, ◌≤◌, drop, length}
 use Rattle.plcs_base.specs.PlainCounts.{ChecksAtMost}
-use Rattle.template_tree.specs.Marks.{node_verdicts}
-use Rattle.template_tree.specs.PlainTree.{forest, nodes}
-use Rattle.template_tree.specs.Slots.{count}
+use Rattle.template_tree.specs.Checks.Marks.{node_verdicts}
+use Rattle.template_tree.specs.Programs.PlainTree.{forest, nodes}
+use Rattle.template_tree.specs.Programs.Slots.{count}
 use Rattle.type_marks.specs.Private.MarksView.{with_all}
 use Rattle.type_marks.proofs.marks.Marks.+note_node.Given as goal
 

@@ -5,10 +5,10 @@ use Rattle.std.proofs.lemmas.Option.{slice_get_within}
 use Rattle.std.specs.Option.{option_flatten}
 use Rattle.plcs_base.specs.declared.place.PhraseAt.{PhraseAt}
 use Rattle.plcs_grammar.specs.PlainPhrase.{plain_phrase}
-use Rattle.template_tree.specs.Marks.{VerdictList, part_verdicts, surroundings}
-use Rattle.template_tree.specs.Mention.{phrase_at}
-use Rattle.template_tree.specs.PlainPhrasePlace.{plain_phrase_place}
-use Rattle.template_tree.specs.Verdict.{verdict}
+use Rattle.template_tree.specs.Checks.Marks.{VerdictList, part_verdicts, surroundings}
+use Rattle.template_tree.specs.Checks.Mention.{phrase_at}
+use Rattle.template_tree.specs.Programs.PlainPhrasePlace.{plain_phrase_place}
+use Rattle.template_tree.specs.Checks.Verdict.{verdict}
 use Rattle.type_marks.specs.Private.DeclaredItems.{IsListIn}
 use Rattle.type_marks.specs.Private.MarksView.{with_all}
 use Rattle.type_marks.proofs.NotedVerdicts.{at_most, noted_none, noted_part, part_empty, part_filled, parts_shorter, then_ok}

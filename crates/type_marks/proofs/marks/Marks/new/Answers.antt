@@ -3,8 +3,8 @@
 use Rattle.std.proofs.Common.{◌≡◌, ℕ, ◌+◌, ◌-◌, [], ◌∷◌, Some, drop, length, slice_get, sym, ap, ◌∙◌, arith}
 use Rattle.std.specs.FinMap.{from_entries}
 use Rattle.plcs_base.specs.ListLeft.{past_where_none}
-use Rattle.template_tree.specs.Marks.{VerdictMap, node_verdicts, offences, procedure_verdicts}
-use Rattle.template_tree.specs.PlainTree.{Forest, forest, forest_nodes, nodes}
+use Rattle.template_tree.specs.Checks.Marks.{VerdictMap, node_verdicts, offences, procedure_verdicts}
+use Rattle.template_tree.specs.Programs.PlainTree.{Forest, forest, forest_nodes, nodes}
 use Rattle.type_marks.proofs.NotedVerdicts.{at_most, noted_procedure, procedure_more, procedures_shorter}
 use Rattle.type_marks.proofs.Programs.{is_item}
 use Rattle.type_marks.proofs.marks.Marks.new.Goals as goal

@@ -1,8 +1,8 @@
 use Rattle.std.proofs.Common.{◌≡◌, ◌≤◌, drop, length}
 use Rattle.std.specs.FinMap.{from_entries}
 use Rattle.plcs_base.specs.PlainCounts.{ChecksAtMost}
-use Rattle.template_tree.specs.Marks.{VerdictMap, procedure_verdicts}
-use Rattle.template_tree.specs.PlainTree.{forest, nodes}
+use Rattle.template_tree.specs.Checks.Marks.{VerdictMap, procedure_verdicts}
+use Rattle.template_tree.specs.Programs.PlainTree.{forest, nodes}
 use Rattle.type_marks.proofs.marks.Marks.new.Given as goal
 
 abbrev pub decreases-loop-k : goal.decreases-loop-k

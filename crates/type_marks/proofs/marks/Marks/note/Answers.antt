@@ -1,6 +1,6 @@
 use Rattle.std.proofs.Common.{◌≡◌, subst}
 use Rattle.std.specs.FinMap.{from_entries, insert}
-use Rattle.template_tree.specs.Marks.{VerdictMap}
+use Rattle.template_tree.specs.Checks.Marks.{VerdictMap}
 use Rattle.type_marks.proofs.NotedVerdicts.{put}
 use Rattle.type_marks.proofs.marks.Marks.note.Goals as goal
 

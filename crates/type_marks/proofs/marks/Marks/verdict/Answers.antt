@@ -1,6 +1,6 @@
 use Rattle.std.proofs.Common.{◌∙◌, sym, ap}
 use Rattle.std.specs.FinMap.{get}
-use Rattle.template_tree.specs.Marks.{VerdictMap}
+use Rattle.template_tree.specs.Checks.Marks.{VerdictMap}
 use Rattle.type_marks.proofs.NotedVerdicts.{found}
 use Rattle.type_marks.proofs.marks.Marks.verdict.Goals as goal
 

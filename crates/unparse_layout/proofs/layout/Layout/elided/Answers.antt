@@ -1,7 +1,7 @@
 use Rattle.std.specs.Prelude.{◌≡◌, refl}
 use Rattle.std.proofs.Common.{arith, ap, sym, ◌∙◌}
 use Rattle.plcs_grammar.specs.Template.{program_sections}
-use Rattle.template_tree.specs.PlainTree.{PlainTree}
+use Rattle.template_tree.specs.Programs.PlainTree.{PlainTree}
 use Rattle.unparse_layout.specs.Bones.{bones_of}
 use Rattle.unparse_layout.specs.Private.PlainNodeLayout.{PlainNodeLayout}
 use Rattle.unparse_layout.specs.Private.Height.{bone_count}

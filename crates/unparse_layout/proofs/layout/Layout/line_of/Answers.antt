@@ -1,8 +1,8 @@
 use Rattle.std.specs.Prelude.{◌≡◌, length}
 use Rattle.std.proofs.Common.{arith, ap, sym, ◌∙◌}
 use Rattle.plcs_grammar.specs.Template.{program_sections}
-use Rattle.template_tree.specs.PlainTree.{roomless}
-use Rattle.template_tree.specs.Stop.{plain_stop}
+use Rattle.template_tree.specs.Programs.PlainTree.{roomless}
+use Rattle.template_tree.specs.Positions.Stop.{plain_stop}
 use Rattle.unparse_layout.specs.Bones.{PlainLayout, bones_of}
 use Rattle.unparse_layout.specs.Private.Height.{bone_count}
 use Rattle.unparse_layout.specs.Private.ItemLines.{lines_before}

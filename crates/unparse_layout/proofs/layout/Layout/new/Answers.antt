@@ -4,10 +4,10 @@ use Rattle.std.specs.Prelude.{◌≡◌, Some, None, is_some, slice_get}
 use Rattle.std.proofs.Common.{arith, ap, sym, ◌∙◌}
 use Rattle.std.proofs.lemmas.Option.{slice_get_within}
 use Rattle.plcs_grammar.specs.Template.{PlainRow, row_of, program_sections}
-use Rattle.template_tree.specs.PlainTree.{nodes}
-use Rattle.template_tree.specs.Section.{left_for, next_lead}
+use Rattle.template_tree.specs.Programs.PlainTree.{nodes}
+use Rattle.template_tree.specs.Listings.Section.{left_for, next_lead}
 use Rattle.unparse_layout.specs.Bones.{bones_of}
-use Rattle.template_tree.specs.PlainSectionsLeft.{plain_sections_left}
+use Rattle.template_tree.specs.Listings.PlainSectionsLeft.{plain_sections_left}
 use Rattle.unparse_layout.specs.Private.PlainNodeLayout.{PlainNodeLayout, node_layout_of}
 use Rattle.unparse_layout.proofs.Heights.{count_bones, nodes_few, node_layouts_few}
 use Rattle.unparse_layout.proofs.MadeBones.{made_all, made_few, made_next, made_none, push_fits, some_mapped}

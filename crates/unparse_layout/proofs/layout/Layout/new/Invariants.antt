@@ -1,8 +1,8 @@
 use Rattle.std.specs.Prelude.{◌-◌, ◌≤◌, drop, length}
 use Rattle.plcs_grammar.specs.Template.{program_sections}
-use Rattle.template_tree.specs.PlainTree.{nodes}
+use Rattle.template_tree.specs.Programs.PlainTree.{nodes}
 use Rattle.unparse_layout.specs.Bones.{bones_of}
-use Rattle.template_tree.specs.PlainSectionsLeft.{plain_sections_left}
+use Rattle.template_tree.specs.Listings.PlainSectionsLeft.{plain_sections_left}
 use Rattle.unparse_layout.proofs.MadeBones.{IsMade}
 use Rattle.unparse_layout.proofs.layout.Layout.new.Given as goal
 

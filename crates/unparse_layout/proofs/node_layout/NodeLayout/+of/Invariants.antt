@@ -1,9 +1,9 @@
 use Rattle.std.specs.Prelude.{◌≡◌, ◌≤◌, ◌-◌, drop, length}
 use Rattle.plcs_grammar.specs.Template.{row_of}
-use Rattle.template_tree.specs.PlainTree.{nodes}
-use Rattle.template_tree.specs.Slots.{count}
+use Rattle.template_tree.specs.Programs.PlainTree.{nodes}
+use Rattle.template_tree.specs.Programs.Slots.{count}
 use Rattle.unparse_layout.specs.Bones.{bones_of}
-use Rattle.template_tree.specs.PlainSectionsLeft.{plain_sections_left}
+use Rattle.template_tree.specs.Listings.PlainSectionsLeft.{plain_sections_left}
 use Rattle.unparse_layout.proofs.MadeBones.{IsMade}
 use Rattle.unparse_layout.proofs.node_layout.NodeLayout.+of.Given as goal
 

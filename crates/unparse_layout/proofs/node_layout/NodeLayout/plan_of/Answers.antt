@@ -4,7 +4,7 @@ use Rattle.std.specs.Prelude.{◌≡◌, ◌<◌, Some, None, is_some, length, m
 use Rattle.std.proofs.Common.{arith, ap, sym, ◌∙◌}
 use Rattle.std.proofs.lemmas.List.{length-map}
 use Rattle.plcs_grammar.specs.Template.{program_sections}
-use Rattle.template_tree.specs.PlainTree.{nodes}
+use Rattle.template_tree.specs.Programs.PlainTree.{nodes}
 use Rattle.unparse_layout.specs.Bones.{bones_of}
 use Rattle.unparse_layout.specs.Private.PlainNodeLayout.{PlainNodeLayout, node_layouts, node_layouts_bones}
 use Rattle.unparse_layout.specs.Private.Height.{height}
