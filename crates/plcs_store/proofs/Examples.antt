@@ -1,5 +1,6 @@
 -- The tables of the definitions at work: each row is a value beside the one that is computed.
 pub mod Row
+pub mod Programs
 mod Numbers
 mod Truth
 mod Comparisons
@@ -9,3 +10,4 @@ mod Variables
 mod Input
 mod Output
 mod Steps
+mod Faults

@@ -1,55 +1,37 @@
 -- What stands at the places of a program, and steps: where each goes on, what it changes, and why it stops.
-use Rattle.std.specs.Prelude.{◌≡◌, refl, ℕ, ◌==◌, pos, Bool, true, false, ◌&&◌, List, [], ◌∷◌, ◌++◌, codes, replicate, Option, Some, None}
+use Rattle.std.specs.Prelude.{◌≡◌, refl, ℕ, ◌==◌, pos, neg_ℤ, Bool, true, false, ◌&&◌, List, [], ◌∷◌, ◌++◌, codes, replicate, Option, Some, None}
 use Rattle.std.specs.Fmt.{digits}
 use Rattle.plcs_base.specs.declared.declared.ItemType.{ItemType}
 use Rattle.plcs_grammar.specs.declared.node_kind.NodeKind.{NodeKind}
 use Rattle.plcs_grammar.specs.declared.template.Template.{Template}
 use Rattle.plcs_grammar.specs.Builtin.{is_builtin_name}
-use Rattle.plcs_grammar.specs.PlainPhrase.{PlainExpr, PlainExprs, PlainPhrase, PlainVarRef}
+use Rattle.plcs_grammar.specs.PlainPhrase.{PlainExpr, PlainPhrase}
 use Rattle.template_tree.specs.Programs.NewTree.{bare_label}
 use Rattle.template_tree.specs.Positions.Place.{PlainPlace, place_at}
-use Rattle.template_tree.specs.Programs.PlainTree.{Forest, Label}
+use Rattle.template_tree.specs.Programs.PlainTree.{Forest}
 use Rattle.plcs_store.specs.declared.cell.Cell.{Cell}
 use Rattle.plcs_store.specs.declared.fault_kind.FaultKind.{FaultKind}
 use Rattle.plcs_store.specs.declared.frame.Frame.{Frame}
 use Rattle.plcs_store.specs.declared.kept_loop.KeptLoop.{KeptLoop}
 use Rattle.plcs_store.specs.declared.reason.Reason.{Reason}
-use Rattle.plcs_store.specs.declared.variable.Variable.{Variable}
 use Rattle.plcs_store.specs.Act.{Act}
 use Rattle.plcs_store.specs.CellAt.{Variables}
 use Rattle.plcs_store.specs.Configuration.{PlainConfiguration}
 use Rattle.plcs_store.specs.NewFrame.{First, new_frame}
 use Rattle.plcs_store.specs.Spot.{Spot, spot_by}
-use Rattle.plcs_store.specs.Step.{PlainStepAnswer, step_by}
+use Rattle.plcs_store.specs.Step.{PlainStepAnswer, is_over, step_by}
 use Rattle.plcs_store.specs.Resume.{resolved_place}
 use Rattle.plcs_store.specs.Undone.{step_undone, undo_of}
-use Rattle.plcs_store.proofs.Examples.Row.{Rows, num}
+use Rattle.plcs_store.proofs.Examples.Programs.{alone, filled, held, leaf, main_frame, nothing_marked, number, one_part, reference, scalar, stepped, stopped}
+use Rattle.plcs_store.proofs.Examples.Row.{Rows}
 
 -- ---- a program
-
-abbrev filled : ℕ → Template → List (Option PlainPhrase) → Label
-filled slot template parts = record { slot = slot; kind = NodeKind.Filled template; parts = parts; elided = false; spare = 0 }
-
-abbrev leaf : Label → Forest → Forest
-leaf label rest = Forest.cons label Forest.nil rest
-
-abbrev one_part : PlainPhrase → List (Option PlainPhrase)
-one_part phrase = Some phrase ∷ []
-
-abbrev reference : List ℕ → PlainVarRef
-reference name = PlainVarRef.simple name
 
 abbrev x : PlainExpr
 x = PlainExpr.variable (reference (codes "x"))
 
-abbrev number : ℕ → PlainExpr
-number n = PlainExpr.number (pos n)
-
 abbrev yes_bit : PlainExpr
 yes_bit = PlainExpr.bit true
-
-abbrev alone : PlainExpr → PlainExprs
-alone e = PlainExprs.cons e PlainExprs.nil
 
 -- x and y declared; x set; an IF over a group, an IFELSE over two PUTs, a DO WHILE over a hole, a For over a comment of a GET, a
 -- CALL of q, an empty PUT, and a RETURN
@@ -79,9 +61,6 @@ sample =
     (leaf (filled 21 Template.Fixed (one_part (PlainPhrase.declared_list (record { name = codes "p"; size = None } ∷ (record { name = codes "z"; size = Some 2 } ∷ [])))))
     (leaf (filled 22 Template.Return []) Forest.nil))
     Forest.nil)
-
-abbrev nothing_marked : ℕ → ℕ → Bool
-nothing_marked slot part = false
 
 abbrev marked_at : ℕ → ℕ → ℕ → Bool
 marked_at one slot part = (slot == one) && (part == 0)
@@ -132,18 +111,8 @@ marked_spots = refl
 
 -- ---- steps
 
-abbrev scalar : List ℕ → Cell → List ℕ × Variable
-scalar name cell = (name, record { ty = ItemType.Fixed; size = 0; cells = cell ∷ [] })
-
 abbrev main_with : Cell → Cell → Variables
 main_with one other = scalar (codes "x") one ∷ (scalar (codes "y") other ∷ [])
-
-abbrev held : ℕ → Cell
-held n = Cell.Held (num n)
-
--- main alone at a place, with these cells and loops
-abbrev main_frame : PlainPlace → Variables → List KeptLoop → Frame
-main_frame place cells loops = record (new_frame 0 place cells) { loops = loops }
 
 abbrev main_at : ℕ → ℕ → Cell → Cell → List KeptLoop → PlainConfiguration
 main_at slot point one other loops =
@@ -151,12 +120,6 @@ main_at slot point one other loops =
 
 abbrev loop : ℕ → ℕ → KeptLoop
 loop limit step = record { slot = record { 0 = 11 }; limit = pos limit; step = pos step }
-
-abbrev stepped : PlainConfiguration → Option PlainStepAnswer
-stepped c = Some (PlainStepAnswer.stepped c)
-
-abbrev stopped : Reason → Option PlainStepAnswer
-stopped reason = Some (PlainStepAnswer.stopped reason)
 
 abbrev go : List ℕ → PlainConfiguration → Option PlainStepAnswer
 go input c = step_by (spot_by nothing_marked sample) input c
@@ -179,6 +142,17 @@ steps : Rows
     ∷ (go [] (main_at 16 0 Cell.Unset Cell.Unset []), Some PlainStepAnswer.ended) ∷ [])
 unfolding digits
 steps = refl
+
+-- a loop by a step of 0 or more is over past its limit, and one by a step below 0 before it
+loops_over : Rows
+    ((is_over (pos 3) (pos 1) (pos 3), false)
+    ∷ (is_over (pos 3) (pos 1) (pos 4), true)
+    ∷ (is_over (pos 3) (pos 0) (pos 3), false)
+    ∷ (is_over (pos 3) (pos 0) (pos 4), true)
+    ∷ (is_over (pos 3) (neg_ℤ (pos 1)) (pos 3), false)
+    ∷ (is_over (pos 3) (neg_ℤ (pos 1)) (pos 2), true)
+    ∷ (is_over (neg_ℤ (pos 2147483648)) (neg_ℤ (pos 1)) (neg_ℤ (pos 2147483648)), false) ∷ [])
+loops_over = refl
 
 -- ---- calls
 
