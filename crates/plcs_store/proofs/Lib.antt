@@ -14,6 +14,8 @@ pub mod WrittenItems
 pub mod Unedited
 -- `steps_taken_back`
 pub mod TakenBack
+-- `Loops::pop`, `Frames::pop`
+pub mod PoppedItems
 -- `what_fits_has_a_step`, `steps_do_allowed_acts`
 pub mod FittingSteps
 -- `steps_keep_fit`

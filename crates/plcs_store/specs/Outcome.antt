@@ -1,5 +1,5 @@
 -- What the parts of a step come to, one after the other: the first that stops it counts.
-use Rattle.std.specs.Prelude.{Option, Some, None}
+use Rattle.std.specs.Prelude.{Option, Some, None, Result, Ok, Err}
 use Rattle.plcs_store.specs.declared.fault_kind.FaultKind.{FaultKind}
 use Rattle.plcs_store.specs.declared.reason.Reason.{Reason}
 
@@ -28,3 +28,15 @@ both_give left right make = then_gives left (λ a. then_gives right (make a))
 abbrev pub if_there : {A : Type 0} → Option A → Outcome A
 if_there None = undefined
 if_there (Some a) = gives a
+
+-- ---- what the code answers
+
+-- the outcome that an answer of the code is: it gives something, or a fault
+abbrev pub found_or_fault : {A : Type 0} → Result A FaultKind → Outcome A
+found_or_fault (Ok a) = gives a
+found_or_fault (Err kind) = faults kind
+
+-- the outcome that an answer of the code is, which may also be undefined
+abbrev pub answer_outcome : {A : Type 0} → Result (Option A) FaultKind → Outcome A
+answer_outcome (Ok found) = if_there found
+answer_outcome (Err kind) = faults kind

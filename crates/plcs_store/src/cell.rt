@@ -19,12 +19,9 @@ impl Location {
     pub fn copy(&self) -> Location
         ensures { result ≡ self.now }
     {
-        let Some(name) = Name::read(self.name.as_bytes()) else {
-            unreachable!();
-        };
         Location {
             frame: self.frame,
-            name,
+            name: self.name.copy(),
             element: self.element,
         }
     }

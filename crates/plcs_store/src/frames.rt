@@ -1,6 +1,6 @@
 //! The frames of a run.
 ghost use Rattle.std.specs.Prelude.{◌≡◌, ◌+◌, ◌<◌, ◌≤◌, length, vec_capacity, vec_len, slice_get, ◌++◌, [], ◌∷◌, IfNone, IfOk, IfSome, option_map};
-ghost use Rattle.plcs_store.specs.Act.{HasLoopRoom, newest_at, with_loop, with_newest};
+ghost use Rattle.plcs_store.specs.Act.{HasLoopRoom, newest_at, with_loop, with_newest, without_loop, without_newest};
 ghost use Rattle.plcs_store.specs.CellAt.{HasCell, cell_at, variable_at, with_cell};
 ghost use Rattle.plcs_store.specs.Configuration.{plain_place, top_place};
 ghost use Rattle.plcs_store.specs.Limit.{most_frames};
@@ -62,6 +62,8 @@ impl Frames {
     pub fn pop(&mut self) -> Option<Frame>
         ensures some { IfSome result (λ frame. self.old ≡ self.new ++ frame ∷ []) }
         ensures none { IfNone result ((self.old ≡ []) × (self.new ≡ self.old)) }
+        ensures newest { result ≡ newest_frame self.old }
+        ensures left { self.new ≡ without_newest self.old }
     {
         self.frames.pop()
     }
@@ -79,6 +81,16 @@ impl Frames {
         ensures { option_map (λ frame. frame.now) result ≡ newest_frame self.now }
     {
         self.frames.last()
+    }
+
+    /// Where the newest frame stands, or `None` where there is none.
+    pub fn place(&self) -> Option<Place>
+        ensures { option_map plain_place result ≡ top_place self.now }
+    {
+        match self.frames.last() {
+            None => None,
+            Some(frame) => Some(frame.place),
+        }
     }
 
     /// Puts the newest frame at the place.
@@ -132,5 +144,14 @@ impl Frames {
     {
         let newest = self.frames.len() - 1;
         self.frames[newest].loops.push(kept);
+    }
+
+    /// Takes the innermost loop of the newest frame off, if it keeps one.
+    pub fn pop_loop(&mut self)
+        requires some { 0 < length self.old }
+        ensures { self.new ≡ with_newest without_loop self.old }
+    {
+        let newest = self.frames.len() - 1;
+        let _ = self.frames[newest].loops.pop();
     }
 }

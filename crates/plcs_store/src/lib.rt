@@ -5,6 +5,7 @@
 mod argument;
 mod cell;
 mod cell_list;
+mod cell_values;
 mod cells;
 mod copied_parts;
 mod fault_kind;
@@ -29,6 +30,7 @@ mod variable;
 pub use argument::Argument;
 pub use cell::{Cell, Location};
 pub use cell_list::CellList;
+pub use cell_values::{copy_value, kept_value};
 pub use cells::Cells;
 pub use copied_parts::CopiedParts;
 pub use fault_kind::FaultKind;

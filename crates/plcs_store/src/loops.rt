@@ -1,5 +1,5 @@
 //! The loops that a frame keeps.
-ghost use Rattle.std.specs.Prelude.{◌≡◌, ◌+◌, ◌<◌, ◌≤◌, length, vec_capacity, vec_len, slice_get, ◌++◌, [], ◌∷◌, IfNone, IfOk, IfSome};
+ghost use Rattle.std.specs.Prelude.{◌≡◌, ◌+◌, ◌-◌, ◌<◌, ◌≤◌, length, take, vec_capacity, vec_len, slice_get, ◌++◌, [], ◌∷◌, IfNone, IfOk, IfSome};
 ghost use Rattle.plcs_store.specs.Limit.{most_loops};
 
 use crate::kept_loop::KeptLoop;
@@ -56,6 +56,8 @@ impl Loops {
     pub fn pop(&mut self) -> Option<KeptLoop>
         ensures some { IfSome result (λ kept. self.old ≡ self.new ++ kept ∷ []) }
         ensures none { IfNone result ((self.old ≡ []) × (self.new ≡ self.old)) }
+        ensures innermost { result ≡ slice_get self.old (length self.old - 1) }
+        ensures left { self.new ≡ take (length self.old - 1) self.old }
     {
         self.loops.pop()
     }
