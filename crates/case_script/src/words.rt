@@ -38,6 +38,15 @@ pub fn number_of(word: &[u8]) -> Option<u32> {
     Some(number)
 }
 
+/// The numbers that the words are, if each is one.
+pub fn numbers_of(alloc: Global, words: &[Vec<u8>]) -> Option<Vec<u64>> {
+    let mut numbers = Vec::new(alloc);
+    for word in words {
+        numbers.push(u64::from(number_of(word.as_slice())?)).ok()?;
+    }
+    Some(numbers)
+}
+
 /// The value of a decimal digit.
 fn digit_of(byte: u8) -> Option<u32> {
     match byte {
