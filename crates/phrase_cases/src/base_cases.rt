@@ -1,5 +1,5 @@
 //! Cases on bytes, names, texts and counts.
-use crate::answer::Answer;
+use case_script::Told;
 use plcs_base::{
     ByteOut, Counts, Name, TextValue, Work, is_digit, is_letter, is_name_byte, is_printable,
 };
@@ -27,37 +27,37 @@ impl ByteClass {
 }
 
 /// Those of all 256 bytes that are of the class.
-pub fn put_class(class: ByteClass, answer: &mut Answer) -> Option<()> {
-    let mut found = Answer::new(answer.alloc());
+pub fn put_class(class: ByteClass, told: &mut Told) -> Option<()> {
+    let mut found = Told::new(told.alloc());
     for byte in 0..=255u8 {
         if class.has(byte) {
             found.put(byte);
         }
     }
-    answer.put_word(found.as_bytes());
+    told.word(found.as_bytes());
     Some(())
 }
 
 /// The name that the bytes are.
-pub fn put_name(bytes: &[u8], answer: &mut Answer) -> Option<()> {
+pub fn put_name(bytes: &[u8], told: &mut Told) -> Option<()> {
     match Name::read(bytes) {
-        Some(name) => answer.put_word(name.as_bytes()),
-        None => answer.put_text("None"),
+        Some(name) => told.word(name.as_bytes()),
+        None => told.text("None"),
     }
     Some(())
 }
 
 /// The text of a value that the bytes are.
-pub fn put_text_value(bytes: &[u8], answer: &mut Answer) -> Option<()> {
+pub fn put_text_value(bytes: &[u8], told: &mut Told) -> Option<()> {
     match TextValue::read(bytes) {
-        Some(text) => answer.put_word(text.as_bytes()),
-        None => answer.put_text("None"),
+        Some(text) => told.word(text.as_bytes()),
+        None => told.text("None"),
     }
     Some(())
 }
 
 /// The counts, each from this number on, once these words were counted.
-pub fn put_counts(from: &[u8], counted: &[Vec<u8>], answer: &mut Answer) -> Option<()> {
+pub fn put_counts(from: &[u8], counted: &[Vec<u8>], told: &mut Told) -> Option<()> {
     let first = numeral_value(from);
     let mut counts = Counts {
         emitted: first,
@@ -68,7 +68,7 @@ pub fn put_counts(from: &[u8], counted: &[Vec<u8>], answer: &mut Answer) -> Opti
     for word in counted {
         count(word, &mut counts)?;
     }
-    answer.put_debug(&counts);
+    told.value(&counts);
     Some(())
 }
 

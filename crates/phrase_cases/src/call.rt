@@ -1,5 +1,4 @@
 //! The calls that a script may name.
-use crate::answer::Answer;
 use crate::base_cases::{ByteClass, put_class, put_counts, put_name, put_text_value};
 use crate::command_cases::{
     put_command, put_command_word, put_file_name, put_message, put_no_message,
@@ -9,6 +8,7 @@ use crate::grammar_cases::{
     put_placeholder, put_quoted_constant, put_sign, put_signed, put_template, put_trimmed,
 };
 use crate::text_cases::{put_comparison, put_cut, put_number_shown, put_reading};
+use case_script::Told;
 
 /// A call of the crates under test.
 #[derive(Clone, Copy)]
@@ -40,7 +40,7 @@ pub enum Call {
 }
 
 /// The calls, each with its word.
-static CALLS: [(&[u8], Call); 27] = [
+pub static CALLS: [(&[u8], Call); 27] = [
     (b"is_letter", Call::Class(ByteClass::Letter)),
     (b"is_digit", Call::Class(ByteClass::Digit)),
     (b"is_name_byte", Call::Class(ByteClass::NameByte)),
@@ -70,54 +70,42 @@ static CALLS: [(&[u8], Call); 27] = [
     (b"no_message", Call::NoMessage),
 ];
 
-impl Call {
-    /// The call that has the word.
-    pub fn read(word: &[u8]) -> Option<Call> {
-        for (known, call) in &CALLS {
-            if *known == word {
-                return Some(*call);
-            }
-        }
-        None
+/// Makes the call with these arguments, and puts what it answers, if it takes such arguments.
+pub fn play(call: Call, arguments: &[Vec<u8>], told: &mut Told) -> Option<()> {
+    match (call, arguments) {
+        (Call::Class(class), []) => put_class(class, told),
+        (Call::Operators, []) => put_operators(told),
+        (Call::NoMessage, []) => put_no_message(told),
+        (Call::Count, [from, counted @ ..]) => put_counts(from, counted, told),
+        (Call::SamePhrase, texts) => put_comparison(texts, told),
+        (Call::Parse, [category, text]) => put_reading(category, text, told),
+        (Call::CutAt, [text, divider]) => put_cut(text, divider, told),
+        (Call::Message, [name, number]) => put_message(name, Some(number), told),
+        (_, [argument]) => play_one(call, argument, told),
+        _ => None,
     }
+}
 
-    /// Makes the call with these arguments, and puts what it answers, if it takes such arguments.
-    pub fn play(self, arguments: &[Vec<u8>], answer: &mut Answer) -> Option<()> {
-        match (self, arguments) {
-            (Call::Class(class), []) => put_class(class, answer),
-            (Call::Operators, []) => put_operators(answer),
-            (Call::NoMessage, []) => put_no_message(answer),
-            (Call::Count, [from, counted @ ..]) => put_counts(from, counted, answer),
-            (Call::SamePhrase, texts) => put_comparison(texts, answer),
-            (Call::Parse, [category, text]) => put_reading(category, text, answer),
-            (Call::CutAt, [text, divider]) => put_cut(text, divider, answer),
-            (Call::Message, [name, number]) => put_message(name, Some(number), answer),
-            (_, [argument]) => self.play_one(argument, answer),
-            _ => None,
-        }
-    }
-
-    /// Makes a call that takes one argument.
-    fn play_one(self, argument: &[u8], answer: &mut Answer) -> Option<()> {
-        match self {
-            Call::ReadName => put_name(argument, answer),
-            Call::ReadText => put_text_value(argument, answer),
-            Call::ReadBuiltin => put_builtin(argument, answer),
-            Call::ReadSign => put_sign(argument, answer),
-            Call::PutDecimal => put_decimal_digits(argument, answer),
-            Call::PutNumber => put_signed(argument, answer),
-            Call::PutQuoted => put_quoted_constant(argument, answer),
-            Call::PutBit => put_bit_constant(argument, answer),
-            Call::NumeralValue => put_numeral_value(argument, answer),
-            Call::Trimmed => put_trimmed(argument, answer),
-            Call::Placeholder => put_placeholder(argument, answer),
-            Call::ReadTemplate => put_template(argument, answer),
-            Call::ShowNumber => put_number_shown(argument, answer),
-            Call::ReadCommand => put_command(argument, answer),
-            Call::CommandWord => put_command_word(argument, answer),
-            Call::IsFileName => put_file_name(argument, answer),
-            Call::Message => put_message(argument, None, answer),
-            _ => None,
-        }
+/// Makes a call that takes one argument.
+fn play_one(call: Call, argument: &[u8], told: &mut Told) -> Option<()> {
+    match call {
+        Call::ReadName => put_name(argument, told),
+        Call::ReadText => put_text_value(argument, told),
+        Call::ReadBuiltin => put_builtin(argument, told),
+        Call::ReadSign => put_sign(argument, told),
+        Call::PutDecimal => put_decimal_digits(argument, told),
+        Call::PutNumber => put_signed(argument, told),
+        Call::PutQuoted => put_quoted_constant(argument, told),
+        Call::PutBit => put_bit_constant(argument, told),
+        Call::NumeralValue => put_numeral_value(argument, told),
+        Call::Trimmed => put_trimmed(argument, told),
+        Call::Placeholder => put_placeholder(argument, told),
+        Call::ReadTemplate => put_template(argument, told),
+        Call::ShowNumber => put_number_shown(argument, told),
+        Call::ReadCommand => put_command(argument, told),
+        Call::CommandWord => put_command_word(argument, told),
+        Call::IsFileName => put_file_name(argument, told),
+        Call::Message => put_message(argument, None, told),
+        _ => None,
     }
 }

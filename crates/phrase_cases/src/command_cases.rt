@@ -1,6 +1,6 @@
 //! Cases on command lines, file names and messages.
-use crate::answer::{Answer, named};
-use case_script::number_of;
+use crate::tell::{named, tell_found, tell_named};
+use case_script::{Told, number_of};
 use plcs_base::{ByteOut, put_bytes};
 use session_words::{
     Command, Message, MessageText, Notice, RefusalMessage, begins_with_point, command_word,
@@ -52,67 +52,67 @@ static NOTICES: [Notice; 17] = [
 ];
 
 /// The command that the line is, or why it is none.
-pub fn put_command(line: &[u8], answer: &mut Answer) -> Option<()> {
+pub fn put_command(line: &[u8], told: &mut Told) -> Option<()> {
     if !begins_with_point(line) {
-        answer.put_text("NO POINT");
+        told.text("NO POINT");
         return Some(());
     }
     match read_command(line) {
-        Ok(Command::Cut(name)) => answer.put_named("Cut", name.as_bytes()),
-        Ok(Command::Copy(name)) => answer.put_named("Copy", name.as_bytes()),
-        Ok(Command::Insert(name)) => answer.put_named("Insert", name.as_bytes()),
-        Ok(Command::Input(text)) => answer.put_named("Input", text),
-        Ok(Command::Save(file)) => answer.put_named("Save", file),
-        Ok(Command::Load(file)) => answer.put_named("Load", file),
-        Ok(other) => answer.put_debug(&other),
-        Err(fault) => answer.put_debug(&fault),
+        Ok(Command::Cut(name)) => tell_named("Cut", name.as_bytes(), told),
+        Ok(Command::Copy(name)) => tell_named("Copy", name.as_bytes(), told),
+        Ok(Command::Insert(name)) => tell_named("Insert", name.as_bytes(), told),
+        Ok(Command::Input(text)) => tell_named("Input", text, told),
+        Ok(Command::Save(file)) => tell_named("Save", file, told),
+        Ok(Command::Load(file)) => tell_named("Load", file, told),
+        Ok(other) => told.value(&other),
+        Err(fault) => told.value(&fault),
     }
     Some(())
 }
 
 /// The word of a command line.
-pub fn put_command_word(line: &[u8], answer: &mut Answer) -> Option<()> {
+pub fn put_command_word(line: &[u8], told: &mut Told) -> Option<()> {
     if begins_with_point(line) {
-        answer.put_found(command_word(line));
+        tell_found(command_word(line), told);
     } else {
-        answer.put_text("NO POINT");
+        told.text("NO POINT");
     }
     Some(())
 }
 
 /// Whether the bytes are a file name.
-pub fn put_file_name(bytes: &[u8], answer: &mut Answer) -> Option<()> {
-    answer.put_debug(&is_file_name(bytes));
+pub fn put_file_name(bytes: &[u8], told: &mut Told) -> Option<()> {
+    told.value(&is_file_name(bytes));
     Some(())
 }
 
 /// The text of a message, behind the number of its kind if it is a refusal's.
-pub fn put_message(name: &[u8], number: Option<&Vec<u8>>, answer: &mut Answer) -> Option<()> {
+pub fn put_message(name: &[u8], number: Option<&Vec<u8>>, told: &mut Told) -> Option<()> {
     let message = match number {
-        Some(digits) => Message::Refusal(numbered(name, digits, answer)?),
-        None => plain_message(name, answer)?,
+        Some(digits) => Message::Refusal(numbered(name, digits, told)?),
+        None => plain_message(name, told)?,
     };
     if let Message::Refusal(refusal) = message {
-        answer.put_debug(&refusal.number());
-        answer.put_text(" ");
+        told.value(&refusal.number());
+        told.text(" ");
     }
-    answer.put_word(message.text().as_bytes());
+    told.word(message.text().as_bytes());
     Some(())
 }
 
 /// The message of this name that has no number.
-fn plain_message(name: &[u8], answer: &Answer) -> Option<Message> {
-    if let Some(refusal) = named(answer.alloc(), &REFUSALS, name) {
+fn plain_message(name: &[u8], told: &Told) -> Option<Message> {
+    if let Some(refusal) = named(told.alloc(), &REFUSALS, name) {
         return Some(Message::Refusal(refusal));
     }
-    if let Some(notice) = named(answer.alloc(), &NOTICES, name) {
+    if let Some(notice) = named(told.alloc(), &NOTICES, name) {
         return Some(Message::Notice(notice));
     }
-    named(answer.alloc(), &[Message::NotBuilt], name)
+    named(told.alloc(), &[Message::NotBuilt], name)
 }
 
 /// The refusal of this name that has a number.
-fn numbered(name: &[u8], digits: &[u8], answer: &Answer) -> Option<RefusalMessage> {
+fn numbered(name: &[u8], digits: &[u8], told: &Told) -> Option<RefusalMessage> {
     let number = number_of(digits)?;
     let refusals = [
         RefusalMessage::SyntaxAt(number),
@@ -123,16 +123,16 @@ fn numbered(name: &[u8], digits: &[u8], answer: &Answer) -> Option<RefusalMessag
         RefusalMessage::DeclarationChanged(number),
         RefusalMessage::TemplateChanged(number),
     ];
-    let mut whole = Answer::new(answer.alloc());
+    let mut whole = Told::new(told.alloc());
     put_bytes(name, &mut whole);
     whole.put(b'(');
     put_bytes(digits, &mut whole);
     whole.put(b')');
-    named(answer.alloc(), &refusals, whole.as_bytes())
+    named(told.alloc(), &refusals, whole.as_bytes())
 }
 
 /// The text where there is no message.
-pub fn put_no_message(answer: &mut Answer) -> Option<()> {
-    answer.put_word(MessageText::none().as_bytes());
+pub fn put_no_message(told: &mut Told) -> Option<()> {
+    told.word(MessageText::none().as_bytes());
     Some(())
 }

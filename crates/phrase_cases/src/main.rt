@@ -2,56 +2,54 @@
 //! lines, messages. It prints each line of the script, and after a case what the calls answered.
 #![tactic(auto)]
 
-mod answer;
 mod base_cases;
 mod call;
 mod command_cases;
 mod grammar_cases;
 mod parts;
+mod tell;
 mod text_cases;
 
-use crate::answer::Answer;
-use crate::call::Call;
-use case_script::words_of;
-use std::alloc::{AllocError, Global};
+use crate::call::{CALLS, play};
+use case_script::{Told, meaning, print_told, words_of};
+use std::alloc::Global;
 use std::io;
 use std::io::{BufRead, BufReader};
 
 fn main(rt: HostRuntime) -> io::Result<()> {
     let alloc = rt.alloc();
+    let mut told = Told::new(alloc);
     for line in BufReader::new(alloc, rt.reader())?.lines(alloc) {
         let line = line?;
         println!(&rt; "{line}")?;
-        if is_case(line.as_bytes()) {
-            let answer = answer_of(alloc, line.as_bytes())?;
-            println!(&rt; "= {}", answer.text())?;
-        }
+        play_line(alloc, line.as_bytes(), &mut told);
+        print_told(&rt, &told)?;
     }
     Ok(())
 }
 
-/// Whether the line is a case: it isn't empty, and no heading.
-fn is_case(line: &[u8]) -> bool {
-    !matches!(line, [] | [b'#', ..])
+/// Plays a line of the script, which is a case unless it is empty or a heading, and tells its answer.
+fn play_line(alloc: Global, line: &[u8], told: &mut Told) {
+    told.clear();
+    if matches!(line, [] | [b'#', ..]) {
+        return;
+    }
+    if play_case(alloc, line, told).is_none() {
+        told.clear();
+        told.line("NOT A CASE");
+    }
 }
 
-/// The answer to the case of the line.
-fn answer_of(alloc: Global, line: &[u8]) -> Result<Answer, AllocError> {
-    let mut answer = Answer::new(alloc);
-    let played = match words_of(alloc, line)? {
-        Some(words) => play(words.as_slice(), &mut answer),
-        None => None,
-    };
-    if played.is_none() {
-        answer.put_text("NOT A CASE");
+/// Plays a case, if it is one.
+fn play_case(alloc: Global, case: &[u8], told: &mut Told) -> Option<()> {
+    match words_of(alloc, case) {
+        Ok(Some(words)) => play_words(words.as_slice(), told),
+        _ => None,
     }
-    Ok(answer)
 }
 
-/// Makes the call that the words are, and puts its answer, if they are a call.
-fn play(words: &[Vec<u8>], answer: &mut Answer) -> Option<()> {
-    match words {
-        [word, arguments @ ..] => Call::read(word)?.play(arguments, answer),
-        [] => None,
-    }
+/// Makes the call that the words are, if they are one, and tells its answer.
+fn play_words(words: &[Vec<u8>], told: &mut Told) -> Option<()> {
+    let (word, arguments) = words.split_first()?;
+    play(meaning(&CALLS, word.as_slice())?, arguments, told)
 }

@@ -1,7 +1,7 @@
 //! Cases on texts that are parsed, shown, copied and compared, and on lines that are cut.
-use crate::answer::Answer;
 use crate::grammar_cases::{category_of, integer_of};
 use crate::parts::put_parts;
+use case_script::Told;
 use phrase_parser::{PhraseFault, cut_at, parse};
 use plcs_base::ByteOut;
 use plcs_grammar::{
@@ -13,11 +13,11 @@ use std::alloc::Global;
 const LONGEST_TOLD: usize = 1000;
 
 /// What the text reads as in the category.
-pub fn put_reading(category: &[u8], text: &[u8], answer: &mut Answer) -> Option<()> {
-    let category = category_of(category, answer)?;
-    match parsed(answer.alloc(), category, text)? {
-        Ok(phrase) => put_phrase(category, &phrase, answer),
-        Err(fault) => answer.put_debug(&fault),
+pub fn put_reading(category: &[u8], text: &[u8], told: &mut Told) -> Option<()> {
+    let category = category_of(category, told)?;
+    match parsed(told.alloc(), category, text)? {
+        Ok(phrase) => put_phrase(category, &phrase, told),
+        Err(fault) => told.value(&fault),
     }
     Some(())
 }
@@ -32,41 +32,41 @@ fn parsed(alloc: Global, category: Category, text: &[u8]) -> Option<Result<Phras
 }
 
 /// The phrase, and whether its canonical text reads as it again.
-fn put_phrase(category: Category, phrase: &Phrase, answer: &mut Answer) {
-    let text = shown(answer.alloc(), phrase);
-    answer.put_text("Ok ");
-    put_shown(phrase, text.as_bytes(), answer);
+fn put_phrase(category: Category, phrase: &Phrase, told: &mut Told) {
+    let text = shown(told.alloc(), phrase);
+    told.text("Ok ");
+    put_shown(phrase, text.as_bytes(), told);
     if phrase.category() != category {
-        answer.put_text(" OF ANOTHER CATEGORY");
+        told.text(" OF ANOTHER CATEGORY");
     }
-    if !is_read_again(answer.alloc(), phrase, text.as_bytes()) {
-        answer.put_text(" READ AGAIN AS ANOTHER");
+    if !is_read_again(told.alloc(), phrase, text.as_bytes()) {
+        told.text(" READ AGAIN AS ANOTHER");
     }
 }
 
 /// The canonical text of the phrase.
-fn shown(alloc: Global, phrase: &Phrase) -> Answer {
-    let mut text = Answer::new(alloc);
+fn shown(alloc: Global, phrase: &Phrase) -> Told {
+    let mut text = Told::new(alloc);
     show(phrase, &mut text);
     text
 }
 
 /// The phrase's canonical text and its parts; or the length alone where that text is long. What is said
 /// of its length and of its copy has to fit.
-fn put_shown(phrase: &Phrase, text: &[u8], answer: &mut Answer) {
+fn put_shown(phrase: &Phrase, text: &[u8], told: &mut Told) {
     if text.len() <= LONGEST_TOLD {
-        answer.put_word(text);
-        answer.put(b' ');
-        put_parts(phrase, answer);
+        told.word(text);
+        told.put(b' ');
+        put_parts(phrase, told);
     } else {
-        put_decimal(shown_len(phrase), answer);
-        answer.put_text(" bytes");
+        put_decimal(shown_len(phrase), told);
+        told.text(" bytes");
     }
     if shown_len(phrase) as usize != text.len() {
-        answer.put_text(" OF ANOTHER LENGTH");
+        told.text(" OF ANOTHER LENGTH");
     }
-    if !is_copied(answer.alloc(), phrase, text) {
-        answer.put_text(" COPIED AS ANOTHER");
+    if !is_copied(told.alloc(), phrase, text) {
+        told.text(" COPIED AS ANOTHER");
     }
 }
 
@@ -87,37 +87,37 @@ fn is_read_again(alloc: Global, phrase: &Phrase, text: &[u8]) -> bool {
 }
 
 /// An expression that is this number, also a negative one, as no text reads.
-pub fn put_number_shown(word: &[u8], answer: &mut Answer) -> Option<()> {
+pub fn put_number_shown(word: &[u8], told: &mut Told) -> Option<()> {
     let phrase = Phrase::Expression(Expr::Number(integer_of(word)?));
-    let text = shown(answer.alloc(), &phrase);
-    put_shown(&phrase, text.as_bytes(), answer);
+    let text = shown(told.alloc(), &phrase);
+    put_shown(&phrase, text.as_bytes(), told);
     Some(())
 }
 
 /// Which of the phrases, each given by its category and a text of it, are the same: a line for each, with
 /// `+` for each that is the same as it and `-` for each that isn't.
-pub fn put_comparison(words: &[Vec<u8>], answer: &mut Answer) -> Option<()> {
-    let phrases = phrases_of(words, answer)?;
+pub fn put_comparison(words: &[Vec<u8>], told: &mut Told) -> Option<()> {
+    let phrases = phrases_of(words, told)?;
     for (number, one) in phrases.iter().enumerate() {
         if number > 0 {
-            answer.put_text("\n= ");
+            told.put(b'\n');
         }
         for other in &phrases {
-            answer.put(if same_phrase(one, other) { b'+' } else { b'-' });
+            told.put(if same_phrase(one, other) { b'+' } else { b'-' });
         }
     }
     Some(())
 }
 
 /// The phrases of categories and texts, which the words are in turn.
-fn phrases_of(words: &[Vec<u8>], answer: &Answer) -> Option<Vec<Phrase>> {
-    let mut phrases = Vec::new(answer.alloc());
+fn phrases_of(words: &[Vec<u8>], told: &Told) -> Option<Vec<Phrase>> {
+    let mut phrases = Vec::new(told.alloc());
     let mut category = None;
     for word in words {
         match category {
-            None => category = Some(category_of(word, answer)?),
+            None => category = Some(category_of(word, told)?),
             Some(known) => {
-                let phrase = parsed(answer.alloc(), known, word)?.ok()?;
+                let phrase = parsed(told.alloc(), known, word)?.ok()?;
                 phrases.push(phrase).ok()?;
                 category = None;
             }
@@ -131,14 +131,14 @@ fn phrases_of(words: &[Vec<u8>], answer: &Answer) -> Option<Vec<Phrase>> {
 }
 
 /// What stands before and behind the first divider outside of quotes.
-pub fn put_cut(text: &[u8], divider: &[u8], answer: &mut Answer) -> Option<()> {
+pub fn put_cut(text: &[u8], divider: &[u8], told: &mut Told) -> Option<()> {
     match cut_at(text, divider) {
         Some((before, behind)) => {
-            answer.put_word(before);
-            answer.put(b' ');
-            answer.put_word(behind);
+            told.word(before);
+            told.put(b' ');
+            told.word(behind);
         }
-        None => answer.put_text("None"),
+        None => told.text("None"),
     }
     Some(())
 }
