@@ -12,13 +12,14 @@ pub mod Texts
 pub mod ListedLines
 -- each answer of `read_listing`: what the reader has taken is the front of a listing
 pub mod Continuations
--- `step` of the reader: the last of the open nodes is the innermost
+-- `line_taken`: the last of the open nodes is the innermost
 pub mod OpenNodes
 -- `read_segments` and `read_line`: what is read of a line is all that it may say
 pub mod PartTexts
 pub mod LineTexts
 -- `read_listing`: what is read, line after line, and the tree that comes of it
 pub mod ReadListings
+pub mod RefusedLines
 pub mod LoadedTrees
 -- `split_line`: where the first line of a text ends
 pub mod LineEnds
@@ -30,5 +31,7 @@ pub mod OneOutcome
 pub mod Outcomes
 -- `only`, `refused` and `missing` of `load`
 pub mod LoadedFiles
+-- `loading_ignores_room`: a listing as that of a tree without its room
+pub mod RoomlessListings
 -- `save`: bytes that are passed on to files, one after the other
 pub mod Sending

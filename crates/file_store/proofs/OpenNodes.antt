@@ -1,12 +1,12 @@
 -- Open nodes in a list, the innermost last.
 use Rattle.std.specs.Prelude.{◌≡◌, refl, ℕ, suc, ◌+◌, ◌<◌, ◌≤◌, Option, Some, None, option_and_then, List, [], ◌∷◌, ◌++◌, length, option_map}
-use Rattle.std.proofs.Common.{ap, arith, subst}
+use Rattle.std.proofs.Common.{ap, arith}
 use Rattle.std.proofs.lemmas.Bool.{lt-leb, eq-eqb, ne_eqb}
 use Rattle.std.proofs.lemmas.List.{length-append}
+use Rattle.phrase_parser.specs.NotRead.{Fails}
+use Rattle.phrase_parser.specs.declared.not_read.NotRead.{NotRead}
 use Rattle.template_tree.specs.Programs.PlainTree.{Forest, PlainNode, forest, join, nodes, roomless}
 use Rattle.file_store.specs.Private.Reader.{at_height, led_in, led_sections, lowered, shut, with_filling}
-use Rattle.file_store.specs.Private.Gives.{Fails}
-use Rattle.file_store.specs.declared.reader.fault.ReadFault.{ReadFault}
 use Rattle.file_store.specs.Private.Reader as machine
 use Rattle.file_store.specs.Private.Views.{open_node_of, open_nodes_on}
 use Rattle.file_store.specs.declared.reader.open_list.OpenNode.{OpenNode}
@@ -48,9 +48,9 @@ lowered_by level own frames before frame o is above e =
     low before frames is above = omega (arith, above, ap length is, length-append before (frame ∷ []), frames_length [] before)
 
 -- a fault that comes of another
-pub fails_too : {X Y : Type 0} (fault : ReadFault) (o : Option X) (p : Option Y) → (o ≡ None → p ≡ None) → Fails fault o → Fails fault p
-fails_too ReadFault.OutOfMemory o p f h = h
-fails_too ReadFault.Refused o p f h = f h
+pub fails_too : {X Y : Type 0} (fault : NotRead) (o : Option X) (p : Option Y) → (o ≡ None → p ≡ None) → Fails fault o → Fails fault p
+fails_too NotRead.OutOfMemory o p f h = h
+fails_too NotRead.Refused o p f h = f h
 
 pub high_enough : (level : ℕ) (o : Option machine.OpenNodes) (stack : machine.OpenNodes) → o ≡ Some stack → length stack.outer ≡ level
     → option_and_then (at_height level) o ≡ Some stack
@@ -59,7 +59,3 @@ high_enough level o stack e h = rw (e, eq-eqb (length stack.outer) level h) refl
 pub not_high : (level : ℕ) (o : Option machine.OpenNodes) (stack : machine.OpenNodes) → o ≡ Some stack → (length stack.outer ≡ level → ⊥)
     → option_and_then (at_height level) o ≡ None
 not_high level o stack e h = rw (e, ne_eqb (length stack.outer) level h) refl
-
--- a step that refused gives nothing
-pub refused_is : {X : Type 0} (fault : ReadFault) (o : Option X) → fault ≡ ReadFault.Refused → Fails fault o → o ≡ None
-refused_is fault o is h = subst (λ f. Fails f o) is h

@@ -7,6 +7,7 @@ use Rattle.std.proofs.lemmas.Bool.{and_parts, and_from, eq-eqb, eqb-true}
 use Rattle.std.proofs.lemmas.List.{append-nil, append_cancel_left, append_cancel_right}
 use Rattle.std.proofs.lemmas.Option.{none-some}
 use Rattle.std.proofs.lemmas.Slice.Eq.{bytes_eq-Decides}
+use Rattle.phrase_parser.specs.declared.not_read.NotRead.{NotRead}
 use Rattle.plcs_base.specs.Put.{PutsAll, puts_nothing, puts_next}
 use Rattle.plcs_grammar.specs.declared.category.Category.{Category}
 use Rattle.plcs_grammar.specs.Canon.{Canon, IsWellFormed}
@@ -18,22 +19,21 @@ use Rattle.phrase_parser.specs.LineParts.{Divides, cut_at}
 use Rattle.template_tree.specs.Programs.Limit.{longest_phrase}
 use Rattle.template_tree.specs.Listings.Line.{part_text, segments_text}
 use Rattle.template_tree.specs.Programs.Program.{IsPart, may_be_empty}
-use Rattle.file_store.specs.declared.reader.fault.ReadFault.{ReadFault}
-use Rattle.file_store.specs.Private.Gives.{Finds, LacksUnless}
+use Rattle.file_store.specs.Private.Finds.{Finds, LacksUnless}
 use Rattle.file_store.specs.Private.LineLaws.{LineLaws}
 use Rattle.file_store.specs.Private.LineReading.{AreNoSegments, AreReadAfter, IsCut, IsLineFront, IsNoPart, IsPartText, IsSegmentsText, taken_off}
 use Rattle.file_store.proofs.Fillings.{some_is}
 use Rattle.file_store.proofs.Heads.{line_part}
 
 -- what is found makes more
-pub finds_too : {X : Type 0} (A : X → Type 0) (B : X → Type 0) (N M : Type 0) (r : Result X ReadFault) → ((x : X) → A x → B x) → (N → M) → Finds A N r → Finds B M r
+pub finds_too : {X : Type 0} (A : X → Type 0) (B : X → Type 0) (N M : Type 0) (r : Result X NotRead) → ((x : X) → A x → B x) → (N → M) → Finds A N r → Finds B M r
 finds_too A B N M (Ok x) f g h = f x h
-finds_too A B N M (Err ReadFault.OutOfMemory) f g h = h
-finds_too A B N M (Err ReadFault.Refused) f g h = g h
+finds_too A B N M (Err NotRead.OutOfMemory) f g h = h
+finds_too A B N M (Err NotRead.Refused) f g h = g h
 
-pub fault_too : (N M : Type 0) (fault : ReadFault) → (N → M) → LacksUnless fault N → LacksUnless fault M
-fault_too N M ReadFault.OutOfMemory g h = h
-fault_too N M ReadFault.Refused g h = g h
+pub fault_too : (N M : Type 0) (fault : NotRead) → (N → M) → LacksUnless fault N → LacksUnless fault M
+fault_too N M NotRead.OutOfMemory g h = h
+fault_too N M NotRead.Refused g h = g h
 
 -- ---- comparing
 

@@ -4,7 +4,7 @@ use Rattle.std.specs.FinMap.{get}
 use Rattle.synth_outside.specs.declared.faults.FilesFault.{FilesFault}
 use Rattle.synth_outside.specs.Cause.{HasCause}
 use Rattle.synth_outside.specs.Files.{FileMap, NewContent, PlainFiles, Lacks}
-use Rattle.template_tree.specs.Programs.PlainTree.{Forest, PlainTree}
+use Rattle.template_tree.specs.Programs.PlainTree.{Forest, PlainTree, roomless_tree}
 use Rattle.file_store.specs.declared.refusal.FileRefusal.{FileRefusal}
 use Rattle.template_tree.specs.Listings.Listing.{Bare}
 use Rattle.file_store.specs.Loaded.{IsListingOf, Refused}
@@ -34,6 +34,12 @@ IsLoadRefused stored name refusal = Holds stored name (λ x. Refused x refusal)
 abbrev pub LoadingSays : Option FileMap → List ℕ → Result PlainTree FileRefusal → Type 0
 LoadingSays stored name (Ok tree) = Holds stored name (λ x. IsListingOf x tree)
 LoadingSays stored name (Err refusal) = IsLoadRefused stored name refusal
+
+-- the law that a file that is loaded as a tree is loaded as that tree without its room
+abbrev pub LoadingIgnoresRoom : Type 0
+LoadingIgnoresRoom =
+    (stored : Option FileMap) (name : List ℕ) (tree : PlainTree) → LoadingSays stored name (Ok tree)
+    → LoadingSays stored name (Ok (roomless_tree tree))
 
 -- the map of files is told, and has these bytes under the name that is loaded
 abbrev pub HasContent : Option FileMap → List ℕ → List ℕ → Type 0

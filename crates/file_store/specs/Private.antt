@@ -1,7 +1,7 @@
 pub mod LineLaws
 pub mod Reader
 pub mod LineReading
-pub mod Gives
+pub mod Finds
 pub mod Views
 pub mod NextSegment
 pub mod Reading

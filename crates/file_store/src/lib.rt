@@ -11,7 +11,9 @@ mod refusal;
 mod saving;
 
 pub use limit::{LONGEST_INPUT, LONGEST_LISTING};
-pub use listing_laws::{listed_lines_are_lines, listings_are_short, one_listing, one_outcome};
+pub use listing_laws::{
+    listed_lines_are_lines, listings_are_short, loading_ignores_room, one_listing, one_outcome,
+};
 pub use loading::{load, load_input};
 pub use reader::read_listing;
 pub use refusal::FileRefusal;

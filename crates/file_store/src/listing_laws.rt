@@ -1,7 +1,9 @@
-//! The laws of listings, each a function that does nothing and whose contract states it.
+//! The laws of listings and of loading them, each a function that does nothing and whose contract states it.
+ghost use Rattle.file_store.specs.FileReading.{LoadingIgnoresRoom};
 ghost use Rattle.file_store.specs.ListingLaws.{ListedLinesAreLines, ListingsAreNotRefused, ListingsAreShort, NodesBeginInLines, OneListing, OneRefusal};
 
 use crate::line_laws::line_laws;
+use template_tree::room_is_not_shown;
 
 /// A text is the listing of at most one program, whose slots, elision and room play no part.
 pub fn one_listing()
@@ -31,3 +33,10 @@ pub fn listed_lines_are_lines()
     ensures lines { ListedLinesAreLines }
     ensures opened { NodesBeginInLines }
 {}
+
+/// What a file is loaded as may be taken without its room.
+pub fn loading_ignores_room()
+    ensures { LoadingIgnoresRoom }
+{
+    room_is_not_shown();
+}

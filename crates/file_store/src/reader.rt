@@ -12,10 +12,9 @@ ghost use Rattle.file_store.specs.Loaded.{HasNoEnd, Loaded, ReadsOnly, Refused, 
 ghost use Rattle.file_store.specs.declared.refusal.FileRefusal.{FileRefusal};
 ghost use Rattle.file_store.specs.Private.Come.{come_of};
 ghost use Rattle.file_store.specs.Private.Reader.{opens};
-ghost use Rattle.file_store.specs.Private.Reading.{IsLineRefused, IsPast, IsTaken};
+ghost use Rattle.file_store.specs.Private.Reading.{IsLineRefused, IsPast, IsTaken, refused_in};
 ghost use Rattle.file_store.specs.Private.Views.{saying_of};
 
-mod fault;
 mod filling;
 mod lines;
 mod open_list;
@@ -25,12 +24,12 @@ mod said;
 
 use crate::limit::LONGEST_LISTING;
 use crate::line_laws::line_laws;
-use crate::reader::fault::ReadFault;
 use crate::reader::lines::read_line;
 use crate::reader::open_list::OpenNodes;
 use crate::reader::open_nodes::{finish, line_taken};
 use crate::reader::said::Saying;
 use crate::refusal::FileRefusal;
+use phrase_parser::NotRead;
 use std::alloc::Global;
 use template_tree::{DEEPEST_PATH, MOST_SLOTS, Nodes, Tree};
 
@@ -66,20 +65,17 @@ fn read_lines(alloc: Global, bytes: &[u8]) -> Result<Tree, FileRefusal>
     };
     let mut rest = bytes;
     while let Some((line, more)) = split_line(rest) {
-        match reader.taken(alloc, line) {
-            Ok(next) => reader = next,
-            Err(refusal) => return Err(refusal),
-        }
+        reader = reader.taken(alloc, line)?;
         rest = more;
     }
     let Reader { stack, lines, .. } = reader;
+    let number = lines + 1;
     if is_left(rest) {
-        return Err(FileRefusal::NotAListing(lines + 1));
+        return Err(FileRefusal::NotAListing(number));
     }
     match finish(stack) {
         Ok(items) => Ok(tree_of(items)),
-        Err(ReadFault::OutOfMemory) => Err(FileRefusal::OutOfMemory),
-        Err(ReadFault::Refused) => Err(FileRefusal::NotAListing(lines + 1)),
+        Err(fault) => Err(refused_in(number, fault)),
     }
 }
 
@@ -108,26 +104,35 @@ impl Reader {
             lines,
             opened,
         } = self;
+        let number = lines + 1;
         let said = match read_line(alloc, line) {
             Ok(said) => said,
-            Err(ReadFault::OutOfMemory) => return Err(FileRefusal::OutOfMemory),
-            Err(ReadFault::Refused) => return Err(FileRefusal::NotAListing(lines + 1)),
+            Err(fault) => return Err(refused_in(number, fault)),
         };
         let level = said.level;
         let opens = opens(&said.saying);
         let stack = match line_taken(alloc, stack, said) {
             Ok(stack) => stack,
-            Err(ReadFault::OutOfMemory) => return Err(FileRefusal::OutOfMemory),
-            Err(ReadFault::Refused) => return Err(FileRefusal::NotAListing(lines + 1)),
+            Err(fault) => return Err(refused_in(number, fault)),
         };
         match past_limit(opens, level, opened) {
             Some(refusal) => Err(refusal),
             None => Ok(Reader {
                 stack,
-                lines: lines + 1,
+                lines: number,
                 opened: counted(opens, opened),
             }),
         }
+    }
+}
+
+/// Why a listing is refused whose line of this number wasn't read.
+fn refused_in(number: u32, fault: NotRead) -> FileRefusal
+    ensures { result ≡ refused_in number fault }
+{
+    match fault {
+        NotRead::OutOfMemory => FileRefusal::OutOfMemory,
+        NotRead::Refused => FileRefusal::NotAListing(number),
     }
 }
 

@@ -1,5 +1,7 @@
 -- ---- what each answer says
 pub mod Answers
+-- ---- what a step that reads gives
+pub mod NotRead
 -- ---- the laws of what texts read as
 pub mod Standing
 pub mod ReadingLaws

@@ -7,7 +7,6 @@ pub mod TokenIn
 -- ---- the machine that reads tokens, and the builder
 pub mod Machine
 pub mod MachineLevels
-pub mod Gives
 pub mod Views
 pub mod Reduction
 -- ---- the machine without trees, and the check

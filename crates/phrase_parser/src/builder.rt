@@ -1,13 +1,12 @@
 //! The builder: the phrase that tokens are, built of them one by one.
 ghost use Rattle.std.specs.Prelude.{◌≡◌, map, All};
+ghost use Rattle.phrase_parser.specs.NotRead.{Gives};
 ghost use Rattle.plcs_grammar.specs.PlainPhrase.{plain_phrase};
 ghost use Rattle.phrase_parser.specs.Private.Machine.{start_state, shift_all, phrase_of_if};
 ghost use Rattle.phrase_parser.specs.Private.TokenIn.{IsPlacedIn, token_in};
-ghost use Rattle.phrase_parser.specs.Private.Gives.{Gives};
 
 mod base;
 mod expr;
-mod fault;
 mod lists;
 mod primary;
 mod role;
@@ -15,8 +14,8 @@ mod stack;
 mod state;
 mod token_value;
 
-pub use crate::builder::fault::BuildError;
 use crate::builder::state::{phrase_of, shift, start_state};
+use crate::not_read::NotRead;
 use crate::token::Placed;
 use plcs_grammar::{Category, Phrase};
 use std::alloc::Global;
@@ -29,7 +28,7 @@ pub fn build(
     category: Category,
     text: &[u8],
     tokens: &[Placed],
-) -> Result<Phrase, BuildError>
+) -> Result<Phrase, NotRead>
     requires { All (IsPlacedIn text.now) tokens.now }
     ensures { Gives plain_phrase result
         (phrase_of_if (shift_all (map (token_in text.now) tokens.now) (start_state category))) }

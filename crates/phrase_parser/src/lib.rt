@@ -10,8 +10,8 @@
 //! though it may make a shape or a state of it. `builder/primary`, `builder/expr`, `builder/lists` and
 //! `builder/token_value` make operands, expressions, longer lists and the values of tokens. `fault` is what
 //! `parse` answers where a text is refused; `check/finding` what the check finds while it goes over the tokens,
-//! which `parser` turns into that fault; `builder/fault` why the builder stopped, which is want of memory alone
-//! behind a check.
+//! which `parser` turns into that fault. After a check the builder stops for want of memory alone. `not_read` is why
+//! something wasn't read, for the builder and for the reader of listings above.
 #![tactic(auto)]
 
 mod builder;
@@ -24,6 +24,7 @@ mod front;
 mod lexer;
 mod line_part_laws;
 mod line_parts;
+mod not_read;
 mod operator;
 mod parser;
 mod reading_laws;
@@ -35,6 +36,7 @@ pub use line_part_laws::{
     part_has_no_colon,
 };
 pub use line_parts::cut_at;
+pub use not_read::NotRead;
 pub use parser::parse;
 pub use reading_laws::{
     canonical_text_reads, canonical_text_tells, one_reading, one_standing, over_is_past_limits,

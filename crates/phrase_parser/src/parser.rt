@@ -13,11 +13,12 @@ ghost use Rattle.phrase_parser.specs.Private.Shapes.{shape_of};
 ghost use Rattle.phrase_parser.specs.Private.FindingViews.{over_of, over_offset};
 ghost use Rattle.phrase_parser.specs.Answers.{Answers, Only, OnlyFault, over_fault};
 
-use crate::builder::{BuildError, build};
+use crate::builder::build;
 use crate::check::{Finding, Over, Shape, check, first_shape};
 use crate::comment::comment;
 use crate::fault::PhraseFault;
 use crate::lexer::tokens;
+use crate::not_read::NotRead;
 use plcs_grammar::{Category, Phrase};
 use std::alloc::Global;
 
@@ -62,8 +63,8 @@ fn phrase(
     match check(alloc, first, text, placed, tokens.stop)? {
         Finding::Fine => match build(alloc, category, text, placed) {
             Ok(phrase) => Ok(phrase),
-            Err(BuildError::OutOfMemory) => Err(PhraseFault::OutOfMemory),
-            Err(BuildError::Refused) => unreachable!(),
+            Err(NotRead::OutOfMemory) => Err(PhraseFault::OutOfMemory),
+            Err(NotRead::Refused) => unreachable!(),
         },
         Finding::SyntaxAt(place) => Err(PhraseFault::Syntax(place as u32)),
         Finding::Over(over) => Err(over_fault(over)),

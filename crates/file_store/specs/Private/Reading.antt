@@ -1,5 +1,6 @@
 -- What one line does to the reader, and what the reader has taken.
 use Rattle.std.specs.Prelude.{◌≡◌, ℕ, Bool, Option, ◌+◌, ◌<◌, ◌≤◌, true, if◌then◌else◌, List, Some, None}
+use Rattle.phrase_parser.specs.declared.not_read.NotRead.{NotRead}
 use Rattle.template_tree.specs.Programs.Limit.{deepest_path, most_slots}
 use Rattle.file_store.specs.declared.refusal.FileRefusal.{FileRefusal}
 use Rattle.file_store.specs.Private.LineReading.{Says}
@@ -44,6 +45,11 @@ IsLineRefused line before FileRefusal.OutOfMemory = Unit {0}
 IsLineRefused line before FileRefusal.NoFile = ⊥
 IsLineRefused line before FileRefusal.FileFault = ⊥
 IsLineRefused line before FileRefusal.TooLong = ⊥
+
+-- why a listing is refused whose line of this number wasn't read
+abbrev pub refused_in : (number : ℕ) → NotRead → FileRefusal
+refused_in number NotRead.OutOfMemory = FileRefusal.OutOfMemory
+refused_in number NotRead.Refused = FileRefusal.NotAListing number
 
 -- what is past a limit where a node may begin at a level behind so many others
 abbrev pub IsPast : Bool → ℕ → ℕ → Option FileRefusal → Type 0

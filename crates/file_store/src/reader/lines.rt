@@ -3,32 +3,30 @@ ghost use Rattle.std.specs.Prelude.{◌≡◌, ◌≢◌, ◌≤◌, IfOk, lengt
 ghost use Rattle.std.specs.Bool.{Decides};
 ghost use Rattle.plcs_grammar.specs.Template.{row_of};
 ghost use Rattle.template_tree.specs.Programs.PlainPhrasePlace.{plain_phrase_place};
-ghost use Rattle.file_store.specs.Private.Gives.{Finds};
+ghost use Rattle.file_store.specs.Private.Finds.{Finds};
 ghost use Rattle.file_store.specs.Private.LineReading.{AreNoSegments, IsSegmentsText, OfEach, Says, SaysNothing, blank_bytes};
 ghost use Rattle.file_store.specs.Private.Reader as machine;
 ghost use Rattle.file_store.specs.Private.Reader.{IsSaying, shape, text_of};
 ghost use Rattle.file_store.specs.Private.Views.{said_of, saying_of};
 
 use crate::line_laws::line_laws;
-use crate::reader::fault::ReadFault;
 use crate::reader::filling::{LAST, LEAD};
 use crate::reader::parts::{behind, read_segments};
 use crate::reader::said::{Said, Saying};
+use phrase_parser::NotRead;
 use plcs_grammar::{NodeKind, Template};
 use std::alloc::Global;
 use template_tree::PhrasePlace;
 
 /// Reads a whole line: its level, and which line it is, if some listing may have it.
-pub(crate) fn read_line(alloc: Global, line: &[u8]) -> Result<Said, ReadFault>
+pub(crate) fn read_line(alloc: Global, line: &[u8]) -> Result<Said, NotRead>
     ensures says { Finds (λ said. Says line.now (said_of said)) (SaysNothing line.now) result }
     ensures small { IfOk result (λ said. said.level ≤ length line.now) }
 {
     line_laws();
     let (level, text) = unblanked(line);
-    match read_saying(alloc, text) {
-        Ok(saying) => Ok(Said { level, saying }),
-        Err(fault) => Err(fault),
-    }
+    let saying = read_saying(alloc, text)?;
+    Ok(Said { level, saying })
 }
 
 /// The level that the blanks at the front of a line tell, and what stands behind them.
@@ -48,7 +46,7 @@ fn unblanked(line: &[u8]) -> (usize, &[u8])
 }
 
 /// Reads which line the text behind the blanks of a whole line is.
-fn read_saying(alloc: Global, text: &[u8]) -> Result<Saying, ReadFault>
+fn read_saying(alloc: Global, text: &[u8]) -> Result<Saying, NotRead>
     ensures { Finds (λ saying. IsSaying (saying_of saying) × (text_of (saying_of saying) ≡ text.now))
         ((saying : machine.Saying) → IsSaying saying → text_of saying ≢ text.now) result }
 {
@@ -69,23 +67,23 @@ fn is_same(one: &[u8], other: &[u8]) -> bool
 }
 
 /// Reads a whole line as the first one of a node of one of these kinds, if it is such a line.
-fn read_head(alloc: Global, kinds: &[NodeKind], text: &[u8]) -> Result<Saying, ReadFault>
+fn read_head(alloc: Global, kinds: &[NodeKind], text: &[u8]) -> Result<Saying, NotRead>
     requires shapes { OfEach (λ kind. shape kind ≡ kind) kinds.now }
     ensures { Finds (λ saying. IsSaying (saying_of saying) × (text_of (saying_of saying) ≡ text.now))
         (OfEach (λ kind. AreNoSegments (row_of kind).line text.now) kinds.now) result }
 {
     let Some((kind, others)) = kinds.split_first() else {
-        return Err(ReadFault::Refused);
+        return Err(NotRead::Refused);
     };
     match read_parts(alloc, *kind, text) {
         Ok(parts) => Ok(Saying::Head(*kind, parts)),
-        Err(ReadFault::OutOfMemory) => Err(ReadFault::OutOfMemory),
-        Err(ReadFault::Refused) => read_head(alloc, others, text),
+        Err(NotRead::OutOfMemory) => Err(NotRead::OutOfMemory),
+        Err(NotRead::Refused) => read_head(alloc, others, text),
     }
 }
 
 /// Reads a whole line as the first one of a node of the kind, if it is such a line: its parts.
-fn read_parts(alloc: Global, kind: NodeKind, text: &[u8]) -> Result<Vec<PhrasePlace>, ReadFault>
+fn read_parts(alloc: Global, kind: NodeKind, text: &[u8]) -> Result<Vec<PhrasePlace>, NotRead>
     ensures { Finds (λ parts. IsSegmentsText (row_of kind).line text.now (map plain_phrase_place parts.items))
         (AreNoSegments (row_of kind).line text.now) result }
 {

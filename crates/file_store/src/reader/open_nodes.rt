@@ -1,16 +1,16 @@
 //! The open lists and nodes, and what each line does to them.
 ghost use Rattle.std.specs.Prelude.{◌≡◌, ◌<◌, ◌^◌, ◌-◌, [], Some, map, codes, length, min};
+ghost use Rattle.phrase_parser.specs.NotRead.{Gives};
 ghost use Rattle.plcs_grammar.specs.Template.{row_of};
 ghost use Rattle.template_tree.specs.Programs.PlainPhrasePlace.{plain_phrase_place};
 ghost use Rattle.template_tree.specs.Programs.PlainTree.{Forest, forest, join, nodes, roomless};
-ghost use Rattle.file_store.specs.Private.Gives.{Gives};
 ghost use Rattle.file_store.specs.Private.Reader.{begun, closed, ended_in, kind_with, led_in, lowered, lowered_to, program_of, shut, line_taken, unread};
 ghost use Rattle.file_store.specs.Private.Views.{filling_of, open_node_of, open_list_of, said_of, open_nodes_of};
 
-use crate::reader::fault::ReadFault;
 use crate::reader::filling::{Filling, LAST, is_text};
 use crate::reader::open_list::{OpenList, OpenNode, OpenNodes};
 use crate::reader::said::{Said, Saying};
+use phrase_parser::NotRead;
 use plcs_grammar::{NodeKind, Template, program_sections};
 use std::alloc::Global;
 use template_tree::{Node, Nodes, PhrasePlace};
@@ -41,11 +41,7 @@ impl OpenNodes {
 }
 
 /// What a line does to the open lists, if some listing may go on with it.
-pub(crate) fn line_taken(
-    alloc: Global,
-    stack: OpenNodes,
-    said: Said,
-) -> Result<OpenNodes, ReadFault>
+pub(crate) fn line_taken(alloc: Global, stack: OpenNodes, said: Said) -> Result<OpenNodes, NotRead>
     requires small { said.level < 2 ^ 63 }
     ensures { Gives open_nodes_of result (line_taken (open_nodes_of stack) (said_of said)) }
 {
@@ -67,31 +63,31 @@ pub(crate) fn line_taken(
 }
 
 /// The items of the program, if the lines are its whole listing.
-pub(crate) fn finish(stack: OpenNodes) -> Result<Nodes, ReadFault>
+pub(crate) fn finish(stack: OpenNodes) -> Result<Nodes, NotRead>
     ensures { Gives (λ list. roomless (forest list.items)) result (program_of (open_nodes_of stack)) }
 {
     let stack = lowered(stack, 0)?;
     let OpenNodes { own, frames: _ } = stack;
     if !own.filling.may_end() {
-        return Err(ReadFault::Refused);
+        return Err(NotRead::Refused);
     }
     let OpenList { items, .. } = own;
     Ok(items)
 }
 
 /// The open lists once nodes have ended until exactly so many are open, if they may.
-fn lowered_to(stack: OpenNodes, level: usize) -> Result<OpenNodes, ReadFault>
+fn lowered_to(stack: OpenNodes, level: usize) -> Result<OpenNodes, NotRead>
     ensures { Gives open_nodes_of result (lowered_to level (open_nodes_of stack)) }
 {
     let stack = lowered(stack, level)?;
     if stack.frames.len() != level {
-        return Err(ReadFault::Refused);
+        return Err(NotRead::Refused);
     }
     Ok(stack)
 }
 
 /// The open lists once nodes have ended until no more than so many are open, if they may.
-fn lowered(stack: OpenNodes, level: usize) -> Result<OpenNodes, ReadFault>
+fn lowered(stack: OpenNodes, level: usize) -> Result<OpenNodes, NotRead>
     ensures { Gives open_nodes_of result (lowered level (open_nodes_of stack).own (open_nodes_of stack).outer) }
 {
     let OpenNodes { own, frames } = stack;
@@ -99,31 +95,28 @@ fn lowered(stack: OpenNodes, level: usize) -> Result<OpenNodes, ReadFault>
     let mut frames = frames;
     while frames.len() > level {
         let Some(frame) = frames.pop() else {
-            return Ok(OpenNodes { own, frames });
+            unreachable!()
         };
-        match shut(own, frame) {
-            Ok(list) => own = list,
-            Err(fault) => return Err(fault),
-        }
+        own = shut(own, frame)?;
     }
     Ok(OpenNodes { own, frames })
 }
 
 /// The list around the innermost open node, once that has ended without a line of its own, if it may.
-fn shut(own: OpenList, frame: OpenNode) -> Result<OpenList, ReadFault>
+fn shut(own: OpenList, frame: OpenNode) -> Result<OpenList, NotRead>
     ensures { Gives open_list_of result (shut (open_list_of own) (open_node_of frame)) }
 {
     if frame.kind.row().last.is_some() {
-        return Err(ReadFault::Refused);
+        return Err(NotRead::Refused);
     }
     if !own.filling.may_end() {
-        return Err(ReadFault::Refused);
+        return Err(NotRead::Refused);
     }
     closed(own, frame)
 }
 
 /// The list around an open node, once the node has ended in it.
-fn closed(own: OpenList, frame: OpenNode) -> Result<OpenList, ReadFault>
+fn closed(own: OpenList, frame: OpenNode) -> Result<OpenList, NotRead>
     ensures { Gives open_list_of result (Some (closed (open_list_of own) (open_node_of frame))) }
 {
     let OpenNode {
@@ -151,7 +144,7 @@ fn kind_with(kind: NodeKind, count: usize) -> NodeKind
 }
 
 /// An open list with one item more.
-fn with_node(list: OpenList, node: Node) -> Result<OpenList, ReadFault>
+fn with_node(list: OpenList, node: Node) -> Result<OpenList, NotRead>
     ensures { Gives open_list_of result (Some (record (open_list_of list) {
       items = join (open_list_of list).items (roomless (Forest.cons node.label node.inner Forest.nil));
     })) }
@@ -163,7 +156,7 @@ fn with_node(list: OpenList, node: Node) -> Result<OpenList, ReadFault>
     } = list;
     let mut items = items;
     if let Err(_) = items.push(node) {
-        return Err(ReadFault::OutOfMemory);
+        return Err(NotRead::OutOfMemory);
     }
     Ok(OpenList {
         items,
@@ -191,14 +184,14 @@ fn begun(
     stack: OpenNodes,
     kind: NodeKind,
     parts: Vec<PhrasePlace>,
-) -> Result<OpenNodes, ReadFault>
+) -> Result<OpenNodes, NotRead>
     ensures { Gives open_nodes_of result (begun kind (map plain_phrase_place parts.items) (open_nodes_of stack)) }
 {
     let row = kind.row();
     let OpenNodes { own, frames } = stack;
     let mut frames = frames;
     let Some(filling) = own.filling.advanced(row.sort) else {
-        return Err(ReadFault::Refused);
+        return Err(NotRead::Refused);
     };
     let around = with_filling(own, filling);
     frames.push(OpenNode {
@@ -213,15 +206,15 @@ fn begun(
 }
 
 /// The open lists behind the line before a section of the innermost node, if it is wanted.
-fn led(stack: OpenNodes) -> Result<OpenNodes, ReadFault>
+fn led(stack: OpenNodes) -> Result<OpenNodes, NotRead>
     ensures { Gives open_nodes_of result (led_in (codes "ELSE") (open_nodes_of stack) (open_nodes_of stack).outer) }
 {
     let OpenNodes { own, frames } = stack;
     if frames.is_empty() {
-        return Err(ReadFault::Refused);
+        return Err(NotRead::Refused);
     }
     let Some(filling) = own.filling.behind_lead() else {
-        return Err(ReadFault::Refused);
+        return Err(NotRead::Refused);
     };
     Ok(OpenNodes {
         own: with_filling(own, filling),
@@ -231,20 +224,20 @@ fn led(stack: OpenNodes) -> Result<OpenNodes, ReadFault>
 
 /// The open lists behind the last line of the innermost node, if that may end.
 #[tactic(auto, using(crate::proofs::OpenNodes::frames_push))]
-fn ended(stack: OpenNodes) -> Result<OpenNodes, ReadFault>
+fn ended(stack: OpenNodes) -> Result<OpenNodes, NotRead>
     ensures { Gives open_nodes_of result
         (ended_in (codes "END;") (open_nodes_of stack).own (open_nodes_of stack).outer) }
 {
     let OpenNodes { own, frames } = stack;
     let mut frames = frames;
     let Some(frame) = frames.pop() else {
-        return Err(ReadFault::Refused);
+        return Err(NotRead::Refused);
     };
     if !is_text(LAST, frame.kind.row().last) {
-        return Err(ReadFault::Refused);
+        return Err(NotRead::Refused);
     }
     if !own.filling.may_end() {
-        return Err(ReadFault::Refused);
+        return Err(NotRead::Refused);
     }
     let own = closed(own, frame)?;
     Ok(OpenNodes { own, frames })

@@ -7,13 +7,12 @@ ghost use Rattle.plcs_grammar.specs.PlainPhrase.{PlainPhrase, plain_phrase};
 ghost use Rattle.plcs_grammar.specs.Template.{PlainSegment, plain_segment};
 ghost use Rattle.template_tree.specs.Programs.PlainPhrasePlace.{plain_phrase_place};
 ghost use Rattle.template_tree.specs.Programs.Program.{may_be_empty};
-ghost use Rattle.file_store.specs.Private.Gives.{Finds};
+ghost use Rattle.file_store.specs.Private.Finds.{Finds};
 ghost use Rattle.file_store.specs.Private.NextSegment.{IsNext};
 ghost use Rattle.file_store.specs.Private.LineReading.{AreNoSegments, AreReadAfter, IsCut, IsLineFront, IsNoPart, IsPartText, IsSegmentsText, taken_off};
 
 use crate::line_laws::line_laws;
-use crate::reader::fault::ReadFault;
-use phrase_parser::{PhraseFault, cut_at, parse};
+use phrase_parser::{NotRead, PhraseFault, cut_at, parse};
 use plcs_base::ByteOut;
 use plcs_grammar::{Category, Phrase, Segment, show};
 use std::alloc::Global;
@@ -25,7 +24,7 @@ pub(crate) fn read_segments(
     segments: &[Segment],
     text: &[u8],
     parts: Vec<PhrasePlace>,
-) -> Result<Vec<PhrasePlace>, ReadFault>
+) -> Result<Vec<PhrasePlace>, NotRead>
     requires cut { IsCut (map plain_segment segments.now) }
     ensures { Finds (λ all. AreReadAfter (map plain_segment segments.now) text.now
         (map plain_phrase_place parts.items) (map plain_phrase_place all.items))
@@ -35,20 +34,14 @@ pub(crate) fn read_segments(
         Next::End => nothing_more(text, parts),
         Next::Words(words, later) => {
             let Some(rest) = behind(text, words) else {
-                return Err(ReadFault::Refused);
+                return Err(NotRead::Refused);
             };
             read_segments(alloc, later, rest, parts)
         }
         Next::Part(category, later) => {
-            let front = match read_front(alloc, category, later, text) {
-                Ok(front) => front,
-                Err(fault) => return Err(fault),
-            };
-            let Front { place, later, rest } = front;
+            let Front { place, later, rest } = read_front(alloc, category, later, text)?;
             let mut parts = parts;
-            if let Err(_) = parts.push(place) {
-                return Err(ReadFault::OutOfMemory);
-            }
+            parts.push(place)?;
             read_segments(alloc, later, rest, parts)
         }
     }
@@ -79,13 +72,13 @@ fn next_segment(segments: &[Segment]) -> Next
 }
 
 /// The parts that were read of a line, if its text is at its end.
-fn nothing_more(text: &[u8], parts: Vec<PhrasePlace>) -> Result<Vec<PhrasePlace>, ReadFault>
+fn nothing_more(text: &[u8], parts: Vec<PhrasePlace>) -> Result<Vec<PhrasePlace>, NotRead>
     ensures { Finds (λ all. (text.now ≡ []) × (all ≡ parts)) (text.now ≢ []) result }
 {
     if is_empty(text) {
         return Ok(parts);
     }
-    Err(ReadFault::Refused)
+    Err(NotRead::Refused)
 }
 
 /// Whether nothing is left: of segments, or of a text.
@@ -109,7 +102,7 @@ fn read_front<'a, 'b>(
     category: Category,
     segments: &'b [Segment],
     text: &'a [u8],
-) -> Result<Front<'a, 'b>, ReadFault>
+) -> Result<Front<'a, 'b>, NotRead>
     requires cut { IsCut (PlainSegment.part category ∷ map plain_segment segments.now) }
     ensures { Finds
         (λ front. IsLineFront category (map plain_segment segments.now) text.now (plain_phrase_place front.place)
@@ -117,19 +110,17 @@ fn read_front<'a, 'b>(
         (AreNoSegments (PlainSegment.part category ∷ map plain_segment segments.now) text.now) result }
 {
     let Next::Words(words, later) = next_segment(segments) else {
-        return Err(ReadFault::Refused);
+        return Err(NotRead::Refused);
     };
     if !is_empty(later) {
         return read_divided(alloc, category, words, later, text);
     }
-    match read_last(alloc, category, words, text) {
-        Ok(place) => Ok(Front {
-            place,
-            later,
-            rest: b"",
-        }),
-        Err(fault) => Err(fault),
-    }
+    let place = read_last(alloc, category, words, text)?;
+    Ok(Front {
+        place,
+        later,
+        rest: b"",
+    })
 }
 
 /// Reads the part before the last words of a line.
@@ -138,13 +129,13 @@ fn read_last(
     category: Category,
     words: &[u8],
     text: &[u8],
-) -> Result<PhrasePlace, ReadFault>
+) -> Result<PhrasePlace, NotRead>
     ensures { Finds (λ place. IsLineFront category (PlainSegment.words words.now ∷ []) text.now
         (plain_phrase_place place) [] [])
         (AreNoSegments (PlainSegment.part category ∷ (PlainSegment.words words.now ∷ [])) text.now) result }
 {
     let Some(part) = before(text, words) else {
-        return Err(ReadFault::Refused);
+        return Err(NotRead::Refused);
     };
     read_part(alloc, category, part)
 }
@@ -156,7 +147,7 @@ fn read_divided<'a, 'b>(
     words: &[u8],
     later: &'b [Segment],
     text: &'a [u8],
-) -> Result<Front<'a, 'b>, ReadFault>
+) -> Result<Front<'a, 'b>, NotRead>
     requires some { map plain_segment later.now ≢ [] }
     requires cut { IsCut (PlainSegment.part category ∷ (PlainSegment.words words.now ∷ map plain_segment later.now)) }
     ensures { Finds
@@ -168,16 +159,14 @@ fn read_divided<'a, 'b>(
 {
     line_laws();
     let Some((part, rest)) = cut_at(text, words) else {
-        return Err(ReadFault::Refused);
+        return Err(NotRead::Refused);
     };
-    match read_part(alloc, category, part) {
-        Ok(place) => Ok(Front { place, later, rest }),
-        Err(fault) => Err(fault),
-    }
+    let place = read_part(alloc, category, part)?;
+    Ok(Front { place, later, rest })
 }
 
 /// Reads a part of the category: its placeholder or a phrase, if the text is one.
-fn read_part(alloc: Global, category: Category, text: &[u8]) -> Result<PhrasePlace, ReadFault>
+fn read_part(alloc: Global, category: Category, text: &[u8]) -> Result<PhrasePlace, NotRead>
     ensures { Finds (λ place. IsPartText category text.now (plain_phrase_place place))
         (IsNoPart category text.now) result }
 {
@@ -185,15 +174,15 @@ fn read_part(alloc: Global, category: Category, text: &[u8]) -> Result<PhrasePla
         return Ok(PhrasePlace::Empty);
     }
     if text.len() > LONGEST_PHRASE as usize {
-        return Err(ReadFault::Refused);
+        return Err(NotRead::Refused);
     }
     let phrase = match parse(alloc, category, text) {
         Ok(phrase) => phrase,
-        Err(PhraseFault::OutOfMemory) => return Err(ReadFault::OutOfMemory),
-        Err(_) => return Err(ReadFault::Refused),
+        Err(PhraseFault::OutOfMemory) => return Err(NotRead::OutOfMemory),
+        Err(_) => return Err(NotRead::Refused),
     };
     if !is_shown_as(&phrase, text) {
-        return Err(ReadFault::Refused);
+        return Err(NotRead::Refused);
     }
     Ok(PhrasePlace::Filled(phrase))
 }

@@ -1,17 +1,17 @@
 //! The base of an expression that stands in no other, and what each sign behind the expression does to it.
 
 ghost use Rattle.std.specs.Prelude.{◌≡◌};
+ghost use Rattle.phrase_parser.specs.NotRead.{Gives};
 ghost use Rattle.phrase_parser.specs.Private.Machine.{ParseStack as OpenStack, ParseState as MachineState, shift_close_base, shift_close, shift_comma_base, phrase_of_base};
-ghost use Rattle.phrase_parser.specs.Private.Gives.{Gives};
 ghost use Rattle.phrase_parser.specs.Private.Views.{base_of, state_of};
 ghost use Rattle.plcs_grammar.specs.PlainPhrase.{plain_expr, plain_phrase};
 
 use crate::builder::expr::subscripted;
-use crate::builder::fault::BuildError;
 use crate::builder::lists::{with_expr, with_variable};
 use crate::builder::primary::expression;
 use crate::builder::stack::ParseStack;
 use crate::builder::state::ParseState;
+use crate::not_read::NotRead;
 use plcs_base::Name;
 use plcs_grammar::{Expr, Phrase, VarRef};
 use std::alloc::Global;
@@ -45,7 +45,7 @@ pub fn wanted_on(alloc: Global, base: Base) -> ParseState
 
 /// The state that a base becomes after the closing parenthesis of the subscript or call in which its expression
 /// stands, if it stands in one.
-pub fn shift_close_base(alloc: Global, base: Base, expr: Expr) -> Result<ParseState, BuildError>
+pub fn shift_close_base(alloc: Global, base: Base, expr: Expr) -> Result<ParseState, NotRead>
     ensures { Gives state_of result (shift_close_base (base_of base) (plain_expr expr)) }
 {
     match base {
@@ -56,13 +56,13 @@ pub fn shift_close_base(alloc: Global, base: Base, expr: Expr) -> Result<ParseSt
         }
         Base::CallArguments(name, done) => Ok(ParseState::CallHad(name, with_expr(done, expr)?)),
         Base::Condition | Base::Expression | Base::Expressions(_) | Base::Assigned(_) => {
-            Err(BuildError::Refused)
+            Err(NotRead::Refused)
         }
     }
 }
 
 /// The state that a base becomes after a comma that follows its expression, if one can stand there.
-pub fn shift_comma_base(alloc: Global, base: Base, expr: Expr) -> Result<ParseState, BuildError>
+pub fn shift_comma_base(alloc: Global, base: Base, expr: Expr) -> Result<ParseState, NotRead>
     ensures { Gives state_of result (shift_comma_base (base_of base) (plain_expr expr)) }
 {
     match base {
@@ -78,12 +78,12 @@ pub fn shift_comma_base(alloc: Global, base: Base, expr: Expr) -> Result<ParseSt
         | Base::Expression
         | Base::Assigned(_)
         | Base::TargetSubscript(_)
-        | Base::VariableSubscript(_, _) => Err(BuildError::Refused),
+        | Base::VariableSubscript(_, _) => Err(NotRead::Refused),
     }
 }
 
 /// The phrase that a base ends as behind its expression, if it may end so.
-pub fn phrase_of_base(base: Base, expr: Expr) -> Result<Phrase, BuildError>
+pub fn phrase_of_base(base: Base, expr: Expr) -> Result<Phrase, NotRead>
     ensures { Gives plain_phrase result (phrase_of_base (base_of base) (plain_expr expr)) }
 {
     match base {
@@ -92,7 +92,7 @@ pub fn phrase_of_base(base: Base, expr: Expr) -> Result<Phrase, BuildError>
         Base::Expressions(done) => Ok(Phrase::ExpressionList(with_expr(done, expr)?)),
         Base::Assigned(target) => Ok(Phrase::Assignment(target, expr)),
         Base::TargetSubscript(_) | Base::VariableSubscript(_, _) | Base::CallArguments(_, _) => {
-            Err(BuildError::Refused)
+            Err(NotRead::Refused)
         }
     }
 }

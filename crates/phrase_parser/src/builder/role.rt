@@ -1,16 +1,16 @@
 //! The role of a name that stands in no expression, and what each sign behind the name does to it.
 
+ghost use Rattle.phrase_parser.specs.NotRead.{Gives};
 ghost use Rattle.phrase_parser.specs.Private.Machine.{shift_open_role, shift_open, shift_comma_role, shift_equal_role, phrase_of_role};
-ghost use Rattle.phrase_parser.specs.Private.Gives.{Gives};
 ghost use Rattle.phrase_parser.specs.Private.Views.{role_of, state_of};
 ghost use Rattle.plcs_grammar.specs.PlainPhrase.{plain_phrase};
 
 use crate::builder::base::{Base, wanted_on};
 use crate::builder::expr::simple;
-use crate::builder::fault::BuildError;
 use crate::builder::lists::{with_item, with_name, with_variable};
 use crate::builder::primary::expression;
 use crate::builder::state::{ParseState, shift_open};
+use crate::not_read::NotRead;
 use plcs_base::Name;
 use plcs_grammar::{Item, Phrase, VarRef};
 use std::alloc::Global;
@@ -35,7 +35,7 @@ pub enum Role {
 }
 
 /// The state that a role becomes after a parenthesis that is opened after its name, if one can stand there.
-pub fn shift_open_role(alloc: Global, role: Role, name: Name) -> Result<ParseState, BuildError>
+pub fn shift_open_role(alloc: Global, role: Role, name: Name) -> Result<ParseState, NotRead>
     ensures { Gives state_of result (shift_open_role (role_of role) name) }
 {
     match role {
@@ -43,12 +43,12 @@ pub fn shift_open_role(alloc: Global, role: Role, name: Name) -> Result<ParseSta
         Role::Variables(done) => Ok(wanted_on(alloc, Base::VariableSubscript(done, name))),
         Role::Callee => Ok(wanted_on(alloc, Base::CallArguments(name, Vec::new(alloc)))),
         Role::Items(done) => Ok(ParseState::SizeWanted(done, name)),
-        Role::Names(_) | Role::Variable | Role::Procedure => Err(BuildError::Refused),
+        Role::Names(_) | Role::Variable | Role::Procedure => Err(NotRead::Refused),
     }
 }
 
 /// The state that a role becomes after a comma that follows its name, if one can stand there.
-pub fn shift_comma_role(role: Role, name: Name) -> Result<ParseState, BuildError>
+pub fn shift_comma_role(role: Role, name: Name) -> Result<ParseState, NotRead>
     ensures { Gives state_of result (shift_comma_role (role_of role) name) }
 {
     match role {
@@ -64,12 +64,12 @@ pub fn shift_comma_role(role: Role, name: Name) -> Result<ParseState, BuildError
             let done = with_name(done, name)?;
             Ok(ParseState::NameWanted(Role::Names(done)))
         }
-        Role::Target | Role::Callee | Role::Variable | Role::Procedure => Err(BuildError::Refused),
+        Role::Target | Role::Callee | Role::Variable | Role::Procedure => Err(NotRead::Refused),
     }
 }
 
 /// The state that a role becomes after `=` that follows its name, if it can stand there.
-pub fn shift_equal_role(alloc: Global, role: Role, name: Name) -> Result<ParseState, BuildError>
+pub fn shift_equal_role(alloc: Global, role: Role, name: Name) -> Result<ParseState, NotRead>
     ensures { Gives state_of result (shift_equal_role (role_of role) name) }
 {
     match role {
@@ -79,16 +79,16 @@ pub fn shift_equal_role(alloc: Global, role: Role, name: Name) -> Result<ParseSt
         | Role::Items(_)
         | Role::Names(_)
         | Role::Variable
-        | Role::Procedure => Err(BuildError::Refused),
+        | Role::Procedure => Err(NotRead::Refused),
     }
 }
 
 /// The phrase that a role ends as behind its name, if it may end so.
-pub fn phrase_of_role(alloc: Global, role: Role, name: Name) -> Result<Phrase, BuildError>
+pub fn phrase_of_role(alloc: Global, role: Role, name: Name) -> Result<Phrase, NotRead>
     ensures { Gives plain_phrase result (phrase_of_role (role_of role) name) }
 {
     match role {
-        Role::Target => Err(BuildError::Refused),
+        Role::Target => Err(NotRead::Refused),
         Role::Variables(done) => Ok(Phrase::VariableList(with_variable(done, simple(name))?)),
         Role::Callee => Ok(Phrase::CallRef(name, Vec::new(alloc))),
         Role::Items(done) => Ok(Phrase::DeclaredList(with_item(done, name, None)?)),

@@ -1,8 +1,8 @@
 //! The builder's stack: what stands open around an operand, and what each sign does to it.
 
 ghost use Rattle.std.specs.Prelude.{◌≡◌, IfOk};
+ghost use Rattle.phrase_parser.specs.NotRead.{Gives};
 ghost use Rattle.phrase_parser.specs.Private.Machine.{open_frame, shift_open_after, shift_open, ParseStack as OpenStack, shift_close_base, shift_close_stack, shift_close, shift_comma_base, shift_comma_stack, after_infix, shift_prefix, shift_infix, phrase_of_base, phrase_of_stack, reduced};
-ghost use Rattle.phrase_parser.specs.Private.Gives.{Gives};
 ghost use Rattle.phrase_parser.specs.Private.Views.{stack_of, primary_of, state_of, pushed, pair_of};
 ghost use Rattle.plcs_grammar.specs.PlainPhrase.{plain_expr, plain_phrase};
 ghost use Rattle.plcs_grammar.specs.Level.{priority};
@@ -10,10 +10,10 @@ ghost use Rattle.phrase_parser.specs.Private.Reduction.{rest_of};
 
 use crate::builder::base::{Base, phrase_of_base, shift_close_base, shift_comma_base};
 use crate::builder::expr::{binary, unary};
-use crate::builder::fault::BuildError;
 use crate::builder::lists::with_expr;
 use crate::builder::primary::{Primary, element, expression, parenthesized};
 use crate::builder::state::{ParseState, shift_close, shift_open};
+use crate::not_read::NotRead;
 use crate::operator::priority;
 use plcs_base::Name;
 use plcs_grammar::{Builtin, Expr, InfixOp, Phrase, PrefixOp};
@@ -48,11 +48,11 @@ pub fn shift_open_after(
     alloc: Global,
     stack: ParseStack,
     primary: Primary,
-) -> Result<ParseState, BuildError>
+) -> Result<ParseState, NotRead>
     ensures { Gives state_of result (shift_open_after (stack_of stack) (primary_of primary)) }
 {
     let Primary::Name(name) = primary else {
-        return Err(BuildError::Refused);
+        return Err(NotRead::Refused);
     };
     let function = Builtin::read(name.as_bytes());
     let frame = open_frame(alloc, name, function);
@@ -75,7 +75,7 @@ pub fn shift_close_stack(
     alloc: Global,
     stack: ParseStack,
     expr: Expr,
-) -> Result<ParseState, BuildError>
+) -> Result<ParseState, NotRead>
     ensures { Gives state_of result (shift_close_stack (stack_of stack) (plain_expr expr)) }
 {
     let ParseStack { base, mut frames } = stack;
@@ -86,7 +86,7 @@ pub fn shift_close_stack(
         ParseFrame::Parenthesis => parenthesized(alloc, expr)?,
         ParseFrame::Subscript(name) => element(alloc, name, expr)?,
         ParseFrame::Arguments(function, done) => Primary::Call(function, with_expr(done, expr)?),
-        ParseFrame::Prefix(_) | ParseFrame::Left(_, _) => return Err(BuildError::Refused),
+        ParseFrame::Prefix(_) | ParseFrame::Left(_, _) => return Err(NotRead::Refused),
     };
     Ok(ParseState::Had(ParseStack { base, frames }, primary))
 }
@@ -97,7 +97,7 @@ pub fn shift_comma_stack(
     alloc: Global,
     stack: ParseStack,
     expr: Expr,
-) -> Result<ParseState, BuildError>
+) -> Result<ParseState, NotRead>
     ensures { Gives state_of result (shift_comma_stack (stack_of stack) (plain_expr expr)) }
 {
     let ParseStack { base, mut frames } = stack;
@@ -116,16 +116,16 @@ pub fn shift_comma_stack(
             | ParseFrame::Left(_, _)
             | ParseFrame::Parenthesis
             | ParseFrame::Subscript(_),
-        ) => { Err(BuildError::Refused) }
+        ) => { Err(NotRead::Refused) }
     }
 }
 
 /// The state that a stack becomes after a prefix operator, where an operand is wanted.
-pub fn shift_prefix(stack: ParseStack, op: Option<PrefixOp>) -> Result<ParseState, BuildError>
+pub fn shift_prefix(stack: ParseStack, op: Option<PrefixOp>) -> Result<ParseState, NotRead>
     ensures { Gives state_of result (shift_prefix (stack_of stack) op) }
 {
     match op {
-        None => Err(BuildError::Refused),
+        None => Err(NotRead::Refused),
         Some(op) => Ok(ParseState::Wanted(with_frame(stack, ParseFrame::Prefix(op))?)),
     }
 }
@@ -136,11 +136,11 @@ pub fn shift_infix(
     stack: ParseStack,
     primary: Primary,
     op: Option<InfixOp>,
-) -> Result<ParseState, BuildError>
+) -> Result<ParseState, NotRead>
     ensures { Gives state_of result (shift_infix (stack_of stack) (primary_of primary) op) }
 {
     match op {
-        None => Err(BuildError::Refused),
+        None => Err(NotRead::Refused),
         Some(op) => {
             let (stack, left) = reduced(alloc, stack, priority(op), expression(primary))?;
             Ok(after_infix(stack, left, op)?)
@@ -167,13 +167,13 @@ pub fn with_frame(stack: ParseStack, frame: ParseFrame) -> Result<ParseStack, Al
 
 /// The phrase that a stack ends as behind the expression, unless something is still open on it.
 #[tactic(auto, using(crate::proofs::Frames::FrameStacks::stack_on_push, crate::proofs::Frames::FrameStacks::ended_at_open))]
-pub fn phrase_of_stack(stack: ParseStack, expr: Expr) -> Result<Phrase, BuildError>
+pub fn phrase_of_stack(stack: ParseStack, expr: Expr) -> Result<Phrase, NotRead>
     ensures { Gives plain_phrase result (phrase_of_stack (stack_of stack) (plain_expr expr)) }
 {
     let ParseStack { base, mut frames } = stack;
     match frames.pop() {
         None => phrase_of_base(base, expr),
-        Some(_) => Err(BuildError::Refused),
+        Some(_) => Err(NotRead::Refused),
     }
 }
 

@@ -2,14 +2,13 @@
 
 ghost use Rattle.phrase_parser.specs.Private.Machine.{start_state, shift, shift_operand, shift_name, shift_number, after_infix, shift_equal_role, shift_equal, shift_prefix, shift_infix, shift_operator, shift_sign, shift_open_after, shift_open_role, shift_open, shift_close_stack, shift_close, shift_comma_stack, shift_comma_role, shift_comma, phrase_of_stack, phrase_of_role, phrase_of};
 ghost use Rattle.phrase_parser.specs.Private.TokenIn.{IsPlacedIn, token_in};
-ghost use Rattle.phrase_parser.specs.Private.Gives.{Gives};
 ghost use Rattle.phrase_parser.specs.Private.Views.{state_of, primary_of};
 ghost use Rattle.std.specs.Prelude.{◌≤◌};
+ghost use Rattle.phrase_parser.specs.NotRead.{Gives};
 ghost use Rattle.plcs_grammar.specs.Limit.{greatest_number};
 ghost use Rattle.plcs_grammar.specs.PlainPhrase.{plain_phrase};
 
 use crate::builder::base::{Base, wanted_on};
-use crate::builder::fault::BuildError;
 use crate::builder::lists::with_item;
 use crate::builder::primary::{Primary, constant, expression, number};
 use crate::builder::role::{
@@ -20,6 +19,7 @@ use crate::builder::stack::{
     shift_comma_stack, shift_infix, shift_open_after, shift_prefix, with_frame,
 };
 use crate::builder::token_value::{constant_value, name_of};
+use crate::not_read::NotRead;
 use crate::operator::{infix_of, prefix_of, priority};
 use crate::token::{Placed, TokenKind};
 use plcs_base::{LONGEST_TEXT, Name};
@@ -56,7 +56,7 @@ pub enum ParseState {
 }
 
 /// The builder's state before all tokens of a phrase; a comment has no tokens.
-pub fn start_state(alloc: Global, category: Category) -> Result<ParseState, BuildError>
+pub fn start_state(alloc: Global, category: Category) -> Result<ParseState, NotRead>
     ensures { Gives state_of result (start_state category) }
 {
     match category {
@@ -71,7 +71,7 @@ pub fn start_state(alloc: Global, category: Category) -> Result<ParseState, Buil
         Category::ProcedureName => Ok(ParseState::NameWanted(Role::Procedure)),
         Category::NameList => Ok(ParseState::NameWanted(Role::Names(Vec::new(alloc)))),
         Category::Length => Ok(ParseState::LengthWanted),
-        Category::CommentText => Err(BuildError::Refused),
+        Category::CommentText => Err(NotRead::Refused),
     }
 }
 
@@ -81,14 +81,14 @@ pub fn shift(
     state: ParseState,
     text: &[u8],
     token: Placed,
-) -> Result<ParseState, BuildError>
+) -> Result<ParseState, NotRead>
     requires { IsPlacedIn text.now token }
     ensures { Gives state_of result (shift (state_of state) (token_in text.now token)) }
 {
     let bytes = &text[token.start..token.end];
     match token.kind {
         TokenKind::Name => shift_name(state, name_of(bytes)),
-        TokenKind::Keyword => Err(BuildError::Refused),
+        TokenKind::Keyword => Err(NotRead::Refused),
         TokenKind::Number(n) => shift_number(state, n),
         TokenKind::Text => shift_operand(state, constant(alloc, constant_value(bytes))?),
         TokenKind::Bit(value) => shift_operand(state, Primary::Bit(value)),
@@ -97,18 +97,18 @@ pub fn shift(
 }
 
 /// The builder's state after a name, if one can stand there.
-pub fn shift_name(state: ParseState, name: Name) -> Result<ParseState, BuildError>
+pub fn shift_name(state: ParseState, name: Name) -> Result<ParseState, NotRead>
     ensures { Gives state_of result (shift_name (state_of state) name) }
 {
     match state {
         ParseState::Wanted(stack) => Ok(ParseState::Had(stack, Primary::Name(name))),
         ParseState::NameWanted(role) => Ok(ParseState::NameHad(role, name)),
-        _ => Err(BuildError::Refused),
+        _ => Err(NotRead::Refused),
     }
 }
 
 /// The builder's state after a number, if one can stand there.
-pub fn shift_number(state: ParseState, n: u32) -> Result<ParseState, BuildError>
+pub fn shift_number(state: ParseState, n: u32) -> Result<ParseState, NotRead>
     requires { n ≤ greatest_number }
     ensures { Gives state_of result (shift_number (state_of state) n) }
 {
@@ -118,22 +118,22 @@ pub fn shift_number(state: ParseState, n: u32) -> Result<ParseState, BuildError>
         ParseState::LengthWanted if n >= 1 && n as usize <= LONGEST_TEXT => {
             Ok(ParseState::LengthHad(n as u16))
         }
-        _ => Err(BuildError::Refused),
+        _ => Err(NotRead::Refused),
     }
 }
 
 /// The builder's state after a whole operand, if one can stand there.
-pub fn shift_operand(state: ParseState, primary: Primary) -> Result<ParseState, BuildError>
+pub fn shift_operand(state: ParseState, primary: Primary) -> Result<ParseState, NotRead>
     ensures { Gives state_of result (shift_operand (state_of state) (primary_of primary)) }
 {
     match state {
         ParseState::Wanted(stack) => Ok(ParseState::Had(stack, primary)),
-        _ => Err(BuildError::Refused),
+        _ => Err(NotRead::Refused),
     }
 }
 
 /// The builder's state after a sign, if it can stand there.
-pub fn shift_sign(alloc: Global, state: ParseState, sign: Sign) -> Result<ParseState, BuildError>
+pub fn shift_sign(alloc: Global, state: ParseState, sign: Sign) -> Result<ParseState, NotRead>
     ensures { Gives state_of result (shift_sign (state_of state) sign) }
 {
     match sign {
@@ -146,7 +146,7 @@ pub fn shift_sign(alloc: Global, state: ParseState, sign: Sign) -> Result<ParseS
 }
 
 /// The builder's state after an opening parenthesis, if one can stand there.
-pub fn shift_open(alloc: Global, state: ParseState) -> Result<ParseState, BuildError>
+pub fn shift_open(alloc: Global, state: ParseState) -> Result<ParseState, NotRead>
     ensures { Gives state_of result (shift_open (state_of state)) }
 {
     match state {
@@ -156,12 +156,12 @@ pub fn shift_open(alloc: Global, state: ParseState) -> Result<ParseState, BuildE
         )?)),
         ParseState::Had(stack, primary) => shift_open_after(alloc, stack, primary),
         ParseState::NameHad(role, name) => shift_open_role(alloc, role, name),
-        _ => Err(BuildError::Refused),
+        _ => Err(NotRead::Refused),
     }
 }
 
 /// The builder's state after a closing parenthesis, if one can stand there.
-pub fn shift_close(alloc: Global, state: ParseState) -> Result<ParseState, BuildError>
+pub fn shift_close(alloc: Global, state: ParseState) -> Result<ParseState, NotRead>
     ensures { Gives state_of result (shift_close (state_of state)) }
 {
     match state {
@@ -172,12 +172,12 @@ pub fn shift_close(alloc: Global, state: ParseState) -> Result<ParseState, Build
         ParseState::SizeHad(done, name, size) => {
             Ok(ParseState::ItemHad(with_item(done, name, Some(size))?))
         }
-        _ => Err(BuildError::Refused),
+        _ => Err(NotRead::Refused),
     }
 }
 
 /// The builder's state after a comma, if one can stand there.
-pub fn shift_comma(alloc: Global, state: ParseState) -> Result<ParseState, BuildError>
+pub fn shift_comma(alloc: Global, state: ParseState) -> Result<ParseState, NotRead>
     ensures { Gives state_of result (shift_comma (state_of state)) }
 {
     match state {
@@ -188,13 +188,13 @@ pub fn shift_comma(alloc: Global, state: ParseState) -> Result<ParseState, Build
         ParseState::NameHad(role, name) => shift_comma_role(role, name),
         ParseState::VariableHad(done) => Ok(ParseState::NameWanted(Role::Variables(done))),
         ParseState::ItemHad(done) => Ok(ParseState::NameWanted(Role::Items(done))),
-        _ => Err(BuildError::Refused),
+        _ => Err(NotRead::Refused),
     }
 }
 
 /// The builder's state after `=`, if it can stand there: it assigns to the target of an assignment, and elsewhere it
 /// compares.
-fn shift_equal(alloc: Global, state: ParseState) -> Result<ParseState, BuildError>
+fn shift_equal(alloc: Global, state: ParseState) -> Result<ParseState, NotRead>
     ensures { Gives state_of result (shift_equal (state_of state)) }
 {
     match state {
@@ -205,23 +205,23 @@ fn shift_equal(alloc: Global, state: ParseState) -> Result<ParseState, BuildErro
         }
         ParseState::NameHad(role, name) => shift_equal_role(alloc, role, name),
         ParseState::TargetHad(target) => Ok(wanted_on(alloc, Base::Assigned(target))),
-        _ => Err(BuildError::Refused),
+        _ => Err(NotRead::Refused),
     }
 }
 
 /// The builder's state after a sign that is an operator wherever it stands, if it can stand there.
-fn shift_operator(alloc: Global, state: ParseState, sign: Sign) -> Result<ParseState, BuildError>
+fn shift_operator(alloc: Global, state: ParseState, sign: Sign) -> Result<ParseState, NotRead>
     ensures { Gives state_of result (shift_operator (state_of state) sign) }
 {
     match state {
         ParseState::Wanted(stack) => shift_prefix(stack, prefix_of(sign)),
         ParseState::Had(stack, primary) => shift_infix(alloc, stack, primary, infix_of(sign)),
-        _ => Err(BuildError::Refused),
+        _ => Err(NotRead::Refused),
     }
 }
 
 /// The phrase that the builder's state ends as, if all of it is read.
-pub fn phrase_of(alloc: Global, state: ParseState) -> Result<Phrase, BuildError>
+pub fn phrase_of(alloc: Global, state: ParseState) -> Result<Phrase, NotRead>
     ensures { Gives plain_phrase result (phrase_of (state_of state)) }
 {
     match state {
@@ -234,6 +234,6 @@ pub fn phrase_of(alloc: Global, state: ParseState) -> Result<Phrase, BuildError>
         ParseState::CallHad(name, passed) => Ok(Phrase::CallRef(name, passed)),
         ParseState::ItemHad(done) => Ok(Phrase::DeclaredList(done)),
         ParseState::LengthHad(length) => Ok(Phrase::Length(length)),
-        _ => Err(BuildError::Refused),
+        _ => Err(NotRead::Refused),
     }
 }

@@ -1,21 +1,21 @@
 use Rattle.std.proofs.Common.{◌∙◌, ◌+◌, if◌then◌else◌, ap, sym, subst, refl, Some, None}
 use Rattle.file_store.specs.Private.Come.{come_of}
-use Rattle.file_store.specs.Private.Reader.{line_taken}
-use Rattle.file_store.specs.Private.Reading.{IsPast}
+use Rattle.file_store.specs.Private.Reading.{IsLineRefused, IsPast}
 use Rattle.file_store.specs.Private.Views.{said_of, open_nodes_of}
-use Rattle.file_store.proofs.OpenNodes.{refused_is}
 use Rattle.file_store.proofs.ReadListings.{past_refused}
-use Rattle.file_store.proofs.Texts.{one_line}
+use Rattle.file_store.proofs.RefusedLines.{unread_refused, untaken_refused}
 use Rattle.file_store.proofs.reader.Reader.taken.Goals as goal
 
-pub returns-in-Err-Refused-line_taken-clause-refused : goal.returns-in-Err-Refused-line_taken-clause-refused
-returns-in-Err-Refused-line_taken-clause-refused c = (
-  refl,
-  (λ said h.
-      ap (line_taken (open_nodes_of c.args.self.stack))
-      (one_line c.line_laws.ensures said (said_of c.in-Ok.said) h.0 c.in-Ok.ensures.says.0 (h.1 ∙ sym c.in-Ok.ensures.says.1))
-      ∙ refused_is c.in-Err-Refused-line_taken.field-0 (line_taken (open_nodes_of c.args.self.stack) (said_of c.in-Ok.said)) c.in-Err-Refused-line_taken.field-0-is c.in-Err-Refused-line_taken.ensures),
-)
+pub returns-in-Err-clause-refused : goal.returns-in-Err-clause-refused
+returns-in-Err-clause-refused c =
+    subst (IsLineRefused c.args.line.now (come_of c.args.self)) (sym c.refused_in.ensures)
+    (unread_refused c.args.line.now (come_of c.args.self) c.in-Err.fault c.in-Err.ensures.says)
+
+pub returns-in-Err-line_taken-clause-refused : goal.returns-in-Err-line_taken-clause-refused
+returns-in-Err-line_taken-clause-refused c =
+    subst (IsLineRefused c.args.line.now (come_of c.args.self)) (sym c.refused_in-in-Err-line_taken.ensures)
+    (untaken_refused c.line_laws.ensures c.args.line.now (come_of c.args.self) (said_of c.in-Ok.said) c.in-Err-line_taken.fault
+    c.in-Ok.ensures.says c.in-Err-line_taken.ensures)
 
 pub returns-in-Some-clause-refused : goal.returns-in-Some-clause-refused
 returns-in-Some-clause-refused c =

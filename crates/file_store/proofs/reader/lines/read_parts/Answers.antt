@@ -2,7 +2,7 @@ use Rattle.std.proofs.Common.{[], ◌≡◌, Global, Vec, ap, map, subst, sym}
 use Rattle.plcs_grammar.specs.Template.{PlainRow, plain_segment}
 use Rattle.template_tree.specs.Programs.PlainPhrasePlace.{plain_phrase_place}
 use Rattle.template_tree.specs.declared.phrase_place.PhrasePlace.{PhrasePlace}
-use Rattle.file_store.specs.Private.Gives.{Finds}
+use Rattle.file_store.specs.Private.Finds.{Finds}
 use Rattle.file_store.specs.Private.LineReading.{AreNoSegments, AreReadAfter, IsCut, IsSegmentsText}
 use Rattle.file_store.proofs.Heads.{row_cut}
 use Rattle.file_store.proofs.PartTexts.{finds_too, read_whole}

@@ -3,7 +3,7 @@ use Rattle.template_tree.specs.Programs.Build.{built_label}
 use Rattle.template_tree.specs.Programs.PlainTree.{Forest, PlainNode, forest, join, roomless}
 use Rattle.template_tree.specs.Programs.PlainPhrasePlace.{plain_phrase_place}
 use Rattle.std.specs.Prelude.{◌-◌, ◌^◌, map, min}
-use Rattle.file_store.specs.Private.Gives.{Gives}
+use Rattle.phrase_parser.specs.NotRead.{Gives}
 use Rattle.file_store.specs.Private.Reader as machine
 use Rattle.file_store.specs.Private.Views.{open_list_of}
 use Rattle.file_store.proofs.OpenNodes.{roomless_length}
