@@ -7,9 +7,9 @@ use Rattle.synth_outside.specs.declared.faults.SinkFault.{SinkFault}
 use Rattle.screen_window.specs.Writes.{Writes}
 use Rattle.screen_window.proofs.Fronts.{AppendsFront-append, AppendsFront-first}
 
--- a call behind others that counted no fault
-pub cause_behind : {T E : Type 0} (fault : E) (p q s : ℕ) (result : Result T E) → q ≡ p → HasCause fault q s result → HasCause fault p s result
-cause_behind fault p q s result same cause = subst (λ n. HasCause fault n s result) same cause
+-- a call after others that counted no fault
+pub cause_after : {T E : Type 0} (fault : E) (p q s : ℕ) (result : Result T E) → q ≡ p → HasCause fault q s result → HasCause fault p s result
+cause_after fault p q s result same cause = subst (λ n. HasCause fault n s result) same cause
 
 -- the same of a call that gave no answer, and was to give another
 pub cause_passed : {T U E : Type 0} (fault e : E) (p q s : ℕ) → q ≡ p → HasCause {T = U} fault q s (Err e) → HasCause {T = T} fault p s (Err e)
@@ -27,8 +27,8 @@ pub writes_both : {T U : Type 0} (xs ys : List ℕ) (x : U) (result : Result T S
 writes_both xs ys x result a b c p q s u v w first second = record {
   all = on_ok_weaker result (λ all. Appends-trans a b c xs ys first.all all) second.all;
   front = on_err_weaker result (λ front. AppendsFront-append a b c xs ys first.all front) second.front;
-  cause = cause_behind _ p q s result (first.cause.same (λ h. absurd (cc))) second.cause;
-  want = cause_behind _ u v w result (first.want.same (λ h. absurd (cc))) second.want;
+  cause = cause_after _ p q s result (first.cause.same (λ h. absurd (cc))) second.cause;
+  want = cause_after _ u v w result (first.want.same (λ h. absurd (cc))) second.want;
 }
 
 -- of xs a front was written, and of ys nothing

@@ -21,6 +21,6 @@ pub use grid::Grid;
 pub use limit::{FEWEST_COLS, FEWEST_ROWS, MOST_COLS, MOST_ROWS, OTHER_ROWS};
 pub use lower_rows::cursor_part;
 pub use painted_terminal::painted_terminal_shows;
-pub use painting::{paint, write_piece};
+pub use painting::{paint, write_piece, writes_in_turn};
 pub use terminal::Terminal;
 pub use view::View;

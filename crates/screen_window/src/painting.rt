@@ -4,7 +4,7 @@ ghost use Rattle.std.specs.Prelude.{◌≡◌, ◌+◌, ◌≤◌, [], ◌++◌,
 ghost use Rattle.arrayvec.specs.ArrayVec.{array_vec_len};
 ghost use Rattle.screen_window.specs.declared.limit.TheConstants.{MOST_COLS};
 ghost use Rattle.screen_window.specs.Paint.{Paint, go_to, image_change, row_piece, row_paint, rows_paint, spelled, visible};
-ghost use Rattle.screen_window.specs.Writes.{Writes};
+ghost use Rattle.screen_window.specs.Writes.{Writes, WritesInTurn};
 
 use crate::grid::Grid;
 use crate::limit::MOST_COLS;
@@ -140,7 +140,10 @@ fn put(piece: &mut Piece, bytes: &[u8])
     requires { array_vec_len piece.old + length bytes.now ≤ 1024 }
     ensures { piece.new.items ≡ piece.old.items ++ bytes.now }
 {
-    let _ = piece.try_extend_from_slice(bytes);
+    match piece.try_extend_from_slice(bytes) {
+        Ok(()) => {}
+        Err(_) => unreachable!(),
+    }
 }
 
 /// How many cells of a row are painted: those up to the last that isn't a blank in default image.
@@ -168,3 +171,8 @@ pub fn write_piece<K: Sink>(sink: &mut K, piece: &[u8]) -> Result<(), SinkFault>
     }
     Ok(())
 }
+
+/// The law of writing in turn: writing some bytes and then others is writing both.
+pub fn writes_in_turn()
+    ensures { WritesInTurn }
+{}
