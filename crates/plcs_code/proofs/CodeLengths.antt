@@ -13,7 +13,7 @@ use Rattle.template_tree.specs.Programs.Part.{part_at}
 use Rattle.template_tree.specs.Programs.PlainTree.{Forest, Label}
 use Rattle.plcs_code.specs.ExprCode.{counter_name}
 use Rattle.plcs_code.specs.Gen.{code_around, code_with, codes_around, codes_joined, length_around, node_codes, node_lengths, own_instrs, own_length}
-use Rattle.plcs_code.specs.Pieces.{CodeJumps, CodePieces, first_length, jump_unless, jumps, kind_jumps, other_lengths, pieces, suspension, template_jumps}
+use Rattle.plcs_code.specs.Pieces.{CodeJumps, CodePieces, first_length, jump_unless, jumps, kind_jumps, other_lengths, own_jumps, pieces, suspension, template_jumps}
 use Rattle.plcs_code.specs.PlainInstr.{PlainInstr}
 
 -- ---- the jumps of a node
@@ -74,14 +74,18 @@ kind_many slot counter all one a m n b k l NodeKind.Main = same_many _
 kind_many slot counter all one a m n b k l NodeKind.Assign = same_many _
 kind_many slot counter all one a m n b k l (NodeKind.Filled template) = template_many slot counter all one a m n b k l template
 
+-- a node has as many jumps, whatever they go over
+pub own_jumps_many : (marks : MarkMap) (label : Label) (a m n b k l : ℕ) → AsMany (own_jumps marks label a m n) (own_jumps marks label b k l)
+own_jumps_many marks label a m n b k l =
+    kind_many label.slot (counter_name (part_at label.parts 0)) (is_some (suspension marks label.slot label.parts))
+    (is_some (suspension marks label.slot (take 1 label.parts))) a m n b k l label.kind
+
 -- a node has as many jumps, whatever the lengths of the codes inside it
 pub jumps_many : (marks : MarkMap) (items : ItemMap) (label : Label) (lengths others : List ℕ)
     → AsMany (jumps marks items label lengths) (jumps marks items label others)
 jumps_many marks items label lengths others =
     let before = length (pieces marks items label).before in
-    kind_many label.slot (counter_name (part_at label.parts 0)) (is_some (suspension marks label.slot label.parts))
-    (is_some (suspension marks label.slot (take 1 label.parts)))
-    before (first_length lengths) (other_lengths lengths) before (first_length others) (other_lengths others) label.kind
+    own_jumps_many marks label before (first_length lengths) (other_lengths lengths) before (first_length others) (other_lengths others)
 
 -- ---- a node's own code
 

@@ -2,8 +2,9 @@
 -- what is laid is joined by one lemma, and what that makes of a draft or of a tally is found by one induction each.
 use Rattle.std.proofs.Common.{ℕ, ◌+◌, ◌≤◌, false, List, [], ◌∷◌, ◌++◌, length, ◌≡◌, refl, subst, ap, sym, ◌∙◌, arith, append_assoc}
 use Rattle.std.proofs.lemmas.List.{append-nil}
+use Rattle.plcs_base.specs.Count.{raised_by}
 use Rattle.plcs_base.specs.PlainCounts.{PlainCounts}
-use Rattle.plcs_code.specs.Counts.{EmitsAtMost}
+use Rattle.plcs_code.specs.Counts.{Emits, EmitsAtMost}
 use Rattle.plcs_code.specs.PlainInstr.{PlainInstr}
 use Rattle.plcs_code.specs.Private.LaysAll.{LaysAll, lays_nothing, lays_next}
 use Rattle.plcs_code.specs.Private.PlainDraft.{DraftsOne, PlainDraft, PlainTally, TalliesOne}
@@ -33,9 +34,47 @@ lays_behind done one = lays_append done (lays_one one)
 pub record Drafted (before : PlainDraft) (u : PlainCounts) (code : List PlainInstr) (after : PlainDraft) (v : PlainCounts) : Type 0 where
   pub failed : after.failed ≡ false → before.failed ≡ false
   pub instrs : after.failed ≡ false → after.instrs ≡ before.instrs ++ code
+  pub counted : after.failed ≡ false → Emits (length code) u v
   pub counts : EmitsAtMost (length code) u v
 
+-- a count that is raised by nothing stays
+raised_none : (count : ℕ) → raised_by 0 count ≡ count
+raised_none count = omega arith
+
+-- a count that is raised twice is raised by both together
+raised_both : (m n count : ℕ) → raised_by n (raised_by m count) ≡ raised_by (m + n) count
+raised_both m n count = omega arith
+
+-- a count that is raised is at most so much more, and no less
+raised_most : (n count : ℕ) → raised_by n count ≤ count + n
+raised_most n count = omega arith
+
+raised_later : (n count : ℕ) → count ≤ raised_by n count
+raised_later n count = omega arith
+
 -- nothing is counted where nothing is done
+pub emits_nothing : (u : PlainCounts) → Emits 0 u u
+emits_nothing u = λ i. record u { emitted = sym (raised_none u.emitted) i }
+
+-- what is emitted adds up
+pub emits_both : (m n k : ℕ) (u v w : PlainCounts) → m + n ≡ k → Emits m u v → Emits n v w → Emits k u w
+emits_both m n k u v w is one other =
+    other
+    ∙ ap (λ (x : PlainCounts). let y : PlainCounts = record x { emitted = raised_by n x.emitted } in y) one
+    ∙ ap (λ (count : ℕ). let y : PlainCounts = record u { emitted = count } in y)
+    (raised_both m n u.emitted ∙ ap (λ (number : ℕ). raised_by number u.emitted) is)
+
+-- what is emitted is at most so much
+pub emits_most : (m n : ℕ) (u v : PlainCounts) → m ≤ n → Emits m u v → EmitsAtMost n u v
+emits_most m n u v less one =
+    let P : PlainCounts → Type 0 = λ counts. EmitsAtMost n u counts in
+    subst P (sym one) (record {
+      most = omega (arith, less, raised_most m u.emitted);
+      later = raised_later m u.emitted;
+      others = refl;
+    })
+
+-- at most so much is counted where nothing is done
 pub emits_none : (n : ℕ) (u : PlainCounts) → EmitsAtMost n u u
 emits_none n u = record { most = omega arith; later = omega arith; others = refl }
 
@@ -52,11 +91,16 @@ emits_then m n k u v w less one other =
       others = other.others ∙ ap (λ (x : PlainCounts). let y : PlainCounts = record x { emitted = w.emitted } in y) one.others;
     }
 
+-- where so many are emitted, and then at most some more
+pub emits_break : (m n k : ℕ) (u v w : PlainCounts) → m + n ≤ k → Emits m u v → EmitsAtMost n v w → EmitsAtMost k u w
+emits_break m n k u v w less one other = emits_then m n k u v w less (emits_most m m u v (omega arith) one) other
+
 -- instructions laid into a draft stand behind the others
 pub drafted : {a b : PlainDraft} {u v : PlainCounts} {code : List PlainInstr} → LaysAll DraftsOne a u code b v → Drafted a u code b v
 drafted {a = a} {u = u} lays_nothing = record {
   failed = λ h. h;
   instrs = λ h. sym (append-nil a.instrs);
+  counted = λ h. emits_nothing u;
   counts = emits_none 0 u;
 }
 drafted {a = a} {b = c} {u = u} {v = w} (lays_next {between = b} {second = v} {instr = instr} {code = code} one rest) =
@@ -64,6 +108,7 @@ drafted {a = a} {b = c} {u = u} {v = w} (lays_next {between = b} {second = v} {i
     record {
       failed = λ h. one.failed (more.failed h);
       instrs = λ h. more.instrs h ∙ ap (λ xs. xs ++ code) (one.instrs (more.failed h)) ∙ append_assoc a.instrs (instr ∷ []) code;
+      counted = λ h. emits_both 1 (length code) (length (instr ∷ code)) u v w (omega arith) (one.counted (more.failed h)) (more.counted h);
       counts = emits_then 1 (length code) (length (instr ∷ code)) u v w (omega arith) one.counts more.counts;
     }
 

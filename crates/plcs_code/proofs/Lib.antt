@@ -15,8 +15,17 @@ pub mod ReadParts
 pub mod LaidPieces
 -- the law `lengths_are_told`: how long pieces and codes are
 pub mod CodeLengths
--- the maps of code: the orders of their keys
+-- the lengths that are counted ahead
+pub mod CountedLengths
+-- the code of nodes and of a program, laid step by step
+pub mod LaidNodes
+pub mod LaidSteps
+pub mod LaidPrograms
+-- the maps of code, and the orders of their keys
+pub mod CodeMaps
 pub mod KeyOrder
+-- `generate`: the items of a procedure
+pub mod ProcedureItems
 -- the law `own_codes_add_up`
 pub mod OwnCodes
 -- the laws of jumps and places: code that works on values alone

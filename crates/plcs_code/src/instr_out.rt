@@ -1,6 +1,7 @@
 //! What instructions are laid into: a draft, or a tally, which counts them ahead.
-ghost use Rattle.std.specs.Prelude.{◌≡◌, ◌+◌, [], false, IfOk, box_value};
+ghost use Rattle.std.specs.Prelude.{◌≡◌, ◌+◌, ◌≤◌, [], false, IfOk, OnOk, box_value, length};
 ghost use Rattle.plcs_base.specs.PlainCounts.{PlainCounts};
+ghost use Rattle.plcs_code.specs.BlockLimit.{most_instrs};
 ghost use Rattle.plcs_code.specs.PlainInstr.{PlainInstr, plain_instr};
 
 use crate::block::Block;
@@ -59,6 +60,31 @@ impl<W> Draft<W> {
             failed: false,
         }
     }
+
+    /// How many instructions the draft has so far.
+    pub(crate) fn length(&self) -> u32
+        ensures { result ≡ length self.now.instrs }
+    {
+        self.block.length()
+    }
+
+    /// How many instructions the draft has, if memory didn't run out.
+    pub(crate) fn end(&self) -> Result<u32, OutOfMemory>
+        ensures length { IfOk result (λ n. n ≡ length self.now.instrs) }
+        ensures whole { OnOk result (self.now.failed ≡ false) }
+    {
+        if self.failed {
+            return Err(OutOfMemory);
+        }
+        Ok(self.block.length())
+    }
+
+    /// The instructions of the draft.
+    pub(crate) fn into_block(self) -> Block<W>
+        ensures { result ≡ self.instrs }
+    {
+        self.block
+    }
 }
 
 impl<W: Work> InstrOut<W> for Draft<W> {
@@ -105,6 +131,8 @@ pub(crate) struct Tally {
 }
 
 impl Model for Tally {
+    ghost use Rattle.std.specs.Prelude.{◌≤◌};
+    ghost use Rattle.plcs_code.specs.BlockLimit.{most_instrs};
     ghost use Rattle.plcs_code.specs.Private.PlainDraft.{PlainTally, tally_code};
 
     ghost Value = { PlainTally };
@@ -112,6 +140,8 @@ impl Model for Tally {
     ghost coded = { tally_code };
 
     ghost view = { λ a. record { count = a.count; failed = a.failed } };
+
+    ghost invariant = { λ a. a.count ≤ most_instrs };
 }
 
 impl Tally {
@@ -123,6 +153,18 @@ impl Tally {
             count: 0,
             failed: false,
         }
+    }
+
+    /// How many instructions were counted, if there aren't too many.
+    pub(crate) fn end(&self) -> Result<u32, OutOfMemory>
+        ensures count { IfOk result (λ n. n ≡ self.now.count) }
+        ensures short { IfOk result (λ n. n ≤ most_instrs) }
+        ensures whole { OnOk result (self.now.failed ≡ false) }
+    {
+        if self.failed {
+            return Err(OutOfMemory);
+        }
+        Ok(self.count)
     }
 
     /// Counts one instruction more.

@@ -1,23 +1,31 @@
 //! The code of programs: what it is, its instructions, how they are shown, and how they are laid.
 #![tactic(auto)]
 
+mod addresses;
 mod block;
 mod code_laws;
 mod code_view;
+mod flat_code;
+mod generation;
 mod heading_entry;
+mod headings;
 mod instr;
 mod instr_out;
 mod instr_text;
 mod jumps;
+mod laid;
 mod lay_before;
 mod lay_behind;
 mod lay_cells;
 mod lay_expr;
 mod lay_phrase;
 mod lay_pieces;
+mod lengths;
 mod limit;
 mod names;
 mod node_span;
+mod procedure_items;
+mod spans;
 mod statement_parts;
 mod suspension;
 
@@ -27,6 +35,8 @@ pub use code_laws::{
     own_codes_add_up, places_have_addresses, spans_hold_code,
 };
 pub use code_view::CodeView;
+pub use flat_code::FlatCode;
+pub use generation::generate;
 pub use heading_entry::HeadingEntry;
 pub use instr::Instr;
 pub use instr_text::show_instr;

@@ -1,7 +1,7 @@
 -- Code while it is laid, and its length while it is counted ahead.
 use Rattle.std.specs.Prelude.{◌≡◌, ℕ, ◌+◌, Bool, false, List, [], ◌∷◌, ◌++◌, refl}
 use Rattle.std.specs.Coded.{Coded, code_by, coded×, coded_ℕ, coded_bool}
-use Rattle.plcs_base.specs.PlainCounts.{PlainCounts, CountsNothing}
+use Rattle.plcs_base.specs.PlainCounts.{PlainCounts, CountsNothing, EmitsOne}
 use Rattle.plcs_code.specs.Counts.{EmitsAtMost}
 use Rattle.plcs_code.specs.PlainInstr.{PlainInstr}
 use Rattle.plcs_code.specs.Private.InstrCode.{block_code}
@@ -17,10 +17,11 @@ draft_code =
     code_by (List PlainInstr × Bool) (coded× block_code coded_bool) (λ draft. (draft.instrs, draft.failed))
     (λ t. record { instrs = t.0; failed = t.1 }) (λ _. refl)
 
--- an instruction came into a draft, unless memory ran out by now, and was counted at most
+-- an instruction came into a draft, and was counted, unless memory ran out by now; more than one is never counted
 pub record DraftsOne (before : PlainDraft) (counts_before : PlainCounts) (instr : PlainInstr) (after : PlainDraft) (counts_now : PlainCounts) : Type 0 where
   pub failed : after.failed ≡ false → before.failed ≡ false
   pub instrs : after.failed ≡ false → after.instrs ≡ before.instrs ++ (instr ∷ [])
+  pub counted : after.failed ≡ false → EmitsOne counts_before counts_now
   pub counts : EmitsAtMost 1 counts_before counts_now
 
 -- a length while it is counted ahead: how many instructions there are so far, and whether there are too many
