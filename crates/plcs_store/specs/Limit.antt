@@ -1,5 +1,5 @@
 -- The limits of a run.
-use Rattle.std.specs.Prelude.{ℕ}
+use Rattle.std.specs.Prelude.{ℕ, ◌-◌, List, length}
 use Rattle.plcs_store.specs.declared.limit.TheConstants.{MOST_FRAMES, MOST_LOOPS, MOST_OUTPUT, MOST_OPERANDS}
 
 -- how many frames may stand
@@ -17,3 +17,7 @@ most_output = MOST_OUTPUT
 -- for how many operands, and for how many arguments, a step has room
 abbrev pub most_operands : ℕ
 most_operands = MOST_OPERANDS
+
+-- for how many more there is room beside these, where there always is room for so many
+abbrev pub room_beside : {A : Type 0} → (most : ℕ) → List A → ℕ
+room_beside most held = most - length held

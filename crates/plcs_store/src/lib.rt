@@ -22,6 +22,7 @@ mod output;
 mod output_item;
 mod reason;
 mod refusal;
+mod room;
 mod run_state;
 mod step_laws;
 mod undo;

@@ -1,0 +1,54 @@
+//! For how many more each type of a run has room. It has it always, so what is put there takes no memory.
+ghost use Rattle.std.specs.Prelude.{◌≡◌};
+ghost use Rattle.plcs_store.specs.Limit.{most_frames, most_loops, most_operands, most_output, room_beside};
+
+use crate::frames::Frames;
+use crate::limit::{MOST_FRAMES, MOST_LOOPS, MOST_OPERANDS, MOST_OUTPUT};
+use crate::loops::Loops;
+use crate::operands::{Arguments, OperandValues};
+use crate::output::Output;
+
+impl Frames {
+    /// For how many more frames there is room.
+    pub fn room(&self) -> usize
+        ensures { result ≡ room_beside most_frames self.now }
+    {
+        MOST_FRAMES.saturating_sub(self.as_slice().len())
+    }
+}
+
+impl Loops {
+    /// For how many more loops there is room.
+    pub fn room(&self) -> usize
+        ensures { result ≡ room_beside most_loops self.now }
+    {
+        MOST_LOOPS.saturating_sub(self.as_slice().len())
+    }
+}
+
+impl Output {
+    /// For how many more bytes there is room.
+    pub fn room(&self) -> usize
+        ensures { result ≡ room_beside most_output self.now }
+    {
+        MOST_OUTPUT.saturating_sub(self.as_slice().len())
+    }
+}
+
+impl OperandValues {
+    /// For how many more values there is room.
+    pub fn room(&self) -> usize
+        ensures { result ≡ room_beside most_operands self.now }
+    {
+        MOST_OPERANDS.saturating_sub(self.as_slice().len())
+    }
+}
+
+impl Arguments {
+    /// For how many more arguments there is room.
+    pub fn room(&self) -> usize
+        ensures { result ≡ room_beside most_operands self.now }
+    {
+        MOST_OPERANDS.saturating_sub(self.as_slice().len())
+    }
+}
