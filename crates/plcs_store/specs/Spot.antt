@@ -6,8 +6,7 @@ use Rattle.plcs_base.specs.declared.declared.Declared.{Declared}
 use Rattle.plcs_grammar.specs.declared.node_kind.NodeKind.{NodeKind}
 use Rattle.plcs_grammar.specs.declared.template.Template.{Template}
 use Rattle.plcs_grammar.specs.PlainPhrase.{PlainExpr, PlainExprs, PlainPhrase, PlainVarRef}
-use Rattle.template_tree.specs.Checks.Environment.{Heading, Sig, Signature, heading_of, items_inside}
-use Rattle.template_tree.specs.Checks.Environment.{procedure_at}
+use Rattle.template_tree.specs.Checks.Environment.{Heading, Sig, Signature, heading_of, items_inside, procedure_at}
 use Rattle.template_tree.specs.Checks.Marks.{is_phrase_marked}
 use Rattle.template_tree.specs.Programs.Part.{part_at}
 use Rattle.template_tree.specs.Positions.Place.{PlainPlace, Site, begin, item_count, place_at, site}

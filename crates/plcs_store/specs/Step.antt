@@ -71,11 +71,12 @@ begin_going frames slot name first limit step inside after =
     then_gives (expression_value frames step) (on_number (λ s.
     entry_going frames record { slot = record { 0 = slot }; limit = b; step = s } name a inside after))))))
 
--- the innermost loop of the newest frame, if it is that of the slot
+-- the innermost of a frame's loops, if it is that of the slot
 abbrev pub innermost_loop : (slot : ℕ) → List KeptLoop → Option KeptLoop
 innermost_loop slot loops =
     option_and_then (λ kept. if kept.slot.0 == slot then Some kept else None) (slice_get loops (length loops - 1))
 
+-- the innermost loop of the newest frame, if it is that of the slot
 abbrev pub newest_loop : (slot : ℕ) → List Frame → Option KeptLoop
 newest_loop slot frames = option_and_then (λ frame. innermost_loop slot frame.loops) (slice_get frames (newest frames))
 
