@@ -1,19 +1,22 @@
 //! Cases of clips.
-ghost use Rattle.std.specs.Prelude.{◌≤◌};
+ghost use Rattle.std.specs.Prelude.{◌≤◌, Some};
 ghost use Rattle.clip_store.specs.ClipLimit.{IsClip};
+ghost use Rattle.plcs_grammar.specs.PlainPhrase.{plain_phrase};
+ghost use Rattle.template_tree.specs.Programs.Part.{IsPhrasePlace};
 ghost use Rattle.clip_store.specs.PlainFragment.{IsFragment, plain_fragment, slots_of};
 
 use crate::held_nodes::copy_of;
-use crate::told::Told;
-use crate::words::{CATEGORIES, meaning, phrase};
-use case_script::number_of;
+use crate::tell::tell_phrase;
+use crate::words::phrase_of;
+use case_script::{Told, number_of};
 use clip_store::{Clips, Fragment};
 use plcs_base::{ByteOut, Name};
+use plcs_grammar::Phrase;
 use std::alloc::Global;
 
-/// The words of calls.
+/// A call on clips.
 #[derive(Clone, Copy)]
-enum ClipWord {
+pub(crate) enum ClipCall {
     /// `no_clips`: clips with nothing in them.
     New,
     /// `put NAME HELD`: a copy of a node that is held comes under the name.
@@ -28,63 +31,62 @@ enum ClipWord {
     Reserve,
 }
 
-static CLIP_WORDS: [(&[u8], ClipWord); 6] = [
-    (b"no_clips", ClipWord::New),
-    (b"put", ClipWord::Put),
-    (b"put_phrase", ClipWord::PutPhrase),
-    (b"get", ClipWord::Get),
-    (b"would_hold", ClipWord::WouldHold),
-    (b"reserve", ClipWord::Reserve),
-];
-
 /// Plays a case of clips.
 pub(crate) fn play(
     alloc: Global,
     clips: &mut Clips,
     held: &Clips,
+    call: ClipCall,
     words: &[Vec<u8>],
     told: &mut Told,
 ) -> Option<()> {
-    let (word, rest) = words.split_first()?;
-    match (meaning(&CLIP_WORDS, word.as_slice())?, rest) {
-        (ClipWord::New, []) => {
-            *clips = Clips::new(alloc).ok()?;
-            told.text("Done");
+    let Some((name, rest)) = words.split_first() else {
+        return make_new(alloc, clips, call, told);
+    };
+    let name = Name::read(name.as_slice())?;
+    match (call, rest) {
+        (ClipCall::Put, [other]) => put(clips, name, copy_of(alloc, held, other)?, told),
+        (ClipCall::PutPhrase, [category, text]) => {
+            put_phrase(clips, name, phrase_of(alloc, category, text)?, told);
         }
-        (ClipWord::Put, [name, other]) => {
-            let copy = copy_of(alloc, held, &Name::read(other.as_slice())?)?;
-            put(alloc, clips, Name::read(name.as_slice())?, copy, told);
+        (ClipCall::Get, []) => tell_clip(clips, &name, told),
+        (ClipCall::WouldHold, [slots]) => {
+            told.value_line(&clips.would_hold(&name, number_of(slots.as_slice())?));
         }
-        (ClipWord::PutPhrase, [name, category, text]) => {
-            let category = meaning(&CATEGORIES, category.as_slice())?;
-            let phrase = phrase(alloc, category, text.as_slice())?;
-            put(
-                alloc,
-                clips,
-                Name::read(name.as_slice())?,
-                Fragment::Phrase(phrase),
-                told,
-            );
-        }
-        (ClipWord::Get, [name]) => match clips.get(&Name::read(name.as_slice())?) {
-            Some(fragment) => tell_fragment(alloc, fragment, told),
-            None => told.text("None"),
-        },
-        (ClipWord::WouldHold, [name, slots]) => {
-            let name = Name::read(name.as_slice())?;
-            told.value(clips.would_hold(&name, number_of(slots.as_slice())?));
-        }
-        (ClipWord::Reserve, [name]) => {
-            told.value(clips.reserve(&Name::read(name.as_slice())?).is_ok());
-        }
+        (ClipCall::Reserve, []) => told.value_line(&clips.reserve(&name).is_ok()),
         _ => return None,
     }
-    told.put(b'\n');
     Some(())
 }
 
+/// Makes clips with nothing in them, where that is the call.
+fn make_new(alloc: Global, clips: &mut Clips, call: ClipCall, told: &mut Told) -> Option<()> {
+    let ClipCall::New = call else {
+        return None;
+    };
+    *clips = Clips::new(alloc).ok()?;
+    told.line("Done");
+    Some(())
+}
+
+/// Tells what is under the name.
+fn tell_clip(clips: &Clips, name: &Name, told: &mut Told) {
+    match clips.get(name) {
+        Some(fragment) => tell_fragment(fragment, told),
+        None => told.text("None"),
+    }
+    told.put(b'\n');
+}
+
+/// Puts the phrase under the name.
+fn put_phrase(clips: &mut Clips, name: Name, phrase: Phrase, told: &mut Told)
+    requires { IsPhrasePlace (Some (plain_phrase phrase)) }
+{
+    put(clips, name, Fragment::Phrase(phrase), told);
+}
+
 /// Puts the fragment under the name. Tells what was there before, or why it isn't taken, and what comes back.
-fn put(alloc: Global, clips: &mut Clips, name: Name, fragment: Fragment, told: &mut Told)
+fn put(clips: &mut Clips, name: Name, fragment: Fragment, told: &mut Told)
     requires fragment { IsFragment (plain_fragment fragment) }
     requires few { slots_of (plain_fragment fragment) ≤ 4294967295 }
 {
@@ -92,27 +94,28 @@ fn put(alloc: Global, clips: &mut Clips, name: Name, fragment: Fragment, told: &
         Ok(None) => told.text("put, None before"),
         Ok(Some(old)) => {
             told.text("put, before ");
-            tell_fragment(alloc, &old, told);
+            tell_fragment(&old, told);
         }
         Err((fault, own)) => {
-            told.value(fault);
+            told.value(&fault);
             told.text(", back ");
-            tell_fragment(alloc, &own, told);
+            tell_fragment(&own, told);
         }
     }
+    told.put(b'\n');
 }
 
 /// Tells a fragment: how many slots a node has, or the text of a phrase.
-fn tell_fragment(alloc: Global, fragment: &Fragment, told: &mut Told)
+fn tell_fragment(fragment: &Fragment, told: &mut Told)
     requires { slots_of (plain_fragment fragment.now) ≤ 4294967295 }
 {
     match fragment {
         Fragment::Node(node) => {
-            told.value(node.kind());
+            told.value(&node.kind());
             told.text(" of ");
-            told.value(fragment.slots());
+            told.value(&fragment.slots());
             told.text(" slots");
         }
-        Fragment::Phrase(phrase) => told.phrase(alloc, phrase),
+        Fragment::Phrase(phrase) => tell_phrase(phrase, told),
     }
 }

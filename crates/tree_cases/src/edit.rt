@@ -6,9 +6,9 @@ ghost use Rattle.template_tree.specs.Programs.PlainTree.{roomless_tree};
 ghost use Rattle.template_tree.specs.Edits.Receipt.{CanUndo, NeedsNoRoom, undone};
 ghost use Rattle.template_tree.specs.Programs.Tree.{IsTree};
 
-use crate::told::Told;
-use crate::words::{At, CATEGORIES, SIDES, TEMPLATES, meaning, phrase};
-use case_script::number_of;
+use crate::tell::{tell_phrase, tell_place};
+use crate::words::{At, CATEGORIES, SIDES, TEMPLATES, phrase};
+use case_script::{Told, meaning, number_of};
 use plcs_base::ByteOut;
 use plcs_grammar::{Category, Template};
 use std::alloc::Global;
@@ -35,7 +35,7 @@ pub(crate) enum Edit<'a> {
 
 /// The words of edits.
 #[derive(Clone, Copy)]
-enum EditWord {
+pub(crate) enum EditWord {
     Fill,
     FillAssign,
     SetPhrase,
@@ -59,32 +59,31 @@ static EDITS: [(&[u8], EditWord); 8] = [
 
 /// The edit of these words, and where it is made.
 pub(crate) fn step_of(words: &[Vec<u8>]) -> Option<Step<'_>> {
-    let [word, at, rest @ ..] = words else {
-        return None;
-    };
-    let edit = edit_of(meaning(&EDITS, word.as_slice())?, rest)?;
-    Some((edit, At::of(at.as_slice())?))
+    let (word, rest) = words.split_first()?;
+    step_with(meaning(&EDITS, word.as_slice())?, rest)
+}
+
+/// The edit of the word, with the words behind it.
+pub(crate) fn step_with(word: EditWord, words: &[Vec<u8>]) -> Option<Step<'_>> {
+    let (at, rest) = words.split_first()?;
+    Some((edit_of(word, rest)?, At::of(at.as_slice())?))
 }
 
 /// The edit of the word, with the words behind the path.
 fn edit_of(word: EditWord, rest: &[Vec<u8>]) -> Option<Edit<'_>> {
     match (word, rest) {
-        (EditWord::Fill, [template]) => {
-            let template = meaning(&TEMPLATES, template.as_slice())?;
-            Some(Edit::Fill(template))
-        }
+        (EditWord::Fill, [template]) => Some(Edit::Fill(meaning(&TEMPLATES, template)?)),
         (EditWord::FillAssign, [category, text]) => {
-            let category = meaning(&CATEGORIES, category.as_slice())?;
-            Some(Edit::FillAssign(category, text.as_slice()))
+            Some(Edit::FillAssign(meaning(&CATEGORIES, category)?, text))
         }
         (EditWord::SetPhrase, [part, category, text]) => {
-            let category = meaning(&CATEGORIES, category.as_slice())?;
-            Some(Edit::SetPhrase(part_of(part.as_slice())?, category, text.as_slice()))
+            let category = meaning(&CATEGORIES, category)?;
+            Some(Edit::SetPhrase(part_of(part)?, category, text))
         }
-        (EditWord::SetEmpty, [part]) => Some(Edit::SetEmpty(part_of(part.as_slice())?)),
-        (EditWord::InsertCopy, [from]) => Some(Edit::InsertCopy(At::of(from.as_slice())?)),
+        (EditWord::SetEmpty, [part]) => Some(Edit::SetEmpty(part_of(part)?)),
+        (EditWord::InsertCopy, [from]) => Some(Edit::InsertCopy(At::of(from)?)),
         (EditWord::Take, []) => Some(Edit::Take),
-        (EditWord::AddHole, [side]) => Some(Edit::AddHole(meaning(&SIDES, side.as_slice())?)),
+        (EditWord::AddHole, [side]) => Some(Edit::AddHole(meaning(&SIDES, side)?)),
         (EditWord::DropHole, []) => Some(Edit::DropHole),
         _ => None,
     }
@@ -92,10 +91,10 @@ fn edit_of(word: EditWord, rest: &[Vec<u8>]) -> Option<Edit<'_>> {
 
 /// The part of the word: a number up to 255, or `-` for the node itself.
 fn part_of(word: &[u8]) -> Option<Option<u8>> {
-    match word {
-        b"-" => Some(None),
-        word => Some(Some(u8::try_from(number_of(word)?).ok()?)),
+    if word == b"-".as_slice() {
+        return Some(None);
     }
+    Some(Some(u8::try_from(number_of(word)?).ok()?))
 }
 
 /// Makes the edit at the path, unless it drops a hole. Gives its receipt, and the node that it took out, if it
@@ -145,18 +144,21 @@ fn put(
     match edit {
         Edit::Fill(template) => tree.fill(alloc, at, template),
         Edit::FillAssign(category, text) => fill_assign(alloc, tree, at, category, text, back),
-        Edit::SetPhrase(part, category, text) => {
-            let Some(phrase) = phrase(alloc, category, text) else {
-                back.text(", no such phrase");
-                return Err(TreeFault::OutOfMemory);
-            };
-            set(alloc, tree, at, part, PhrasePlace::Filled(phrase), back)
-        }
-        Edit::SetEmpty(part) => set(alloc, tree, at, part, PhrasePlace::Empty, back),
+        Edit::SetPhrase(part, category, text) => match phrase(alloc, category, text) {
+            Some(phrase) => set(tree, at, part, PhrasePlace::Filled(phrase), back),
+            None => Err(no_such_phrase(back)),
+        },
+        Edit::SetEmpty(part) => set(tree, at, part, PhrasePlace::Empty, back),
         Edit::InsertCopy(from) => insert_copy(alloc, tree, at, from, back),
         Edit::AddHole(side) => tree.add_hole(alloc, at, side),
         Edit::Take | Edit::DropHole => Err(TreeFault::NotHere),
     }
+}
+
+/// Tells that the text is no such phrase. What an edit answers then.
+fn no_such_phrase(back: &mut Told) -> TreeFault {
+    back.text(", no such phrase");
+    TreeFault::OutOfMemory
 }
 
 /// Makes what stands at the path the assignment of the text.
@@ -176,14 +178,13 @@ fn fill_assign(
     ensures unchanged { IfErr result (λ _. tree.new ≡ tree.old) }
 {
     let Some(phrase) = phrase(alloc, category, text) else {
-        back.text(", no such phrase");
-        return Err(TreeFault::OutOfMemory);
+        return Err(no_such_phrase(back));
     };
     match tree.fill_assign(alloc, at, phrase) {
         Ok(receipt) => Ok(receipt),
         Err((fault, own)) => {
             back.text(", ");
-            back.phrase(alloc, &own);
+            tell_phrase(&own, back);
             back.text(" comes back");
             Err(fault)
         }
@@ -192,7 +193,6 @@ fn fill_assign(
 
 /// Sets a part of the node at the path.
 fn set(
-    alloc: Global,
     tree: &mut Tree,
     at: &Path,
     part: Option<u8>,
@@ -215,7 +215,7 @@ fn set(
         Ok(receipt) => Ok(receipt),
         Err((fault, own)) => {
             back.text(", ");
-            back.place(alloc, &own);
+            tell_place(&own, back);
             back.text(" comes back");
             Err(fault)
         }
@@ -247,28 +247,28 @@ fn insert_copy(
     match tree.insert(at, node) {
         Ok(receipt) => Ok(receipt),
         Err((fault, own)) => {
-            tell_back(alloc, &own, back);
+            tell_back(&own, back);
             Err(fault)
         }
     }
 }
 
 /// Tells that the node comes back.
-pub(crate) fn tell_back(alloc: Global, node: &Node, back: &mut Told) {
+pub(crate) fn tell_back(node: &Node, back: &mut Told) {
     back.text(", ");
-    tell_node(alloc, node, back);
+    tell_node(node, back);
     back.text(" comes back");
 }
 
 /// Tells a node's kind, what stands in its parts, and which slots the nodes inside have.
-pub(crate) fn tell_node(alloc: Global, node: &Node, told: &mut Told) {
-    told.value(node.kind());
+pub(crate) fn tell_node(node: &Node, told: &mut Told) {
+    told.value(&node.kind());
     for part in 0..=255 {
         let Some(place) = node.part(part) else {
             break;
         };
         told.put(b' ');
-        told.place(alloc, place);
+        tell_place(place, told);
     }
     if node.is_elided() {
         told.text(", elided");

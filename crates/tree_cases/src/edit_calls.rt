@@ -1,28 +1,35 @@
 //! Cases of edits: one alone, many times over, further and further inside, or many that are undone.
 ghost use Rattle.template_tree.specs.Programs.Tree.{IsTree};
 
-use crate::edit::{Edit, Step, made, step_of};
-use crate::told::Told;
+use crate::edit::{Edit, EditWord, Step, made, step_of, step_with};
+use crate::tell::tell_change;
 use crate::walk::{Walked, drawn_steps, walk};
-use crate::words::{TEMPLATES, meaning, path};
-use case_script::{number_of, words_of};
+use crate::words::{TEMPLATES, path};
+use case_script::{Told, meaning, number_of, words_of};
 use plcs_base::ByteOut;
 use plcs_grammar::Template;
 use std::alloc::Global;
 use template_tree::{Change, Path, Tree, TreeFault};
 
-/// Plays a case of edits:
-///
-/// - `fill AT TEMPLATE`, `fill_assign AT CATEGORY TEXT`, `set_phrase AT PART CATEGORY TEXT`, `set_empty AT PART`,
-///   `insert_copy AT FROM`, `take AT`, `add_hole AT SIDE`, `drop_hole AT`: an edit;
-/// - `repeat TIMES ..` with one of them behind: that edit so many times, as far as it isn't refused;
-/// - `nest TIMES PATH TEMPLATE`: fills the hole at the path, then the first one inside, and so on;
-/// - `walk`: makes the edits of the lines of text, and undoes them in reverse order;
-/// - `random_walk SEED TIMES LEAST`: so too with so many edits drawn at random, of which more than the least
-///   number are to be made.
+/// A call of many edits.
+#[derive(Clone, Copy)]
+pub(crate) enum EditsCall {
+    /// `repeat TIMES ..` with an edit behind: that edit so many times, as far as it isn't refused.
+    Repeat,
+    /// `nest TIMES PATH TEMPLATE`: fills the hole at the path, then the first one inside, and so on.
+    Nest,
+    /// `walk`: makes the edits of the lines of text, and undoes them in reverse order.
+    Walk,
+    /// `random_walk SEED TIMES LEAST`: so too with so many edits drawn at random, of which more than the least
+    /// number are to be made.
+    RandomWalk,
+}
+
+/// Plays a case of many edits.
 pub(crate) fn play(
     alloc: Global,
     tree: &mut Tree,
+    call: EditsCall,
     words: &[Vec<u8>],
     text: &[u8],
     told: &mut Told,
@@ -30,21 +37,38 @@ pub(crate) fn play(
     requires { IsTree tree.old }
     ensures { IsTree tree.new }
 {
-    let (word, rest) = words.split_first()?;
-    match word.as_slice() {
-        b"repeat" => repeat(alloc, tree, rest, told),
-        b"nest" => nest(alloc, tree, rest, told),
-        b"walk" => walk_lines(alloc, tree, text, told),
-        b"random_walk" => walk_at_random(alloc, tree, rest, told),
-        _ => {
-            let _ = edit(alloc, tree, step_of(words)?, told)?;
-            Some(())
+    match (call, words) {
+        (EditsCall::Repeat, [times, words @ ..]) => repeat(alloc, tree, times, words, told),
+        (EditsCall::Nest, [times, at, template]) => nest(alloc, tree, times, at, template, told),
+        (EditsCall::Walk, _) => walk_lines(alloc, tree, text, told),
+        (EditsCall::RandomWalk, [seed, times, least]) => {
+            walk_at_random(alloc, tree, seed, times, least, told)
         }
+        _ => None,
+    }
+}
+
+/// Plays a case of one edit: `fill AT TEMPLATE`, `fill_assign AT CATEGORY TEXT`, `set_phrase AT PART CATEGORY TEXT`,
+/// `set_empty AT PART`, `insert_copy AT FROM`, `take AT`, `add_hole AT SIDE`, `drop_hole AT`.
+pub(crate) fn edit(
+    alloc: Global,
+    tree: &mut Tree,
+    word: EditWord,
+    words: &[Vec<u8>],
+    told: &mut Told,
+) -> Option<()>
+    requires { IsTree tree.old }
+    ensures { IsTree tree.new }
+{
+    let step = step_with(word, words)?;
+    match is_made(alloc, tree, step, told) {
+        Some(_) => Some(()),
+        None => None,
     }
 }
 
 /// Makes the edit, and tells its answer. Says whether it was made, or nothing where no path is meant.
-fn edit(alloc: Global, tree: &mut Tree, step: Step<'_>, told: &mut Told) -> Option<bool>
+fn is_made(alloc: Global, tree: &mut Tree, step: Step<'_>, told: &mut Told) -> Option<bool>
     requires { IsTree tree.old }
     ensures { IsTree tree.new }
 {
@@ -90,9 +114,9 @@ fn changed(
 /// Tells what an edit changed, or why it is refused, and what comes back then.
 pub(crate) fn tell_answer(answer: Result<Change, TreeFault>, back: &Told, told: &mut Told) {
     match answer {
-        Ok(change) => told.change(change),
+        Ok(change) => tell_change(change, told),
         Err(fault) => {
-            told.value(fault);
+            told.value(&fault);
             told.text(back.as_str());
         }
     }
@@ -101,41 +125,63 @@ pub(crate) fn tell_answer(answer: Result<Change, TreeFault>, back: &Told, told: 
 
 /// Makes an edit so many times, as far as it isn't refused. Tells how many times it was made, and the last
 /// answer.
-fn repeat(alloc: Global, tree: &mut Tree, words: &[Vec<u8>], told: &mut Told) -> Option<()>
+fn repeat(
+    alloc: Global,
+    tree: &mut Tree,
+    times: &[u8],
+    words: &[Vec<u8>],
+    told: &mut Told,
+) -> Option<()>
     requires { IsTree tree.old }
     ensures { IsTree tree.new }
 {
-    let (times, words) = words.split_first()?;
-    let times = number_of(times.as_slice())?;
+    let times = number_of(times)?;
     let step = step_of(words)?;
     let mut last = Told::new(alloc);
-    let mut made: u32 = 0;
-    for _ in 0..times {
-        last = Told::new(alloc);
-        if !edit(alloc, tree, step, &mut last)? {
-            break;
-        }
-        made = made.saturating_add(1);
-    }
-    told.value(made);
-    told.text(" times\n");
+    let made = repeated(alloc, tree, times, step, &mut last)?;
+    told.value(&made);
+    told.line(" times");
     told.text(last.as_str());
     Some(())
 }
 
-/// Fills the hole at the path with the template, then the first one inside, and so on. Tells how many times.
-fn nest(alloc: Global, tree: &mut Tree, words: &[Vec<u8>], told: &mut Told) -> Option<()>
+/// How many times the edit was made, of so many times, and its last answer.
+fn repeated(
+    alloc: Global,
+    tree: &mut Tree,
+    times: u32,
+    step: Step<'_>,
+    last: &mut Told,
+) -> Option<u32>
     requires { IsTree tree.old }
     ensures { IsTree tree.new }
 {
-    let [times, at, template] = words else {
-        return None;
-    };
-    let times = number_of(times.as_slice())?;
-    let template = meaning(&TEMPLATES, template.as_slice())?;
-    let at = path(at.as_slice())?;
-    told.value(nested(alloc, tree, times, at, template));
-    told.text(" times\n");
+    for k in 0..times {
+        last.clear();
+        if !is_made(alloc, tree, step, last)? {
+            return Some(k);
+        }
+    }
+    Some(times)
+}
+
+/// Fills the hole at the path with the template, then the first one inside, and so on. Tells how many times.
+fn nest(
+    alloc: Global,
+    tree: &mut Tree,
+    times: &[u8],
+    at: &[u8],
+    template: &[u8],
+    told: &mut Told,
+) -> Option<()>
+    requires { IsTree tree.old }
+    ensures { IsTree tree.new }
+{
+    let times = number_of(times)?;
+    let template = meaning(&TEMPLATES, template)?;
+    let made = nested(alloc, tree, times, path(at)?, template);
+    told.value(&made);
+    told.line(" times");
     Some(())
 }
 
@@ -160,10 +206,7 @@ fn walk_lines(alloc: Global, tree: &mut Tree, text: &[u8], told: &mut Told) -> O
     ensures { IsTree tree.new }
 {
     let lines = lines_of(alloc, text)?;
-    let mut steps = Vec::new(alloc);
-    for words in lines.iter() {
-        steps.push(step_of(words.as_slice())?).ok()?;
-    }
+    let steps = steps_of(alloc, lines.as_slice())?;
     let mut walked = Walked::new(alloc);
     walk(alloc, tree, steps.as_slice(), steps.len(), &mut walked);
     told.text(walked.answers.as_str());
@@ -183,26 +226,44 @@ fn lines_of(alloc: Global, text: &[u8]) -> Option<Vec<Vec<Vec<u8>>>> {
     Some(lines)
 }
 
+/// The edits that the lines say.
+fn steps_of(alloc: Global, lines: &[Vec<Vec<u8>>]) -> Option<Vec<Step<'_>>> {
+    let mut steps = Vec::new(alloc);
+    for words in lines {
+        steps.push(step_of(words.as_slice())?).ok()?;
+    }
+    Some(steps)
+}
+
 /// Makes edits that are drawn at random and undoes them. Tells whether more than the least number were made,
 /// and whether each step back led to the tree before it.
-fn walk_at_random(alloc: Global, tree: &mut Tree, words: &[Vec<u8>], told: &mut Told) -> Option<()>
+fn walk_at_random(
+    alloc: Global,
+    tree: &mut Tree,
+    seed: &[u8],
+    times: &[u8],
+    least: &[u8],
+    told: &mut Told,
+) -> Option<()>
     requires { IsTree tree.old }
     ensures { IsTree tree.new }
 {
-    let [seed, times, least] = words else {
-        return None;
-    };
-    let (seed, times) = (number_of(seed.as_slice())?, number_of(times.as_slice())?);
-    let least = number_of(least.as_slice())?;
-    let steps = drawn_steps(alloc, seed, times).ok()?;
+    let least = number_of(least)?;
+    let steps = drawn_steps(alloc, number_of(seed)?, number_of(times)?).ok()?;
     let mut walked = Walked::new(alloc);
     walk(alloc, tree, steps.as_slice(), steps.len(), &mut walked);
-    match walked.made > least {
-        true => told.text("more than "),
-        false => told.text("NO MORE THAN "),
-    }
-    told.value(least);
+    tell_made(&walked, least, told);
+    Some(())
+}
+
+/// Tells whether more edits than the least number were made, and whether each step back led to the tree before it.
+fn tell_made(walked: &Walked, least: u32, told: &mut Told) {
+    told.text(if walked.made > least {
+        "more than "
+    } else {
+        "NO MORE THAN "
+    });
+    told.value(&least);
     told.text(" made, ");
     walked.tell(told);
-    Some(())
 }

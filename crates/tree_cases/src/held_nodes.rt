@@ -1,119 +1,137 @@
 //! Cases of nodes that are held beside the tree: taken out, copied, looked at, and put in again.
-ghost use Rattle.std.specs.Prelude.{◌≤◌, IfSome};
+ghost use Rattle.std.specs.Prelude.{◌≤◌, IfOk, IfSome};
 ghost use Rattle.clip_store.specs.ClipLimit.{IsClip};
 ghost use Rattle.clip_store.specs.PlainFragment.{IsFragment, plain_fragment, slots_of};
+ghost use Rattle.template_tree.specs.Programs.Program.{IsSubtree};
 ghost use Rattle.template_tree.specs.Programs.Tree.{IsTree};
 
 use crate::edit::{tell_back, tell_node};
 use crate::edit_calls::tell_answer;
-use crate::told::Told;
+use crate::tell::tell_change;
 use crate::tree_calls::Trees;
-use crate::words::{At, path};
-use case_script::number_of;
+use crate::words::{find, path};
+use case_script::{Told, number_of};
 use clip_store::{Clips, Fragment};
 use plcs_base::{ByteOut, Name};
 use std::alloc::Global;
-use template_tree::{Node, Path, Tree};
+use template_tree::{Change, Node, Path, Tree, TreeFault};
 
-/// Plays a case:
-///
-/// - `take_as AT NAME`: takes the node out and holds it; `copy_node AT NAME`: holds a copy of it;
-/// - `copy NAME OTHER`: holds a copy of a held node;
-/// - `insert AT NAME`: puts a copy of a held node in;
-/// - `held NAME PATH`: tells what stands at the path below a held node;
-/// - `retake TIMES AT`: takes the node out and puts it in again, so many times.
+/// A call on nodes that are held.
+#[derive(Clone, Copy)]
+pub(crate) enum HeldCall {
+    /// `take_as AT NAME`: takes the node out and holds it.
+    TakeAs,
+    /// `copy_node AT NAME`: holds a copy of it.
+    CopyNode,
+    /// `copy NAME OTHER`: holds a copy of a held node.
+    Copy,
+    /// `insert AT NAME`: puts a copy of a held node in.
+    Insert,
+    /// `held NAME PATH`: tells what stands at the path below a held node.
+    Held,
+    /// `retake TIMES AT`: takes the node out and puts it in again, so many times.
+    Retake,
+}
+
+/// Plays a case of two words behind the first.
 pub(crate) fn play(
     alloc: Global,
     trees: &mut Trees,
+    call: HeldCall,
     words: &[Vec<u8>],
     told: &mut Told,
 ) -> Option<()>
     requires { IsTree trees.old.tree }
     ensures { IsTree trees.new.tree }
 {
-    let [word, first, second] = words else {
+    let [first, second] = words else {
         return None;
     };
-    let (first, second) = (first.as_slice(), second.as_slice());
-    match word.as_slice() {
-        b"take_as" => {
-            let at = At::of(first)?.find(&trees.tree)?;
-            take(alloc, trees, &at, Name::read(second)?, told);
+    match call {
+        HeldCall::TakeAs => take_as(alloc, trees, first, second, told),
+        HeldCall::CopyNode => copy_node(alloc, trees, first, second, told),
+        HeldCall::Copy => copy(alloc, &mut trees.held, first, second, told),
+        HeldCall::Insert => insert_at(alloc, trees, first, second, told),
+        HeldCall::Held => tell_held(&trees.held, first, second, told),
+        HeldCall::Retake => retake(alloc, &mut trees.tree, first, second, told),
+    }
+}
+
+/// Takes the node at the path out and holds it under the name.
+fn take_as(alloc: Global, trees: &mut Trees, at: &[u8], name: &[u8], told: &mut Told) -> Option<()>
+    requires { IsTree trees.old.tree }
+    ensures { IsTree trees.new.tree }
+{
+    let name = Name::read(name)?;
+    let at = find(&trees.tree, at)?;
+    match taken(alloc, &mut trees.tree, &at) {
+        Ok((node, change)) => {
+            tell_change(change, told);
+            told.put(b'\n');
+            hold(&mut trees.held, name, node, told);
         }
-        b"copy_node" => {
-            let at = At::of(first)?.find(&trees.tree)?;
-            copy_node(alloc, trees, &at, Name::read(second)?, told);
-        }
-        b"copy" => {
-            let copy = copy_of(alloc, &trees.held, &Name::read(first)?)?;
-            hold(&mut trees.held, Name::read(second)?, copy, told);
-        }
-        b"insert" => {
-            let at = At::of(first)?.find(&trees.tree)?;
-            insert(
-                alloc,
-                &mut trees.tree,
-                &at,
-                copy_of(alloc, &trees.held, &Name::read(second)?)?,
-                told,
-            )?;
-        }
-        b"held" => tell_held(
-            alloc,
-            &trees.held,
-            &Name::read(first)?,
-            &path(second)?,
-            told,
-        )?,
-        b"retake" => {
-            let at = At::of(second)?.find(&trees.tree)?;
-            let times = retaken(alloc, &mut trees.tree, &at, number_of(first)?);
-            told.value(times);
-            told.text(" times\n");
-        }
-        _ => return None,
+        Err(fault) => told.value_line(&fault),
     }
     Some(())
 }
 
-/// Takes the node at the path out and holds it under the name.
-fn take(alloc: Global, trees: &mut Trees, at: &Path, name: Name, told: &mut Told)
-    requires { IsTree trees.old.tree }
-    ensures { IsTree trees.new.tree }
+/// Takes the node at the path out.
+fn taken(alloc: Global, tree: &mut Tree, at: &Path) -> Result<(Fragment, Change), TreeFault>
+    requires { IsTree tree.old }
+    ensures tree { IsTree tree.new }
+    ensures fragment { IfOk result (λ taken. IsFragment (plain_fragment taken.0)) }
+    ensures few { IfOk result (λ taken. slots_of (plain_fragment taken.0) ≤ 4294967295) }
 {
-    let Some(_) = trees.tree.slots_at(at) else {
-        told.text("NotHere\n");
-        return;
+    let Some(_) = tree.slots_at(at) else {
+        return Err(TreeFault::NotHere);
     };
-    match trees.tree.take(alloc, at) {
-        Ok((node, receipt)) => {
-            told.change(receipt.change());
-            told.put(b'\n');
-            hold(&mut trees.held, name, Fragment::Node(node), told);
-        }
-        Err(fault) => {
-            told.value(fault);
-            told.put(b'\n');
-        }
+    match tree.take(alloc, at) {
+        Ok((node, receipt)) => Ok((Fragment::Node(node), receipt.change())),
+        Err(fault) => Err(fault),
     }
 }
 
 /// Holds a copy of the node at the path under the name.
-fn copy_node(alloc: Global, trees: &mut Trees, at: &Path, name: Name, told: &mut Told)
+fn copy_node(
+    alloc: Global,
+    trees: &mut Trees,
+    at: &[u8],
+    name: &[u8],
+    told: &mut Told,
+) -> Option<()>
     requires { IsTree trees.old.tree }
     ensures { IsTree trees.new.tree }
 {
-    let Some(_) = trees.tree.slots_at(at) else {
-        told.text("NotHere\n");
-        return;
-    };
-    match trees.tree.copy_node(alloc, at) {
-        Ok(copy) => hold(&mut trees.held, name, Fragment::Node(copy), told),
-        Err(fault) => {
-            told.value(fault);
-            told.put(b'\n');
-        }
+    let name = Name::read(name)?;
+    let at = find(&trees.tree, at)?;
+    match copied(alloc, &trees.tree, &at) {
+        Ok(copy) => hold(&mut trees.held, name, copy, told),
+        Err(fault) => told.value_line(&fault),
     }
+    Some(())
+}
+
+/// A copy of the node at the path.
+fn copied(alloc: Global, tree: &Tree, at: &Path) -> Result<Fragment, TreeFault>
+    requires { IsTree tree.now }
+    ensures fragment { IfOk result (λ copy. IsFragment (plain_fragment copy)) }
+    ensures few { IfOk result (λ copy. slots_of (plain_fragment copy) ≤ 4294967295) }
+{
+    let Some(_) = tree.slots_at(at) else {
+        return Err(TreeFault::NotHere);
+    };
+    match tree.copy_node(alloc, at) {
+        Ok(copy) => Ok(Fragment::Node(copy)),
+        Err(fault) => Err(fault),
+    }
+}
+
+/// Holds a copy of what is held under a name under another one.
+fn copy(alloc: Global, held: &mut Clips, name: &[u8], other: &[u8], told: &mut Told) -> Option<()> {
+    let other = Name::read(other)?;
+    let copy = copy_of(alloc, held, name)?;
+    hold(held, other, copy, told);
+    Some(())
 }
 
 /// Holds the fragment under the name, and tells how many slots it has.
@@ -125,68 +143,88 @@ fn hold(held: &mut Clips, name: Name, fragment: Fragment, told: &mut Told)
     match held.put(name, fragment) {
         Ok(_) => {
             told.text("held, ");
-            told.value(slots);
-            told.text(" slots\n");
+            told.value(&slots);
+            told.line(" slots");
         }
         Err((fault, _)) => {
-            told.value(fault);
-            told.text(", NOT HELD\n");
+            told.value(&fault);
+            told.line(", NOT HELD");
         }
     }
 }
 
 /// A copy of what is held under the name.
-pub(crate) fn copy_of(alloc: Global, held: &Clips, name: &Name) -> Option<Fragment>
+pub(crate) fn copy_of(alloc: Global, held: &Clips, name: &[u8]) -> Option<Fragment>
     ensures { IfSome result (λ fragment. IsClip (plain_fragment fragment)) }
 {
-    let fragment = held.get(name)?.copy(alloc).ok()?;
+    let name = Name::read(name)?;
+    let fragment = held.get(&name)?.copy(alloc).ok()?;
     Some(fragment)
 }
 
-/// Puts the node in place of the hole at the path.
-fn insert(
+/// Puts a copy of what is held under the name in place of the hole at the path.
+fn insert_at(
     alloc: Global,
-    tree: &mut Tree,
-    at: &Path,
-    fragment: Fragment,
+    trees: &mut Trees,
+    at: &[u8],
+    name: &[u8],
     told: &mut Told,
 ) -> Option<()>
-    requires tree { IsTree tree.old }
-    requires fragment { IsClip (plain_fragment fragment) }
-    ensures { IsTree tree.new }
+    requires { IsTree trees.old.tree }
+    ensures { IsTree trees.new.tree }
 {
-    let Fragment::Node(node) = fragment else {
-        return None;
-    };
-    let mut back = Told::new(alloc);
-    let answer = match tree.insert(at, node) {
-        Ok(receipt) => Ok(receipt.change()),
-        Err((fault, own)) => {
-            tell_back(alloc, &own, &mut back);
-            Err(fault)
-        }
-    };
-    tell_answer(answer, &back, told);
+    let at = find(&trees.tree, at)?;
+    match copy_of(alloc, &trees.held, name)? {
+        Fragment::Node(node) => insert(alloc, &mut trees.tree, &at, node, told),
+        Fragment::Phrase(_) => return None,
+    }
     Some(())
 }
 
+/// Puts the node in place of the hole at the path.
+fn insert(alloc: Global, tree: &mut Tree, at: &Path, node: Node, told: &mut Told)
+    requires tree { IsTree tree.old }
+    requires node { IsSubtree node }
+    ensures { IsTree tree.new }
+{
+    let mut back = Told::new(alloc);
+    let answer = inserted(tree, at, node, &mut back);
+    tell_answer(answer, &back, told);
+}
+
+/// Puts the node in place of the hole at the path. Where it is refused, what comes back is told.
+fn inserted(tree: &mut Tree, at: &Path, node: Node, back: &mut Told) -> Result<Change, TreeFault>
+    requires tree { IsTree tree.old }
+    requires node { IsSubtree node }
+    ensures { IsTree tree.new }
+{
+    match tree.insert(at, node) {
+        Ok(receipt) => Ok(receipt.change()),
+        Err((fault, own)) => {
+            tell_back(&own, back);
+            Err(fault)
+        }
+    }
+}
+
 /// Tells what stands at the path below the node that is held under the name.
-fn tell_held(
-    alloc: Global,
-    held: &Clips,
-    name: &Name,
-    below: &Path,
-    told: &mut Told,
-) -> Option<()> {
-    let Fragment::Node(node) = held.get(name)? else {
-        return None;
-    };
-    match node_below(node, below.as_slice()) {
-        Some(node) => tell_node(alloc, node, told),
+fn tell_held(held: &Clips, name: &[u8], below: &[u8], told: &mut Told) -> Option<()> {
+    let below = path(below)?;
+    let name = Name::read(name)?;
+    match held.get(&name)? {
+        Fragment::Node(node) => tell_below(node, below.as_slice(), told),
+        Fragment::Phrase(_) => return None,
+    }
+    Some(())
+}
+
+/// Tells what stands at the path below the node.
+fn tell_below(node: &Node, below: &[u32], told: &mut Told) {
+    match node_below(node, below) {
+        Some(node) => tell_node(node, told),
         None => told.text("None"),
     }
     told.put(b'\n');
-    Some(())
 }
 
 /// The node at the path below the node.
@@ -196,6 +234,19 @@ fn node_below<'a>(node: &'a Node, below: &[u32]) -> Option<&'a Node> {
         there = there.child(*k)?;
     }
     Some(there)
+}
+
+/// Takes the node at the path out and puts it in again, so many times. Tells how many times it was put in.
+fn retake(alloc: Global, tree: &mut Tree, times: &[u8], at: &[u8], told: &mut Told) -> Option<()>
+    requires { IsTree tree.old }
+    ensures { IsTree tree.new }
+{
+    let times = number_of(times)?;
+    let at = find(tree, at)?;
+    let made = retaken(alloc, tree, &at, times);
+    told.value(&made);
+    told.line(" times");
+    Some(())
 }
 
 /// Takes the node at the path out and puts it in again, so many times; where it is refused at last, it comes

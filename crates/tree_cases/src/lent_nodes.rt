@@ -1,13 +1,14 @@
 //! Cases of nodes that are lent for writing.
+ghost use Rattle.std.specs.Prelude.{IfSome};
 ghost use Rattle.template_tree.specs.Programs.Part.{IsPhrasePlace};
 ghost use Rattle.template_tree.specs.Programs.PlainPhrasePlace.{plain_phrase_place};
 ghost use Rattle.template_tree.specs.Programs.Tree.{IsTree};
 
 use crate::edit::tell_node;
-use crate::told::Told;
-use crate::words::{At, CATEGORIES, meaning, phrase};
-use case_script::number_of;
-use file_store::read_listing;
+use crate::tell::tell_place;
+use crate::tree_calls::tree_of;
+use crate::words::{find, phrase_of};
+use case_script::{Told, number_of};
 use plcs_base::ByteOut;
 use std::alloc::Global;
 use template_tree::{Path, PhrasePlace, Tree};
@@ -18,52 +19,72 @@ use template_tree::{Path, PhrasePlace, Tree};
 pub(crate) fn play(alloc: Global, tree: &Tree, words: &[Vec<u8>], told: &mut Told) -> Option<()>
     requires { IsTree tree.now }
 {
-    let [word, at, part, rest @ ..] = words else {
+    let [at, part, rest @ ..] = words else {
         return None;
     };
-    let b"put_part" = word.as_slice() else {
-        return None;
-    };
-    let at = At::of(at.as_slice())?.find(tree)?;
     let part = u8::try_from(number_of(part.as_slice())?).ok()?;
-    match rest {
-        [] => put_part(alloc, tree, &at, part, PhrasePlace::Empty, told),
-        [category, text] => {
-            let category = meaning(&CATEGORIES, category.as_slice())?;
-            let phrase = phrase(alloc, category, text.as_slice())?;
-            put_part(alloc, tree, &at, part, PhrasePlace::Filled(phrase), told);
-        }
-        _ => return None,
-    }
+    let at = find(tree, at)?;
+    let mut other = copied(alloc, tree)?;
+    put_in(alloc, &mut other, &at, part, rest, told)
+}
+
+/// Puts what the words say into a part of the node at the path.
+fn put_in(
+    alloc: Global,
+    tree: &mut Tree,
+    at: &Path,
+    part: u8,
+    words: &[Vec<u8>],
+    told: &mut Told,
+) -> Option<()>
+    requires { IsTree tree.old }
+{
+    let place = place_of(alloc, words)?;
+    put_part(tree, at, part, place, told);
     told.put(b'\n');
     Some(())
 }
 
-/// Puts this into a part of the node at the path of a tree with the same listing, and tells what comes of it.
-fn put_part(alloc: Global, tree: &Tree, at: &Path, part: u8, place: PhrasePlace, told: &mut Told)
-    requires tree { IsTree tree.now }
-    requires place { IsPhrasePlace (plain_phrase_place place) }
+/// What is to be put into a part.
+fn place_of(alloc: Global, words: &[Vec<u8>]) -> Option<PhrasePlace>
+    ensures { IfSome result (λ place. IsPhrasePlace (plain_phrase_place place)) }
+{
+    match words {
+        [] => Some(PhrasePlace::Empty),
+        [category, text] => Some(PhrasePlace::Filled(phrase_of(alloc, category, text)?)),
+        _ => None,
+    }
+}
+
+/// A tree with the listing of this one.
+fn copied(alloc: Global, tree: &Tree) -> Option<Tree>
+    requires { IsTree tree.now }
+    ensures { IfSome result IsTree }
 {
     let mut listing = Told::new(alloc);
     tree.put_listing(&mut listing);
-    let Ok(mut other) = read_listing(alloc, listing.as_str().as_bytes()) else {
-        told.text("NOT READ");
-        return;
-    };
-    let Some(node) = other.node_mut(at) else {
+    tree_of(alloc, listing.as_bytes()).ok()
+}
+
+/// Puts this into a part of the node at the path, and tells what comes of it.
+fn put_part(tree: &mut Tree, at: &Path, part: u8, place: PhrasePlace, told: &mut Told)
+    requires tree { IsTree tree.old }
+    requires place { IsPhrasePlace (plain_phrase_place place) }
+{
+    let Some(node) = tree.node_mut(at) else {
         told.text("None");
         return;
     };
     match node.put_part(part, place) {
         Ok(old) => {
             told.text("Ok ");
-            told.place(alloc, &old);
+            tell_place(&old, told);
         }
         Err(own) => {
             told.text("Err ");
-            told.place(alloc, &own);
+            tell_place(&own, told);
         }
     }
     told.text("; ");
-    tell_node(alloc, node, told);
+    tell_node(node, told);
 }

@@ -4,6 +4,7 @@
 
 ghost use Rattle.template_tree.specs.Programs.Tree.{IsTree};
 
+mod case;
 mod clip_calls;
 mod edit;
 mod edit_calls;
@@ -12,38 +13,39 @@ mod lent_nodes;
 mod node_calls;
 mod stop_calls;
 mod stop_edits;
-mod told;
+mod tell;
 mod tree_calls;
 mod walk;
 mod words;
 
-use crate::told::Told;
+use crate::case::{CASES, Case};
 use crate::tree_calls::Trees;
-use case_script::words_of;
+use case_script::{Told, meaning, print_told, words_of};
 use clip_store::Clips;
 use std::alloc::Global;
+use std::io;
 use std::io::{BufRead, BufReader, ErrorKind};
-use std::{io, mem};
 use template_tree::Tree;
 
 fn main(rt: HostRuntime) -> io::Result<()> {
     let alloc = rt.alloc();
-    let lines = BufReader::new(alloc, rt.reader())?.lines(alloc);
-    let (Ok(tree), Ok(held), Ok(clips)) = (Tree::new(alloc), Clips::new(alloc), Clips::new(alloc))
-    else {
+    let Some(mut cases) = Cases::new(alloc) else {
         return Err(io::Error::from(ErrorKind::OutOfMemory));
     };
-    let mut cases = Cases {
-        trees: Trees {
-            tree,
-            held,
-            kept: Told::new(alloc),
-        },
-        clips,
-        text: Vec::new(alloc),
-    };
-    for line in lines {
-        play_line(&rt, &mut cases, line?.as_str())?;
+    play_script(&rt, &mut cases)
+}
+
+/// Plays the script that standard input has.
+fn play_script(rt: &HostRuntime, cases: &mut Cases) -> io::Result<()>
+    requires { IsTree cases.old.trees.tree }
+{
+    let alloc = rt.alloc();
+    let mut told = Told::new(alloc);
+    for line in BufReader::new(alloc, rt.reader())?.lines(alloc) {
+        let line = line?;
+        println!(rt; "{line}")?;
+        play_line(alloc, cases, line.as_bytes(), &mut told)?;
+        print_told(rt, &told)?;
     }
     Ok(())
 }
@@ -56,77 +58,130 @@ struct Cases {
     text: Vec<u8>,
 }
 
-/// Writes the line, and after a case its answer.
-fn play_line(rt: &HostRuntime, cases: &mut Cases, line: &str) -> io::Result<()>
-    requires { IsTree cases.old.trees.tree }
-    ensures { IsTree cases.new.trees.tree }
-{
-    println!(rt; "{line}")?;
-    match line.as_bytes() {
-        [] | [b'#', ..] => Ok(()),
-        [b'|', b' ', text @ ..] => {
-            cases.text.extend_from_slice(text)?;
-            cases.text.push(b'\n')?;
-            Ok(())
-        }
-        case => play_case(rt, cases, case),
+impl Cases {
+    ghost use Rattle.std.specs.Prelude.{IfSome};
+
+    /// A new tree, with nothing held beside it.
+    fn new(alloc: Global) -> Option<Cases>
+        ensures { IfSome result (λ cases. IsTree cases.trees.tree) }
+    {
+        let clips = Clips::new(alloc).ok()?;
+        let trees = Trees::new(alloc)?;
+        Some(Cases {
+            trees,
+            clips,
+            text: Vec::new(alloc),
+        })
     }
 }
 
-/// Plays a case, and writes its answer.
-fn play_case(rt: &HostRuntime, cases: &mut Cases, case: &[u8]) -> io::Result<()>
+/// Plays a line of the script: a heading, a line of text, or a case, whose answer is told.
+fn play_line(alloc: Global, cases: &mut Cases, line: &[u8], told: &mut Told) -> io::Result<()>
     requires { IsTree cases.old.trees.tree }
     ensures { IsTree cases.new.trees.tree }
 {
-    let alloc = rt.alloc();
-    let text = mem::replace(&mut cases.text, Vec::new(alloc));
-    let Some(words) = words_of(alloc, case)? else {
-        return println!(rt; "= NOT A CASE");
-    };
-    let mut told = Told::new(alloc);
-    if !is_played(alloc, cases, words.as_slice(), text.as_slice(), &mut told) {
-        return println!(rt; "= NOT A CASE");
-    }
-    for line in told.as_str().lines() {
-        match line {
-            "" => println!(rt; "=")?,
-            line => println!(rt; "= {line}")?,
+    told.clear();
+    match line {
+        [] | [b'#', ..] => {}
+        [b'|', b' ', text @ ..] => {
+            cases.text.extend_from_slice(text)?;
+            cases.text.push(b'\n')?;
+        }
+        case => {
+            if play_case(alloc, cases, case, told).is_none() {
+                told.clear();
+                told.line("NOT A CASE");
+            }
+            cases.text.clear();
         }
     }
     Ok(())
 }
 
-/// Plays the case of these words, and tells whether it is one.
-fn is_played(
-    alloc: Global,
-    cases: &mut Cases,
-    words: &[Vec<u8>],
-    text: &[u8],
-    told: &mut Told,
-) -> bool
+/// Plays a case, if it is one.
+fn play_case(alloc: Global, cases: &mut Cases, case: &[u8], told: &mut Told) -> Option<()>
     requires { IsTree cases.old.trees.tree }
     ensures { IsTree cases.new.trees.tree }
 {
-    is_edited(alloc, &mut cases.trees.tree, words, text, told)
-        || tree_calls::play(alloc, &mut cases.trees, words, text, told).is_some()
-        || held_nodes::play(alloc, &mut cases.trees, words, told).is_some()
-        || lent_nodes::play(alloc, &cases.trees.tree, words, told).is_some()
-        || node_calls::play(alloc, &cases.trees.tree, words, told).is_some()
-        || stop_calls::play(&cases.trees.tree, words, told).is_some()
-        || clip_calls::play(alloc, &mut cases.clips, &cases.trees.held, words, told).is_some()
+    match words_of(alloc, case) {
+        Ok(Some(words)) => play_words(alloc, cases, words.as_slice(), told),
+        _ => None,
+    }
 }
 
-/// Plays the case of these words where it is one of edits, and tells whether it is.
-fn is_edited(
-    alloc: Global,
-    tree: &mut Tree,
-    words: &[Vec<u8>],
-    text: &[u8],
-    told: &mut Told,
-) -> bool
-    requires { IsTree tree.old }
-    ensures { IsTree tree.new }
+/// Plays the case of the first word with those behind it.
+fn play_words(alloc: Global, cases: &mut Cases, words: &[Vec<u8>], told: &mut Told) -> Option<()>
+    requires { IsTree cases.old.trees.tree }
+    ensures { IsTree cases.new.trees.tree }
 {
-    edit_calls::play(alloc, tree, words, text, told).is_some()
-        || stop_edits::play(alloc, tree, words, told).is_some()
+    let (word, rest) = words.split_first()?;
+    play(alloc, cases, meaning(&CASES, word.as_slice())?, rest, told)
+}
+
+/// Plays the case with these words behind its first one, if it takes them.
+fn play(
+    alloc: Global,
+    cases: &mut Cases,
+    case: Case,
+    words: &[Vec<u8>],
+    told: &mut Told,
+) -> Option<()>
+    requires { IsTree cases.old.trees.tree }
+    ensures { IsTree cases.new.trees.tree }
+{
+    let trees = &mut cases.trees;
+    match case {
+        Case::Edit(edit) => edit_calls::edit(alloc, &mut trees.tree, edit, words, told),
+        Case::Edits(edits) => {
+            edit_calls::play(
+                alloc,
+                &mut trees.tree,
+                edits,
+                words,
+                cases.text.as_slice(),
+                told,
+            )
+        }
+        Case::AtStop(call) => stop_edits::play(alloc, &mut trees.tree, call, words, told),
+        Case::Tree(call) => tree_calls::play(
+            alloc,
+            trees,
+            call,
+            words,
+            cases.text.as_slice(),
+            told,
+        ),
+        Case::Held(call) => held_nodes::play(alloc, trees, call, words, told),
+        _ => ask(alloc, cases, case, words, told),
+    }
+}
+
+/// Plays a case that leaves the tree as it is, if it takes these words.
+fn ask(
+    alloc: Global,
+    cases: &mut Cases,
+    case: Case,
+    words: &[Vec<u8>],
+    told: &mut Told,
+) -> Option<()>
+    requires { IsTree cases.old.trees.tree }
+    ensures { IsTree cases.new.trees.tree }
+{
+    let tree = &cases.trees.tree;
+    match case {
+        Case::PutPart => lent_nodes::play(alloc, tree, words, told),
+        Case::Node(reader) => node_calls::play(tree, reader, words, told),
+        Case::Stops(call) => stop_calls::play(tree, call, told),
+        Case::Clips(call) => {
+            clip_calls::play(
+                alloc,
+                &mut cases.clips,
+                &cases.trees.held,
+                call,
+                words,
+                told,
+            )
+        }
+        _ => None,
+    }
 }

@@ -2,16 +2,15 @@
 ghost use Rattle.template_tree.specs.Programs.Tree.{IsTree};
 
 use crate::edit::tell_node;
-use crate::told::Told;
-use crate::words::{At, meaning};
-use case_script::number_of;
+use crate::tell::tell_path;
+use crate::words::find;
+use case_script::{Told, number_of};
 use plcs_base::{ByteOut, Slot};
-use std::alloc::Global;
 use template_tree::{Path, Tree};
 
-/// The words of readers.
+/// What is read of a tree.
 #[derive(Clone, Copy)]
-enum Reader {
+pub(crate) enum Reader {
     /// `listing`: its lines.
     Listing,
     /// `nodes`: each node, in listing order.
@@ -30,65 +29,48 @@ enum Reader {
     PathsBelow,
 }
 
-static READERS: [(&[u8], Reader); 8] = [
-    (b"listing", Reader::Listing),
-    (b"nodes", Reader::Nodes),
-    (b"slots", Reader::Slots),
-    (b"procedures", Reader::Procedures),
-    (b"node", Reader::Node),
-    (b"slots_at", Reader::SlotsAt),
-    (b"path_of", Reader::PathOf),
-    (b"paths_below", Reader::PathsBelow),
-];
-
 /// Plays a case that reads a tree.
-pub(crate) fn play(alloc: Global, tree: &Tree, words: &[Vec<u8>], told: &mut Told) -> Option<()>
+pub(crate) fn play(tree: &Tree, reader: Reader, words: &[Vec<u8>], told: &mut Told) -> Option<()>
     requires { IsTree tree.now }
 {
-    let (word, rest) = words.split_first()?;
-    match (meaning(&READERS, word.as_slice())?, rest) {
-        (Reader::Listing, []) => {
-            tree.put_listing(told);
-            return Some(());
-        }
-        (Reader::Nodes, []) => {
-            tell_nodes(alloc, tree, told);
-            return Some(());
-        }
-        (Reader::Slots, []) => told.value(tree.slots()),
-        (Reader::Procedures, []) => told.value(tree.procedures()),
-        (Reader::Node, [at]) => {
-            let at = At::of(at.as_slice())?.find(tree)?;
-            tell_node_at(alloc, tree, &at, told);
-        }
-        (Reader::SlotsAt, [at]) => {
-            let at = At::of(at.as_slice())?.find(tree)?;
-            told.value(tree.slots_at(&at));
-        }
-        (Reader::PathOf, [slot]) => match tree.path_of(Slot(number_of(slot.as_slice())?)) {
-            Some(path) => told.path(path.as_slice()),
-            None => told.text("None"),
-        },
+    match (reader, words) {
+        (Reader::Listing, []) => tree.put_listing(told),
+        (Reader::Nodes, []) => tell_nodes(tree, told),
+        (Reader::Slots, []) => told.value_line(&tree.slots()),
+        (Reader::Procedures, []) => told.value_line(&tree.procedures()),
+        (Reader::Node, [at]) => tell_node_at(tree, &find(tree, at)?, told),
+        (Reader::SlotsAt, [at]) => told.value_line(&tree.slots_at(&find(tree, at)?)),
+        (Reader::PathOf, [slot]) => tell_path_of(tree, number_of(slot.as_slice())?, told),
         (Reader::PathsBelow, [slot]) => {
-            told.value(live_below(tree, number_of(slot.as_slice())?));
+            told.value_line(&live_below(tree, number_of(slot.as_slice())?));
         }
         _ => return None,
     }
-    told.put(b'\n');
     Some(())
 }
 
+/// Tells the path of the node in the slot.
+fn tell_path_of(tree: &Tree, slot: u32, told: &mut Told)
+    requires { IsTree tree.now }
+{
+    match tree.path_of(Slot(slot)) {
+        Some(path) => tell_path(path.as_slice(), told),
+        None => told.text("None"),
+    }
+    told.put(b'\n');
+}
+
 /// All that a tree shows: its listing, each node in its slot with its path, and how many slots are live.
-pub(crate) fn tell_tree(alloc: Global, tree: &Tree, told: &mut Told)
+pub(crate) fn tell_tree(tree: &Tree, told: &mut Told)
     requires { IsTree tree.now }
 {
     tree.put_listing(told);
-    tell_nodes(alloc, tree, told);
-    told.value(tree.slots());
+    tell_nodes(tree, told);
+    told.value(&tree.slots());
 }
 
 /// Tells the nodes of the tree in listing order, each on a line.
-fn tell_nodes(alloc: Global, tree: &Tree, told: &mut Told)
+fn tell_nodes(tree: &Tree, told: &mut Told)
     requires { IsTree tree.now }
 {
     let mut at = Path::new();
@@ -96,8 +78,7 @@ fn tell_nodes(alloc: Global, tree: &Tree, told: &mut Told)
         if !goes_on(tree, &mut at) {
             return;
         }
-        tell_node_at(alloc, tree, &at, told);
-        told.put(b'\n');
+        tell_node_at(tree, &at, told);
     }
 }
 
@@ -126,23 +107,23 @@ fn goes_on(tree: &Tree, at: &mut Path) -> bool
 
 /// Tells the node at the path: its slot and its path, what it is, how many slots it has, and how many nodes
 /// stand inside.
-fn tell_node_at(alloc: Global, tree: &Tree, at: &Path, told: &mut Told)
+fn tell_node_at(tree: &Tree, at: &Path, told: &mut Told)
     requires { IsTree tree.now }
 {
     let Some(node) = tree.node(at) else {
-        told.text("None");
+        told.line("None");
         return;
     };
-    told.value(node.slot().0);
+    told.value(&node.slot().0);
     told.text(" at ");
-    told.path(at.as_slice());
+    tell_path(at.as_slice(), told);
     told.text(": ");
-    tell_node(alloc, node, told);
+    tell_node(node, told);
     told.text(", ");
-    told.value(node.slots());
+    told.value(&node.slots());
     told.text(" slots, ");
-    told.value(node.children());
-    told.text(" inside");
+    told.value(&node.children());
+    told.line(" inside");
 }
 
 /// How many of the slots below the number are live, or `None` where a path leads to another slot.

@@ -3,24 +3,31 @@ ghost use Rattle.template_tree.specs.Programs.PlainTree.{roomless_tree};
 ghost use Rattle.template_tree.specs.Positions.Stop.{IsStop, plain_stop};
 ghost use Rattle.template_tree.specs.Programs.Tree.{IsTree};
 
-use crate::told::Told;
+use crate::tell::tell_stop;
+use case_script::Told;
 use cursor_moves::{Move, bottom, down, left, right, top, up};
 use plcs_base::ByteOut;
 use template_tree::{Stop, Tree};
 
-/// Plays a case: `stops` tells each visible stop, with the stops to which the moves left, right, up and down
-/// go from it; `top` and `bottom` tell the first and the last one.
-pub(crate) fn play(tree: &Tree, words: &[Vec<u8>], told: &mut Told) -> Option<()>
+/// A call on the visible stops.
+#[derive(Clone, Copy)]
+pub(crate) enum StopsCall {
+    /// `stops`: each visible stop, with the stops to which the moves left, right, up and down go from it.
+    Stops,
+    /// `top`: the first one.
+    Top,
+    /// `bottom`: the last one.
+    Bottom,
+}
+
+/// Plays such a case.
+pub(crate) fn play(tree: &Tree, call: StopsCall, told: &mut Told) -> Option<()>
     requires { IsTree tree.now }
 {
-    let [word] = words else {
-        return None;
-    };
-    match word.as_slice() {
-        b"stops" => tell_stops(tree, told),
-        b"top" => told.stop(&top(tree)),
-        b"bottom" => told.stop(&bottom(tree)),
-        _ => return None,
+    match call {
+        StopsCall::Stops => tell_stops(tree, told),
+        StopsCall::Top => tell_stop(&top(tree), told),
+        StopsCall::Bottom => tell_stop(&bottom(tree), told),
     }
     told.put(b'\n');
     Some(())
@@ -46,7 +53,7 @@ fn tell_moves(tree: &Tree, at: &Stop, told: &mut Told)
     requires tree { IsTree tree.now }
     requires stop { IsStop (roomless_tree tree.now).items (plain_stop at.now) }
 {
-    told.stop(at);
+    tell_stop(at, told);
     tell_move(" left ", &left(tree, at), told);
     tell_move(" right ", &right(tree, at), told);
     tell_move(" up ", &up(tree, at), told);
@@ -57,7 +64,7 @@ fn tell_moves(tree: &Tree, at: &Stop, told: &mut Told)
 fn tell_move(name: &str, to: &Move, told: &mut Told) {
     told.text(name);
     match to {
-        Move::Moved(stop) => told.stop(stop),
+        Move::Moved(stop) => tell_stop(stop, told),
         Move::AtEdge => told.text("at edge"),
     }
 }

@@ -6,9 +6,9 @@ ghost use Rattle.template_tree.specs.Positions.Stop.{IsStop, plain_stop};
 ghost use Rattle.template_tree.specs.Programs.Tree.{IsTree};
 ghost use Rattle.session_edit.specs.PlainEdit.{BringsWhatMayStand};
 
-use crate::told::Told;
-use crate::words::{CATEGORIES, SIDES, TEMPLATES, meaning, path, phrase};
-use case_script::number_of;
+use crate::tell::tell_stop;
+use crate::words::{SIDES, TEMPLATES, path, phrase_of};
+use case_script::{Told, meaning, number_of};
 use clip_store::Fragment;
 use cursor_moves::{Move, right, top};
 use plcs_base::{ByteOut, Slot};
@@ -16,33 +16,40 @@ use session_edit::{Applied, Edit, apply, shown_stop, takes, wanted};
 use std::alloc::Global;
 use template_tree::{Node, Stop, Tree, TreeFault};
 
-/// Plays a case:
-///
-/// - `apply AT EDIT`: the edit at the visible stop; `try AT EDIT`: the edit, which is then undone;
-/// - `move FROM TO`: what is taken out at a stop is inserted at another one;
-/// - `wants`: each visible stop, with the category that phrase text has there, and whether something can be
-///   taken out there;
-/// - `shown SLOT`: the stop at which the slot is shown.
-///
-/// A stop is a path, with `:` and a part behind it or without. An edit is `fill TEMPLATE`,
+/// A call at a stop, which is a path, with `:` and a part behind it or without. An edit is `fill TEMPLATE`,
 /// `enter CATEGORY TEXT`, `insert CATEGORY TEXT`, `insert_copy FROM`, `delete`, `take` or `beside SIDE`.
-pub(crate) fn play(alloc: Global, tree: &mut Tree, words: &[Vec<u8>], told: &mut Told) -> Option<()>
+#[derive(Clone, Copy)]
+pub(crate) enum StopCall {
+    /// `apply AT EDIT`: the edit at the visible stop.
+    Apply,
+    /// `try AT EDIT`: the edit, which is then undone.
+    Try,
+    /// `move FROM TO`: what is taken out at a stop is inserted at another one.
+    Move,
+    /// `wants`: each visible stop, with the category that phrase text has there, and whether something can be
+    /// taken out there.
+    Wants,
+    /// `shown SLOT`: the stop at which the slot is shown.
+    Shown,
+}
+
+/// Plays such a case.
+pub(crate) fn play(
+    alloc: Global,
+    tree: &mut Tree,
+    call: StopCall,
+    words: &[Vec<u8>],
+    told: &mut Told,
+) -> Option<()>
     requires { IsTree tree.old }
     ensures { IsTree tree.new }
 {
-    let (word, rest) = words.split_first()?;
-    match (word.as_slice(), rest) {
-        (b"apply", [at, edit @ ..]) => apply_at(alloc, tree, at.as_slice(), edit, told),
-        (b"try", [at, edit @ ..]) => try_at(alloc, tree, at.as_slice(), edit, told),
-        (b"move", [from, to]) => move_to(alloc, tree, from.as_slice(), to.as_slice(), told),
-        (b"wants", []) => {
-            tell_wants(tree, told);
-            Some(())
-        }
-        (b"shown", [slot]) => {
-            tell_shown(tree, Slot(number_of(slot.as_slice())?), told);
-            Some(())
-        }
+    match (call, words) {
+        (StopCall::Apply, [at, edit @ ..]) => apply_at(alloc, tree, at, edit, told),
+        (StopCall::Try, [at, edit @ ..]) => try_at(alloc, tree, at, edit, told),
+        (StopCall::Move, [from, to]) => move_to(alloc, tree, from, to, told),
+        (StopCall::Wants, []) => tell_wants(tree, told),
+        (StopCall::Shown, [slot]) => tell_shown(tree, slot, told),
         _ => None,
     }
 }
@@ -139,15 +146,15 @@ fn tell_applied(tree: &Tree, applied: &Applied, told: &mut Told)
     requires { IsTree tree.now }
 {
     let change = applied.receipt.change();
-    told.value(change.what);
+    told.value(&change.what);
     told.text(" in slot ");
-    told.value(change.slot.0);
+    told.value(&change.slot.0);
     told.text(", to ");
-    told.stop(&applied.stop);
+    tell_stop(&applied.stop, told);
     tell_slots(tree, told);
     if let Some(node) = &applied.taken {
         told.text(", ");
-        told.value(node.kind());
+        told.value(&node.kind());
         told.text(" taken");
     }
     told.put(b'\n');
@@ -157,7 +164,7 @@ fn tell_applied(tree: &Tree, applied: &Applied, told: &mut Told)
 fn tell_refused(tree: &Tree, fault: TreeFault, told: &mut Told)
     requires { IsTree tree.now }
 {
-    told.value(fault);
+    told.value(&fault);
     tell_slots(tree, told);
     told.put(b'\n');
 }
@@ -167,22 +174,23 @@ fn tell_slots(tree: &Tree, told: &mut Told)
     requires { IsTree tree.now }
 {
     told.text(", ");
-    told.value(tree.slots());
+    told.value(&tree.slots());
     told.text(" slots");
 }
 
 /// Tells each visible stop, with what is wanted there.
-fn tell_wants(tree: &Tree, told: &mut Told)
+fn tell_wants(tree: &Tree, told: &mut Told) -> Option<()>
     requires { IsTree tree.now }
 {
     let mut at = top(tree);
     'stops: for _ in 0..100_000 {
         tell_wanted(tree, &at, told);
-        let Move::Moved(next) = right(tree, &at) else {
-            return;
-        };
-        at = next;
+        match right(tree, &at) {
+            Move::Moved(next) => at = next,
+            Move::AtEdge => break,
+        }
     }
+    Some(())
 }
 
 /// Tells the category that phrase text has at the stop, and whether something can be taken out there.
@@ -190,11 +198,11 @@ fn tell_wanted(tree: &Tree, at: &Stop, told: &mut Told)
     requires tree { IsTree tree.now }
     requires stop { IsStop (roomless_tree tree.now).items (plain_stop at.now) }
 {
-    told.stop(at);
+    tell_stop(at, told);
     match wanted(tree, at) {
         Some(category) => {
             told.text(" wants ");
-            told.value(category);
+            told.value(&category);
         }
         None => told.text(" wants nothing"),
     }
@@ -205,14 +213,15 @@ fn tell_wanted(tree: &Tree, at: &Stop, told: &mut Told)
 }
 
 /// Tells the stop at which the slot is shown.
-fn tell_shown(tree: &Tree, slot: Slot, told: &mut Told)
+fn tell_shown(tree: &Tree, slot: &[u8], told: &mut Told) -> Option<()>
     requires { IsTree tree.now }
 {
-    match shown_stop(tree, slot) {
-        Some(stop) => told.stop(&stop),
+    match shown_stop(tree, Slot(number_of(slot)?)) {
+        Some(stop) => tell_stop(&stop, told),
         None => told.text("not live"),
     }
     told.put(b'\n');
+    Some(())
 }
 
 /// The visible stop of the word: that at which the slot of its node is shown, or one of the parts behind that.
@@ -249,56 +258,58 @@ fn stop_of(word: &[u8]) -> Option<Stop> {
     Some(Stop { path, part })
 }
 
+/// The words of edits at a stop.
+#[derive(Clone, Copy)]
+enum StopEdit {
+    Delete,
+    Take,
+    Fill,
+    Beside,
+    InsertCopy,
+    Enter,
+    Insert,
+}
+
+static STOP_EDITS: [(&[u8], StopEdit); 7] = [
+    (b"delete", StopEdit::Delete),
+    (b"take", StopEdit::Take),
+    (b"fill", StopEdit::Fill),
+    (b"beside", StopEdit::Beside),
+    (b"insert_copy", StopEdit::InsertCopy),
+    (b"enter", StopEdit::Enter),
+    (b"insert", StopEdit::Insert),
+];
+
 /// The edit that the words say.
 fn edit_of(alloc: Global, tree: &Tree, words: &[Vec<u8>]) -> Option<Edit>
     requires { IsTree tree.now }
     ensures { IfSome result BringsWhatMayStand }
 {
-    match words {
-        [word] => plain_edit(word.as_slice()),
-        [word, of] => edit_with(alloc, tree, word.as_slice(), of.as_slice()),
-        [word, category, text] => {
-            phrase_edit(alloc, word.as_slice(), category.as_slice(), text.as_slice())
+    let (word, rest) = words.split_first()?;
+    match (meaning(&STOP_EDITS, word.as_slice())?, rest) {
+        (StopEdit::Delete, []) => Some(Edit::Delete),
+        (StopEdit::Take, []) => Some(Edit::Take),
+        (StopEdit::Fill, [template]) => Some(Edit::Fill(meaning(&TEMPLATES, template)?)),
+        (StopEdit::Beside, [side]) => Some(Edit::Beside(meaning(&SIDES, side)?)),
+        (StopEdit::InsertCopy, [from]) => insertion_of_copy(alloc, tree, from),
+        (StopEdit::Enter, [category, text]) => {
+            Some(Edit::Enter(phrase_of(alloc, category, text)?))
+        }
+        (StopEdit::Insert, [category, text]) => {
+            Some(Edit::Insert(Fragment::Phrase(phrase_of(alloc, category, text)?)))
         }
         _ => None,
     }
 }
 
-/// The edit that needs nothing more.
-fn plain_edit(word: &[u8]) -> Option<Edit>
-    ensures { IfSome result BringsWhatMayStand }
-{
-    match word {
-        b"delete" => Some(Edit::Delete),
-        b"take" => Some(Edit::Take),
-        _ => None,
-    }
-}
-
-/// The edit with a template, a side, or a copy of the node at a path.
-fn edit_with(alloc: Global, tree: &Tree, word: &[u8], of: &[u8]) -> Option<Edit>
+/// The edit that inserts a copy of the node at the path.
+fn insertion_of_copy(alloc: Global, tree: &Tree, from: &[u8]) -> Option<Edit>
     requires { IsTree tree.now }
     ensures { IfSome result BringsWhatMayStand }
 {
-    match word {
-        b"fill" => Some(Edit::Fill(meaning(&TEMPLATES, of)?)),
-        b"beside" => Some(Edit::Beside(meaning(&SIDES, of)?)),
-        b"insert_copy" => {
-            let copy = tree.copy_node(alloc, &path(of)?).ok()?;
-            Some(Edit::Insert(Fragment::Node(copy)))
-        }
-        _ => None,
-    }
-}
-
-/// The edit with a phrase.
-fn phrase_edit(alloc: Global, word: &[u8], category: &[u8], text: &[u8]) -> Option<Edit>
-    ensures { IfSome result BringsWhatMayStand }
-{
-    let phrase = phrase(alloc, meaning(&CATEGORIES, category)?, text)?;
-    match word {
-        b"enter" => Some(Edit::Enter(phrase)),
-        b"insert" => Some(Edit::Insert(Fragment::Phrase(phrase))),
-        _ => None,
+    let from = path(from)?;
+    match tree.copy_node(alloc, &from) {
+        Ok(copy) => Some(Edit::Insert(Fragment::Node(copy))),
+        Err(_) => None,
     }
 }

@@ -1,12 +1,12 @@
 //! Cases that make a tree, hide and show refinements, and compare a tree with one before.
+ghost use Rattle.std.specs.Prelude.{IfOk, IfSome};
 ghost use Rattle.template_tree.specs.Programs.Tree.{IsTree};
 
 use crate::node_calls::tell_tree;
-use crate::told::Told;
-use crate::words::At;
+use crate::words::find;
+use case_script::Told;
 use clip_store::Clips;
-use file_store::read_listing;
-use plcs_base::ByteOut;
+use file_store::{FileRefusal, read_listing};
 use std::alloc::Global;
 use template_tree::Tree;
 
@@ -18,15 +18,48 @@ pub(crate) struct Trees {
     pub(crate) kept: Told,
 }
 
-/// Plays a case:
-///
-/// - `new`: a new tree, with no nodes held;
-/// - `read_listing`: the tree of the listing in the lines of text, or in a word;
-/// - `keep`: keeps what the tree shows; `same`: tells whether it shows that again;
-/// - `elide AT`: hides the refinement of a comment, or shows it again.
+impl Trees {
+    /// A new tree, with no nodes held.
+    pub(crate) fn new(alloc: Global) -> Option<Trees>
+        ensures { IfSome result (λ trees. IsTree trees.tree) }
+    {
+        let held = Clips::new(alloc).ok()?;
+        let tree = new_tree(alloc)?;
+        Some(Trees {
+            tree,
+            held,
+            kept: Told::new(alloc),
+        })
+    }
+}
+
+/// The new tree.
+fn new_tree(alloc: Global) -> Option<Tree>
+    ensures { IfSome result IsTree }
+{
+    Tree::new(alloc).ok()
+}
+
+/// A call that makes a tree, or compares what it shows.
+#[derive(Clone, Copy)]
+pub(crate) enum TreeCall {
+    /// `new`: a new tree, with no nodes held.
+    New,
+    /// `read_listing`: the tree of the listing in the lines of text, or in a word.
+    ReadListing,
+    /// `keep`: keeps what the tree shows.
+    Keep,
+    /// `same`: tells whether it shows that again.
+    Same,
+    /// `elide AT`: hides the refinement of a comment, or shows it again.
+    Elide,
+}
+
+/// Plays such a case.
 pub(crate) fn play(
     alloc: Global,
     trees: &mut Trees,
+    call: TreeCall,
     words: &[Vec<u8>],
     text: &[u8],
     told: &mut Told,
@@ -34,14 +67,13 @@ pub(crate) fn play(
     requires { IsTree trees.old.tree }
     ensures { IsTree trees.new.tree }
 {
-    let (word, rest) = words.split_first()?;
-    match (word.as_slice(), rest) {
-        (b"new", []) => make_new(alloc, trees, told),
-        (b"read_listing", []) => read(alloc, &mut trees.tree, text, told),
-        (b"read_listing", [text]) => read(alloc, &mut trees.tree, text.as_slice(), told),
-        (b"keep", []) => keep(alloc, trees, told),
-        (b"same", []) => compare(alloc, trees, told),
-        (b"elide", [at]) => elide(&mut trees.tree, at.as_slice(), told),
+    match (call, words) {
+        (TreeCall::New, []) => make_new(alloc, trees, told),
+        (TreeCall::ReadListing, []) => read(alloc, &mut trees.tree, text, told),
+        (TreeCall::ReadListing, [text]) => read(alloc, &mut trees.tree, text, told),
+        (TreeCall::Keep, []) => keep(trees, told),
+        (TreeCall::Same, []) => compare(trees, told),
+        (TreeCall::Elide, [at]) => elide(&mut trees.tree, at, told),
         _ => None,
     }
 }
@@ -51,12 +83,9 @@ fn make_new(alloc: Global, trees: &mut Trees, told: &mut Told) -> Option<()>
     requires { IsTree trees.old.tree }
     ensures { IsTree trees.new.tree }
 {
-    let (Ok(tree), Ok(held)) = (Tree::new(alloc), Clips::new(alloc)) else {
-        return None;
-    };
-    trees.tree = tree;
-    trees.held = held;
-    told.text("Done\n");
+    trees.held = Clips::new(alloc).ok()?;
+    trees.tree = new_tree(alloc)?;
+    told.line("Done");
     Some(())
 }
 
@@ -65,37 +94,41 @@ fn read(alloc: Global, tree: &mut Tree, text: &[u8], told: &mut Told) -> Option<
     requires { IsTree tree.old }
     ensures { IsTree tree.new }
 {
-    match read_listing(alloc, text) {
+    match tree_of(alloc, text) {
         Ok(read) => {
             *tree = read;
-            told.text("Done");
+            told.line("Done");
         }
-        Err(refusal) => told.value(refusal),
+        Err(refusal) => told.value_line(&refusal),
     }
-    told.put(b'\n');
     Some(())
 }
 
+/// The tree of the listing.
+pub(crate) fn tree_of(alloc: Global, text: &[u8]) -> Result<Tree, FileRefusal>
+    ensures { IfOk result IsTree }
+{
+    read_listing(alloc, text)
+}
+
 /// Keeps what the tree shows.
-fn keep(alloc: Global, trees: &mut Trees, told: &mut Told) -> Option<()>
+fn keep(trees: &mut Trees, told: &mut Told) -> Option<()>
     requires { IsTree trees.old.tree }
     ensures { IsTree trees.new.tree }
 {
-    let mut kept = Told::new(alloc);
-    tell_tree(alloc, &trees.tree, &mut kept);
-    trees.kept = kept;
-    told.text("Done\n");
+    trees.kept.clear();
+    tell_tree(&trees.tree, &mut trees.kept);
+    told.line("Done");
     Some(())
 }
 
 /// Tells whether the tree shows what was kept.
-fn compare(alloc: Global, trees: &Trees, told: &mut Told) -> Option<()>
+fn compare(trees: &Trees, told: &mut Told) -> Option<()>
     requires { IsTree trees.now.tree }
 {
-    let mut now = Told::new(alloc);
-    tell_tree(alloc, &trees.tree, &mut now);
-    told.value(now.is_same(&trees.kept));
-    told.put(b'\n');
+    let mut now = Told::new(told.alloc());
+    tell_tree(&trees.tree, &mut now);
+    told.value_line(&now.is_same(&trees.kept));
     Some(())
 }
 
@@ -104,8 +137,7 @@ fn elide(tree: &mut Tree, at: &[u8], told: &mut Told) -> Option<()>
     requires { IsTree tree.old }
     ensures { IsTree tree.new }
 {
-    let at = At::of(at)?.find(tree)?;
-    told.value(tree.elide(&at));
-    told.put(b'\n');
+    let at = find(tree, at)?;
+    told.value_line(&tree.elide(&at));
     Some(())
 }

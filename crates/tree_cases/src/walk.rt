@@ -7,8 +7,8 @@ ghost use Rattle.template_tree.specs.Programs.Tree.{IsTree};
 use crate::edit::{Edit, Step, made};
 use crate::edit_calls::tell_answer;
 use crate::node_calls::tell_tree;
-use crate::told::Told;
 use crate::words::At;
+use case_script::Told;
 use plcs_base::ByteOut;
 use plcs_grammar::{Category, Template};
 use std::alloc::{AllocError, Global};
@@ -37,10 +37,11 @@ impl Walked {
 
     /// Tells whether the tree before each edit came again.
     pub(crate) fn tell(&self, told: &mut Told) {
-        match self.same {
-            true => told.text("undone, each step back the same\n"),
-            false => told.text("UNDONE, NOT THE SAME\n"),
-        }
+        told.line(if self.same {
+            "undone, each step back the same"
+        } else {
+            "UNDONE, NOT THE SAME"
+        });
     }
 }
 
@@ -71,7 +72,7 @@ fn picture_of(alloc: Global, tree: &Tree) -> Told
     requires { IsTree tree.now }
 {
     let mut picture = Told::new(alloc);
-    tell_tree(alloc, tree, &mut picture);
+    tell_tree(tree, &mut picture);
     picture
 }
 

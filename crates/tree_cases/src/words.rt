@@ -1,25 +1,16 @@
 //! Words of cases, and what they stand for.
-ghost use Rattle.std.specs.Prelude.{IfSome, Some};
-ghost use Rattle.plcs_grammar.specs.PlainPhrase.{plain_phrase};
+ghost use Rattle.std.specs.Prelude.{◌≡◌, ◌≤◌, length, IfSome, Some};
+ghost use Rattle.plcs_grammar.specs.Canon.{IsWellFormed};
+ghost use Rattle.plcs_grammar.specs.PlainPhrase.{category_of, plain_phrase};
 ghost use Rattle.template_tree.specs.Programs.Part.{IsPhrasePlace};
 ghost use Rattle.template_tree.specs.Programs.Tree.{IsTree};
 
-use case_script::number_of;
+use case_script::{meaning, number_of};
 use phrase_parser::parse;
 use plcs_base::Slot;
 use plcs_grammar::{Category, Phrase, Template, shown_len};
 use std::alloc::Global;
 use template_tree::{LONGEST_PHRASE, Path, Side, Tree};
-
-/// What the word stands for, by the rows of a table.
-pub(crate) fn meaning<T: Copy>(rows: &[(&'static [u8], T)], word: &[u8]) -> Option<T> {
-    for (own, meaning) in rows {
-        if *own == word {
-            return Some(*meaning);
-        }
-    }
-    None
-}
 
 /// The words of templates.
 pub(crate) static TEMPLATES: [(&[u8], Template); 16] = [
@@ -67,11 +58,19 @@ pub(crate) fn phrase(alloc: Global, category: Category, text: &[u8]) -> Option<P
     if text.len() > 1000 {
         return None;
     }
-    let phrase = parse(alloc, category, text).ok()?;
-    if shown_len(&phrase) > LONGEST_PHRASE {
-        return None;
+    match parsed(alloc, category, text) {
+        Some(phrase) if shown_len(&phrase) <= LONGEST_PHRASE => Some(phrase),
+        _ => None,
     }
-    Some(phrase)
+}
+
+/// The phrase of the category that a text reads as.
+fn parsed(alloc: Global, category: Category, text: &[u8]) -> Option<Phrase>
+    requires { length text.now ≤ 1000 }
+    ensures well_formed { IfSome result (λ phrase. IsWellFormed category (plain_phrase phrase)) }
+    ensures category { IfSome result (λ phrase. category_of (plain_phrase phrase) ≡ category) }
+{
+    parse(alloc, category, text).ok()
 }
 
 /// Where a case is played: at the path of a word, or at the node in a slot.
@@ -101,11 +100,25 @@ impl At<'_> {
     }
 }
 
+/// The path that the word says, if it is one.
+pub(crate) fn find(tree: &Tree, word: &[u8]) -> Option<Path>
+    requires { IsTree tree.now }
+{
+    At::of(word)?.find(tree)
+}
+
+/// The phrase of the category and the text that the words say.
+pub(crate) fn phrase_of(alloc: Global, category: &[u8], text: &[u8]) -> Option<Phrase>
+    ensures { IfSome result (λ phrase. IsPhrasePlace (Some (plain_phrase phrase))) }
+{
+    phrase(alloc, meaning(&CATEGORIES, category)?, text)
+}
+
 /// The path of the word: numbers with a comma between them, each with `*` and a number behind it where it
 /// stands so many times; `-` for none.
 pub(crate) fn path(word: &[u8]) -> Option<Path> {
     let mut path = Path::new();
-    if let b"-" = word {
+    if word == b"-".as_slice() {
         return Some(path);
     }
     for piece in word.split(|byte| *byte == b',') {
