@@ -36,7 +36,7 @@ pub enum Case {
 }
 
 /// The cases with their names.
-static CASES: [(&[u8], Case); 18] = [
+pub static CASES: [(&[u8], Case); 18] = [
     (b"program", Case::Program),
     (b"take", Case::Take),
     (b"elide", Case::Elide),
@@ -56,13 +56,3 @@ static CASES: [(&[u8], Case); 18] = [
     (b"terminal", Case::Terminal),
     (b"sums", Case::Sums),
 ];
-
-/// The case of the name.
-pub fn case_named(name: &[u8]) -> Option<Case> {
-    for (other, case) in &CASES {
-        if name == *other {
-            return Some(*case);
-        }
-    }
-    None
-}

@@ -1,16 +1,17 @@
 //! Cells of the screen as text.
 
-use case_script::quoted;
-use std::alloc::{AllocError, Global};
-use std::io;
+use case_script::Told;
+use plcs_base::ByteOut;
 
-/// Prints a row of this number without the blanks behind it, where something is left.
-pub fn print_row(rt: &HostRuntime, number: u16, cells: &[u16]) -> io::Result<()> {
+/// Tells a row of this number without the blanks behind it, where something is left.
+pub fn tell_row(number: u16, cells: &[u16], told: &mut Told) {
     let shown = visible(cells);
-    if shown.is_empty() {
-        return Ok(());
+    if !shown.is_empty() {
+        told.value(&number);
+        told.put(b' ');
+        tell_cells(shown, told);
+        told.put(b'\n');
     }
-    println!(rt; "= {number} {}", cells_text(rt.alloc(), shown)?)
 }
 
 /// The cells up to the last that isn't a blank in default image.
@@ -24,27 +25,39 @@ fn visible(cells: &[u16]) -> &[u16] {
     &cells[..end.min(cells.len())]
 }
 
-/// The bytes of the cells, and behind them each stretch in negative image: the column of its first cell,
+/// Tells the bytes of the cells, and behind them each stretch in negative image: the column of its first cell,
 /// counted from 0, and the one behind its last.
-pub fn cells_text(alloc: Global, cells: &[u16]) -> Result<String, AllocError> {
-    let mut bytes = Vec::new(alloc);
+pub fn tell_cells(cells: &[u16], told: &mut Told) {
+    let mut bytes = Told::new(told.alloc());
     for cell in cells {
-        bytes.push((*cell % 256) as u8)?;
+        bytes.put((*cell % 256) as u8);
     }
-    let mut text = quoted(alloc, bytes.as_slice())?;
+    told.word(bytes.as_bytes());
+    tell_stretches(cells, told);
+}
+
+/// Tells each stretch of the cells in negative image.
+fn tell_stretches(cells: &[u16], told: &mut Told) {
     let mut start = None;
     for (col, cell) in cells.iter().enumerate() {
         match (start, *cell >= 256) {
             (None, true) => start = Some(col),
             (Some(from), false) => {
-                write!(&mut text, " negative {from}..{col}")?;
+                tell_stretch(from, col, told);
                 start = None;
             }
             _ => {}
         }
     }
     if let Some(from) = start {
-        write!(&mut text, " negative {from}..{}", cells.len())?;
+        tell_stretch(from, cells.len(), told);
     }
-    Ok(text)
+}
+
+/// Tells a stretch from this column to that one.
+fn tell_stretch(from: usize, to: usize, told: &mut Told) {
+    told.text(" negative ");
+    told.value(&from);
+    told.text("..");
+    told.value(&to);
 }

@@ -1,11 +1,11 @@
 //! What the table of declarations answers.
 ghost use Rattle.template_tree.specs.Programs.Tree.{IsTree};
 
-use crate::words::{no_memory, number_at, word_at};
-use case_script::quoted;
+use crate::words::{number_at, word_at};
+use case_script::{Told, number_of};
 use decl_table::Decls;
-use plcs_base::{Declared, Name, Scope, Slot};
-use std::io;
+use plcs_base::{ByteOut, Declared, Name, PhraseAt, Scope, Slot};
+use std::alloc::Global;
 use template_tree::Tree;
 
 /// What the table of declarations is asked.
@@ -25,98 +25,105 @@ pub enum Question {
 
 /// Makes the table of declarations of the program, and asks it.
 pub fn declarations(
-    rt: &HostRuntime,
+    alloc: Global,
     tree: &Tree,
     question: Question,
     words: &[Vec<u8>],
-) -> io::Result<bool>
+    told: &mut Told,
+) -> Option<()>
     requires { IsTree tree.now }
 {
-    let Ok(decls) = Decls::new(rt.alloc(), tree) else {
-        return Err(no_memory());
-    };
+    let decls = Decls::new(alloc, tree).ok()?;
+    answer(alloc, &decls, question, words, told)
+}
+
+/// Asks the table.
+fn answer(
+    alloc: Global,
+    decls: &Decls,
+    question: Question,
+    words: &[Vec<u8>],
+    told: &mut Told,
+) -> Option<()> {
     match question {
-        Question::Declared => print_items(rt, &decls, words),
-        Question::TypeOf => print_type(rt, &decls, words),
-        Question::Signature => print_signature(rt, &decls, words),
-        Question::Parameter => print_parameter(rt, &decls, words),
-        Question::Uses => print_uses(rt, &decls, words),
-    }
-}
-
-/// Prints the effective items of the procedure in the slot.
-fn print_items(rt: &HostRuntime, decls: &Decls, words: &[Vec<u8>]) -> io::Result<bool> {
-    let Some(slot) = number_at(words, 0) else {
-        return Ok(false);
-    };
-    for k in 0..u32::MAX {
-        match decls.declared(Slot(slot), k) {
-            Some(item) => print_item(rt, Some(item))?,
-            None => break,
+        Question::Declared => tell_items(decls, Slot(number_at(words, 0)?), told),
+        Question::TypeOf => {
+            let name = Name::read(word_at(words, 1))?;
+            tell_item(decls.type_of(Slot(number_at(words, 0)?), &name), told);
         }
+        Question::Signature => {
+            let name = Name::read(word_at(words, 0))?;
+            told.value(&decls.signature(&name));
+        }
+        Question::Parameter => tell_parameter(alloc, decls, words, told)?,
+        Question::Uses => tell_uses(decls.uses(&Name::read(word_at(words, 0))?), told),
     }
-    print_item(rt, None)?;
-    Ok(true)
+    Some(())
 }
 
-/// Prints an effective item: its name and its type, and the cells of an array.
-fn print_item(rt: &HostRuntime, item: Option<Declared>) -> io::Result<()> {
-    let Some(item) = item else {
-        return println!(rt; "= None");
-    };
-    let name = quoted(rt.alloc(), item.name.as_bytes())?;
-    match item.size {
-        0 => println!(rt; "= {name} {:?}", item.ty),
-        size => println!(rt; "= {name} {:?} {size} cells", item.ty),
-    }
-}
-
-/// Prints the effective item of a name in the procedure in the slot.
-fn print_type(rt: &HostRuntime, decls: &Decls, words: &[Vec<u8>]) -> io::Result<bool> {
-    let (Some(slot), Some(name)) = (number_at(words, 0), Name::read(word_at(words, 1))) else {
-        return Ok(false);
-    };
-    print_item(rt, decls.type_of(Slot(slot), &name))?;
-    Ok(true)
-}
-
-/// Prints the slot of the effective heading of a name.
-fn print_signature(rt: &HostRuntime, decls: &Decls, words: &[Vec<u8>]) -> io::Result<bool> {
-    let Some(name) = Name::read(word_at(words, 0)) else {
-        return Ok(false);
-    };
-    println!(rt; "= {:?}", decls.signature(&name))?;
-    Ok(true)
-}
-
-/// Prints the item of a parameter of the procedure in the slot, behind the earlier ones that are named.
-fn print_parameter(rt: &HostRuntime, decls: &Decls, words: &[Vec<u8>]) -> io::Result<bool> {
-    let (Some(slot), Some(name)) = (number_at(words, 0), Name::read(word_at(words, 1))) else {
-        return Ok(false);
-    };
-    let mut earlier = Vec::new(rt.alloc());
-    for k in 2..words.len() {
-        let Some(other) = Name::read(word_at(words, k)) else {
-            return Ok(false);
+/// Tells the effective items of the procedure in the slot.
+fn tell_items(decls: &Decls, slot: Slot, told: &mut Told) {
+    for k in 0..u32::MAX {
+        let Some(item) = decls.declared(slot, k) else {
+            break;
         };
-        earlier.push(other)?;
+        tell_item(Some(item), told);
     }
-    print_item(
-        rt,
-        decls.parameter_item(Slot(slot), earlier.as_slice(), &name),
-    )?;
-    Ok(true)
+    tell_item(None, told);
 }
 
-/// Prints the slots and the parts of the phrases that mention a name.
-fn print_uses(rt: &HostRuntime, decls: &Decls, words: &[Vec<u8>]) -> io::Result<bool> {
-    let Some(name) = Name::read(word_at(words, 0)) else {
-        return Ok(false);
+/// Tells an effective item: its name and its type, and the cells of an array.
+fn tell_item(item: Option<Declared>, told: &mut Told) {
+    let Some(item) = item else {
+        told.line("None");
+        return;
     };
-    print!(rt; "=")?;
-    for at in decls.uses(&name) {
-        print!(rt; " {}.{}", at.slot.0, at.part)?;
+    told.word(item.name.as_bytes());
+    told.put(b' ');
+    told.value(&item.ty);
+    if item.size > 0 {
+        told.put(b' ');
+        told.value(&item.size);
+        told.text(" cells");
     }
-    println!(rt; "")?;
-    Ok(true)
+    told.put(b'\n');
+}
+
+/// Tells the item of a parameter of the procedure in the slot, behind the earlier ones that are named.
+fn tell_parameter(alloc: Global, decls: &Decls, words: &[Vec<u8>], told: &mut Told) -> Option<()> {
+    let [slot, name, earlier @ ..] = words else {
+        return None;
+    };
+    let slot = Slot(number_of(slot.as_slice())?);
+    let name = Name::read(name.as_slice())?;
+    let earlier = names_of(alloc, earlier)?;
+    tell_item(decls.parameter_item(slot, earlier.as_slice(), &name), told);
+    Some(())
+}
+
+/// The names that the words are.
+fn names_of(alloc: Global, words: &[Vec<u8>]) -> Option<Vec<Name>> {
+    let mut names = Vec::new(alloc);
+    for word in words {
+        names.push(Name::read(word.as_slice())?).ok()?;
+    }
+    Some(names)
+}
+
+/// Tells the slots and the parts of the phrases that mention a name.
+fn tell_uses(uses: &[PhraseAt], told: &mut Told) {
+    for (number, at) in uses.iter().enumerate() {
+        if number > 0 {
+            told.put(b' ');
+        }
+        tell_place(*at, told);
+    }
+    told.put(b'\n');
+}
+
+/// Tells the slot and the part of a phrase.
+pub fn tell_place(at: PhraseAt, told: &mut Told) {
+    told.value(&at.slot.0);
+    told.put(b'.');
+    told.value(&at.part);
 }

@@ -4,9 +4,9 @@ ghost use Rattle.template_tree.specs.Programs.Tree.{IsTree};
 
 use crate::screens::Screens;
 use crate::words::phrase_at;
+use case_script::Told;
 use plcs_base::PhraseAt;
 use std::alloc::{AllocError, Global};
-use std::io;
 use template_tree::Tree;
 
 /// What is held from case to case.
@@ -40,12 +40,12 @@ impl Held {
     }
 
     /// Marks the phrase in the slot and the part that are named, or none by hand where nothing is.
-    pub fn mark(&mut self, rt: &HostRuntime, words: &[Vec<u8>]) -> io::Result<bool>
+    pub fn mark(&mut self, words: &[Vec<u8>], told: &mut Told) -> Option<()>
         requires { IsTree self.old.tree }
         ensures { IsTree self.new.tree }
     {
         self.marked = phrase_at(words);
-        println!(rt; "= {:?}", self.marked)?;
-        Ok(true)
+        told.value(&self.marked);
+        Some(())
     }
 }

@@ -1,98 +1,150 @@
 //! Lines of the screen, and the lines of stops.
 ghost use Rattle.std.specs.Prelude.{};
+ghost use Rattle.decl_table.specs.Agreement.{IsDeclsOf};
 ghost use Rattle.template_tree.specs.Programs.PlainTree.{roomless_tree};
 ghost use Rattle.template_tree.specs.Positions.Stop.{IsStop, plain_stop};
 ghost use Rattle.template_tree.specs.Programs.Tree.{IsTree};
 ghost use Rattle.unparse_layout.specs.Agreement.{IsLayoutOf};
 
-use crate::cells::cells_text;
+use crate::cells::tell_cells;
 use crate::one_mark::OneMark;
-use crate::words::{no_memory, number_at};
+use crate::words::number_at;
+use case_script::Told;
 use cursor_moves::{Move, right, top};
 use decl_table::Decls;
-use plcs_base::{Counts, Marked, PhraseAt, Slot};
+use plcs_base::{ByteOut, Counts, Marked, PhraseAt, Slot};
 use std::alloc::Global;
-use std::io;
 use template_tree::{Stop, Tree};
 use type_marks::Marks;
 use unparse_layout::{Layout, Line};
 
-/// Prints the lines from this number to that one, or all of them and that none comes behind them.
+/// Tells the lines from this number to that one, or all of them and that none comes behind them.
 pub fn lines(
-    rt: &HostRuntime,
+    alloc: Global,
     tree: &Tree,
     marked: Option<PhraseAt>,
     words: &[Vec<u8>],
-) -> io::Result<bool>
+    told: &mut Told,
+) -> Option<()>
     requires { IsTree tree.now }
 {
-    let Ok(layout) = Layout::new(rt.alloc(), tree) else {
-        return Err(no_memory());
-    };
+    let layout = Layout::new(alloc, tree).ok()?;
+    lines_of(alloc, &layout, tree, marked, words, told)
+}
+
+/// The same of the program's layout.
+fn lines_of(
+    alloc: Global,
+    layout: &Layout<Counts>,
+    tree: &Tree,
+    marked: Option<PhraseAt>,
+    words: &[Vec<u8>],
+    told: &mut Told,
+) -> Option<()>
+    requires tree { IsTree tree.now }
+    requires agrees { IsLayoutOf layout.now tree.now }
+{
     let first = number_at(words, 0).unwrap_or(0);
     let last = number_at(words, 1).unwrap_or(layout.lines());
     match marked {
-        Some(at) => print_lines(rt, &layout, tree, &OneMark(at), first, last)?,
-        None => {
-            let Ok(decls) = Decls::new(rt.alloc(), tree) else {
-                return Err(no_memory());
-            };
-            let Ok(marks) = Marks::new(rt.alloc(), tree, &decls, &mut Counts::default()) else {
-                return Err(no_memory());
-            };
-            print_lines(rt, &layout, tree, &marks, first, last)?;
+        Some(at) => {
+            tell_lines(layout, tree, &OneMark(at), first, last, told);
+            Some(())
         }
+        None => tell_marked_lines(alloc, layout, tree, first, last, told),
     }
-    Ok(true)
 }
 
-/// Prints the lines under these marks, and what was counted.
-fn print_lines<M: Marked>(
-    rt: &HostRuntime,
+/// Tells the lines under the marks of the program.
+fn tell_marked_lines(
+    alloc: Global,
+    layout: &Layout<Counts>,
+    tree: &Tree,
+    first: u32,
+    last: u32,
+    told: &mut Told,
+) -> Option<()>
+    requires tree { IsTree tree.now }
+    requires agrees { IsLayoutOf layout.now tree.now }
+{
+    let decls = Decls::new(alloc, tree).ok()?;
+    let marks = marks_of(alloc, tree, &decls)?;
+    tell_lines(layout, tree, &marks, first, last, told);
+    Some(())
+}
+
+/// The marks of the program, of which this is the table.
+pub fn marks_of(alloc: Global, tree: &Tree, decls: &Decls) -> Option<Marks<Counts>>
+    requires tree { IsTree tree.now }
+    requires decls { IsDeclsOf decls.now tree.now.items }
+{
+    Marks::new(alloc, tree, decls, &mut Counts::default()).ok()
+}
+
+/// Tells the lines under these marks, and what was counted.
+fn tell_lines<M: Marked>(
     layout: &Layout<Counts>,
     tree: &Tree,
     marks: &M,
     first: u32,
     last: u32,
-) -> io::Result<()>
+    told: &mut Told,
+)
     requires tree { IsTree tree.now }
     requires agrees { IsLayoutOf layout.now tree.now }
 {
     let mut work = Counts::default();
     for k in first..=last {
+        told.value(&k);
+        told.put(b' ');
         match layout.line(tree, marks, k, &mut work) {
-            Some(line) => print_line(rt, k, &line)?,
-            None => println!(rt; "= {k} None")?,
+            Some(line) => tell_line(&line, told),
+            None => told.line("None"),
         }
     }
-    println!(rt; "= {work:?}")
+    told.value_line(&work);
 }
 
-/// Prints a line: its number, which of its node's lines it is, the slot of that, and its cells.
-fn print_line(rt: &HostRuntime, k: u32, line: &Line<Counts>) -> io::Result<()> {
-    let text = cells_text(rt.alloc(), line.cells())?;
-    println!(rt; "= {k} {:?} of {} {text}", line.kind(), line.slot().0)
+/// Tells which of its node's lines a line is, the slot of that, and its cells.
+fn tell_line(line: &Line<Counts>, told: &mut Told) {
+    told.value(&line.kind());
+    told.text(" of ");
+    told.value(&line.slot().0);
+    told.put(b' ');
+    tell_cells(line.cells(), told);
+    told.put(b'\n');
 }
 
 /// Whether the layout, made once and mended, has the lines that one has which is made anew.
-pub fn same_lines(alloc: Global, layout: &Layout<Counts>, tree: &Tree) -> io::Result<bool>
+pub fn same_lines(alloc: Global, layout: &Layout<Counts>, tree: &Tree) -> Option<bool>
     requires tree { IsTree tree.now }
     requires agrees { IsLayoutOf layout.now tree.now }
 {
-    let Ok(other) = Layout::new(alloc, tree) else {
-        return Err(no_memory());
-    };
+    let other = Layout::new(alloc, tree).ok()?;
+    Some(have_same_lines(layout, &other, tree))
+}
+
+/// Whether two layouts of the program have the same lines.
+fn have_same_lines(layout: &Layout<Counts>, other: &Layout<Counts>, tree: &Tree) -> bool
+    requires tree { IsTree tree.now }
+    requires agrees { IsLayoutOf layout.now tree.now }
+    requires other { IsLayoutOf other.now tree.now }
+{
+    if layout.lines() != other.lines() {
+        return false;
+    }
     let marks = OneMark(PhraseAt {
         slot: Slot(0),
         part: 0,
     });
     let mut work = Counts::default();
-    let mut same = layout.lines() == other.lines();
     for k in 0..=layout.lines() {
         let line = layout.line(tree, &marks, k, &mut work);
-        same = same && is_same(line, other.line(tree, &marks, k, &mut work));
+        if !is_same(line, other.line(tree, &marks, k, &mut work)) {
+            return false;
+        }
     }
-    Ok(same)
+    true
 }
 
 /// Whether two lines are the same, or none.
@@ -108,34 +160,39 @@ fn is_same(line: Option<Line<Counts>>, other: Option<Line<Counts>>) -> bool {
     }
 }
 
-/// Prints the line of each visible stop, from the first one on.
-pub fn stops(rt: &HostRuntime, tree: &Tree) -> io::Result<bool>
+/// Tells the line of each visible stop, from the first one on.
+pub fn stops(alloc: Global, tree: &Tree, told: &mut Told) -> Option<()>
     requires { IsTree tree.now }
 {
-    let Ok(layout) = Layout::new(rt.alloc(), tree) else {
-        return Err(no_memory());
-    };
+    let layout = Layout::new(alloc, tree).ok()?;
+    tell_stops(&layout, tree, told);
+    Some(())
+}
+
+/// Tells the line that each visible stop has in the layout.
+fn tell_stops(layout: &Layout<Counts>, tree: &Tree, told: &mut Told)
+    requires tree { IsTree tree.now }
+    requires agrees { IsLayoutOf layout.now tree.now }
+{
     let mut stop = top(tree);
     for _ in 0..u32::MAX {
-        print_stop(rt, &layout, tree, &stop)?;
+        tell_stop(layout, tree, &stop, told);
         match right(tree, &stop) {
             Move::Moved(next) => stop = next,
             Move::AtEdge => break,
         }
     }
-    Ok(true)
 }
 
-/// Prints the line of the stop.
-fn print_stop(rt: &HostRuntime, layout: &Layout<Counts>, tree: &Tree, stop: &Stop) -> io::Result<()>
+/// Tells the line of the stop.
+fn tell_stop(layout: &Layout<Counts>, tree: &Tree, stop: &Stop, told: &mut Told)
     requires tree { IsTree tree.now }
     requires agrees { IsLayoutOf layout.now tree.now }
     requires stop { IsStop (roomless_tree tree.now).items (plain_stop stop.now) }
 {
-    let line = layout.line_of(tree, stop);
-    println!(rt;
-        "= {:?} part {:?} on {line}",
-        stop.path.as_slice(),
-        stop.part
-    )
+    told.value(&stop.path.as_slice());
+    told.text(" part ");
+    told.value(&stop.part);
+    told.text(" on ");
+    told.value_line(&layout.line_of(tree, stop));
 }

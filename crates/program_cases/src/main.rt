@@ -21,7 +21,7 @@ mod terminals;
 mod view_words;
 mod words;
 
-use crate::case::{Case, case_named};
+use crate::case::{CASES, Case};
 use crate::declarations::declarations;
 use crate::held::Held;
 use crate::lines::{lines, stops};
@@ -31,32 +31,45 @@ use crate::program::{elide, read_program, take};
 use crate::screens::{grid, paint_grid};
 use crate::sums::sums;
 use crate::terminals::terminal;
-use case_script::words_of;
+use case_script::{Told, meaning, print_told, words_of};
+use std::alloc::Global;
 use std::io;
 use std::io::{BufRead, BufReader};
 
 fn main(rt: HostRuntime) -> io::Result<()> {
     let alloc = rt.alloc();
     let mut held = Held::new(alloc)?;
+    play_script(&rt, &mut held)
+}
+
+/// Plays the script that standard input has.
+fn play_script(rt: &HostRuntime, held: &mut Held) -> io::Result<()>
+    requires { IsTree held.old.tree }
+{
+    let alloc = rt.alloc();
+    let mut told = Told::new(alloc);
     for line in BufReader::new(alloc, rt.reader())?.lines(alloc) {
         let line = line?;
-        println!(&rt; "{line}")?;
-        play_line(&rt, &mut held, line.as_bytes())?;
+        println!(rt; "{line}")?;
+        play_line(alloc, held, line.as_bytes(), &mut told)?;
+        print_told(rt, &told)?;
     }
     Ok(())
 }
 
-/// Plays a line of the script.
-fn play_line(rt: &HostRuntime, held: &mut Held, line: &[u8]) -> io::Result<()>
+/// Plays a line of the script: a heading, a line of text, or a case, whose answer is told.
+fn play_line(alloc: Global, held: &mut Held, line: &[u8], told: &mut Told) -> io::Result<()>
     requires { IsTree held.old.tree }
     ensures { IsTree held.new.tree }
 {
+    told.clear();
     match line {
         [] | [b'#', ..] => {}
-        [b'|', b' ', text @ ..] => held.text.push(text.to_vec(rt.alloc())?)?,
-        line => {
-            if !play_case(rt, held, line)? {
-                println!(rt; "= NOT A CASE")?;
+        [b'|', b' ', text @ ..] => held.text.push(text.to_vec(alloc)?)?,
+        case => {
+            if play_case(alloc, held, case, told).is_none() {
+                told.clear();
+                told.line("NOT A CASE");
             }
             held.text.clear();
         }
@@ -64,61 +77,71 @@ fn play_line(rt: &HostRuntime, held: &mut Held, line: &[u8]) -> io::Result<()>
     Ok(())
 }
 
-/// Plays a case, and tells whether the line is one.
-fn play_case(rt: &HostRuntime, held: &mut Held, line: &[u8]) -> io::Result<bool>
+/// Plays a case, if it is one.
+fn play_case(alloc: Global, held: &mut Held, case: &[u8], told: &mut Told) -> Option<()>
     requires { IsTree held.old.tree }
     ensures { IsTree held.new.tree }
 {
-    let Some(words) = words_of(rt.alloc(), line)? else {
-        return Ok(false);
-    };
-    match words.split_first() {
-        Some((name, words)) => match case_named(name.as_slice()) {
-            Some(case) => play(rt, held, case, words),
-            None => Ok(false),
-        },
-        None => Ok(false),
+    match words_of(alloc, case) {
+        Ok(Some(words)) => play_words(alloc, held, words.as_slice(), told),
+        _ => None,
     }
 }
 
-/// Plays the case with these words behind its name, and tells whether it takes them.
-fn play(rt: &HostRuntime, held: &mut Held, case: Case, words: &[Vec<u8>]) -> io::Result<bool>
+/// Plays the case of the first word with those behind it.
+fn play_words(alloc: Global, held: &mut Held, words: &[Vec<u8>], told: &mut Told) -> Option<()>
+    requires { IsTree held.old.tree }
+    ensures { IsTree held.new.tree }
+{
+    let (name, words) = words.split_first()?;
+    play(alloc, held, meaning(&CASES, name.as_slice())?, words, told)
+}
+
+/// Plays the case with these words behind its name, if it takes them.
+fn play(
+    alloc: Global,
+    held: &mut Held,
+    case: Case,
+    words: &[Vec<u8>],
+    told: &mut Told,
+) -> Option<()>
     requires { IsTree held.old.tree }
     ensures { IsTree held.new.tree }
 {
     match case {
-        Case::Program => read_program(rt, &mut held.tree, held.text.as_slice()),
-        Case::Take => take(rt, &mut held.tree, words),
-        Case::Elide => elide(rt, &mut held.tree, words),
-        Case::Check => check(rt, &mut held.tree, words),
-        Case::Mark => held.mark(rt, words),
-        _ => ask(rt, held, case, words),
+        Case::Program => read_program(alloc, &mut held.tree, held.text.as_slice(), told),
+        Case::Take => take(alloc, &mut held.tree, words, told),
+        Case::Elide => elide(alloc, &mut held.tree, words, told),
+        Case::Check => check(alloc, &mut held.tree, words, told),
+        _ => ask(alloc, held, case, words, told),
     }
 }
 
-/// Plays a case that leaves the program as it is, and tells whether it takes these words.
-fn ask(rt: &HostRuntime, held: &mut Held, case: Case, words: &[Vec<u8>]) -> io::Result<bool>
+/// Plays a case that leaves the program as it is, if it takes these words.
+fn ask(alloc: Global, held: &mut Held, case: Case, words: &[Vec<u8>], told: &mut Told) -> Option<()>
     requires { IsTree held.old.tree }
     ensures { IsTree held.new.tree }
 {
     let tree = &held.tree;
     match case {
-        Case::About(question) => declarations(rt, tree, question, words),
-        Case::Marks => marks(rt, tree),
-        Case::Lines => lines(rt, tree, held.marked, words),
-        Case::Stops => stops(rt, tree),
+        Case::Mark => held.mark(words, told),
+        Case::About(question) => declarations(alloc, tree, question, words, told),
+        Case::Marks => marks(alloc, tree, None, told),
+        Case::Lines => lines(alloc, tree, held.marked, words, told),
+        Case::Stops => stops(alloc, tree, told),
         Case::Grid => grid(
-            rt,
+            alloc,
             tree,
             held.marked,
             held.text.as_slice(),
             words,
             &mut held.screens,
+            told,
         ),
-        Case::Paint => paint_grid(rt, &held.screens, words),
-        Case::Paintings => paintings(rt, tree, words),
-        Case::Terminal => terminal(rt, words),
-        Case::Sums => sums(rt, words),
-        _ => Ok(false),
+        Case::Paint => paint_grid(alloc, &held.screens, words, told),
+        Case::Paintings => paintings(alloc, tree, words, told),
+        Case::Terminal => terminal(alloc, words, told),
+        Case::Sums => sums(alloc, words, told),
+        _ => None,
     }
 }

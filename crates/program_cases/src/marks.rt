@@ -6,79 +6,88 @@ ghost use Rattle.template_tree.specs.Programs.Part.{IsPhrasePlace};
 ghost use Rattle.template_tree.specs.Programs.PlainPhrasePlace.{plain_phrase_place};
 ghost use Rattle.template_tree.specs.Programs.Tree.{IsTree};
 
-use crate::phrase_text::{phrase_of, text_of};
+use crate::declarations::tell_place;
+use crate::phrase_text::phrase_of;
 use crate::program::path_to;
-use crate::words::{no_memory, phrase_at, word_at};
-use case_script::quoted;
+use crate::words::{phrase_at, word_at};
+use case_script::Told;
 use decl_table::Decls;
-use plcs_base::{Counts, MarkKind, Marked, PhraseAt};
-use plcs_grammar::Phrase;
-use std::io;
+use plcs_base::{ByteOut, Counts, MarkKind, Marked, PhraseAt};
+use plcs_grammar::{Phrase, show};
+use std::alloc::Global;
 use template_tree::{MOST_SLOTS, Node, PhrasePlace, Stop, Tree, part_category};
 use type_marks::{Marks, check_phrase};
 
-/// Prints all phrases of the program with their marks.
-pub fn marks(rt: &HostRuntime, tree: &Tree) -> io::Result<bool>
-    requires { IsTree tree.now }
-{
-    print_marks(rt, tree, None)?;
-    Ok(true)
-}
-
-/// Puts a phrase into a part, prints it with its mark, and empties the part again.
-pub fn check(rt: &HostRuntime, tree: &mut Tree, words: &[Vec<u8>]) -> io::Result<bool>
+/// Puts a phrase into a part, tells it with its mark, and empties the part again.
+pub fn check(alloc: Global, tree: &mut Tree, words: &[Vec<u8>], told: &mut Told) -> Option<()>
     requires { IsTree tree.old }
     ensures { IsTree tree.new }
 {
-    let Some(at) = phrase_at(words) else {
-        return Ok(false);
-    };
+    let at = phrase_at(words)?;
     let stop = Stop {
         path: path_to(tree, at.slot.0),
         part: Some(at.part),
     };
-    let Some(place) = place_at(rt, tree, &stop, word_at(words, 2)) else {
-        return Ok(false);
-    };
-    if tree.set_phrase(&stop, place).is_err() {
-        return Ok(false);
+    let place = place_at(alloc, tree, &stop, word_at(words, 2))?;
+    set(tree, &stop, place)?;
+    marks(alloc, tree, Some(at), told)?;
+    set(tree, &stop, PhrasePlace::Empty)
+}
+
+/// Puts this into the part at the stop, if it may stand there.
+fn set(tree: &mut Tree, stop: &Stop, place: PhrasePlace) -> Option<()>
+    requires tree { IsTree tree.old }
+    requires place { IsPhrasePlace (plain_phrase_place place) }
+    ensures { IsTree tree.new }
+{
+    match tree.set_phrase(stop, place) {
+        Ok(_) => Some(()),
+        Err(_) => None,
     }
-    print_marks(rt, tree, Some(at))?;
-    Ok(tree.set_phrase(&stop, PhrasePlace::Empty).is_ok())
 }
 
 /// What the text reads as in the part at the stop.
-fn place_at(rt: &HostRuntime, tree: &Tree, stop: &Stop, text: &[u8]) -> Option<PhrasePlace>
+fn place_at(alloc: Global, tree: &Tree, stop: &Stop, text: &[u8]) -> Option<PhrasePlace>
     requires { IsTree tree.now }
     ensures { IfSome result (λ place. IsPhrasePlace (plain_phrase_place place)) }
 {
     let kind = tree.node(&stop.path)?.kind();
     let category = part_category(kind, stop.part?)?;
-    Some(PhrasePlace::Filled(phrase_of(rt.alloc(), category, text)?))
+    Some(PhrasePlace::Filled(phrase_of(alloc, category, text)?))
 }
 
-/// Prints the phrases of the program with their marks, or only the one at the place.
-fn print_marks(rt: &HostRuntime, tree: &Tree, only: Option<PhraseAt>) -> io::Result<()>
+/// Tells the phrases of the program with their marks, or only the one at the place.
+pub fn marks(alloc: Global, tree: &Tree, only: Option<PhraseAt>, told: &mut Told) -> Option<()>
     requires { IsTree tree.now }
 {
-    let Ok(decls) = Decls::new(rt.alloc(), tree) else {
-        return Err(no_memory());
-    };
-    let mut work = Counts::default();
-    let Ok(marks) = Marks::new(rt.alloc(), tree, &decls, &mut work) else {
-        return Err(no_memory());
-    };
-    print_nodes(rt, tree, &decls, &marks, only)
+    let decls = Decls::new(alloc, tree).ok()?;
+    tell_marks(alloc, tree, &decls, only, told)
 }
 
-/// Prints the phrases of all nodes with their marks, or only the one at the place.
-fn print_nodes(
-    rt: &HostRuntime,
+/// The same by the table of the program.
+fn tell_marks(
+    alloc: Global,
+    tree: &Tree,
+    decls: &Decls,
+    only: Option<PhraseAt>,
+    told: &mut Told,
+) -> Option<()>
+    requires tree { IsTree tree.now }
+    requires decls { IsDeclsOf decls.now tree.now.items }
+{
+    let marks = Marks::new(alloc, tree, decls, &mut Counts::default()).ok()?;
+    tell_nodes(tree, decls, &marks, only, told);
+    Some(())
+}
+
+/// Tells the phrases of all nodes with their marks, or only the one at the place.
+fn tell_nodes(
     tree: &Tree,
     decls: &Decls,
     marks: &Marks<Counts>,
     only: Option<PhraseAt>,
-) -> io::Result<()>
+    told: &mut Told,
+)
     requires tree { IsTree tree.now }
     requires decls { IsDeclsOf decls.now tree.now.items }
     requires marks { marks.now ≡ Verdicts tree.now.items }
@@ -88,24 +97,23 @@ fn print_nodes(
         let Some(node) = tree.node(&path_to(tree, slot)) else {
             continue;
         };
-        print_node(rt, tree, decls, marks, node, only)?;
+        tell_node(tree, decls, marks, node, only, told);
         left = left.saturating_sub(1);
         if left == 0 {
             break;
         }
     }
-    Ok(())
 }
 
-/// Prints the phrases of the node with their marks, or only the one at the place.
-fn print_node(
-    rt: &HostRuntime,
+/// Tells the phrases of the node with their marks, or only the one at the place.
+fn tell_node(
     tree: &Tree,
     decls: &Decls,
     marks: &Marks<Counts>,
     node: &Node,
     only: Option<PhraseAt>,
-) -> io::Result<()>
+    told: &mut Told,
+)
     requires tree { IsTree tree.now }
     requires decls { IsDeclsOf decls.now tree.now.items }
     requires marks { marks.now ≡ Verdicts tree.now.items }
@@ -117,13 +125,12 @@ fn print_node(
         };
         match node.part(part) {
             Some(PhrasePlace::Filled(phrase)) if only.is_none() || only == Some(at) => {
-                print_mark(rt, at, phrase, mark_of(tree, decls, marks, at))?;
+                tell_mark(at, phrase, mark_of(tree, decls, marks, at), told);
             }
             Some(_) => {}
             None => break,
         }
     }
-    Ok(())
 }
 
 /// The mark of the phrase at the place: as it is kept, as it is told, and as it is checked alone. `None`
@@ -148,19 +155,17 @@ fn mark_of(
     }
 }
 
-/// Prints a phrase with its mark.
-fn print_mark(
-    rt: &HostRuntime,
-    at: PhraseAt,
-    phrase: &Phrase,
-    mark: Option<Option<MarkKind>>,
-) -> io::Result<()> {
-    let text = text_of(rt.alloc(), phrase);
-    let text = quoted(rt.alloc(), text.as_slice())?;
-    print!(rt; "= {}.{} ", at.slot.0, at.part)?;
+/// Tells a phrase with its mark.
+fn tell_mark(at: PhraseAt, phrase: &Phrase, mark: Option<Option<MarkKind>>, told: &mut Told) {
+    tell_place(at, told);
+    told.put(b' ');
     match mark {
-        Some(Some(kind)) => println!(rt; "{kind:?} {text}"),
-        Some(None) => println!(rt; "fine {text}"),
-        None => println!(rt; "DIFFERS {text}"),
+        Some(Some(kind)) => told.value(&kind),
+        Some(None) => told.text("fine"),
+        None => told.text("DIFFERS"),
     }
+    told.put(b' ');
+    let mut text = Told::new(told.alloc());
+    show(phrase, &mut text);
+    told.word_line(text.as_bytes());
 }

@@ -1,34 +1,32 @@
 //! Random views painted one over the other on a terminal.
-ghost use Rattle.std.specs.Prelude.{◌≡◌, ◌<◌, ◌≤◌};
+ghost use Rattle.std.specs.Prelude.{◌≡◌, ◌<◌, ◌≤◌, IfSome};
 ghost use Rattle.template_tree.specs.Programs.Tree.{IsTree};
 ghost use Rattle.screen_window.specs.declared.limit.TheConstants.{FEWEST_COLS, FEWEST_ROWS, MOST_COLS, MOST_ROWS};
 
 use crate::random::Numbers;
 use crate::screens::draw_marked;
 use crate::view_words::ViewWords;
-use crate::words::{no_memory, number_at, size_at};
+use crate::words::{number_at, size_at};
+use case_script::Told;
 use plcs_base::{PhraseAt, Slot};
 use screen_window::{Grid, Terminal, paint};
 use std::alloc::{AllocError, Global};
-use std::io;
 use synth_outside::MemSink;
 use template_tree::Tree;
 
 /// Paints random views of the program one over the other, from the seed on, and compares the terminal
 /// with each grid. The words say its rows and columns, the seed, and how many grids are painted.
-pub fn paintings(rt: &HostRuntime, tree: &Tree, words: &[Vec<u8>]) -> io::Result<bool>
+pub fn paintings(alloc: Global, tree: &Tree, words: &[Vec<u8>], told: &mut Told) -> Option<()>
     requires { IsTree tree.now }
 {
-    let Some((rows, cols)) = size_at(words) else {
-        return Ok(false);
-    };
-    let (Some(seed), Some(count)) = (number_at(words, 2), number_at(words, 3)) else {
-        return Ok(false);
-    };
-    let mut numbers = Numbers::behind(seed);
-    let same = paint_some(rt.alloc(), tree, rows, cols, count, &mut numbers)?;
-    println!(rt; "= {count} grids are shown: {same}")?;
-    Ok(true)
+    let size = size_at(words)?;
+    let mut numbers = Numbers::behind(number_at(words, 2)?);
+    let count = number_at(words, 3)?;
+    let same = paint_some(alloc, tree, size, count, &mut numbers)?;
+    told.value(&count);
+    told.text(" grids are shown: ");
+    told.value(&same);
+    Some(())
 }
 
 /// Paints so many random views of the program one over the other, and tells whether the terminal has the
@@ -36,36 +34,75 @@ pub fn paintings(rt: &HostRuntime, tree: &Tree, words: &[Vec<u8>]) -> io::Result
 fn paint_some(
     alloc: Global,
     tree: &Tree,
-    rows: u16,
-    cols: u16,
+    size: (u16, u16),
     count: u32,
     numbers: &mut Numbers,
-) -> io::Result<bool>
+) -> Option<bool>
     requires tree { IsTree tree.now }
-    requires least_rows { FEWEST_ROWS ≤ rows }
-    requires most_rows { rows ≤ MOST_ROWS }
-    requires least_cols { FEWEST_COLS ≤ cols }
-    requires most_cols { cols ≤ MOST_COLS }
+    requires least_rows { FEWEST_ROWS ≤ size.0 }
+    requires most_rows { size.0 ≤ MOST_ROWS }
+    requires least_cols { FEWEST_COLS ≤ size.1 }
+    requires most_cols { size.1 ≤ MOST_COLS }
 {
-    let (Ok(mut terminal), Ok(mut old)) = (
-        Terminal::new(alloc, rows, cols),
-        Grid::new(alloc, rows, cols),
-    ) else {
-        return Err(no_memory());
-    };
+    let mut terminal = Terminal::new(alloc, size.0, size.1).ok()?;
+    let mut grid = Grid::new(alloc, size.0, size.1).ok()?;
+    paint_each(alloc, tree, size, count, numbers, &mut terminal, &mut grid)
+}
+
+/// The same on this terminal, which shows this grid.
+fn paint_each(
+    alloc: Global,
+    tree: &Tree,
+    size: (u16, u16),
+    count: u32,
+    numbers: &mut Numbers,
+    terminal: &mut Terminal,
+    grid: &mut Grid,
+) -> Option<bool>
+    requires tree { IsTree tree.now }
+    requires least_rows { FEWEST_ROWS ≤ size.0 }
+    requires most_rows { size.0 ≤ MOST_ROWS }
+    requires least_cols { FEWEST_COLS ≤ size.1 }
+    requires most_cols { size.1 ≤ MOST_COLS }
+    requires terminal { terminal.old.rows ≡ size.0 }
+    requires rows { grid.old.rows ≡ size.0 }
+    requires cols { grid.old.cols ≡ size.1 }
+{
     let mut same = true;
     for _ in 0..count {
-        let Ok(mut new) = Grid::new(alloc, rows, cols) else {
-            return Err(no_memory());
-        };
-        draw_random(alloc, tree, numbers, &mut new)?;
-        let mut sink = MemSink::new(alloc, Vec::new(alloc));
-        same = same && paint(&old, &new, &mut sink).is_ok();
-        terminal.take(sink.bytes());
-        same = same && has_cells(&terminal, &new);
-        old = new;
+        let new = drawn(alloc, tree, size, numbers)?;
+        same = is_shown(alloc, grid, &new, terminal) && same;
+        *grid = new;
     }
-    Ok(same)
+    Some(same)
+}
+
+/// A random view of the program on a grid of this size.
+fn drawn(alloc: Global, tree: &Tree, size: (u16, u16), numbers: &mut Numbers) -> Option<Grid>
+    requires tree { IsTree tree.now }
+    requires least_rows { FEWEST_ROWS ≤ size.0 }
+    requires most_rows { size.0 ≤ MOST_ROWS }
+    requires least_cols { FEWEST_COLS ≤ size.1 }
+    requires most_cols { size.1 ≤ MOST_COLS }
+    ensures rows { IfSome result (λ grid. grid.rows ≡ size.0) }
+    ensures cols { IfSome result (λ grid. grid.cols ≡ size.1) }
+{
+    let mut grid = Grid::new(alloc, size.0, size.1).ok()?;
+    draw_random(alloc, tree, numbers, &mut grid)?;
+    Some(grid)
+}
+
+/// Paints the one grid over the other, and tells whether the terminal has the cells and the cursor of it then.
+fn is_shown(alloc: Global, old: &Grid, new: &Grid, terminal: &mut Terminal) -> bool
+    requires rows { old.now.rows ≡ new.now.rows }
+    requires cols { old.now.cols ≡ new.now.cols }
+    requires terminal { terminal.old.rows ≡ new.now.rows }
+    ensures { terminal.new.rows ≡ terminal.old.rows }
+{
+    let mut sink = MemSink::new(alloc, Vec::new(alloc));
+    let painted = paint(old, new, &mut sink).is_ok();
+    terminal.take(sink.bytes());
+    painted && has_cells(terminal, new)
 }
 
 /// Whether the terminal has the grid's cells and cursor.
@@ -80,15 +117,15 @@ fn has_cells(terminal: &Terminal, grid: &Grid) -> bool
 }
 
 /// Draws a random view of the program on a grid: in one of three cases of code.
-fn draw_random(alloc: Global, tree: &Tree, numbers: &mut Numbers, grid: &mut Grid) -> io::Result<()>
+fn draw_random(alloc: Global, tree: &Tree, numbers: &mut Numbers, grid: &mut Grid) -> Option<()>
     requires { IsTree tree.now }
     ensures rows { grid.new.rows ≡ grid.old.rows }
     ensures cols { grid.new.cols ≡ grid.old.cols }
 {
-    let output = numbers.text(alloc, 400)?;
-    let typed = numbers.text(alloc, 170)?;
-    let message = numbers.text(alloc, 170)?;
-    let code = code_rows(alloc, numbers)?;
+    let output = numbers.text(alloc, 400).ok()?;
+    let typed = numbers.text(alloc, 170).ok()?;
+    let message = numbers.text(alloc, 170).ok()?;
+    let code = code_rows(alloc, numbers).ok()?;
     let marked = random_mark(numbers);
     let view = ViewWords {
         slot: numbers.below(60),
@@ -101,8 +138,8 @@ fn draw_random(alloc: Global, tree: &Tree, numbers: &mut Numbers, grid: &mut Gri
         prompt: b"statement> ",
         typed: typed.as_slice(),
     };
-    draw_marked(alloc, tree, marked, code.as_slice(), &view, grid)?;
-    Ok(())
+    let _ = draw_marked(alloc, tree, marked, code.as_slice(), &view, grid)?;
+    Some(())
 }
 
 /// Random rows of code, or none in two of three cases.

@@ -3,28 +3,22 @@ ghost use Rattle.template_tree.specs.Programs.Tree.{IsTree};
 ghost use Rattle.unparse_layout.specs.Agreement.{IsLayoutOf};
 
 use crate::lines::same_lines;
-use crate::words::{no_memory, number_at};
+use crate::words::number_at;
+use case_script::{Told, number_of};
 use file_store::read_listing;
 use plcs_base::{Counts, Slot};
 use std::alloc::{AllocError, Global};
-use std::io;
 use template_tree::{Path, Tree};
 use unparse_layout::Layout;
 
 /// Reads the lines as a program, which takes the place of the one before.
-pub fn read_program(rt: &HostRuntime, tree: &mut Tree, text: &[Vec<u8>]) -> io::Result<bool>
+pub fn read_program(alloc: Global, tree: &mut Tree, text: &[Vec<u8>], told: &mut Told) -> Option<()>
     requires { IsTree tree.old }
     ensures { IsTree tree.new }
 {
-    let listing = listing_of(rt.alloc(), text)?;
-    match read_listing(rt.alloc(), listing.as_slice()) {
-        Ok(read) => {
-            *tree = read;
-            println!(rt; "= {} slots", tree.slots())?;
-        }
-        Err(refusal) => println!(rt; "= {refusal:?}")?,
-    }
-    Ok(true)
+    let listing = listing_of(alloc, text).ok()?;
+    take_listing(alloc, tree, listing.as_slice(), told);
+    Some(())
 }
 
 /// The lines of text as one, each with its end.
@@ -37,20 +31,32 @@ fn listing_of(alloc: Global, text: &[Vec<u8>]) -> Result<Vec<u8>, AllocError> {
     Ok(listing)
 }
 
-/// Takes the node in the slot out of the program.
-pub fn take(rt: &HostRuntime, tree: &mut Tree, words: &[Vec<u8>]) -> io::Result<bool>
+/// Makes the tree that of the listing, unless it is refused.
+fn take_listing(alloc: Global, tree: &mut Tree, listing: &[u8], told: &mut Told)
     requires { IsTree tree.old }
     ensures { IsTree tree.new }
 {
-    let Some(slot) = number_at(words, 0) else {
-        return Ok(false);
-    };
-    let path = path_to(tree, slot);
-    match tree.take(rt.alloc(), &path) {
-        Ok(_) => println!(rt; "= taken")?,
-        Err(fault) => println!(rt; "= {fault:?}")?,
+    match read_listing(alloc, listing) {
+        Ok(read) => {
+            *tree = read;
+            told.value(&tree.slots());
+            told.text(" slots");
+        }
+        Err(refusal) => told.value(&refusal),
     }
-    Ok(true)
+}
+
+/// Takes the node in the slot out of the program.
+pub fn take(alloc: Global, tree: &mut Tree, words: &[Vec<u8>], told: &mut Told) -> Option<()>
+    requires { IsTree tree.old }
+    ensures { IsTree tree.new }
+{
+    let path = path_to(tree, number_at(words, 0)?);
+    match tree.take(alloc, &path) {
+        Ok(_) => told.text("taken"),
+        Err(fault) => told.value(&fault),
+    }
+    Some(())
 }
 
 /// The path to the node in the slot, or one that leads nowhere where the slot isn't live.
@@ -61,25 +67,35 @@ pub fn path_to(tree: &Tree, slot: u32) -> Path
 }
 
 /// Turns the comments in these slots one after the other, and mends one layout each time.
-pub fn elide(rt: &HostRuntime, tree: &mut Tree, words: &[Vec<u8>]) -> io::Result<bool>
+pub fn elide(alloc: Global, tree: &mut Tree, words: &[Vec<u8>], told: &mut Told) -> Option<()>
     requires { IsTree tree.old }
     ensures { IsTree tree.new }
 {
-    let Ok(mut layout) = Layout::new(rt.alloc(), tree) else {
-        return Err(no_memory());
-    };
-    for k in 0..words.len() {
-        let Some(slot) = number_at(words, k) else {
-            return Ok(false);
-        };
-        let turned = turn(&mut layout, tree, slot);
-        let same = same_lines(rt.alloc(), &layout, tree)?;
-        println!(rt;
-            "= {turned:?}, {} lines, same as made anew: {same}",
-            layout.lines()
-        )?;
+    let mut layout = Layout::new(alloc, tree).ok()?;
+    turn_each(alloc, &mut layout, tree, words, told)
+}
+
+/// Turns the comments in these slots, and mends this layout.
+fn turn_each(
+    alloc: Global,
+    layout: &mut Layout<Counts>,
+    tree: &mut Tree,
+    words: &[Vec<u8>],
+    told: &mut Told,
+) -> Option<()>
+    requires tree { IsTree tree.old }
+    requires agrees { IsLayoutOf layout.old tree.old }
+    ensures { IsTree tree.new }
+{
+    for word in words {
+        let hidden = turn(layout, tree, number_of(word.as_slice())?);
+        told.value(&hidden);
+        told.text(", ");
+        told.value(&layout.lines());
+        told.text(" lines, same as made anew: ");
+        told.value_line(&same_lines(alloc, layout, tree)?);
     }
-    Ok(true)
+    Some(())
 }
 
 /// Turns the comment in the slot, mends the layout, and tells whether the refinement is hidden now.

@@ -1,21 +1,22 @@
 //! Views drawn on grids, and grids painted one over the other.
 ghost use Rattle.std.specs.Prelude.{◌≡◌, ◌<◌, ◌≤◌, ◌^◌};
 ghost use Rattle.template_tree.specs.Programs.Tree.{IsTree};
+ghost use Rattle.screen_window.specs.declared.limit.TheConstants.{FEWEST_COLS, FEWEST_ROWS, MOST_COLS, MOST_ROWS};
 
-use crate::cells::print_row;
+use crate::cells::tell_row;
+use crate::lines::marks_of;
 use crate::one_mark::OneMark;
 use crate::program::path_to;
 use crate::view_words::{ViewWords, view_words};
-use crate::words::{no_memory, size_at};
-use case_script::{number_of, quoted};
+use crate::words::size_at;
+use case_script::{Told, numbers_of};
 use decl_table::Decls;
-use plcs_base::{Counts, Marked, PhraseAt};
-use screen_window::{Grid, View, compose, paint};
+use plcs_base::{ByteOut, Counts, Marked, PhraseAt};
+use screen_window::{FEWEST_COLS, FEWEST_ROWS, Grid, View, compose, paint};
 use std::alloc::{AllocError, Global};
-use std::{io, mem};
+use std::mem;
 use synth_outside::MemSink;
 use template_tree::{Stop, Tree};
-use type_marks::Marks;
 use unparse_layout::Layout;
 
 /// The last two grids.
@@ -28,38 +29,55 @@ pub struct Screens {
 impl Screens {
     /// Two blank grids of the least size.
     pub fn new(alloc: Global) -> Result<Screens, AllocError> {
-        let (Ok(before), Ok(last)) = (Grid::new(alloc, 12, 40), Grid::new(alloc, 12, 40)) else {
+        Screens::blank(alloc, FEWEST_ROWS, FEWEST_COLS)
+    }
+
+    /// Two blank grids of this size.
+    fn blank(alloc: Global, rows: u16, cols: u16) -> Result<Screens, AllocError>
+        requires least_rows { FEWEST_ROWS ≤ rows }
+        requires most_rows { rows ≤ MOST_ROWS }
+        requires least_cols { FEWEST_COLS ≤ cols }
+        requires most_cols { cols ≤ MOST_COLS }
+    {
+        let (Ok(before), Ok(last)) = (Grid::new(alloc, rows, cols), Grid::new(alloc, rows, cols))
+        else {
             return Err(AllocError);
         };
         Ok(Screens { before, last })
     }
+
+    /// A blank grid of this size behind the last one.
+    fn turn(&mut self, alloc: Global, rows: u16, cols: u16) -> Option<()>
+        requires least_rows { FEWEST_ROWS ≤ rows }
+        requires most_rows { rows ≤ MOST_ROWS }
+        requires least_cols { FEWEST_COLS ≤ cols }
+        requires most_cols { cols ≤ MOST_COLS }
+    {
+        let grid = Grid::new(alloc, rows, cols).ok()?;
+        self.before = mem::replace(&mut self.last, grid);
+        Some(())
+    }
 }
 
-/// Draws a view on a grid, and prints that.
+/// Draws a view on a grid, and tells that.
 pub fn grid(
-    rt: &HostRuntime,
+    alloc: Global,
     tree: &Tree,
     marked: Option<PhraseAt>,
     code: &[Vec<u8>],
     words: &[Vec<u8>],
     screens: &mut Screens,
-) -> io::Result<bool>
+    told: &mut Told,
+) -> Option<()>
     requires { IsTree tree.now }
 {
-    let Some(view) = view_words(words) else {
-        return Ok(false);
-    };
-    let Some((rows, cols)) = size_at(words) else {
-        return Ok(false);
-    };
-    let Ok(mut grid) = Grid::new(rt.alloc(), rows, cols) else {
-        return Err(no_memory());
-    };
-    let work = draw_marked(rt.alloc(), tree, marked, code, &view, &mut grid)?;
-    print_grid(rt, &grid)?;
-    println!(rt; "= {work:?}")?;
-    screens.before = mem::replace(&mut screens.last, grid);
-    Ok(true)
+    let view = view_words(words)?;
+    let (rows, cols) = size_at(words)?;
+    screens.turn(alloc, rows, cols)?;
+    let work = draw_marked(alloc, tree, marked, code, &view, &mut screens.last)?;
+    tell_grid(&screens.last, told);
+    told.value(&work);
+    Some(())
 }
 
 /// Draws a view under the one mark, or under those of the program.
@@ -70,7 +88,7 @@ pub fn draw_marked(
     code: &[Vec<u8>],
     view: &ViewWords<'_>,
     grid: &mut Grid,
-) -> io::Result<Counts>
+) -> Option<Counts>
     requires { IsTree tree.now }
     ensures rows { grid.new.rows ≡ grid.old.rows }
     ensures cols { grid.new.cols ≡ grid.old.cols }
@@ -78,12 +96,8 @@ pub fn draw_marked(
     if let Some(at) = marked {
         return draw(alloc, tree, &OneMark(at), code, view, grid);
     }
-    let Ok(decls) = Decls::new(alloc, tree) else {
-        return Err(no_memory());
-    };
-    let Ok(marks) = Marks::<Counts>::new(alloc, tree, &decls, &mut Counts::default()) else {
-        return Err(no_memory());
-    };
+    let decls = Decls::new(alloc, tree).ok()?;
+    let marks = marks_of(alloc, tree, &decls)?;
     draw(alloc, tree, &marks, code, view, grid)
 }
 
@@ -95,14 +109,12 @@ fn draw<M: Marked>(
     code: &[Vec<u8>],
     view: &ViewWords<'_>,
     grid: &mut Grid,
-) -> io::Result<Counts>
+) -> Option<Counts>
     requires { IsTree tree.now }
     ensures rows { grid.new.rows ≡ grid.old.rows }
     ensures cols { grid.new.cols ≡ grid.old.cols }
 {
-    let Ok(layout) = Layout::new(alloc, tree) else {
-        return Err(no_memory());
-    };
+    let layout = Layout::new(alloc, tree).ok()?;
     let stop = Stop {
         path: path_to(tree, view.slot),
         part: view.part,
@@ -123,32 +135,32 @@ fn draw<M: Marked>(
     let _ = grid.rows();
     let mut work = Counts::default();
     compose(grid, &view, &mut work);
-    Ok(work)
+    Some(work)
 }
 
-/// Prints the rows of the grid that aren't blank, and the place of its cursor.
-fn print_grid(rt: &HostRuntime, grid: &Grid) -> io::Result<()> {
+/// Tells the rows of the grid that aren't blank, and the place of its cursor.
+fn tell_grid(grid: &Grid, told: &mut Told) {
     for row in 1..=grid.rows() {
-        print_row(rt, row, grid.cells(row))?;
+        tell_row(row, grid.cells(row), told);
     }
-    println!(rt; "= cursor {:?}", grid.cursor())
+    told.text("cursor ");
+    told.value_line(&grid.cursor());
 }
 
 /// Paints the last grid over the one before it. The writes of these numbers fail.
-pub fn paint_grid(rt: &HostRuntime, screens: &Screens, words: &[Vec<u8>]) -> io::Result<bool> {
-    let mut fails = Vec::new(rt.alloc());
-    for word in words {
-        match number_of(word.as_slice()) {
-            Some(number) => fails.push(u64::from(number))?,
-            None => return Ok(false),
-        }
-    }
+pub fn paint_grid(
+    alloc: Global,
+    screens: &Screens,
+    words: &[Vec<u8>],
+    told: &mut Told,
+) -> Option<()> {
     let (old, new) = (&screens.before, &screens.last);
     if old.rows() != new.rows() || old.cols() != new.cols() {
-        return Ok(false);
+        return None;
     }
-    let mut sink = MemSink::new(rt.alloc(), fails);
-    let answer = paint(old, new, &mut sink);
-    println!(rt; "= {answer:?} {}", quoted(rt.alloc(), sink.bytes())?)?;
-    Ok(true)
+    let mut sink = MemSink::new(alloc, numbers_of(alloc, words)?);
+    told.value(&paint(old, new, &mut sink));
+    told.put(b' ');
+    told.word(sink.bytes());
+    Some(())
 }

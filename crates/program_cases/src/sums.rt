@@ -2,32 +2,22 @@
 
 use crate::random::Numbers;
 use crate::words::number_at;
+use case_script::Told;
 use prefix_sums::{Position, PrefixSums};
 use std::alloc::Global;
-use std::io;
 
 /// Makes lists of so many random numbers, edits them so often in each way, and tells whether both have
 /// the same sums before and after, at each place that is a multiple of the step.
-pub fn sums(rt: &HostRuntime, words: &[Vec<u8>]) -> io::Result<bool> {
-    let (Some(count), Some(edits), Some(step)) = (
-        number_at(words, 0),
-        number_at(words, 1),
-        number_at(words, 2),
-    ) else {
-        return Ok(false);
-    };
-    let mut pair = Pair::new(rt.alloc(), count);
-    let mut same = true;
-    for _ in 0..count {
-        same = pair.insert().is_some() && same;
-    }
-    same = pair.agree(step as usize) && same;
-    for _ in 0..edits {
-        same = pair.insert().is_some() && pair.set() && pair.remove() && same;
-    }
-    same = pair.agree(step as usize) && same;
-    println!(rt; "= the same sums: {same}")?;
-    Ok(true)
+pub fn sums(alloc: Global, words: &[Vec<u8>], told: &mut Told) -> Option<()> {
+    let count = number_at(words, 0)?;
+    let edits = number_at(words, 1)?;
+    let step = number_at(words, 2)? as usize;
+    let mut pair = Pair::new(alloc, count);
+    let filled = pair.fill(count) && pair.agree(step);
+    let edited = pair.edit(edits) && pair.agree(step);
+    told.text("the same sums: ");
+    told.value(&(filled && edited));
+    Some(())
 }
 
 /// A list beside a plain one, and what the next number is drawn from.
@@ -46,6 +36,24 @@ impl Pair {
             plain: Vec::new(alloc),
             numbers: Numbers::behind(seed),
         }
+    }
+
+    /// Puts so many numbers into both lists, and tells whether there was memory for them.
+    fn fill(&mut self, count: u32) -> bool {
+        let mut same = true;
+        for _ in 0..count {
+            same = self.insert().is_some() && same;
+        }
+        same
+    }
+
+    /// Edits both lists so often in each way, and tells whether both did the same.
+    fn edit(&mut self, times: u32) -> bool {
+        let mut same = true;
+        for _ in 0..times {
+            same = self.insert().is_some() && self.set() && self.remove() && same;
+        }
+        same
     }
 
     /// A place in both lists, or at their end, and a number to put there: 0 in one of four cases.

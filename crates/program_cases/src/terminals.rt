@@ -1,29 +1,32 @@
 //! What a terminal makes of bytes.
 ghost use Rattle.std.specs.Prelude.{◌≡◌};
 
-use crate::cells::print_row;
-use crate::words::{no_memory, size_at};
+use crate::cells::tell_row;
+use crate::words::size_at;
+use case_script::Told;
 use screen_window::Terminal;
-use std::io;
+use std::alloc::Global;
 
 /// Has a terminal take the words behind its size, each whole, and another one the same byte by byte, and
-/// prints what both show.
-pub fn terminal(rt: &HostRuntime, words: &[Vec<u8>]) -> io::Result<bool> {
-    let Some((rows, cols)) = size_at(words) else {
-        return Ok(false);
-    };
-    let (Ok(mut whole), Ok(mut parted)) = (
-        Terminal::new(rt.alloc(), rows, cols),
-        Terminal::new(rt.alloc(), rows, cols),
-    ) else {
-        return Err(no_memory());
-    };
-    for word in words.iter().skip(2) {
-        whole.take(word.as_slice());
-        take_parted(&mut parted, word.as_slice());
+/// tells what both show.
+pub fn terminal(alloc: Global, words: &[Vec<u8>], told: &mut Told) -> Option<()> {
+    let (rows, cols) = size_at(words)?;
+    let mut whole = Terminal::new(alloc, rows, cols).ok()?;
+    let mut parted = Terminal::new(alloc, rows, cols).ok()?;
+    take_all(&mut whole, &mut parted, words);
+    tell_terminals(rows, &whole, &parted, told);
+    Some(())
+}
+
+/// Has the one terminal take the words behind its size, each whole, and the other the same byte by byte.
+fn take_all(whole: &mut Terminal, parted: &mut Terminal, words: &[Vec<u8>])
+    ensures whole { whole.new.rows ≡ whole.old.rows }
+    ensures parted { parted.new.rows ≡ parted.old.rows }
+{
+    for k in 2..words.len() {
+        whole.take(words[k].as_slice());
+        take_parted(parted, words[k].as_slice());
     }
-    print_terminals(rt, rows, &whole, &parted)?;
-    Ok(true)
 }
 
 /// Has the terminal take the bytes one by one.
@@ -35,17 +38,18 @@ fn take_parted(terminal: &mut Terminal, bytes: &[u8])
     }
 }
 
-/// Prints the rows of the terminal that aren't blank and the place of its cursor, or that the other one
+/// Tells the rows of the terminal that aren't blank and the place of its cursor, or that the other one
 /// shows something else.
-fn print_terminals(rt: &HostRuntime, rows: u16, one: &Terminal, other: &Terminal) -> io::Result<()>
+fn tell_terminals(rows: u16, one: &Terminal, other: &Terminal, told: &mut Told)
     requires one { one.now.rows ≡ rows }
     requires other { other.now.rows ≡ rows }
 {
     for row in 1..=rows {
-        print_row(rt, row, one.cells(row))?;
+        tell_row(row, one.cells(row), told);
         if one.cells(row) != other.cells(row) || one.cursor() != other.cursor() {
-            println!(rt; "= DIFFERS")?;
+            told.line("DIFFERS");
         }
     }
-    println!(rt; "= cursor {:?}", one.cursor())
+    told.text("cursor ");
+    told.value(&one.cursor());
 }

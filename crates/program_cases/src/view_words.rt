@@ -1,6 +1,7 @@
 //! What words say of a view.
 
 use crate::words::{number_at, word_at};
+use case_script::meaning;
 use plcs_base::{Place, Point, Slot};
 
 /// What a view shows beside the program, its marks and the code.
@@ -58,16 +59,6 @@ static FIELDS: [(&[u8], Field); 9] = [
     (b"typed", Field::Typed),
 ];
 
-/// The field of the name.
-fn field_named(name: &[u8]) -> Option<Field> {
-    for (other, field) in &FIELDS {
-        if name == *other {
-            return Some(*field);
-        }
-    }
-    None
-}
-
 /// What the words say of a view, from the third on: pairs of a name and a value.
 pub fn view_words(words: &[Vec<u8>]) -> Option<ViewWords<'_>> {
     let mut view = ViewWords {
@@ -83,7 +74,7 @@ pub fn view_words(words: &[Vec<u8>]) -> Option<ViewWords<'_>> {
     };
     let mut k = 2;
     while k < words.len() {
-        view = with_field(view, field_named(word_at(words, k))?, words, k + 1)?;
+        view = with_field(view, meaning(&FIELDS, word_at(words, k))?, words, k + 1)?;
         k += 2;
     }
     Some(view)

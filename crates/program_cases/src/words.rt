@@ -5,8 +5,6 @@ ghost use Rattle.screen_window.specs.declared.limit.TheConstants.{FEWEST_COLS, F
 use case_script::number_of;
 use plcs_base::{PhraseAt, Slot};
 use screen_window::{FEWEST_COLS, FEWEST_ROWS, MOST_COLS, MOST_ROWS};
-use std::alloc::AllocError;
-use std::io;
 
 /// The word of this number, counted from 0, or no bytes where there are fewer.
 pub fn word_at(words: &[Vec<u8>], k: usize) -> &[u8] {
@@ -38,15 +36,19 @@ pub fn size_at(words: &[Vec<u8>]) -> Option<(u16, u16)>
     ensures least_cols { IfSome result (λ size. FEWEST_COLS ≤ size.1) }
     ensures most_cols { IfSome result (λ size. size.1 ≤ MOST_COLS) }
 {
-    let rows = u16::try_from(number_at(words, 0)?).ok()?;
-    let cols = u16::try_from(number_at(words, 1)?).ok()?;
-    if rows < FEWEST_ROWS || rows > MOST_ROWS || cols < FEWEST_COLS || cols > MOST_COLS {
-        return None;
-    }
+    let rows = number_within(number_at(words, 0)?, FEWEST_ROWS, MOST_ROWS)?;
+    let cols = number_within(number_at(words, 1)?, FEWEST_COLS, MOST_COLS)?;
     Some((rows, cols))
 }
 
-/// The error of a case for which there is no memory.
-pub fn no_memory() -> io::Error {
-    AllocError.into()
+/// The number, if it is one from the least to the most.
+fn number_within(number: u32, least: u16, most: u16) -> Option<u16>
+    ensures least { IfSome result (λ number. least ≤ number) }
+    ensures most { IfSome result (λ number. number ≤ most) }
+{
+    let number = u16::try_from(number).ok()?;
+    if number < least || number > most {
+        return None;
+    }
+    Some(number)
 }
