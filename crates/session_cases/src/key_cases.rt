@@ -1,32 +1,44 @@
 //! Cases of the reader of keys, and of the numbers of statuses.
 
-use std::io;
+use case_script::Told;
+use plcs_base::ByteOut;
 use synth_top::{Key, KeyReader, Keys, Status};
 
 /// `feed BYTES..`: feeds bytes to one reader, whose end comes behind each word. It answers for each word the
 /// keys that each byte completes, and then the key at the end.
-pub fn feed(rt: &HostRuntime, arguments: &[Vec<u8>]) -> io::Result<bool> {
+pub fn feed(words: &[Vec<u8>], told: &mut Told) -> Option<()> {
     let mut reader = KeyReader::new();
-    for bytes in arguments {
-        print!(rt; "=")?;
-        for byte in bytes {
-            tell_keys(rt, reader.feed(*byte))?;
+    for bytes in words {
+        tell_fed(&mut reader, bytes.as_slice(), told);
+        told.text("end");
+        if let Some(key) = reader.end() {
+            told.put(b' ');
+            told.value(&key);
         }
-        match reader.end() {
-            Some(key) => println!(rt; " end {key:?}")?,
-            None => println!(rt; " end")?,
-        }
+        told.put(b'\n');
     }
-    Ok(true)
+    Some(())
+}
+
+/// Feeds the bytes, and tells the keys of each.
+fn tell_fed(reader: &mut KeyReader, bytes: &[u8], told: &mut Told) {
+    for byte in bytes {
+        tell_keys(reader.feed(*byte), told);
+    }
 }
 
 /// Tells the keys of a byte.
-fn tell_keys(rt: &HostRuntime, keys: Keys) -> io::Result<()> {
+fn tell_keys(keys: Keys, told: &mut Told) {
     match (keys.first, keys.second) {
-        (Some(first), Some(second)) => print!(rt; " {first:?} {second:?},"),
-        (Some(key), None) | (None, Some(key)) => print!(rt; " {key:?},"),
-        (None, None) => print!(rt; " none,"),
+        (Some(first), Some(second)) => {
+            told.value(&first);
+            told.put(b' ');
+            told.value(&second);
+        }
+        (Some(key), None) | (None, Some(key)) => told.value(&key),
+        (None, None) => told.text("none"),
     }
+    told.text(", ");
 }
 
 /// The statuses.
@@ -40,9 +52,12 @@ static STATUSES: [Status; 6] = [
 ];
 
 /// `status`: each status and its number.
-pub fn status(rt: &HostRuntime, arguments: &[Vec<u8>]) -> io::Result<bool> {
+pub fn status(told: &mut Told) -> Option<()> {
     for status in &STATUSES {
-        println!(rt; "= {status:?} {}", status.code())?;
+        told.value(status);
+        told.put(b' ');
+        told.value(&status.code());
+        told.put(b'\n');
     }
-    Ok(arguments.is_empty())
+    Some(())
 }

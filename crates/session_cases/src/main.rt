@@ -2,6 +2,7 @@
 //! key by key. Each line of standard input is printed, and after a case its answer.
 #![tactic(auto)]
 
+mod asking;
 mod file_cases;
 mod key_cases;
 mod pieces;
@@ -10,54 +11,65 @@ mod repainting;
 mod scene;
 mod screen_cases;
 mod session_cases;
-mod session_keys;
+mod sitting;
 mod whole_run_cases;
 
-use case_script::words_of;
+use asking::{Asked, ask};
+use case_script::{meaning, print_told, words_of};
 use scene::Scene;
+use std::alloc::Global;
 use std::io;
 use std::io::{BufRead, BufReader};
 
 fn main(rt: HostRuntime) -> io::Result<()> {
     let alloc = rt.alloc();
     let mut scene = Scene::new(alloc);
+    play_script(&rt, &mut scene)
+}
+
+/// Plays the script that standard input has.
+fn play_script(rt: &HostRuntime, scene: &mut Scene) -> io::Result<()> {
+    let alloc = rt.alloc();
     for line in BufReader::new(alloc, rt.reader())?.lines(alloc) {
         let line = line?;
-        println!(&rt; "{line}")?;
-        play_line(&rt, &mut scene, line.as_bytes())?;
+        println!(rt; "{line}")?;
+        play_line(alloc, scene, line.as_bytes())?;
+        print_told(rt, &scene.told)?;
     }
     Ok(())
 }
 
-/// Plays a line of the script: a heading, a line of text, or a case, which is answered.
-fn play_line(rt: &HostRuntime, scene: &mut Scene, line: &[u8]) -> io::Result<()> {
-    if line.is_empty() || line.starts_with(b"#") {
-        return Ok(());
-    }
-    if let Some(text) = line.strip_prefix(b"| ") {
-        scene.text.extend_from_slice(text)?;
-        scene.text.push(b'\n')?;
-        return Ok(());
-    }
-    let is_case = match words_of(rt.alloc(), line)? {
-        Some(words) => play_words(rt, scene, words.as_slice())?,
-        None => false,
-    };
-    if !is_case {
-        println!(rt; "= NOT A CASE")?;
+/// Plays a line of the script: a heading, a line of text, or a case, whose answer is told.
+fn play_line(alloc: Global, scene: &mut Scene, line: &[u8]) -> io::Result<()> {
+    scene.told.clear();
+    match line {
+        [] | [b'#', ..] => {}
+        [b'|', b' ', text @ ..] => {
+            scene.text.extend_from_slice(text)?;
+            scene.text.push(b'\n')?;
+        }
+        case => {
+            if play_case(alloc, scene, case).is_none() {
+                scene.told.clear();
+                scene.told.line("NOT A CASE");
+            }
+        }
     }
     Ok(())
 }
 
-/// Plays a case of these words, or tells that they are none.
-fn play_words(rt: &HostRuntime, scene: &mut Scene, words: &[Vec<u8>]) -> io::Result<bool> {
-    let Some((word, arguments)) = words.split_first() else {
-        return Ok(false);
-    };
-    match case_of(word.as_slice()) {
-        Some(case) => play_case(rt, scene, case, arguments),
-        None => Ok(false),
+/// Plays a case, if it is one.
+fn play_case(alloc: Global, scene: &mut Scene, case: &[u8]) -> Option<()> {
+    match words_of(alloc, case) {
+        Ok(Some(words)) => play_words(alloc, scene, words.as_slice()),
+        _ => None,
     }
+}
+
+/// Plays the case of these words, if they are one.
+fn play_words(alloc: Global, scene: &mut Scene, words: &[Vec<u8>]) -> Option<()> {
+    let (word, arguments) = words.split_first()?;
+    play(alloc, scene, meaning(&CASES, word.as_slice())?, arguments)
 }
 
 /// The cases.
@@ -101,39 +113,27 @@ static CASES: [(&[u8], Case); 16] = [
     (b"status", Case::Status),
 ];
 
-/// The case with this first word.
-fn case_of(word: &[u8]) -> Option<Case> {
-    for (name, case) in &CASES {
-        if word == *name {
-            return Some(*case);
-        }
-    }
-    None
-}
-
-/// Plays a case with these arguments, or tells that it takes others.
-fn play_case(
-    rt: &HostRuntime,
-    scene: &mut Scene,
-    case: Case,
-    arguments: &[Vec<u8>],
-) -> io::Result<bool> {
-    match case {
-        Case::From => session_cases::from(rt, scene, arguments),
-        Case::On => session_cases::on(rt, scene, arguments),
-        Case::Listing => session_cases::listing(rt, scene, arguments),
-        Case::Tell => session_cases::tell(rt, scene, arguments),
-        Case::Rescue => session_cases::rescue(rt, scene, arguments),
-        Case::Repaint => repainting::repaint(rt, scene, arguments),
-        Case::Screen => screen_cases::screen(rt, scene, arguments),
-        Case::Run => whole_run_cases::run(rt, scene, arguments),
-        Case::Fail => whole_run_cases::fail(rt, scene, arguments),
-        Case::Bytes => whole_run_cases::bytes(rt, arguments),
-        Case::Files => file_cases::files(rt, scene, arguments),
-        Case::File => file_cases::file(rt, scene, arguments),
-        Case::Content => file_cases::content(rt, scene, arguments),
-        Case::Told => file_cases::told(rt, scene, arguments),
-        Case::Feed => key_cases::feed(rt, arguments),
-        Case::Status => key_cases::status(rt, arguments),
+/// Plays a case with these arguments, if it takes them.
+fn play(alloc: Global, scene: &mut Scene, case: Case, arguments: &[Vec<u8>]) -> Option<()> {
+    match (case, arguments) {
+        (Case::From, [keys]) => session_cases::from(alloc, scene, keys),
+        (Case::On, [keys]) => session_cases::on(alloc, scene, keys),
+        (Case::Listing, []) => ask(alloc, scene, Asked::Listing, &[]),
+        (Case::Tell, [word]) => session_cases::tell(alloc, scene, word),
+        (Case::Rescue, fails) => ask(alloc, scene, Asked::Rescue, fails),
+        (Case::Repaint, []) => repainting::repaint(alloc, scene),
+        (Case::Screen, []) => screen_cases::screen(alloc, scene, b"12", b"40"),
+        (Case::Screen, [rows, cols]) => screen_cases::screen(alloc, scene, rows, cols),
+        (Case::Run, words) => whole_run_cases::run(alloc, scene, words),
+        (Case::Fail, [kind, number]) => whole_run_cases::fail(alloc, scene, kind, number),
+        (Case::Bytes, [before, last]) => whole_run_cases::bytes(alloc, scene, before, last),
+        (Case::Files, fails) => file_cases::files(alloc, scene, fails),
+        (Case::File, [name]) => file_cases::file_of_text(alloc, scene, name),
+        (Case::File, [name, content]) => file_cases::file(scene, name, content),
+        (Case::Content, [name]) => file_cases::content(scene, name),
+        (Case::Told, [keys]) => file_cases::told(alloc, scene, keys),
+        (Case::Feed, words) => key_cases::feed(words, &mut scene.told),
+        (Case::Status, []) => key_cases::status(&mut scene.told),
+        _ => None,
     }
 }

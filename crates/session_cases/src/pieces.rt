@@ -1,35 +1,19 @@
 //! The pieces in which a screen is written.
 
-use case_script::quoted;
-use std::alloc::Global;
-use std::io;
+use case_script::Told;
 
 /// Tells bytes of a screen, a piece a line.
-pub fn tell_pieces(rt: &HostRuntime, written: &[u8]) -> io::Result<()> {
-    let alloc = rt.alloc();
-    let mut piece = Vec::new(alloc);
-    for at in 0..written.len() {
+pub fn tell_pieces(written: &[u8], told: &mut Told) {
+    let mut start = 0;
+    for at in 1..written.len() {
         if is_place(&written[at..]) {
-            tell_piece(rt, piece.as_slice())?;
-            piece = Vec::new(alloc);
+            told.word_line(&written[start.min(at)..at]);
+            start = at;
         }
-        piece.push(written[at])?;
     }
-    tell_piece(rt, piece.as_slice())
-}
-
-/// Tells a piece, if it has bytes.
-fn tell_piece(rt: &HostRuntime, piece: &[u8]) -> io::Result<()> {
-    if piece.is_empty() {
-        return Ok(());
+    if start < written.len() {
+        told.word_line(&written[start..]);
     }
-    tell_bytes(rt, piece)
-}
-
-/// Tells bytes on a line, in quotes.
-pub fn tell_bytes(rt: &HostRuntime, bytes: &[u8]) -> io::Result<()> {
-    let text = quoted(rt.alloc(), bytes)?;
-    println!(rt; "= {text}")
 }
 
 /// How many pieces these bytes of a screen are.

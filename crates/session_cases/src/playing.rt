@@ -1,7 +1,8 @@
 //! Runs of the editor over a source, a sink and files in memory.
 
+use case_script::Told;
 use plcs_base::Counts;
-use std::alloc::{AllocError, Global};
+use std::alloc::Global;
 use synth_outside::{MemFiles, MemSink, MemSource, Source};
 use synth_top::{Status, synth};
 
@@ -24,21 +25,32 @@ pub struct Played {
 }
 
 impl Played {
+    /// A run of no keys that wrote nothing.
+    pub fn none(alloc: Global) -> Played {
+        Played {
+            status: Status::Done,
+            keys: MemSource::new(Vec::new(alloc), Vec::new(alloc)),
+            screen: MemSink::new(alloc, Vec::new(alloc)),
+        }
+    }
+
     /// All bytes that the sink took.
     pub fn written(&self) -> &[u8] {
         self.screen.bytes()
     }
 
-    /// The first 256 bytes that the source has left. The read that is to fail may be the one that is made for
-    /// that here, and then another one is made.
-    pub fn left(&mut self, alloc: Global) -> Result<Vec<u8>, AllocError> {
-        for _ in 0..2 {
-            let mut buf = [0u8; 256];
-            if let Ok(count) = self.keys.read(&mut buf) {
-                return buf[..count].to_vec(alloc);
-            }
+    /// Tells the first 256 keys that the source has left, if there are any. The read that is to fail may be the
+    /// one that is made for that here, and then another one is made.
+    pub fn tell_left(&mut self, told: &mut Told) {
+        let mut buf = [0u8; 256];
+        let count = match self.keys.read(&mut buf) {
+            Ok(count) => count,
+            Err(_) => self.keys.read(&mut buf).unwrap_or(0),
+        };
+        if count > 0 {
+            told.text("left ");
+            told.word_line(&buf[..count.min(256)]);
         }
-        Ok(Vec::new(alloc))
     }
 }
 
@@ -49,32 +61,58 @@ pub fn play(
     keys: &[u8],
     failing: Failing,
     files: &mut MemFiles,
-) -> Result<Played, AllocError> {
-    let mut keys = MemSource::new(keys.to_vec(alloc)?, [failing.read].to_vec(alloc)?);
-    let mut screen = MemSink::new(alloc, [failing.write].to_vec(alloc)?);
-    let mut work = Counts::default();
-    let status = synth(alloc, words, &mut keys, &mut screen, files, &mut work);
-    Ok(Played {
+) -> Option<Played> {
+    let mut keys = source_of(alloc, keys, failing.read)?;
+    let mut screen = MemSink::new(alloc, [failing.write].to_vec(alloc).ok()?);
+    let status = synth(
+        alloc,
+        words,
+        &mut keys,
+        &mut screen,
+        files,
+        &mut Counts::default(),
+    );
+    Some(Played {
         status,
         keys,
         screen,
     })
 }
 
-/// Runs the editor on these keys on a screen of this size, without files.
-pub fn play_on(alloc: Global, rows: u16, cols: u16, keys: &[u8]) -> Result<Played, AllocError> {
-    let words = size_words(alloc, rows, cols)?;
+/// A source of these keys, one read of which fails.
+fn source_of(alloc: Global, keys: &[u8], failing: u64) -> Option<MemSource> {
+    let keys = keys.to_vec(alloc).ok()?;
+    Some(MemSource::new(keys, [failing].to_vec(alloc).ok()?))
+}
+
+/// Runs the editor on these words and keys, without files.
+pub fn play_alone(
+    alloc: Global,
+    words: &[String],
+    keys: &[u8],
+    failing: Failing,
+) -> Option<Played> {
     let mut files = MemFiles::new(alloc, Vec::new(alloc));
-    play(alloc, words.as_slice(), keys, NOTHING, &mut files)
+    play(alloc, words, keys, failing, &mut files)
+}
+
+/// Runs the editor on these keys on a screen of this size, without files.
+pub fn play_on(alloc: Global, rows: &[u8], cols: &[u8], keys: &[u8]) -> Option<Played> {
+    let words = size_words(alloc, rows, cols)?;
+    play_alone(alloc, words.as_slice(), keys, NOTHING)
 }
 
 /// The words that ask for a screen of this size.
-pub fn size_words(alloc: Global, rows: u16, cols: u16) -> Result<Vec<String>, AllocError> {
-    let words = vec![in alloc;
-        String::from_str(alloc, "--rows")?,
-        format!(in alloc; "{rows}")?,
-        String::from_str(alloc, "--cols")?,
-        format!(in alloc; "{cols}")?,
-    ]?;
-    Ok(words)
+pub fn size_words(alloc: Global, rows: &[u8], cols: &[u8]) -> Option<Vec<String>> {
+    let mut texts = Vec::new(alloc);
+    for word in [b"--rows".as_slice(), rows, b"--cols", cols] {
+        push_word(alloc, &mut texts, word)?;
+    }
+    Some(texts)
+}
+
+/// Puts the word behind the others, if it is a text.
+pub fn push_word(alloc: Global, texts: &mut Vec<String>, word: &[u8]) -> Option<()> {
+    let text = String::from_str(alloc, str::from_utf8(word).ok()?).ok()?;
+    texts.push(text).ok()
 }

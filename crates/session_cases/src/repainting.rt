@@ -1,124 +1,83 @@
 //! Cases that compare screens painted over one another with screens painted anew.
 
-ghost use Rattle.std.specs.Prelude.{◌≡◌, IfOk};
+ghost use Rattle.std.specs.Prelude.{◌≡◌};
 ghost use Rattle.synth_session.specs.SessionView.{IsSession};
 
+use crate::asking::{Asked, ask};
 use crate::scene::Scene;
-use crate::session_keys::{opened, painted, press_bytes};
-use plcs_base::{Counts, OutOfMemory};
+use crate::screen_cases::terminal_of;
+use crate::sitting::Sitting;
 use screen_window::Terminal;
 use std::alloc::Global;
-use std::io;
-use synth_outside::MemFiles;
-use synth_session::Session;
-use synth_top::KeyReader;
 
 /// `repaint`: paints the screen of the session after each byte of the keys at hand over the one before. It
 /// answers whether a terminal shows each time what it shows where that screen is painted anew.
-pub fn repaint(rt: &HostRuntime, scene: &mut Scene, arguments: &[Vec<u8>]) -> io::Result<bool> {
-    match first_other(rt.alloc(), scene.keys.as_slice()) {
-        Ok(None) => println!(rt; "= each screen is as painted anew")?,
-        Ok(Some(count)) => println!(rt; "= another screen behind {count} bytes")?,
-        Err(OutOfMemory) => return Ok(false),
-    }
-    Ok(arguments.is_empty())
-}
-
-/// How many bytes of these keys lead to the first screen that is another where it is painted over the one
-/// before, if there is one.
-fn first_other(alloc: Global, keys: &[u8]) -> Result<Option<usize>, OutOfMemory> {
-    let mut shown = Shown::new(alloc)?;
-    paint_over(alloc, &mut shown.session, &mut shown.terminal)?;
-    other_after(alloc, &mut shown, keys)
-}
-
-/// A session that is pressed byte by byte, and the terminal on which its screens are painted.
-#[derive(Drop)]
-struct Shown {
-    session: Session<Counts>,
-    terminal: Terminal,
-    reader: KeyReader,
-    files: MemFiles,
-}
-
-impl Shown {
-    /// A session over a new program, whose screen isn't painted yet.
-    fn new(alloc: Global) -> Result<Shown, OutOfMemory>
-        ensures session { IfOk result (λ shown. IsSession shown.session) }
-        ensures rows { IfOk result (λ shown. shown.terminal.rows ≡ 12) }
-    {
-        let terminal = Terminal::new(alloc, 12, 40)?;
-        Ok(Shown {
-            session: opened(alloc)?,
-            terminal,
-            reader: KeyReader::new(),
-            files: MemFiles::new(alloc, Vec::new(alloc)),
-        })
-    }
-}
-
-/// The same of a session that is shown, once its screen is painted.
-fn other_after(alloc: Global, shown: &mut Shown, keys: &[u8]) -> Result<Option<usize>, OutOfMemory>
-    requires session { IsSession shown.old.session }
-    requires rows { shown.old.terminal.rows ≡ 12 }
-{
-    for count in 0..keys.len() {
-        press_bytes(
-            alloc,
-            &mut shown.session,
-            &mut shown.files,
-            &mut shown.reader,
-            &keys[count..count + 1],
-        )?;
-        paint_over(alloc, &mut shown.session, &mut shown.terminal)?;
-        if !is_as_anew(alloc, &shown.terminal, &keys[..count + 1])? {
-            return Ok(Some(count + 1));
+pub fn repaint(alloc: Global, scene: &mut Scene) -> Option<()> {
+    scene.painted.clear();
+    scene.ends.clear();
+    ask(alloc, scene, Asked::Screens, &[])?;
+    for count in 1..=scene.keys.len() {
+        ask(alloc, scene, Asked::Screen(count), &[])?;
+        if !scene.same {
+            scene.told.text("another screen behind ");
+            scene.told.value(&count);
+            scene.told.line(" bytes");
+            return Some(());
         }
     }
-    Ok(None)
+    scene.told.line("each screen is as painted anew");
+    Some(())
 }
 
-/// Paints the session's screen on the terminal.
-fn paint_over(
-    alloc: Global,
-    session: &mut Session<Counts>,
-    terminal: &mut Terminal,
-) -> Result<(), OutOfMemory>
-    requires { IsSession session.old }
-    ensures session { IsSession session.new }
-    ensures rows { terminal.new.rows ≡ terminal.old.rows }
+/// Paints the screen after each byte of the keys at hand over the one before, and keeps what was painted.
+pub fn keep_screens(alloc: Global, sitting: &mut Sitting, scene: &mut Scene) -> Option<()>
+    requires { IsSession sitting.old.session }
 {
-    let bytes = painted(alloc, session)?;
-    terminal.take(bytes.as_slice());
-    Ok(())
-}
-
-/// Whether the terminal shows what one shows on which the screen after these keys is painted anew.
-fn is_as_anew(alloc: Global, terminal: &Terminal, keys: &[u8]) -> Result<bool, OutOfMemory>
-    requires { terminal.now.rows ≡ 12 }
-{
-    let bytes = painted_after(alloc, keys)?;
-    let mut other = Terminal::new(alloc, 12, 40)?;
-    other.take(bytes.as_slice());
-    Ok(show_the_same(terminal, &other))
-}
-
-/// What the screen after these keys writes where it is painted anew.
-fn painted_after(alloc: Global, keys: &[u8]) -> Result<Vec<u8>, OutOfMemory> {
-    let mut session = opened(alloc)?;
-    let mut files = MemFiles::new(alloc, Vec::new(alloc));
-    press_bytes(alloc, &mut session, &mut files, &mut KeyReader::new(), keys)?;
-    painted(alloc, &mut session)
-}
-
-/// Whether two terminals of 12 rows show the same.
-fn show_the_same(first: &Terminal, second: &Terminal) -> bool
-    requires first { first.now.rows ≡ 12 }
-    requires second { second.now.rows ≡ 12 }
-{
-    let mut same = first.cursor() == second.cursor();
-    for above in 0..12 {
-        same = same && first.cells(above + 1) == second.cells(above + 1);
+    sitting.paint();
+    let keys = scene.keys.as_slice();
+    for count in 0..keys.len() {
+        sitting.press_bytes(alloc, &keys[count..count + 1])?;
+        sitting.paint();
+        scene.ends.push(sitting.screen.bytes().len()).ok()?;
     }
-    same
+    scene.painted.extend_from_slice(sitting.screen.bytes()).ok()
+}
+
+/// Keeps whether a terminal shows what it shows on which the screen after so many bytes of the keys is painted anew.
+pub fn compare_screen(
+    alloc: Global,
+    sitting: &mut Sitting,
+    scene: &mut Scene,
+    count: usize,
+) -> Option<()>
+    requires { IsSession sitting.old.session }
+{
+    let keys = scene.keys.as_slice();
+    sitting.press_bytes(alloc, &keys[..count.min(keys.len())])?;
+    sitting.paint();
+    let end = *scene.ends.get(count.saturating_sub(1))?;
+    let painted = scene.painted.as_slice();
+    let painted = &painted[..end.min(painted.len())];
+    scene.same = show_the_same(alloc, painted, sitting.screen.bytes())?;
+    Some(())
+}
+
+/// Whether terminals that take these bytes show the same.
+fn show_the_same(alloc: Global, bytes: &[u8], others: &[u8]) -> Option<bool> {
+    let terminal = terminal_of(alloc, (12, 40), bytes)?;
+    let other = terminal_of(alloc, (12, 40), others)?;
+    Some(terminal.cursor() == other.cursor() && have_the_same_rows(&terminal, &other))
+}
+
+/// Whether two terminals of 12 rows have the same cells.
+fn have_the_same_rows(terminal: &Terminal, other: &Terminal) -> bool
+    requires terminal { terminal.now.rows ≡ 12 }
+    requires other { other.now.rows ≡ 12 }
+{
+    for above in 0..12 {
+        if terminal.cells(above + 1) != other.cells(above + 1) {
+            return false;
+        }
+    }
+    true
 }

@@ -1,5 +1,7 @@
 //! What a script holds from line to line.
 
+use crate::playing::Played;
+use case_script::Told;
 use std::alloc::Global;
 use synth_outside::MemFiles;
 
@@ -14,10 +16,17 @@ pub struct Scene {
     pub words: Vec<String>,
     /// The keys of the last run.
     pub given: Vec<u8>,
-    /// What the last run wrote.
-    pub written: Vec<u8>,
+    /// The last run.
+    pub played: Played,
+    /// What was painted of a session, and how long that was after each byte of its keys.
+    pub painted: Vec<u8>,
+    pub ends: Vec<usize>,
+    /// Whether the screen that was painted anew at last was as the one before it.
+    pub same: bool,
     /// The lines of text for the next file.
     pub text: Vec<u8>,
+    /// The answer to the case at hand.
+    pub told: Told,
 }
 
 impl Scene {
@@ -28,8 +37,12 @@ impl Scene {
             files: MemFiles::new(alloc, Vec::new(alloc)),
             words: Vec::new(alloc),
             given: Vec::new(alloc),
-            written: Vec::new(alloc),
+            played: Played::none(alloc),
+            painted: Vec::new(alloc),
+            ends: Vec::new(alloc),
+            same: true,
             text: Vec::new(alloc),
+            told: Told::new(alloc),
         }
     }
 }

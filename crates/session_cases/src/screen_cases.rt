@@ -1,96 +1,112 @@
 //! Cases of screens: what a terminal shows of a run.
 
-ghost use Rattle.std.specs.Prelude.{◌≡◌, ◌≤◌, IfOk};
+ghost use Rattle.std.specs.Prelude.{◌≡◌, ◌≤◌, IfSome};
 ghost use Rattle.screen_window.specs.declared.limit.TheConstants.{FEWEST_COLS, FEWEST_ROWS, MOST_COLS, MOST_ROWS};
 
-use crate::playing::play_on;
+use crate::playing::{Played, play_on};
 use crate::scene::Scene;
-use case_script::number_of;
-use plcs_base::OutOfMemory;
+use case_script::{Told, number_of};
+use plcs_base::ByteOut;
 use screen_window::{FEWEST_COLS, FEWEST_ROWS, MOST_COLS, MOST_ROWS, Terminal};
-use std::alloc::{AllocError, Global};
-use std::io;
-use synth_top::Status;
+use std::alloc::Global;
 
 /// `screen`, `screen ROWS COLS`: what a terminal of that size shows of a run on the keys at hand; without a
 /// size it has 12 rows and 40 columns. It answers the status, the place of the cursor, and the rows.
-pub fn screen(rt: &HostRuntime, scene: &mut Scene, arguments: &[Vec<u8>]) -> io::Result<bool> {
-    let Some((rows, cols)) = size_of(arguments) else {
-        return Ok(false);
-    };
-    if rows < FEWEST_ROWS || rows > MOST_ROWS || cols < FEWEST_COLS || cols > MOST_COLS {
-        return Ok(false);
-    }
-    let Ok((status, terminal)) = shown(rt.alloc(), rows, cols, scene.keys.as_slice()) else {
-        return Ok(false);
-    };
-    let (row, col) = terminal.cursor();
-    println!(rt; "= {status:?} at {row} {col}")?;
-    tell_rows(rt, &terminal, rows)?;
-    Ok(true)
+pub fn screen(alloc: Global, scene: &mut Scene, rows: &[u8], cols: &[u8]) -> Option<()> {
+    let size = size_of(rows, cols)?;
+    let played = play_on(alloc, rows, cols, scene.keys.as_slice())?;
+    tell_screen(alloc, size, &played, &mut scene.told)
 }
 
-/// How a run on these keys ends, and the terminal of this size that took what it wrote.
-fn shown(
-    alloc: Global,
-    rows: u16,
-    cols: u16,
-    keys: &[u8],
-) -> Result<(Status, Terminal), OutOfMemory>
-    requires least_rows { FEWEST_ROWS ≤ rows }
-    requires most_rows { rows ≤ MOST_ROWS }
-    requires least_cols { FEWEST_COLS ≤ cols }
-    requires most_cols { cols ≤ MOST_COLS }
-    ensures { IfOk result (λ shown. shown.1.rows ≡ rows) }
+/// Tells how a run ended, and what a terminal of this size shows of it.
+fn tell_screen(alloc: Global, size: (u16, u16), played: &Played, told: &mut Told) -> Option<()>
+    requires least_rows { FEWEST_ROWS ≤ size.0 }
+    requires most_rows { size.0 ≤ MOST_ROWS }
+    requires least_cols { FEWEST_COLS ≤ size.1 }
+    requires most_cols { size.1 ≤ MOST_COLS }
 {
-    let played = play_on(alloc, rows, cols, keys)?;
-    let mut terminal = Terminal::new(alloc, rows, cols)?;
-    terminal.take(played.written());
-    Ok((played.status, terminal))
+    let terminal = terminal_of(alloc, size, played.written())?;
+    told.value(&played.status);
+    tell_terminal(&terminal, size.0, told);
+    Some(())
 }
 
-/// The size that these words ask for.
-fn size_of(arguments: &[Vec<u8>]) -> Option<(u16, u16)> {
-    match arguments {
-        [] => Some((12, 40)),
-        [rows, cols] => {
-            let rows = u16::try_from(number_of(rows.as_slice())?).ok()?;
-            let cols = u16::try_from(number_of(cols.as_slice())?).ok()?;
-            Some((rows, cols))
-        }
-        _ => None,
+/// The size that these words ask for, if screens have it.
+fn size_of(rows: &[u8], cols: &[u8]) -> Option<(u16, u16)>
+    ensures least_rows { IfSome result (λ size. FEWEST_ROWS ≤ size.0) }
+    ensures most_rows { IfSome result (λ size. size.0 ≤ MOST_ROWS) }
+    ensures least_cols { IfSome result (λ size. FEWEST_COLS ≤ size.1) }
+    ensures most_cols { IfSome result (λ size. size.1 ≤ MOST_COLS) }
+{
+    let rows = number_within(rows, FEWEST_ROWS, MOST_ROWS)?;
+    let cols = number_within(cols, FEWEST_COLS, MOST_COLS)?;
+    Some((rows, cols))
+}
+
+/// The number that the word is, if it is one from the least to the most.
+fn number_within(word: &[u8], least: u16, most: u16) -> Option<u16>
+    ensures least { IfSome result (λ number. least ≤ number) }
+    ensures most { IfSome result (λ number. number ≤ most) }
+{
+    let number = u16::try_from(number_of(word)?).ok()?;
+    if number < least || number > most {
+        return None;
     }
+    Some(number)
 }
 
-/// Tells the rows of a terminal, a row a line.
-fn tell_rows(rt: &HostRuntime, terminal: &Terminal, rows: u16) -> io::Result<()>
+/// A terminal of this size that has taken these bytes.
+pub fn terminal_of(alloc: Global, size: (u16, u16), bytes: &[u8]) -> Option<Terminal>
+    requires least_rows { FEWEST_ROWS ≤ size.0 }
+    requires most_rows { size.0 ≤ MOST_ROWS }
+    requires least_cols { FEWEST_COLS ≤ size.1 }
+    requires most_cols { size.1 ≤ MOST_COLS }
+    ensures { IfSome result (λ terminal. terminal.rows ≡ size.0) }
+{
+    let mut terminal = Terminal::new(alloc, size.0, size.1).ok()?;
+    terminal.take(bytes);
+    Some(terminal)
+}
+
+/// Tells the cursor's place on a terminal, and its rows, a row a line.
+fn tell_terminal(terminal: &Terminal, rows: u16, told: &mut Told)
     requires { terminal.now.rows ≡ rows }
 {
+    let (row, col) = terminal.cursor();
+    told.text(" at ");
+    told.value(&row);
+    told.put(b' ');
+    told.value(&col);
+    told.put(b'\n');
     for above in 0..rows {
-        let text = row_text(rt.alloc(), terminal.cells(above + 1))?;
-        let text = text.as_str().trim_end_matches(' ');
-        if text.is_empty() {
-            println!(rt; "=")?;
-        } else {
-            println!(rt; "= {text}")?;
-        }
+        tell_row(terminal.cells(above + 1), told);
     }
-    Ok(())
 }
 
-/// The text of a row's cells. What stands between two `~` is in negative image, and all else in default image.
-fn row_text(alloc: Global, cells: &[u16]) -> Result<String, AllocError> {
-    let mut text = String::new(alloc);
+/// Tells the text of a row's cells without the blanks at its end. What stands between two `~` is in negative image,
+/// and all else in default image.
+fn tell_row(cells: &[u16], told: &mut Told) {
     let mut negative = false;
-    for cell in cells {
+    for cell in shown_cells(cells) {
         if (*cell >= 256) != negative {
             negative = !negative;
-            text.push('~')?;
+            told.put(b'~');
         }
-        text.push(char::from((*cell & 127) as u8))?;
+        told.put((*cell & 127) as u8);
     }
     if negative {
-        text.push('~')?;
+        told.put(b'~');
     }
-    Ok(text)
+    told.put(b'\n');
+}
+
+/// The cells up to the last one that isn't a blank in default image.
+fn shown_cells(cells: &[u16]) -> &[u16] {
+    let mut end = 0;
+    for (col, cell) in cells.iter().enumerate() {
+        if *cell != 32 {
+            end = col + 1;
+        }
+    }
+    &cells[..end.min(cells.len())]
 }

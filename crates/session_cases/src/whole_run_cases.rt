@@ -1,115 +1,108 @@
 //! Cases of whole runs: how they end, what they write, and what they leave of the keys.
 
-use crate::pieces::{count_pieces, is_place, tell_bytes, tell_pieces};
-use crate::playing::{Failing, NOTHING, Played, play, play_on};
+use crate::pieces::{count_pieces, is_place, tell_pieces};
+use crate::playing::{Failing, NOTHING, Played, play, play_alone, play_on, push_word};
 use crate::scene::Scene;
-use case_script::{number_of, quoted};
-use std::alloc::{AllocError, Global};
-use std::io;
-use synth_outside::MemFiles;
+use case_script::{Told, meaning, number_of};
+use std::alloc::Global;
 use synth_top::Status;
 
 /// `run WORD.. keys KEYS`: a run over the files at hand. It answers the status, the pieces that were written,
 /// and the keys that were not read.
-pub fn run(rt: &HostRuntime, scene: &mut Scene, arguments: &[Vec<u8>]) -> io::Result<bool> {
-    let alloc = rt.alloc();
-    let Some((keys, behind)) = arguments.split_last() else {
-        return Ok(false);
+pub fn run(alloc: Global, scene: &mut Scene, words: &[Vec<u8>]) -> Option<()> {
+    let [words @ .., mark, keys] = words else {
+        return None;
     };
-    let Some((mark, words)) = behind.split_last() else {
-        return Ok(false);
-    };
-    if mark.as_slice() != b"keys".as_slice() || !take_words(alloc, scene, words)? {
-        return Ok(false);
+    if mark.as_slice() != b"keys".as_slice() {
+        return None;
     }
-    scene.given = keys.as_slice().to_vec(alloc)?;
-    let mut played = play(
+    take_words(alloc, scene, words)?;
+    scene.given.clear();
+    scene.given.extend_from_slice(keys.as_slice()).ok()?;
+    play_taken(alloc, scene)?;
+    tell_run(&mut scene.played, &mut scene.told);
+    Some(())
+}
+
+/// Takes the words of a run, if they are texts.
+fn take_words(alloc: Global, scene: &mut Scene, words: &[Vec<u8>]) -> Option<()> {
+    scene.words.clear();
+    for word in words {
+        push_word(alloc, &mut scene.words, word.as_slice())?;
+    }
+    Some(())
+}
+
+/// Runs the editor on the words and the keys that were taken, over the files at hand.
+fn play_taken(alloc: Global, scene: &mut Scene) -> Option<()> {
+    scene.played = play(
         alloc,
         scene.words.as_slice(),
         scene.given.as_slice(),
         NOTHING,
         &mut scene.files,
     )?;
-    scene.written = played.written().to_vec(alloc)?;
-    tell_run(rt, &mut played)?;
-    Ok(true)
+    Some(())
 }
 
 /// Tells how a run ended, what it wrote, and what it left.
-fn tell_run(rt: &HostRuntime, played: &mut Played) -> io::Result<()> {
-    println!(rt; "= {:?}", played.status)?;
-    tell_pieces(rt, played.written())?;
-    tell_left(rt, played)
-}
-
-/// Takes the words of a run, or tells that they aren't texts.
-fn take_words(alloc: Global, scene: &mut Scene, words: &[Vec<u8>]) -> Result<bool, AllocError> {
-    scene.words = Vec::new(alloc);
-    for word in words {
-        let Ok(text) = std::str::from_utf8(word.as_slice()) else {
-            return Ok(false);
-        };
-        scene.words.push(String::from_str(alloc, text)?)?;
-    }
-    Ok(true)
-}
-
-/// Tells the keys that a run left, if there are any.
-fn tell_left(rt: &HostRuntime, played: &mut Played) -> io::Result<()> {
-    let left = played.left(rt.alloc())?;
-    if left.is_empty() {
-        return Ok(());
-    }
-    let text = quoted(rt.alloc(), left.as_slice())?;
-    println!(rt; "= left {text}")
+fn tell_run(played: &mut Played, told: &mut Told) {
+    told.value_line(&played.status);
+    tell_pieces(played.written(), told);
+    played.tell_left(told);
 }
 
 /// `fail read N`, `fail write N`: the last run once more, without files, where the N-th read of keys or write
 /// of a screen fails. It answers the status, how many of that run's pieces were written, and the keys that
 /// were not read.
-pub fn fail(rt: &HostRuntime, scene: &mut Scene, arguments: &[Vec<u8>]) -> io::Result<bool> {
-    let alloc = rt.alloc();
-    let Some(failing) = failing_of(arguments) else {
-        return Ok(false);
-    };
-    let mut files = MemFiles::new(alloc, Vec::new(alloc));
-    let mut played = play(
+pub fn fail(alloc: Global, scene: &mut Scene, kind: &[u8], number: &[u8]) -> Option<()> {
+    let failing = failing_of(kind, number)?;
+    let mut played = play_alone(
         alloc,
         scene.words.as_slice(),
         scene.given.as_slice(),
         failing,
-        &mut files,
     )?;
-    tell_failed(rt, scene.written.as_slice(), &mut played)?;
-    Ok(true)
+    scene.told.value(&played.status);
+    tell_behind(scene.played.written(), played.written(), &mut scene.told);
+    played.tell_left(&mut scene.told);
+    Some(())
 }
 
-/// Tells how a run ended, how many of these pieces it wrote, and what it left.
-fn tell_failed(rt: &HostRuntime, pieces: &[u8], played: &mut Played) -> io::Result<()> {
-    let status = played.status;
-    match first_pieces(pieces, played.written()) {
-        Some(count) => println!(rt; "= {status:?} behind {count} pieces")?,
-        None => println!(rt; "= {status:?} behind other bytes")?,
-    }
-    tell_left(rt, played)
+/// The words of what fails.
+static KINDS: [(&[u8], Kind); 2] = [(b"read", Kind::Read), (b"write", Kind::Write)];
+
+/// What fails: a read of keys or a write of a screen.
+#[derive(Clone, Copy)]
+enum Kind {
+    Read,
+    Write,
 }
 
 /// The read or the write that these words name.
-fn failing_of(arguments: &[Vec<u8>]) -> Option<Failing> {
-    let [kind, number] = arguments else {
-        return None;
-    };
-    let number = u64::from(number_of(number.as_slice())?);
-    match kind.as_slice() {
-        b"read" => Some(Failing {
+fn failing_of(kind: &[u8], number: &[u8]) -> Option<Failing> {
+    let number = u64::from(number_of(number)?);
+    match meaning(&KINDS, kind)? {
+        Kind::Read => Some(Failing {
             read: number,
             write: 0,
         }),
-        b"write" => Some(Failing {
+        Kind::Write => Some(Failing {
             read: 0,
             write: number,
         }),
-        _ => None,
+    }
+}
+
+/// Tells how many pieces of the whole the part is, if it is its first pieces.
+fn tell_behind(whole: &[u8], part: &[u8], told: &mut Told) {
+    match first_pieces(whole, part) {
+        Some(count) => {
+            told.text(" behind ");
+            told.value(&count);
+            told.line(" pieces");
+        }
+        None => told.line(" behind other bytes"),
     }
 }
 
@@ -125,36 +118,26 @@ fn first_pieces(whole: &[u8], part: &[u8]) -> Option<usize> {
 
 /// `bytes BEFORE LAST`: what the editor writes for the last keys behind those before, on a screen of 12 rows
 /// and 40 columns, where the keys end both times.
-pub fn bytes(rt: &HostRuntime, arguments: &[Vec<u8>]) -> io::Result<bool> {
-    let [before, last] = arguments else {
-        return Ok(false);
-    };
-    match last_bytes(rt.alloc(), before.as_slice(), last.as_slice())? {
-        Some(bytes) => tell_bytes(rt, bytes.as_slice())?,
-        None => println!(rt; "= not written behind those")?,
+pub fn bytes(alloc: Global, scene: &mut Scene, before: &[u8], last: &[u8]) -> Option<()> {
+    let first = play_on(alloc, b"12", b"40", before)?;
+    let whole = play_behind(alloc, before, last)?;
+    match written_behind(&first, &whole) {
+        Some(bytes) => scene.told.word_line(bytes),
+        None => scene.told.line("not written behind those"),
     }
-    Ok(true)
+    Some(())
 }
 
-/// What the editor writes for the last keys behind those before.
-fn last_bytes(alloc: Global, before: &[u8], last: &[u8]) -> Result<Option<Vec<u8>>, AllocError> {
-    let keys = [before, last].concat(alloc)?;
-    let first = play_on(alloc, 12, 40, before)?;
-    let whole = play_on(alloc, 12, 40, keys.as_slice())?;
-    bytes_behind(alloc, &first, &whole)
+/// Runs the editor on the one keys and then the others.
+fn play_behind(alloc: Global, before: &[u8], last: &[u8]) -> Option<Played> {
+    let keys = [before, last].concat(alloc).ok()?;
+    play_on(alloc, b"12", b"40", keys.as_slice())
 }
 
 /// What the whole run wrote behind what the first one wrote, where both ended well.
-fn bytes_behind(
-    alloc: Global,
-    first: &Played,
-    whole: &Played,
-) -> Result<Option<Vec<u8>>, AllocError> {
+fn written_behind<'a>(first: &Played, whole: &'a Played) -> Option<&'a [u8]> {
     if first.status != Status::Done || whole.status != Status::Done {
-        return Ok(None);
+        return None;
     }
-    match whole.written().strip_prefix(first.written()) {
-        Some(bytes) => Ok(Some(bytes.to_vec(alloc)?)),
-        None => Ok(None),
-    }
+    whole.written().strip_prefix(first.written())
 }
