@@ -19,7 +19,7 @@ pub fn number_at(words: &[Vec<u8>], k: usize) -> Option<u32> {
     number_of(word_at(words, k))
 }
 
-/// The slot and the part that the first two words name.
+/// The slot and the part that the first two words behind the name of the case say.
 pub fn phrase_at(words: &[Vec<u8>]) -> Option<PhraseAt> {
     let slot = number_at(words, 0)?;
     let part = number_at(words, 1)?;
@@ -29,7 +29,7 @@ pub fn phrase_at(words: &[Vec<u8>]) -> Option<PhraseAt> {
     })
 }
 
-/// The rows and the columns that the first two words name, where a screen has so many.
+/// The rows and the columns that the first two words behind the name of the case say, where a screen has so many.
 pub fn size_at(words: &[Vec<u8>]) -> Option<(u16, u16)>
     ensures least_rows { IfSome result (λ size. FEWEST_ROWS ≤ size.0) }
     ensures most_rows { IfSome result (λ size. size.0 ≤ MOST_ROWS) }
