@@ -1,4 +1,4 @@
--- A journal that is closed behind the editor's run.
+-- A journal that is closed after the editor's run.
 use Rattle.std.proofs.Common.{◌≡◌, ℕ, Bool, false, ◌⊎◌, inl, inr, List, [], ◌∷◌, ◌++◌, refl, sym, ap, ◌∙◌, subst, Option, append-nil}
 use Rattle.std.specs.Prelude.{IsTrue}
 use Rattle.plcs_base.specs.PlainCounts.{PlainCounts}

@@ -10,5 +10,5 @@ pub mod Limits
 pub mod Quits
 -- `ended`: what the editor did over a journal, by what became of the journal
 pub mod Editing
--- `ended`: a journal that is closed behind
+-- `ended`: a journal that is closed after it
 pub mod Closed

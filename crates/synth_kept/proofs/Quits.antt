@@ -70,7 +70,7 @@ module _ (options : PlainOptions) (limited : IsLimited options) (first : EditorS
   clears_at_quit run Cleared stopped agrees = (agrees.done, clear_quits run stopped agrees)
   clears_at_quit run (NotCleared fault) stopped agrees = (agrees.done, clear_quits run stopped agrees)
 
--- a run that isn't done isn't cleared behind
+-- a run that isn't done isn't cleared after it
 pub stands_undone : (quit : Type 0) (run : Status) (given : ℕ) (ended : Bool) (closing : Closing) →
     (run ≡ Done → ⊥) → ClosesAsDue closing run given ended → ClearsWhere ((run ≡ Done) × quit) closing
 stands_undone quit run given ended LeftStanding undone agrees = λ both. undone both.0

@@ -6,7 +6,7 @@ ghost use Rattle.plcs_base.specs.Count.{Rose};
 ghost use Rattle.synth_kept.specs.KeptWholeRun.{KeptEnded};
 ghost use Rattle.synth_kept.specs.Private.Agreement.{IsToClear};
 ghost use Rattle.synth_kept.specs.Private.Clearing.{ClearsKeys};
-ghost use Rattle.synth_top.specs.Status.{CausedBy};
+ghost use Rattle.synth_outside.specs.Cause.{RisesWith};
 ghost use Rattle.synth_top.specs.Task.{task_of};
 
 use crate::status::KeptStatus;
@@ -55,13 +55,13 @@ pub fn synth_kept<S: Source, K: Sink, F: Files, D: Disk, W: Work>(
 
     // A fault is answered exactly where the count of its own cause rose; that of reads is the sum of
     // the counts of source and disk.
-    ensures read { CausedBy
+    ensures read { RisesWith
         ((result.0 ≡ KeptStatus.Run Status.ReadFault) ⊎ (result.0 ≡ KeptStatus.JournalFault))
         (both_counts (S.faults keys) (D.faults disk))
         (both_counts (S.faults result.1) (D.faults result.2)) }
     ensures journal { result.0 ≡ KeptStatus.JournalFault →
         Rose (D.faults disk) (D.faults result.2) }
-    ensures write { CausedBy (result.0 ≡ KeptStatus.Run Status.WriteFault)
+    ensures write { RisesWith (result.0 ≡ KeptStatus.Run Status.WriteFault)
         (K.faults screen.old) (K.faults screen.new) }
 {
     let mut journal = match JournalKeys::open(keys, disk) {

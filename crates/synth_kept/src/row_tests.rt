@@ -144,7 +144,7 @@ fn a_sync_that_fails_loses_no_key_that_was_acted_on(rt: HostRuntime) -> Result<(
 
 #[test]
 fn a_clear_that_fails_leaves_nothing_or_all_keys(rt: HostRuntime) -> Result<(), Fail> {
-    // Six keys take four calls each behind the first four, and then the journal is cleared.
+    // Six keys take four calls each after the first four, and then the journal is cleared.
     for call in [29, 30] {
         let played = play(rt.alloc(), b".quit\ra", failing_disk(rt.alloc(), call)?)?;
         assert_eq!(rt; played.status.code(), 6);

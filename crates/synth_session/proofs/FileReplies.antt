@@ -1,19 +1,16 @@
 -- What the files did in a save and in a load.
-use Rattle.std.proofs.Common.{◌≡◌, ◌⊎◌, inl, inr, ℕ, ◌+◌, false, List, Option, Some, None, Result, Ok, Err, refl, sym, ap, ◌∙◌}
+use Rattle.std.proofs.Common.{◌≡◌, ◌⊎◌, inl, inr, ℕ, List, Option, Result, Ok, Err, ap}
 use Rattle.synth_outside.specs.Cause.{HasCause}
-use Rattle.synth_outside.specs.Files.{FileMap, NewContent, PlainFiles}
-use Rattle.template_tree.specs.Edits.Edit.{whole}
-use Rattle.template_tree.specs.Programs.PlainTree.{Forest, PlainTree, roomless, roomless_tree}
-use Rattle.template_tree.specs.Laws.RoomLaws.{CountsIgnoreRoom, ListingIgnoresRoom, TreesIgnoreRoom}
-use Rattle.template_tree.specs.Programs.Slots.{count, with_slots_from}
+use Rattle.synth_outside.specs.Files.{NewContent, PlainFiles}
+use Rattle.template_tree.specs.Programs.PlainTree.{PlainTree, roomless_tree}
+use Rattle.template_tree.specs.Laws.RoomLaws.{TreesIgnoreRoom}
 use Rattle.template_tree.specs.Programs.Tree.{IsTree}
 use Rattle.file_store.specs.declared.refusal.FileRefusal.{FileRefusal}
-use Rattle.file_store.specs.FileReading.{LoadingSays, OnlyReads}
-use Rattle.file_store.specs.Loaded.{IsListingOf}
+use Rattle.file_store.specs.FileReading.{LoadingIgnoresRoom, LoadingSays, OnlyReads}
 use Rattle.file_store.specs.Saved.{Saves}
 use Rattle.plcs_base.specs.declared.memory.OutOfMemory.{OutOfMemory}
 use Rattle.synth_session.specs.declared.answer.Answer.{Answer}
-use Rattle.synth_session.specs.FileReply.{CountsFault, FilesDo, HaveNoMemory, HaveReplied, Reply, Request}
+use Rattle.synth_session.specs.KeyReply.{CountsFault, FilesDo, HaveNoMemory, HaveReplied, Reply, Request}
 
 -- ---- refusals
 
@@ -82,58 +79,20 @@ wanting_load name begun_before begun_now refusal before now reads wants = record
 
 -- ---- a program that was loaded
 
--- slots are drawn alike without room
-slots_without_room : CountsIgnoreRoom → (first : ℕ) (items : Forest)
-    → with_slots_from first (roomless items) ≡ roomless (with_slots_from first items)
-slots_without_room counts first Forest.nil = refl
-slots_without_room counts first (Forest.cons label inner rest) =
-    ap (λ n. Forest.cons (record label { slot = first; spare = 0 }) (with_slots_from (first + 1) (roomless inner)) (with_slots_from (first + 1 + n) (roomless rest)))
-    (counts inner)
-    ∙ ap (λ i. Forest.cons (record label { slot = first; spare = 0 }) i (with_slots_from (first + 1 + count inner) (roomless rest)))
-    (slots_without_room counts (first + 1) inner)
-    ∙ ap (λ r. Forest.cons (record label { slot = first; spare = 0 }) (roomless (with_slots_from (first + 1) inner)) r)
-    (slots_without_room counts (first + 1 + count inner) rest)
-
--- so is everything shown
-whole_without_room : (items : Forest) → whole (roomless items) ≡ roomless (whole items)
-whole_without_room Forest.nil = refl
-whole_without_room (Forest.cons label inner rest) =
-    ap (λ i. Forest.cons (record label { elided = false; spare = 0 }) i (whole (roomless rest))) (whole_without_room inner)
-    ∙ ap (λ r. Forest.cons (record label { elided = false; spare = 0 }) (roomless (whole inner)) r) (whole_without_room rest)
-
-module _ (trees : TreesIgnoreRoom) (counts : CountsIgnoreRoom) (listings : ListingIgnoresRoom) where
-  -- bytes are the listing of a tree without room too
-  listing_without_room : (x : List ℕ) (tree : PlainTree) → IsListingOf x tree → IsListingOf x (roomless_tree tree)
-  listing_without_room x tree is =
-      let without : IsTree (roomless_tree tree) = (trees tree).0 is.is_tree in
-      record {
-        spells = record { program = without.program; listed = is.spells.listed ∙ sym (listings tree.items) };
-        is_tree = without;
-        slots = slots_without_room counts 0 tree.items ∙ ap roomless is.slots;
-        drawn = is.drawn ∙ sym (counts tree.items);
-        unelided = whole_without_room tree.items ∙ ap roomless is.unelided;
-      }
-
-  -- so is the content of a file
-  says_without_room : (stored : Option FileMap) (name : List ℕ) (tree : PlainTree) → LoadingSays stored name (Ok tree)
-      → LoadingSays stored name (Ok (roomless_tree tree))
-  says_without_room None name tree says = tt
-  says_without_room (Some map) name tree says = (says.0, says.1, listing_without_room says.0 tree says.2)
-
-  -- a load that was made, by whether memory was left to take the program
-  pub loaded_files : (name : List ℕ) (begun_before begun_now : Option NewContent) (tree : PlainTree) (before now : PlainFiles)
-      → IsTree tree → LoadingSays before.stored name (Ok tree)
-      → OnlyReads {T = PlainTree} (Ok tree) before now begun_before begun_now
-      → (result : Result Answer OutOfMemory) → FilesDo (Request.Load name) (Reply.Loaded (roomless_tree tree)) before now result
-  loaded_files name begun_before begun_now tree before now is says reads (Ok answer) = record {
-    can = ((trees tree).0 is, says_without_room before.stored name tree says);
-    stored = reads.stored;
-    faults = reads.fault.same (λ other. absurd (cc));
-    wants = reads.want.same (λ other. absurd (cc));
-  }
-  loaded_files name begun_before begun_now tree before now is says reads (Err error) = record {
-    can = ((trees tree).0 is, says_without_room before.stored name tree says);
-    stored = reads.stored;
-    faults = reads.fault.same (λ other. absurd (cc));
-    wants = reads.want.later;
-  }
+-- a load that was made, by whether memory was left to take the program
+pub loaded_files : TreesIgnoreRoom → LoadingIgnoresRoom → (name : List ℕ) (begun_before begun_now : Option NewContent) (tree : PlainTree) (before now : PlainFiles)
+    → IsTree tree → LoadingSays before.stored name (Ok tree)
+    → OnlyReads {T = PlainTree} (Ok tree) before now begun_before begun_now
+    → (result : Result Answer OutOfMemory) → FilesDo (Request.Load name) (Reply.Loaded (roomless_tree tree)) before now result
+loaded_files trees law name begun_before begun_now tree before now is says reads (Ok answer) = record {
+  can = ((trees tree).0 is, law before.stored name tree says);
+  stored = reads.stored;
+  faults = reads.fault.same (λ other. absurd (cc));
+  wants = reads.want.same (λ other. absurd (cc));
+}
+loaded_files trees law name begun_before begun_now tree before now is says reads (Err error) = record {
+  can = ((trees tree).0 is, law before.stored name tree says);
+  stored = reads.stored;
+  faults = reads.fault.same (λ other. absurd (cc));
+  wants = reads.want.later;
+}

@@ -2,7 +2,7 @@
 mod Limits
 -- `RefusedKeysChangeTheMessage`: each key in turn
 pub mod RefusedKeys
--- `TextsStandSo`, and `Does` of enter_text: what the parser answers is what the text is taken for
+-- `TextsHaveOneReply`, `does` of enter_text and `read` of read_phrase: what the parser answers is what the text is
 pub mod StandingTexts
 -- `Answers` of toggle_comment: the cursor may stay at a comment that is turned
 pub mod TurnedStops

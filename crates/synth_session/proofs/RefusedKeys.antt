@@ -36,12 +36,11 @@ use Rattle.synth_session.specs.KeyOutcome.{KeyOutcome, acceptance_outcome, line_
 use Rattle.synth_session.specs.TypedLine.{cursor_phrase, text_typed}
 use Rattle.synth_session.specs.CursorKeys.{cursor_goes, cursor_moved}
 use Rattle.synth_session.specs.FileCommands.{load_outcome, save_outcome}
-use Rattle.synth_session.specs.FileReply.{Reply}
+use Rattle.synth_session.specs.KeyReply.{Reply}
 use Rattle.synth_session.specs.ClipCommands.{copy_outcome, cut_outcome, fragment_inserted, fragment_there, slots_there}
 use Rattle.synth_session.specs.EditCommands.{edit_outcome, edit_refusal, edited_by}
 use Rattle.synth_session.specs.ElideCommand.{comment_toggled, is_at_comment}
-use Rattle.synth_session.specs.EnteredLine.{command_line_outcome, command_outcome, is_unbuilt, line_entered, reading_outcome, standing_entered, text_entered}
-use Rattle.synth_session.specs.TextStanding.{standing_of}
+use Rattle.synth_session.specs.EnteredLine.{command_line_outcome, command_outcome, is_unbuilt, line_entered, read_entered, reading_outcome, standing_entered, text_entered}
 use Rattle.synth_session.specs.Press.{RefusedKeysChangeTheMessage, RefusedKeysCheckNothing, key_outcome, press, without_code_display}
 
 -- where this is the outcome of a refused key, the message alone changes, and nothing is checked
@@ -131,6 +130,7 @@ turned_alone s =
 -- a program saved, or refused
 save_alone : (s : PlainSession) (reply : Reply) → Alone s (save_outcome s reply)
 save_alone s Reply.NotAsked = taken_alone s _ refl
+save_alone s (Reply.Read standing) = taken_alone s _ refl
 save_alone s Reply.Saved = taken_alone s _ refl
 save_alone s (Reply.Loaded tree) = taken_alone s _ refl
 save_alone s (Reply.Refused refusal) = refused_alone s (why.File refusal)
@@ -138,6 +138,7 @@ save_alone s (Reply.Refused refusal) = refused_alone s (why.File refusal)
 -- a program loaded, or refused
 load_alone : (s : PlainSession) (reply : Reply) → Alone s (load_outcome s reply)
 load_alone s Reply.NotAsked = taken_alone s _ refl
+load_alone s (Reply.Read standing) = taken_alone s _ refl
 load_alone s Reply.Saved = taken_alone s _ refl
 load_alone s (Reply.Loaded tree) = taken_alone s _ refl
 load_alone s (Reply.Refused refusal) = refused_alone s (why.File refusal)
@@ -190,19 +191,27 @@ standing_alone s (Standing.over (OverLimit.number_too_large place)) = refused_al
 standing_alone s (Standing.over (OverLimit.too_deep place)) = refused_alone s (why.Phrase (fault.TooDeep place))
 standing_alone s (Standing.wrong_at place) = refused_alone s (why.Phrase (fault.Syntax place))
 
+-- phrase text, by what it is read as
+read_alone : (s : PlainSession) (reply : Reply) → Alone s (read_entered s reply)
+read_alone s Reply.NotAsked = taken_alone s _ refl
+read_alone s (Reply.Read standing) = standing_alone s standing
+read_alone s Reply.Saved = taken_alone s _ refl
+read_alone s (Reply.Loaded tree) = taken_alone s _ refl
+read_alone s (Reply.Refused refusal) = taken_alone s _ refl
+
 -- phrase text of a category
-text_alone : (s : PlainSession) (category : Option Category) → Alone s (text_entered s category)
-text_alone s None = refused_alone s why.NotHere
-text_alone s (Some category) = standing_alone s (standing_of category s.typed)
+text_alone : (s : PlainSession) (category : Option Category) (reply : Reply) → Alone s (text_entered s category reply)
+text_alone s None reply = refused_alone s why.NotHere
+text_alone s (Some category) reply = read_alone s reply
 
 -- the typed line
 line_alone : (s : PlainSession) (reply : Reply) → Alone s (line_entered s reply)
 line_alone s reply =
     either_alone s (length s.typed == 0) (cursor_moved s stop_right)
-    (if begins_with_point s.typed then command_line_outcome s reply else text_entered s (category_at s.tree s.stop))
+    (if begins_with_point s.typed then command_line_outcome s reply else text_entered s (category_at s.tree s.stop) reply)
     (moves_alone s stop_right)
-    (either_alone s (begins_with_point s.typed) (command_line_outcome s reply) (text_entered s (category_at s.tree s.stop))
-    (command_line_alone s reply) (text_alone s (category_at s.tree s.stop)))
+    (either_alone s (begins_with_point s.typed) (command_line_outcome s reply) (text_entered s (category_at s.tree s.stop) reply)
+    (command_line_alone s reply) (text_alone s (category_at s.tree s.stop) reply))
 
 -- each key
 key_alone : (s : PlainSession) (key : Key) (reply : Reply) → Alone s (key_outcome s key reply)

@@ -12,22 +12,22 @@ use Rattle.template_tree.specs.Programs.Program.{AreNodes, AreParts, IsPartPhras
 use Rattle.template_tree.specs.Positions.Stop.{PlainStop}
 use Rattle.template_tree.specs.Programs.Tree.{IsTree}
 use Rattle.screen_window.specs.LowerRows.{cursor_part}
-use Rattle.phrase_parser.proofs.Readings.Standings.{reading_category}
+use Rattle.phrase_parser.specs.ReadingLaws.{ReadingHasCategory}
 use Rattle.synth_session.specs.TypedLine.{cursor_phrase}
 
 -- a phrase of a category is one of its own
-own_phrase : (c : Category) (p : PlainPhrase) → IsPartPhrase c p → IsPartPhrase (category_of p) p
-own_phrase c p is = subst (λ (d : Category). IsPartPhrase d p) (sym (reading_category c (Canon p) p is.well_formed.0)) is
+own_phrase : ReadingHasCategory → (c : Category) (p : PlainPhrase) → IsPartPhrase c p → IsPartPhrase (category_of p) p
+own_phrase law c p is = subst (λ (d : Category). IsPartPhrase d p) (sym (law c (Canon p) p is.well_formed.0)) is
 
 -- a phrase among parts is one
-part_sound : (categories : List Category) (parts : List (Option PlainPhrase)) (k : ℕ) → AreParts categories parts
+part_sound : ReadingHasCategory → (categories : List Category) (parts : List (Option PlainPhrase)) (k : ℕ) → AreParts categories parts
     → IfSome (part_at parts k) (λ p. IsPartPhrase (category_of p) p)
-part_sound [] [] k are = tt
-part_sound [] (part ∷ parts) k are = absurd are
-part_sound (c ∷ cs) [] k are = absurd are
-part_sound (c ∷ cs) (None ∷ parts) zero are = tt
-part_sound (c ∷ cs) (Some p ∷ parts) zero are = own_phrase c p are.0
-part_sound (c ∷ cs) (part ∷ parts) (suc k) are = part_sound cs parts k are.1
+part_sound law [] [] k are = tt
+part_sound law [] (part ∷ parts) k are = absurd are
+part_sound law (c ∷ cs) [] k are = absurd are
+part_sound law (c ∷ cs) (None ∷ parts) zero are = tt
+part_sound law (c ∷ cs) (Some p ∷ parts) zero are = own_phrase law c p are.0
+part_sound law (c ∷ cs) (part ∷ parts) (suc k) are = part_sound law cs parts k are.1
 
 -- a node of sound nodes is a part of a program
 subtree_among : (items : Forest) (k : ℕ) → AreNodes items → IfSome (slice_get (nodes items) k) IsSubtree
@@ -52,26 +52,26 @@ subtree_at items [] sound = tt
 subtree_at items (k ∷ path) sound = subtree_in path (subtree_below path) (slice_get (nodes items) k) (subtree_among items k sound)
 
 -- the phrase in a part of a node
-phrase_of_node : (node : PlainNode) (part : Option ℕ) → IsSubtree node
+phrase_of_node : ReadingHasCategory → (node : PlainNode) (part : Option ℕ) → IsSubtree node
     → IfSome (option_and_then (λ part. part_at node.label.parts part) part) (λ p. IsPartPhrase (category_of p) p)
-phrase_of_node node None is = tt
-phrase_of_node node (Some part) is = part_sound (parts_of (row_of node.label.kind).line) node.label.parts part is.0.parts
+phrase_of_node law node None is = tt
+phrase_of_node law node (Some part) is = part_sound law (parts_of (row_of node.label.kind).line) node.label.parts part is.0.parts
 
-phrase_of_found : (found : Option PlainNode) (part : Option ℕ) → IfSome found IsSubtree
+phrase_of_found : ReadingHasCategory → (found : Option PlainNode) (part : Option ℕ) → IfSome found IsSubtree
     → IfSome (option_and_then (λ node. option_and_then (λ part. part_at node.label.parts part) (cursor_part node.label.kind part)) found)
     (λ p. IsPartPhrase (category_of p) p)
-phrase_of_found None part is = tt
-phrase_of_found (Some node) part is = phrase_of_node node (cursor_part node.label.kind part) is
+phrase_of_found law None part is = tt
+phrase_of_found law (Some node) part is = phrase_of_node law node (cursor_part node.label.kind part) is
 
 -- the phrase at the cursor
-pub cursor_phrase_sound : (tree : PlainTree) (stop : PlainStop) → IsTree tree
+pub cursor_phrase_sound : ReadingHasCategory → (tree : PlainTree) (stop : PlainStop) → IsTree tree
     → IfSome (cursor_phrase tree stop) (λ p. IsPartPhrase (category_of p) p)
 unfolding cursor_phrase
-cursor_phrase_sound tree stop is = phrase_of_found (node_at tree.items stop.path) stop.part (subtree_at tree.items stop.path is.program.sound)
+cursor_phrase_sound law tree stop is = phrase_of_found law (node_at tree.items stop.path) stop.part (subtree_at tree.items stop.path is.program.sound)
 
 -- so may a phrase equal to it
-pub copied_sound : (tree : PlainTree) (stop : PlainStop) → IsTree tree → (p q : PlainPhrase) → Some p ≡ cursor_phrase tree stop → q ≡ p
+pub copied_sound : ReadingHasCategory → (tree : PlainTree) (stop : PlainStop) → IsTree tree → (p q : PlainPhrase) → Some p ≡ cursor_phrase tree stop → q ≡ p
     → IsPartPhrase (category_of q) q
-copied_sound tree stop is p q there same =
+copied_sound law tree stop is p q there same =
     subst (λ (r : PlainPhrase). IsPartPhrase (category_of r) r) (sym same)
-    (subst (λ (found : Option PlainPhrase). IfSome found (λ p. IsPartPhrase (category_of p) p)) (sym there) (cursor_phrase_sound tree stop is))
+    (subst (λ (found : Option PlainPhrase). IfSome found (λ p. IsPartPhrase (category_of p) p)) (sym there) (cursor_phrase_sound law tree stop is))

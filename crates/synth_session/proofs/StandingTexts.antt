@@ -1,47 +1,40 @@
--- What a text is taken for, and what the parser answers to it.
-use Rattle.std.proofs.Common.{◌≡◌, ℕ, List, Result, Ok, Err, refl, sym, ap, subst}
-use Rattle.std.specs.Prelude.{IfErr, IfOk}
+-- What a text is, and what the parser answers to it.
+use Rattle.std.proofs.Common.{◌≡◌, ◌==◌, ℕ, Bool, true, false, if◌then◌else◌, List, length, Option, Some, Result, Ok, Err, refl, sym, ap, subst}
+use Rattle.std.specs.Prelude.{IfOk, is_some}
 use Rattle.plcs_grammar.specs.Canon.{IsWellFormed}
 use Rattle.plcs_grammar.specs.declared.category.Category.{Category}
 use Rattle.plcs_grammar.specs.declared.phrase.Phrase.{Phrase}
 use Rattle.plcs_grammar.specs.OverLimit.{OverLimit}
 use Rattle.plcs_grammar.specs.PlainPhrase.{category_of, plain_phrase}
+use Rattle.plcs_base.specs.declared.memory.OutOfMemory.{OutOfMemory}
 use Rattle.phrase_parser.specs.declared.fault.PhraseFault.{PhraseFault}
-use Rattle.phrase_parser.specs.declared.fault.PhraseFault.TheVariants.{Syntax, NumberTooLarge, TooDeep, OutOfMemory}
+use Rattle.phrase_parser.specs.declared.fault.PhraseFault.TheVariants as fault_of
 use Rattle.phrase_parser.specs.Answers.{Answers}
+use Rattle.phrase_parser.specs.ReadingLaws.{OneStanding}
 use Rattle.phrase_parser.specs.Standing.{Standing, HasStanding}
-use Rattle.phrase_parser.proofs.Readings.Standings.{one_standing}
+use Rattle.synth_outside.specs.Files.{PlainFiles}
+use Rattle.synth_session.specs.declared.answer.Answer.{Answer}
 use Rattle.synth_session.specs.declared.answer.Refusal.TheVariants as why
-use Rattle.synth_session.specs.EnteredLine.{standing_entered}
-use Rattle.synth_session.specs.KeyOutcome.{refusal_outcome}
+use Rattle.session_words.specs.CommandLine.{begins_with_point}
+use Rattle.cursor_moves.specs.Move.{stop_right}
+use Rattle.session_edit.specs.Here.{category_at}
+use Rattle.synth_session.specs.CursorKeys.{cursor_moved}
+use Rattle.synth_session.specs.EnteredLine.{command_line_outcome, line_entered, read_entered, standing_entered, text_entered}
+use Rattle.synth_session.specs.KeyOutcome.{KeyOutcome, refusal_outcome}
+use Rattle.synth_session.specs.KeyReply.{FilesDo, IsTextReply, Reply, Request, TextsHaveOneReply}
+use Rattle.synth_session.specs.KeyRequest.{command_line_request, line_request, text_request}
+use Rattle.synth_session.specs.MemoryTaken.{command_line_takes_memory, line_takes_memory}
 use Rattle.synth_session.specs.PlainSession.{PlainSession}
-use Rattle.synth_session.specs.Private.Faults.{IsTextFault}
-use Rattle.synth_session.specs.TextStanding.{TextsStandSo, standing_of}
+use Rattle.synth_session.specs.Private.Faults.{IsReadOf, IsTextFault}
 
--- the law: every text is what it is taken for
-pub texts_stand_so : TextsStandSo
-unfolding standing_of
-texts_stand_so c x = (one_standing c x).1
-
--- a standing that a text has is the one that it is taken for
-is_standing : (c : Category) (x : List ℕ) (standing : Standing) → HasStanding c x standing → standing_of c x ≡ standing
-unfolding standing_of
-is_standing c x standing h = sym ((one_standing c x).2 standing h)
-
--- a phrase that is answered
-pub answered_phrase : (c : Category) (x : List ℕ) (answer : Result Phrase PhraseFault) → Answers c x answer
-    → IfOk answer (λ phrase. standing_of c x ≡ Standing.phrase (plain_phrase phrase))
-answered_phrase c x (Ok phrase) says = is_standing c x (Standing.phrase (plain_phrase phrase)) says
-answered_phrase c x (Err fault) says = tt
-
--- a fault that is answered
-pub answered_fault : (c : Category) (x : List ℕ) (answer : Result Phrase PhraseFault) → Answers c x answer
-    → IfErr answer (IsTextFault (standing_of c x))
-answered_fault c x (Ok phrase) says = tt
-answered_fault c x (Err (Syntax place)) says = is_standing c x (Standing.wrong_at place) says
-answered_fault c x (Err (NumberTooLarge place)) says = is_standing c x (Standing.over (OverLimit.number_too_large place)) says
-answered_fault c x (Err (TooDeep place)) says = is_standing c x (Standing.over (OverLimit.too_deep place)) says
-answered_fault c x (Err OutOfMemory) says = tt
+-- what a text is of which this was answered; where memory ran out it is what the law says
+pub read_standing : OneStanding → (c : Category) (x : List ℕ) (answer : Result Phrase PhraseFault) → Answers c x answer
+    → (standing : Standing) × HasStanding c x standing × IsReadOf standing answer
+read_standing law c x (Ok phrase) says = (Standing.phrase (plain_phrase phrase), says, refl)
+read_standing law c x (Err (fault_of.Syntax place)) says = (Standing.wrong_at place, says, refl)
+read_standing law c x (Err (fault_of.NumberTooLarge place)) says = (Standing.over (OverLimit.number_too_large place), says, refl)
+read_standing law c x (Err (fault_of.TooDeep place)) says = (Standing.over (OverLimit.too_deep place), says, refl)
+read_standing law c x (Err fault_of.OutOfMemory) says = let one = law c x in (one.0, one.1, tt)
 
 -- a phrase that is answered is well formed in its own category
 pub own_form : (c : Category) (answer : Result Phrase PhraseFault)
@@ -52,8 +45,50 @@ own_form c (Err fault) formed is = tt
 
 -- what comes of phrase text with a fault
 pub fault_entered : (s : PlainSession) (standing : Standing) (fault : PhraseFault) → IsTextFault standing fault
-    → (fault ≡ OutOfMemory → ⊥) → standing_entered s standing ≡ refusal_outcome s (why.Phrase fault)
-fault_entered s standing (Syntax place) is isnt = ap (standing_entered s) is
-fault_entered s standing (NumberTooLarge place) is isnt = ap (standing_entered s) is
-fault_entered s standing (TooDeep place) is isnt = ap (standing_entered s) is
-fault_entered s standing OutOfMemory is isnt = absurd (isnt refl)
+    → (fault ≡ fault_of.OutOfMemory → ⊥) → standing_entered s standing ≡ refusal_outcome s (why.Phrase fault)
+fault_entered s standing (fault_of.Syntax place) is isnt = ap (standing_entered s) is
+fault_entered s standing (fault_of.NumberTooLarge place) is isnt = ap (standing_entered s) is
+fault_entered s standing (fault_of.TooDeep place) is isnt = ap (standing_entered s) is
+fault_entered s standing fault_of.OutOfMemory is isnt = absurd (isnt refl)
+
+-- what can be replied to a text is what it is
+reply_is : (c : Category) (x : List ℕ) (standing : Standing) → ((other : Standing) → HasStanding c x other → other ≡ standing)
+    → (reply : Reply) → IsTextReply c x reply → reply ≡ Reply.Read standing
+reply_is c x standing one Reply.NotAsked is = absurd is
+reply_is c x standing one (Reply.Read other) is = ap Reply.Read (one other is)
+reply_is c x standing one Reply.Saved is = absurd is
+reply_is c x standing one (Reply.Loaded tree) is = absurd is
+reply_is c x standing one (Reply.Refused refusal) is = absurd is
+
+pub texts_have_one_reply : OneStanding → TextsHaveOneReply
+texts_have_one_reply law c x = let one = law c x in (Reply.Read one.0, one.1, reply_is c x one.0 one.2)
+
+-- what the typed line is entered as that is phrase text
+pub text_line : (s : PlainSession) → (length s.typed == 0) ≡ false → begins_with_point s.typed ≡ false
+    → (P : Bool → Request → (Reply → KeyOutcome) → Type 0)
+    → P (is_some (category_at s.tree s.stop)) (text_request s (category_at s.tree s.stop)) (text_entered s (category_at s.tree s.stop))
+    → P (line_takes_memory s) (line_request s) (line_entered s)
+text_line s some no_point P h =
+    subst
+    (λ (empty : Bool). P (if empty then false else (if begins_with_point s.typed then command_line_takes_memory s else is_some (category_at s.tree s.stop)))
+    (if empty then Request.Nothing else (if begins_with_point s.typed then command_line_request s else text_request s (category_at s.tree s.stop)))
+    (λ reply. if empty then cursor_moved s stop_right
+    else (if begins_with_point s.typed then command_line_outcome s reply else text_entered s (category_at s.tree s.stop) reply)))
+    (sym some)
+    (subst
+    (λ (point : Bool). P (if point then command_line_takes_memory s else is_some (category_at s.tree s.stop))
+    (if point then command_line_request s else text_request s (category_at s.tree s.stop))
+    (λ reply. if point then command_line_outcome s reply else text_entered s (category_at s.tree s.stop) reply))
+    (sym no_point) h)
+
+-- what it is entered as where the cursor wants phrase text of a category
+pub wanted_text : (s : PlainSession) (category : Category) → category_at s.tree s.stop ≡ Some category
+    → (P : Bool → Request → (Reply → KeyOutcome) → Type 0) → P true (Request.Read category s.typed) (read_entered s)
+    → P (is_some (category_at s.tree s.stop)) (text_request s (category_at s.tree s.stop)) (text_entered s (category_at s.tree s.stop))
+wanted_text s category is P h = subst (λ (wanted : Option Category). P (is_some wanted) (text_request s wanted) (text_entered s wanted)) (sym is) h
+
+-- what files do that nothing is asked of, where a text is replied to
+pub read_files : (c : Category) (x : List ℕ) (standing : Standing) (files : PlainFiles) (result : Result Answer OutOfMemory)
+    → HasStanding c x standing → FilesDo (Request.Read c x) (Reply.Read standing) files files result
+read_files c x standing files (Ok answer) has = record { can = has; stored = refl; faults = refl; wants = refl }
+read_files c x standing files (Err error) has = record { can = has; stored = refl; faults = refl; wants = refl }

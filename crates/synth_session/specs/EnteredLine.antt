@@ -23,10 +23,9 @@ use Rattle.synth_session.specs.ClipCommands.{clip_inserted, copied_to_clip, cut_
 use Rattle.synth_session.specs.EditCommands.{edited_by}
 use Rattle.synth_session.specs.ElideCommand.{comment_toggled}
 use Rattle.synth_session.specs.FileCommands.{load_outcome, save_outcome}
-use Rattle.synth_session.specs.FileReply.{Reply}
-use Rattle.synth_session.specs.KeyOutcome.{KeyOutcome, line_acceptance_outcome, refusal_outcome}
+use Rattle.synth_session.specs.KeyReply.{Reply}
+use Rattle.synth_session.specs.KeyOutcome.{KeyOutcome, line_acceptance_outcome, no_reply_outcome, refusal_outcome}
 use Rattle.synth_session.specs.PlainSession.{PlainSession}
-use Rattle.synth_session.specs.TextStanding.{standing_of}
 
 -- ---- commands
 
@@ -95,10 +94,15 @@ standing_entered s (Standing.over (OverLimit.number_too_large place)) =
 standing_entered s (Standing.over (OverLimit.too_deep place)) = refusal_outcome s (why.Phrase (fault.TooDeep place))
 standing_entered s (Standing.wrong_at place) = refusal_outcome s (why.Phrase (fault.Syntax place))
 
+-- what comes of entering the typed line as phrase text, where this is replied to what it asks
+abbrev pub read_entered : PlainSession → Reply → KeyOutcome
+read_entered s (Reply.Read standing) = standing_entered s standing
+read_entered s reply = no_reply_outcome s
+
 -- what comes of the typed line as phrase text of a category, where the cursor wants one
-abbrev pub text_entered : PlainSession → Option Category → KeyOutcome
-text_entered s None = refusal_outcome s why.NotHere
-text_entered s (Some category) = standing_entered s (standing_of category s.typed)
+abbrev pub text_entered : PlainSession → Option Category → Reply → KeyOutcome
+text_entered s None reply = refusal_outcome s why.NotHere
+text_entered s (Some category) reply = read_entered s reply
 
 -- ---- the line
 
@@ -109,4 +113,4 @@ line_entered s reply =
     if length s.typed == 0
     then cursor_moved s stop_right
     else
-    (if begins_with_point s.typed then command_line_outcome s reply else text_entered s (category_at s.tree s.stop))
+    (if begins_with_point s.typed then command_line_outcome s reply else text_entered s (category_at s.tree s.stop) reply)

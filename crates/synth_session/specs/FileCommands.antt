@@ -1,15 +1,10 @@
 -- The commands of files, `.save` and `.load`.
 use Rattle.cursor_moves.specs.Move.{first_stop}
 use Rattle.session_words.specs.declared.message.Notice.{Notice}
-use Rattle.synth_session.specs.declared.answer.Answer.{Answer}
 use Rattle.synth_session.specs.declared.answer.Refusal.TheVariants as why
-use Rattle.synth_session.specs.FileReply.{Reply}
-use Rattle.synth_session.specs.KeyOutcome.{KeyOutcome, line_notice_outcome, program_acceptance_outcome, refusal_outcome}
+use Rattle.synth_session.specs.KeyReply.{Reply}
+use Rattle.synth_session.specs.KeyOutcome.{KeyOutcome, line_notice_outcome, no_reply_outcome, program_acceptance_outcome, refusal_outcome}
 use Rattle.synth_session.specs.PlainSession.{PlainSession}
-
--- what comes of `.save` or `.load` with a reply that it can't have: no files reply so, and it may be anything
-abbrev pub no_reply_outcome : PlainSession → KeyOutcome
-no_reply_outcome s = record { after = s; answer = Answer.Done; checks = 0 }
 
 -- what `.save` does, by what the files reply: it tells that the program was saved, and changes nothing else but the
 -- line

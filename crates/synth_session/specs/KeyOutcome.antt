@@ -49,3 +49,7 @@ line_notice_outcome s notice = record {
   answer = Answer.Done;
   checks = 0;
 }
+
+-- what comes of a key with a reply that what it asks can't have, and may be anything
+abbrev pub no_reply_outcome : PlainSession → KeyOutcome
+no_reply_outcome s = record { after = s; answer = Answer.Done; checks = 0 }

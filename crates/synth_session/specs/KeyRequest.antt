@@ -1,15 +1,17 @@
--- Which key asks what of the files.
-use Rattle.std.specs.Prelude.{◌==◌, if◌then◌else◌, length, Ok, Err}
+-- Which key asks what.
+use Rattle.std.specs.Prelude.{◌==◌, if◌then◌else◌, length, Option, Some, None, Ok, Err}
+use Rattle.plcs_grammar.specs.declared.category.Category.{Category}
 use Rattle.session_words.specs.CommandLine.{begins_with_point, command_of}
 use Rattle.session_words.specs.PlainCommand.{PlainCommand, PlainReading}
 use Rattle.template_tree.specs.Listings.Listing.{Listing}
+use Rattle.session_edit.specs.Here.{category_at}
 use Rattle.synth_session.specs.declared.key.Key.{Key}
 use Rattle.synth_session.specs.declared.key.Key.TheVariants.{Enter}
 use Rattle.synth_session.specs.EnteredLine.{is_unbuilt}
-use Rattle.synth_session.specs.FileReply.{Request}
+use Rattle.synth_session.specs.KeyReply.{Request}
 use Rattle.synth_session.specs.PlainSession.{PlainSession}
 
--- what a command asks of the files: `.save` asks them to save the listing of the program, and `.load` to load one
+-- what a command asks: `.save` asks the files to save the listing of the program, and `.load` to load one
 abbrev pub command_request : PlainSession → PlainCommand → Request
 command_request s (PlainCommand.template template) = Request.Nothing
 command_request s PlainCommand.float = Request.Nothing
@@ -33,23 +35,28 @@ command_request s (PlainCommand.load name) = Request.Load name
 command_request s (PlainCommand.code n) = Request.Nothing
 command_request s PlainCommand.quit = Request.Nothing
 
--- what a command line asks of the files that reads as this command, or as none
+-- what a command line asks that reads as this command, or as none
 abbrev pub reading_request : PlainSession → PlainReading → Request
 reading_request s (Ok command) = command_request s command
 reading_request s (Err fault) = Request.Nothing
 
--- what a command line asks of the files
+-- what a command line asks
 abbrev pub command_line_request : PlainSession → Request
 command_line_request s = if is_unbuilt s.typed then Request.Nothing else reading_request s (command_of s.typed)
 
--- what the typed line asks of the files where it is entered: phrase text asks nothing
+-- what phrase text of a category asks, where the cursor wants one: what it is
+abbrev pub text_request : PlainSession → Option Category → Request
+text_request s None = Request.Nothing
+text_request s (Some category) = Request.Read category s.typed
+
+-- what the typed line asks where it is entered
 abbrev pub line_request : PlainSession → Request
 line_request s =
     if length s.typed == 0
     then Request.Nothing
-    else (if begins_with_point s.typed then command_line_request s else Request.Nothing)
+    else (if begins_with_point s.typed then command_line_request s else text_request s (category_at s.tree s.stop))
 
--- what each key asks of the files: Enter may ask something, and no other key does
+-- what each key asks: Enter may ask something, and no other key does
 abbrev pub request : PlainSession → Key → Request
 request s Enter = line_request s
 request s _ = Request.Nothing

@@ -8,8 +8,8 @@ pub mod Window
 pub mod CheckedPhrases
 pub mod OpenedSession
 pub mod KeyOutcome
--- ---- the files
-pub mod FileReply
+-- ---- what a key asks, and what is replied
+pub mod KeyReply
 -- ---- what each key does
 pub mod TypedLine
 pub mod CursorKeys
@@ -17,7 +17,6 @@ pub mod EditCommands
 pub mod ClipCommands
 pub mod ElideCommand
 pub mod FileCommands
-pub mod TextStanding
 pub mod EnteredLine
 pub mod Press
 pub mod MemoryTaken

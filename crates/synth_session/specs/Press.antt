@@ -10,7 +10,7 @@ use Rattle.synth_session.specs.declared.answer.Refusal.{Refusal}
 use Rattle.synth_session.specs.declared.answer.Refusal.TheVariants as why
 use Rattle.synth_session.specs.CursorKeys.{cursor_moved}
 use Rattle.synth_session.specs.EnteredLine.{line_entered}
-use Rattle.synth_session.specs.FileReply.{Reply}
+use Rattle.synth_session.specs.KeyReply.{Reply}
 use Rattle.synth_session.specs.KeyOutcome.{KeyOutcome, line_acceptance_outcome, refusal_outcome}
 use Rattle.synth_session.specs.PlainSession.{PlainSession}
 use Rattle.synth_session.specs.RefusalText.{refusal_text}
@@ -21,7 +21,7 @@ use Rattle.synth_session.specs.TypedLine.{char_typed, last_erased, phrase_typed}
 abbrev pub without_code_display : PlainSession → PlainSession
 without_code_display s = s
 
--- what comes of a key in a session that displays no code, where the files reply so to what it asks of them
+-- what comes of a key in a session that displays no code, where this is replied to what it asks
 abbrev pub key_outcome : PlainSession → Key → Reply → KeyOutcome
 key_outcome s (Char byte) reply = char_typed s byte
 key_outcome s Enter reply = line_entered s reply
@@ -34,11 +34,11 @@ key_outcome s Left reply = cursor_moved s stop_left
 key_outcome s Right reply = cursor_moved s stop_right
 key_outcome s Other reply = refusal_outcome s why.UnknownCommand
 
--- what a key makes of a session, where the files reply so to what it asks of them
+-- what a key makes of a session, where this is replied to what it asks
 unfoldable pub press : PlainSession → Key → Reply → KeyOutcome
 press s key reply = key_outcome (without_code_display s) key reply
 
--- the law of refused keys: such a key changes the message alone, and ends a display of code, whatever the files reply
+-- the law of refused keys: such a key changes the message alone, and ends a display of code, whatever is replied
 abbrev pub RefusedKeysChangeTheMessage : Type 0
 RefusedKeysChangeTheMessage =
     (s : PlainSession) (key : Key) (reply : Reply) (reason : Refusal)

@@ -17,7 +17,7 @@ use Rattle.synth_session.specs.declared.answer.Answer.{Answer}
 use Rattle.synth_session.specs.declared.program.Dependents.{Dependents}
 use Rattle.synth_session.specs.declared.program.Program.{Program}
 use Rattle.synth_session.specs.declared.session.Session.{Session}
-use Rattle.synth_session.specs.FileReply.{FilesDo, Reply, Request}
+use Rattle.synth_session.specs.KeyReply.{FilesDo, Reply, Request}
 use Rattle.synth_session.specs.KeyOutcome.{KeyOutcome}
 use Rattle.synth_session.specs.PlainSession.{PlainSession}
 use Rattle.synth_session.specs.RefusalText.{shown_message}
@@ -84,8 +84,8 @@ pub record Does {W : Type 0} (may_take_memory : Bool) (outcome : KeyOutcome) (be
   pub screens : now.screens ≡ before.screens
   pub met : Meets may_take_memory outcome (plain_session before) (plain_session now) result
 
--- a key that asked this of the files did this, by what they replied, as far as memory allows, and checked no more
--- phrases than its bill says
+-- a key that asked this did this, by what was replied, as far as memory allows, and checked no more phrases than its
+-- bill says
 pub record DoesByReply {W : Type 0} (may_take_memory : Bool) (request : Request) (outcome : Reply → KeyOutcome)
     (before now : Session W) (files_before files_now : PlainFiles) (counts_before counts_now : PlainCounts)
     (result : Result Answer OutOfMemory) : Type 0 where

@@ -9,8 +9,11 @@ ghost use Rattle.template_tree.specs.Programs.Tree.{IsTree};
 ghost use Rattle.clip_store.specs.ClipLimit.{has_room, is_full};
 ghost use Rattle.clip_store.specs.PlainClips.{kept_pairs, with_clip};
 ghost use Rattle.clip_store.specs.PlainFragment.{IsFragment, PlainFragment, kept_fragment, plain_fragment, slots_of, whole_fragment};
+ghost use Rattle.session_edit.specs.Edited.{edited};
 ghost use Rattle.session_edit.specs.Here.{takes_at};
-ghost use Rattle.synth_session.specs.ClipCommands.{clip_inserted, copied_to_clip, cut_to_clip, fragment_there, slots_there};
+ghost use Rattle.session_edit.specs.PlainEdit.{PlainEdit};
+ghost use Rattle.synth_session.specs.ClipCommands.{clip_inserted, copied_to_clip, cut_outcome, cut_to_clip, fragment_there, slots_there};
+ghost use Rattle.synth_session.specs.Private.Faults.{edit_checks};
 ghost use Rattle.synth_session.specs.TypedLine.{cursor_phrase};
 ghost use Rattle.synth_session.specs.SessionView.{Does, IsSession, plain_session};
 
@@ -19,6 +22,7 @@ use crate::edit_commands::edit_refusal;
 use crate::session::Session;
 use crate::typed_line::phrase_at;
 use clip_store::{Clips, Fragment, clips_are_kept_whole, room_is_not_clipped};
+use phrase_parser::reading_has_category;
 use plcs_base::{Name, OutOfMemory, Work};
 use plcs_grammar::{Phrase, copy_phrase};
 use session_edit::{Edit, takes};
@@ -56,7 +60,6 @@ impl<W: Work> Session<W> {
         ensures counts { ChecksAtMost (cut_to_clip (plain_session self.old) name).checks
             (W.counts work.old) (W.counts work.new) }
     {
-        room_is_not_clipped();
         if !takes(&self.program.tree, &self.stop) {
             return Ok(self.refuse(Refusal::NotHere));
         }
@@ -64,6 +67,25 @@ impl<W: Work> Session<W> {
         if !would_hold(&self.clips, &name, slots) {
             return Ok(self.refuse(Refusal::Clip(ClipRefusal::Full)));
         }
+        self.cut_out(alloc, name, work)
+    }
+
+    /// Takes what stands at the cursor out into the clip of the name: it can be taken out, and the clips have room
+    /// for it.
+    fn cut_out(&mut self, alloc: Global, name: Name, work: &mut W) -> Result<Answer, OutOfMemory>
+        requires session { IsSession self.old }
+        requires takes { takes_at (plain_session self.old).tree (plain_session self.old).stop ≡ true }
+        requires fits { is_full name (slots_there (plain_session self.old).tree (plain_session self.old).stop)
+            (plain_session self.old).clips ≡ false }
+        ensures does { Does true (cut_outcome (plain_session self.old) name
+            (edited (plain_session self.old).tree (plain_session self.old).stop PlainEdit.take)
+            (fragment_there (plain_session self.old).tree (plain_session self.old).stop self.old.stop.part))
+            self.old self.new result }
+        ensures counts { ChecksAtMost
+            (edit_checks (edited (plain_session self.old).tree (plain_session self.old).stop PlainEdit.take))
+            (W.counts work.old) (W.counts work.new) }
+    {
+        room_is_not_clipped();
         self.clips.reserve(&name)?;
         match self.program.take(alloc, &self.stop, work) {
             Ok(taken) => {
@@ -137,6 +159,7 @@ pub(crate) fn copy_phrase_at(
         IfSome copy (λ phrase. IsFragment (PlainFragment.phrase (plain_phrase phrase)))) }
 {
     room_is_not_shown();
+    reading_has_category();
     let Some(phrase) = phrase_at(tree, at) else {
         return Ok(None);
     };
@@ -178,5 +201,8 @@ fn keep(clips: &mut Clips, name: Name, fragment: Fragment)
         ≡ with_clip name (kept_fragment (plain_fragment fragment)) (kept_pairs clips.old.pairs) }
 {
     clips_are_kept_whole();
-    let _ = clips.put(name, fragment);
+    match clips.put(name, fragment) {
+        Ok(_) => {}
+        Err(_) => unreachable!(),
+    }
 }

@@ -1,27 +1,27 @@
 //! What Enter does with the typed line, which is a command or phrase text.
-ghost use Rattle.std.specs.Prelude.{◌≡◌, ◌≤◌, ◌<◌, ◌^◌, IfErr, IfOk, IsTrue, is_some, length};
+ghost use Rattle.std.specs.Prelude.{◌≡◌, ◌≤◌, ◌<◌, ◌^◌, IfOk, IsTrue, is_some, length, true};
 ghost use Rattle.std.specs.List.{list_any};
 ghost use Rattle.std.specs.Str.{bytes_eq};
 ghost use Rattle.plcs_base.specs.PlainCounts.{ChecksAtMost};
 ghost use Rattle.plcs_grammar.specs.Canon.{IsWellFormed};
 ghost use Rattle.plcs_grammar.specs.PlainPhrase.{category_of, plain_phrase};
-ghost use Rattle.phrase_parser.specs.Standing.{Standing};
+ghost use Rattle.phrase_parser.specs.Standing.{HasStanding, Standing};
+ghost use Rattle.synth_outside.specs.Files.{PlainFiles};
 ghost use Rattle.session_words.specs.CommandLine.{begins_with_point};
 ghost use Rattle.session_words.specs.PlainCommand.{plain_command};
 ghost use Rattle.session_edit.specs.Here.{category_at};
-ghost use Rattle.synth_session.specs.EnteredLine.{command_line_outcome, command_outcome, is_unbuilt, line_entered, text_entered};
-ghost use Rattle.synth_session.specs.FileReply.{Reply, Request};
-ghost use Rattle.synth_session.specs.KeyRequest.{command_line_request, command_request, line_request};
+ghost use Rattle.synth_session.specs.EnteredLine.{command_line_outcome, command_outcome, is_unbuilt, line_entered, standing_entered, text_entered};
+ghost use Rattle.synth_session.specs.KeyReply.{Reply, Request};
+ghost use Rattle.synth_session.specs.KeyRequest.{command_line_request, command_request, line_request, text_request};
 ghost use Rattle.synth_session.specs.MemoryTaken.{command_line_takes_memory, command_takes_memory, line_takes_memory};
-ghost use Rattle.synth_session.specs.Private.Faults.{IsTextFault};
-ghost use Rattle.synth_session.specs.TextStanding.{standing_of};
+ghost use Rattle.synth_session.specs.Private.Faults.{IsReadOf};
 ghost use Rattle.synth_session.specs.SessionView.{Does, DoesByReply, IsSession, plain_session};
 
 use crate::answer::{Answer, Refusal};
 use crate::session::Session;
 use crate::typed_line::LINE_LIMIT;
 use arrayvec::ArrayVec;
-use phrase_parser::{PhraseFault, parse};
+use phrase_parser::{PhraseFault, one_standing, parse};
 use plcs_base::{OutOfMemory, Work};
 use plcs_grammar::{Category, Phrase, shown_len};
 use session_edit::{Edit, wanted};
@@ -47,7 +47,10 @@ impl<W: Work> Session<W> {
             return Ok(self.move_right());
         }
         let mut line: ArrayVec<u8, LINE_LIMIT> = ArrayVec::new();
-        let _ = line.try_extend_from_slice(&self.typed);
+        match line.try_extend_from_slice(&self.typed) {
+            Ok(()) => {}
+            Err(_) => unreachable!(),
+        }
         if begins_with_point(&line) {
             self.enter_command(alloc, &line, files, work)
         } else {
@@ -123,22 +126,40 @@ impl<W: Work> Session<W> {
         }
     }
 
-    /// Enters the typed line as phrase text at the cursor.
+    /// Enters the typed line as phrase text at the cursor. The files aren't asked, whatever they are.
     fn enter_text(&mut self, alloc: Global, work: &mut W) -> Result<Answer, OutOfMemory>
         requires session { IsSession self.old }
-        ensures does { Does (is_some (category_at (plain_session self.old).tree (plain_session self.old).stop))
+        ensures does { (files : PlainFiles) →
+            DoesByReply (is_some (category_at (plain_session self.old).tree (plain_session self.old).stop))
+            (text_request (plain_session self.old)
+            (category_at (plain_session self.old).tree (plain_session self.old).stop))
             (text_entered (plain_session self.old)
             (category_at (plain_session self.old).tree (plain_session self.old).stop))
-            self.old self.new result }
-        ensures counts { ChecksAtMost
-            (text_entered (plain_session self.old)
-            (category_at (plain_session self.old).tree (plain_session self.old).stop)).checks
-            (W.counts work.old) (W.counts work.new) }
+            self.old self.new files files (W.counts work.old) (W.counts work.new) result }
     {
         let Some(category) = wanted(&self.program.tree, &self.stop) else {
             return Ok(self.refuse(Refusal::NotHere));
         };
-        match read_phrase(alloc, category, self.typed.as_slice()) {
+        let read = read_phrase(alloc, category, self.typed.as_slice());
+        self.enter_read(alloc, read, work)
+    }
+
+    /// Enters at the cursor what was read of phrase text.
+    fn enter_read(
+        &mut self,
+        alloc: Global,
+        read: Result<Phrase, PhraseFault>,
+        work: &mut W,
+    ) -> Result<Answer, OutOfMemory>
+        requires session { IsSession self.old }
+        requires sound { IfOk read (λ phrase. IsWellFormed (category_of (plain_phrase phrase)) (plain_phrase phrase)) }
+        ensures does { (standing : Standing) → IsReadOf standing read →
+            Does true (standing_entered (plain_session self.old) standing) self.old self.new result }
+        ensures counts { (standing : Standing) → IsReadOf standing read →
+            ChecksAtMost (standing_entered (plain_session self.old) standing).checks
+            (W.counts work.old) (W.counts work.new) }
+    {
+        match read {
             Ok(phrase) => {
                 if shown_len(&phrase) > LONGEST_PHRASE {
                     return Ok(self.refuse(Refusal::PhraseFull));
@@ -154,10 +175,10 @@ impl<W: Work> Session<W> {
 /// The phrase that the typed text is in the category.
 fn read_phrase(alloc: Global, category: Category, text: &[u8]) -> Result<Phrase, PhraseFault>
     requires { length text.now < 2 ^ 32 }
-    ensures phrase { IfOk result (λ phrase. standing_of category text.now ≡ Standing.phrase (plain_phrase phrase)) }
+    ensures read { (standing : Standing) × HasStanding category text.now standing × IsReadOf standing result }
     ensures sound { IfOk result (λ phrase. IsWellFormed (category_of (plain_phrase phrase)) (plain_phrase phrase)) }
-    ensures fault { IfErr result (IsTextFault (standing_of category text.now)) }
 {
+    one_standing();
     parse(alloc, category, text)
 }
 

@@ -6,15 +6,16 @@ ghost use Rattle.template_tree.specs.Programs.PlainTree.{roomless_tree};
 ghost use Rattle.template_tree.specs.Programs.Tree.{IsTree};
 ghost use Rattle.file_store.specs.Saved.{Saves};
 ghost use Rattle.synth_session.specs.FileCommands.{load_outcome, save_outcome};
-ghost use Rattle.synth_session.specs.FileReply.{Reply, Request};
+ghost use Rattle.synth_session.specs.KeyReply.{Reply, Request};
+ghost use Rattle.synth_session.specs.Private.MemorylessKey.{HasOutcome};
 ghost use Rattle.synth_session.specs.Private.UncountedKey.{DoesUncounted};
-ghost use Rattle.synth_session.specs.SessionView.{Does, DoesByReply, IsSession, plain_session};
+ghost use Rattle.synth_session.specs.SessionView.{Agrees, Does, DoesByReply, IsSession, plain_session};
 
 use crate::answer::{Answer, Refusal};
 use crate::program::Program;
 use crate::session::Session;
 use cursor_moves::top;
-use file_store::{FileRefusal, load, rescue, save};
+use file_store::{FileRefusal, load, loading_ignores_room, rescue, save};
 use plcs_base::{OutOfMemory, Work};
 use session_words::Notice;
 use std::alloc::Global;
@@ -58,6 +59,7 @@ impl<W: Work> Session<W> {
             (F.told files.old) (F.told files.new) (W.counts work.old) (W.counts work.new) result }
     {
         room_is_not_shown();
+        loading_ignores_room();
         match load(alloc, name, files) {
             Ok(tree) => self.take_program(alloc, tree, work),
             Err(refusal) => match refusal {
@@ -82,11 +84,23 @@ impl<W: Work> Session<W> {
         ensures counts { ChecksAtMost (load_outcome (plain_session self.old) (Reply.Loaded (roomless_tree tree))).checks
             (W.counts work.old) (W.counts work.new) }
     {
-        let program = Program::new(alloc, tree, work)?;
+        match Program::new(alloc, tree, work) {
+            Ok(program) => Ok(self.begin_with(program)),
+            Err(OutOfMemory) => Err(OutOfMemory),
+        }
+    }
+
+    /// Begins with a program in place of the one that is edited, with the cursor at main.
+    fn begin_with(&mut self, program: Program<W>) -> Answer
+        requires session { IsSession self.old }
+        requires agrees { Agrees program }
+        ensures { HasOutcome (load_outcome (plain_session self.old) (Reply.Loaded (roomless_tree program.tree)))
+            self.old self.new result }
+    {
         self.stop = top(&program.tree);
         self.program = program;
         self.top = 0;
-        Ok(self.accept_line())
+        self.accept_line()
     }
 
     /// Saves the listing of the session's program under the name `RESCUE`, where memory ran out. It takes no

@@ -22,7 +22,7 @@ mod window;
 
 pub use answer::{Answer, ClipRefusal, Refusal};
 pub use key::Key;
-pub use press::{refused_keys_change_the_message, texts_stand_so};
+pub use press::{refused_keys_change_the_message, texts_have_one_reply};
 pub use session::Session;
 pub use size::ScreenSize;
 pub use typed_line::LINE_LIMIT;

@@ -1,14 +1,15 @@
 //! Keys pressed in a session, and the laws of refused keys and of phrase text.
 ghost use Rattle.std.specs.Prelude.{◌≡◌, ◌≤◌};
+ghost use Rattle.synth_session.specs.KeyReply.{TextsHaveOneReply};
 ghost use Rattle.synth_session.specs.KeyRequest.{request};
 ghost use Rattle.synth_session.specs.MemoryTaken.{key_takes_memory};
 ghost use Rattle.synth_session.specs.Press.{RefusedKeysChangeTheMessage, RefusedKeysCheckNothing, press};
 ghost use Rattle.synth_session.specs.SessionView.{DoesByReply, IsSession, plain_session};
-ghost use Rattle.synth_session.specs.TextStanding.{TextsStandSo};
 
 use crate::answer::{Answer, Refusal};
 use crate::key::Key;
 use crate::session::Session;
+use phrase_parser::one_standing;
 use plcs_base::{OutOfMemory, Work};
 use std::alloc::Global;
 use synth_outside::Files;
@@ -45,13 +46,15 @@ impl<W: Work> Session<W> {
 }
 
 /// The law of refused keys: such a key changes the message alone, but for a display of code, which it ends, and
-/// nothing is checked in it, whatever the files reply.
+/// nothing is checked in it, whatever is replied.
 pub fn refused_keys_change_the_message()
     ensures message { RefusedKeysChangeTheMessage }
     ensures checks { RefusedKeysCheckNothing }
 {}
 
-/// The law of phrase text: every text is what the session takes it for.
-pub fn texts_stand_so()
-    ensures { TextsStandSo }
-{}
+/// The law of phrase text: exactly one thing can be replied to a text in a category, which is what it is there.
+pub fn texts_have_one_reply()
+    ensures { TextsHaveOneReply }
+{
+    one_standing();
+}

@@ -6,6 +6,8 @@ ghost use Rattle.template_tree.specs.Programs.PlainTree.{roomless_node, roomless
 ghost use Rattle.template_tree.specs.Programs.Program.{IsSubtree};
 ghost use Rattle.template_tree.specs.Positions.Stop.{IsStop, plain_stop};
 ghost use Rattle.template_tree.specs.Programs.Tree.{IsTree};
+ghost use Rattle.template_tree.specs.Checks.Marks.{Verdicts};
+ghost use Rattle.decl_table.specs.Agreement.{IsDeclsOf};
 ghost use Rattle.session_edit.specs.Edited.{Edited, edited};
 ghost use Rattle.session_edit.specs.Here.{takes_at};
 ghost use Rattle.session_edit.specs.PlainEdit.{BringsWhatMayStand, PlainEdit, plain_edit};
@@ -215,12 +217,28 @@ impl<W: Work> Dependents<W> {
             (W.counts work.old) (W.counts work.new) }
     {
         let layout = Layout::new(alloc, tree)?;
-        let decls = Decls::new(alloc, tree)?;
-        let marks = Marks::new(alloc, tree, &decls, work)?;
+        let (decls, marks) = checked(alloc, tree, work)?;
         Ok(Dependents {
             layout,
             decls,
             marks,
         })
     }
+}
+
+/// The table of declarations of the tree, and the verdicts of its phrases.
+fn checked<W: Work>(
+    alloc: Global,
+    tree: &Tree,
+    work: &mut W,
+) -> Result<(Decls, Marks<W>), OutOfMemory>
+    requires { IsTree tree.now }
+    ensures decls { IfOk result (λ pair. IsDeclsOf pair.0 tree.now.items) }
+    ensures marks { IfOk result (λ pair. pair.1 ≡ Verdicts tree.now.items) }
+    ensures counts { ChecksAtMost (phrase_count (roomless_tree tree.now))
+        (W.counts work.old) (W.counts work.new) }
+{
+    let decls = Decls::new(alloc, tree)?;
+    let marks = Marks::new(alloc, tree, &decls, work)?;
+    Ok((decls, marks))
 }

@@ -73,7 +73,8 @@ impl Screens {
     /// Paints the next screen over the one that is shown, and shows it then.
     pub(crate) fn paint<K: Sink>(&mut self, sink: &mut K) -> Result<(), SinkFault>
         ensures wrote { Writes (Paint self.old.shown self.old.next) result
-            (K.taken sink.old) (K.taken sink.new) (K.faults sink.old) (K.faults sink.new) (K.wants sink.old) (K.wants sink.new) }
+            (K.taken sink.old) (K.taken sink.new)
+            (K.faults sink.old) (K.faults sink.new) (K.wants sink.old) (K.wants sink.new) }
         ensures shown { OnOk result (self.new.shown ≡ self.old.next) }
         ensures failed { OnErr result (self.new ≡ self.old) }
         ensures rows { self.new.shown.rows ≡ self.old.shown.rows }

@@ -1,5 +1,6 @@
 //! The screen of a session, with the prompt, drawn and painted.
-ghost use Rattle.std.specs.Prelude.{◌≡◌, ◌+◌, ◌*◌, ◌≤◌, [], None, length, OnErr, OnOk};
+ghost use Rattle.std.specs.Prelude.{◌≡◌, ◌+◌, ◌*◌, ◌≤◌, ◌++◌, [], None, length, OnErr, OnOk};
+ghost use Rattle.arrayvec.specs.ArrayVec.{array_vec_len};
 ghost use Rattle.plcs_base.specs.PlainCounts.{LaysAtMost};
 ghost use Rattle.template_tree.specs.Checks.Marks.{Marks};
 ghost use Rattle.template_tree.specs.Programs.PlainTree.{roomless_tree};
@@ -9,6 +10,7 @@ ghost use Rattle.template_tree.specs.Programs.Tree.{IsTree};
 ghost use Rattle.screen_window.specs.Paint.{Paint};
 ghost use Rattle.screen_window.specs.Screen.{Screen, window_rows};
 ghost use Rattle.screen_window.specs.Writes.{Writes};
+ghost use Rattle.synth_session.specs.declared.session_screen.TheConstants.{LONGEST_PROMPT};
 ghost use Rattle.synth_session.specs.RefusalText.{shown_message};
 ghost use Rattle.synth_session.specs.SessionScreen.{grid, prompt, sort_word, word_at};
 ghost use Rattle.synth_session.specs.SessionView.{Agrees, IsSession, next_grid, plain_session, shown_grid};
@@ -57,7 +59,8 @@ impl<W: Work> Session<W> {
         requires { IsSession self.old }
         ensures session { IsSession self.new }
         ensures wrote { Writes (Paint (shown_grid self.old) (next_grid self.old)) result
-            (K.taken sink.old) (K.taken sink.new) (K.faults sink.old) (K.faults sink.new) (K.wants sink.old) (K.wants sink.new) }
+            (K.taken sink.old) (K.taken sink.new)
+            (K.faults sink.old) (K.faults sink.new) (K.wants sink.old) (K.wants sink.new) }
         ensures shown { OnOk result (shown_grid self.new ≡ next_grid self.old) }
         ensures failed { OnErr result (shown_grid self.new ≡ shown_grid self.old) }
         ensures same { plain_session self.new ≡ plain_session self.old }
@@ -133,8 +136,8 @@ fn prompt(tree: &Tree, stop: &Stop) -> ArrayVec<u8, LONGEST_PROMPT>
 {
     room_is_not_shown();
     let mut text = ArrayVec::new();
-    let _ = text.try_extend_from_slice(prompt_word(tree, stop));
-    let _ = text.try_extend_from_slice(b"> ");
+    put(&mut text, prompt_word(tree, stop));
+    put(&mut text, b"> ");
     text
 }
 
@@ -168,5 +171,16 @@ fn sort_word(sort: Sort) -> &'static [u8]
         Sort::Procedure => b"procedure",
         Sort::Declaration => b"declaration",
         Sort::Statement => b"statement",
+    }
+}
+
+/// Appends bytes to a prompt; they have to fit.
+fn put(text: &mut ArrayVec<u8, LONGEST_PROMPT>, bytes: &[u8])
+    requires { array_vec_len text.old + length bytes.now ≤ LONGEST_PROMPT }
+    ensures { text.new.items ≡ text.old.items ++ bytes.now }
+{
+    match text.try_extend_from_slice(bytes) {
+        Ok(()) => {}
+        Err(_) => unreachable!(),
     }
 }

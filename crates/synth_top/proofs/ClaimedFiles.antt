@@ -4,7 +4,7 @@ use Rattle.plcs_base.specs.Count.{RoseBy}
 use Rattle.synth_outside.specs.Files.{FileMap}
 use Rattle.file_store.specs.declared.refusal.FileRefusal.{FileRefusal}
 use Rattle.file_store.specs.FileReading.{IsLoadRefused}
-use Rattle.synth_session.specs.FileReply.{CanReply, CountsFault, IsMapAfter, Reply, Request}
+use Rattle.synth_session.specs.KeyReply.{CanReply, CountsFault, IsMapAfter, Reply, Request}
 use Rattle.synth_session.specs.PlainSession.{PlainSession}
 use Rattle.synth_session.specs.KeyRequest.{request}
 use Rattle.synth_session.specs.Press.{press}
@@ -27,30 +27,34 @@ told_through None b c first second = tt
 told_through (Some map) b c first second = subst (λ files. IsToldAs files c) first second
 
 -- the map that files have after a reply may be claimed
-pub told_behind : (request : Request) (reply : Reply) (before now : Option FileMap) → IsMapAfter request reply before now
+pub told_after : (request : Request) (reply : Reply) (before now : Option FileMap) → IsMapAfter request reply before now
     → IsToldAs (files_after request reply before) now
-told_behind Request.Nothing reply before now is = told_same before now is
-told_behind (Request.Load name) reply before now is = told_same before now is
-told_behind (Request.Save name bytes) Reply.NotAsked before now is = told_same before now is
-told_behind (Request.Save name bytes) (Reply.Loaded tree) before now is = told_same before now is
-told_behind (Request.Save name bytes) (Reply.Refused refusal) before now is = told_same before now is
-told_behind (Request.Save name bytes) Reply.Saved None now is = tt
-told_behind (Request.Save name bytes) Reply.Saved (Some map) now is = is
+told_after Request.Nothing reply before now is = told_same before now is
+told_after (Request.Read category text) reply before now is = told_same before now is
+told_after (Request.Load name) reply before now is = told_same before now is
+told_after (Request.Save name bytes) Reply.NotAsked before now is = told_same before now is
+told_after (Request.Save name bytes) (Reply.Read standing) before now is = told_same before now is
+told_after (Request.Save name bytes) (Reply.Loaded tree) before now is = told_same before now is
+told_after (Request.Save name bytes) (Reply.Refused refusal) before now is = told_same before now is
+told_after (Request.Save name bytes) Reply.Saved None now is = tt
+told_after (Request.Save name bytes) Reply.Saved (Some map) now is = is
 
 -- nothing is claimed after a reply where nothing was
-untold_behind : (request : Request) (reply : Reply) → files_after request reply None ≡ None
-untold_behind Request.Nothing reply = refl
-untold_behind (Request.Load name) reply = refl
-untold_behind (Request.Save name bytes) Reply.NotAsked = refl
-untold_behind (Request.Save name bytes) (Reply.Loaded tree) = refl
-untold_behind (Request.Save name bytes) (Reply.Refused refusal) = refl
-untold_behind (Request.Save name bytes) Reply.Saved = refl
+untold_after : (request : Request) (reply : Reply) → files_after request reply None ≡ None
+untold_after Request.Nothing reply = refl
+untold_after (Request.Read category text) reply = refl
+untold_after (Request.Load name) reply = refl
+untold_after (Request.Save name bytes) Reply.NotAsked = refl
+untold_after (Request.Save name bytes) (Reply.Read standing) = refl
+untold_after (Request.Save name bytes) (Reply.Loaded tree) = refl
+untold_after (Request.Save name bytes) (Reply.Refused refusal) = refl
+untold_after (Request.Save name bytes) Reply.Saved = refl
 
 -- no more is claimed after a reply where no more was
-less_behind : (request : Request) (reply : Reply) (a b : Option FileMap) → IsToldAs a b
+less_after : (request : Request) (reply : Reply) (a b : Option FileMap) → IsToldAs a b
     → IsToldAs (files_after request reply a) (files_after request reply b)
-less_behind request reply None b told = subst (λ files. IsToldAs files (files_after request reply b)) (sym (untold_behind request reply)) tt
-less_behind request reply (Some map) b told =
+less_after request reply None b told = subst (λ files. IsToldAs files (files_after request reply b)) (sym (untold_after request reply)) tt
+less_after request reply (Some map) b told =
     subst (λ files. IsToldAs (files_after request reply (Some map)) (files_after request reply files)) (sym told)
     (told_itself (files_after request reply (Some map)))
 
@@ -70,8 +74,10 @@ untold_refusal name FileRefusal.OutOfMemory = tt
 reply_less : (request : Request) (reply : Reply) (a b : Option FileMap) → IsToldAs a b → CanReply b request reply → CanReply a request reply
 reply_less request reply (Some map) b told can = subst (λ files. CanReply files request reply) told can
 reply_less Request.Nothing reply None b told can = can
+reply_less (Request.Read category text) reply None b told can = can
 reply_less (Request.Save name bytes) reply None b told can = can
 reply_less (Request.Load name) Reply.NotAsked None b told can = absurd can
+reply_less (Request.Load name) (Reply.Read standing) None b told can = absurd can
 reply_less (Request.Load name) Reply.Saved None b told can = absurd can
 reply_less (Request.Load name) (Reply.Loaded tree) None b told can = (can.0, tt)
 reply_less (Request.Load name) (Reply.Refused refusal) None b told can = (can.0, untold_refusal name refusal)
@@ -79,6 +85,7 @@ reply_less (Request.Load name) (Reply.Refused refusal) None b told can = (can.0,
 -- the count of faults rose by as many failures as a reply is
 pub fault_counted : (reply : Reply) (before now : ℕ) → CountsFault reply before now → RoseBy (failure reply) before now
 fault_counted Reply.NotAsked before now counts = omega (arith, counts)
+fault_counted (Reply.Read standing) before now counts = omega (arith, counts)
 fault_counted Reply.Saved before now counts = omega (arith, counts)
 fault_counted (Reply.Loaded tree) before now counts = omega (arith, counts)
 fault_counted (Reply.Refused FileRefusal.FileFault) before now counts = let rose = counts.rose refl in omega (arith, rose)
@@ -106,7 +113,7 @@ module _ (s t : EditorState) (pressed : PressedKey) (less : ClaimsNoMore s t) wh
   turn_less = record {
     session = ap (λ (z : PlainSession). (press z pressed.key pressed.reply).after) less.session;
     files = subst (λ asks. IsToldAs (files_after (asked s pressed) pressed.reply s.files) (files_after asks pressed.reply t.files)) same_request
-        (less_behind (asked s pressed) pressed.reply s.files t.files less.files);
+        (less_after (asked s pressed) pressed.reply s.files t.files less.files);
   }
 
   turn_shots_same : (turn s pressed).shots ≡ (turn t pressed).shots

@@ -90,9 +90,9 @@ pub counts_turn : (s : PlainSession) (bound : ℕ) (a b c : PlainCounts) → Che
 counts_turn s bound a b c checks lays =
     counts_both bound 0 bound [] (shot_of s ∷ []) a b c (omega arith) (counts_checks bound a b checks) (counts_shot s b c lays)
 
--- shots were shown, and behind them phrases were checked
-pub counts_behind : (m bound both : ℕ) (xs : List Shot) (a b c : PlainCounts) → m + bound ≤ both → CountsFor m xs a b → ChecksAtMost bound b c
+-- shots were shown, and after them phrases were checked
+pub counts_after : (m bound both : ℕ) (xs : List Shot) (a b c : PlainCounts) → m + bound ≤ both → CountsFor m xs a b → ChecksAtMost bound b c
     → CountsFor both xs a c
-counts_behind m bound both xs a b c within counts checks =
+counts_after m bound both xs a b c within counts checks =
     subst (λ (shots : List Shot). CountsFor both shots a c) (append-nil xs)
     (counts_both m bound both xs [] a b c within counts (counts_checks bound b c checks))

@@ -9,7 +9,7 @@ use Rattle.plcs_base.specs.PlainCounts.{PlainCounts}
 use Rattle.synth_outside.specs.Sink.{AppendsFront}
 use Rattle.synth_outside.specs.Files.{PlainFiles}
 use Rattle.synth_session.specs.declared.key.Key.{Key}
-use Rattle.synth_session.specs.FileReply.{CountsWant, Reply}
+use Rattle.synth_session.specs.KeyReply.{CountsWant, Reply}
 use Rattle.synth_session.specs.KeyRequest.{request}
 use Rattle.synth_session.specs.MemoryTaken.{key_takes_memory}
 use Rattle.synth_session.specs.PlainSession.{PlainSession}
@@ -124,24 +124,24 @@ module _ (options : PlainOptions) (first : EditorState) (before : Told) (opened 
       counts_both 0 (bills first ps) (bills first ps) (shot_of first.session ∷ []) (shots first ps) before.counts opened.counts now (omega arith) is_opened.counts
       (subst (λ (s : EditorState). CountsFor (bills s ps) (shots s ps) opened.counts now) is_opened.state counts)
 
-  -- what the files can reply to a key behind some, and its bill
-  pub behind_reply : (ps : List PressedKey) (pressed : PressedKey) → HasReply (state_after_keys (state_at opened) ps) pressed
+  -- what can be replied to a key after some, and its bill
+  pub reply_after : (ps : List PressedKey) (pressed : PressedKey) → HasReply (state_after_keys (state_at opened) ps) pressed
       → HasReply (state_after_keys first ps) pressed
-  behind_reply ps pressed can = subst (λ (s : EditorState). HasReply (state_after_keys s ps) pressed) is_opened.state can
+  reply_after ps pressed can = subst (λ (s : EditorState). HasReply (state_after_keys s ps) pressed) is_opened.state can
 
-  pub behind_bill : (ps : List PressedKey) (key : Key) (reply : Reply) → (press (state_after_keys (state_at opened) ps).session key reply).checks
+  pub bill_after : (ps : List PressedKey) (key : Key) (reply : Reply) → (press (state_after_keys (state_at opened) ps).session key reply).checks
       ≡ (press (state_after_keys first ps).session key reply).checks
-  behind_bill ps key reply = ap (λ (s : EditorState). (press (state_after_keys s ps).session key reply).checks) is_opened.state
+  bill_after ps key reply = ap (λ (s : EditorState). (press (state_after_keys s ps).session key reply).checks) is_opened.state
 
   -- what is seen after some keys: the session, the map that is claimed, and the faults of the files
-  behind_session : (ps : List PressedKey) → m.session ≡ (state_after_keys (state_at opened) ps).session → m.session ≡ (state_after_keys first ps).session
-  behind_session ps is = is ∙ ap (λ s. (state_after_keys s ps).session) is_opened.state
+  session_after : (ps : List PressedKey) → m.session ≡ (state_after_keys (state_at opened) ps).session → m.session ≡ (state_after_keys first ps).session
+  session_after ps is = is ∙ ap (λ s. (state_after_keys s ps).session) is_opened.state
 
-  behind_files : (ps : List PressedKey) → IsToldAs (state_after_keys (state_at opened) ps).files m.files.stored → IsToldAs (state_after_keys first ps).files m.files.stored
-  behind_files ps told = subst (λ s. IsToldAs (state_after_keys s ps).files m.files.stored) is_opened.state told
+  files_told_after : (ps : List PressedKey) → IsToldAs (state_after_keys (state_at opened) ps).files m.files.stored → IsToldAs (state_after_keys first ps).files m.files.stored
+  files_told_after ps told = subst (λ s. IsToldAs (state_after_keys s ps).files m.files.stored) is_opened.state told
 
-  behind_faults : (ps : List PressedKey) → RoseBy (failures ps) opened.files.faults m.files.faults → RoseBy (failures ps) before.files.faults m.files.faults
-  behind_faults ps faults = omega (arith, is_opened.faults, faults)
+  faults_after : (ps : List PressedKey) → RoseBy (failures ps) opened.files.faults m.files.faults → RoseBy (failures ps) before.files.faults m.files.faults
+  faults_after ps faults = omega (arith, is_opened.faults, faults)
 
   -- ---- all keys were shown
   module _ (bytes lost : List ℕ) (read : Consumes before.streams.left left (bytes ++ lost)) (one : length lost ≤ 1) (within : length bytes ≤ options.key_limit)
@@ -174,7 +174,7 @@ module _ (options : PlainOptions) (first : EditorState) (before : Told) (opened 
     pub all_going : ends first ps ≡ false
     all_going = subst (λ s. ends s ps ≡ false) is_opened.state all.going
 
-    -- what a key takes behind them, and how it counts wants
+    -- what a key takes after them, and how it counts wants
     pub all_takes : (key : Key) → IsTrue (key_takes_memory (state_after_keys (state_at opened) ps).session key) → IsTrue (key_takes_memory (state_after_keys first ps).session key)
     all_takes key takes = subst (λ (s : EditorState). IsTrue (key_takes_memory (state_after_keys s ps).session key)) is_opened.state takes
 
@@ -184,7 +184,7 @@ module _ (options : PlainOptions) (first : EditorState) (before : Told) (opened 
         subst (λ (s : EditorState). CountsWant (request (state_after_keys s ps).session key) before.files.wants now) is_opened.state
         (subst (λ wants. CountsWant (request (state_after_keys (state_at opened) ps).session key) wants now) is_opened.wants counts)
 
-    -- the run that stopped so behind them, with what was counted then
+    -- the run that stopped so after them, with what was counted then
     pub all_runs_counting : (status : Status) → before.files.wants ≤ m.files.wants → (stopped : Stopped all_course before.files.wants m.files.wants status)
         (counts : PlainCounts) → CountsFor (run_bill all_course before.files.wants m.files.wants status stopped) (all_shots all_course) before.counts counts
         → {after_reads after_fault : Type 0} → LeavesSource all_course after_reads after_fault
@@ -193,9 +193,9 @@ module _ (options : PlainOptions) (first : EditorState) (before : Told) (opened 
       course = all_course;
       stopped = stopped;
       source = source;
-      session_is = behind_session ps all.session;
-      files = behind_files ps all.files;
-      faults = behind_faults ps all.faults;
+      session_is = session_after ps all.session;
+      files = files_told_after ps all.files;
+      faults = faults_after ps all.faults;
       wants = wants;
       counts = counted;
     }
@@ -265,9 +265,9 @@ module _ (options : PlainOptions) (first : EditorState) (before : Told) (opened 
       course = last_course;
       stopped = stopped;
       source = inl (led, refl);
-      session_is = behind_session (earlier ++ last ∷ []) up_to.session;
-      files = behind_files (earlier ++ last ∷ []) up_to.files;
-      faults = behind_faults (earlier ++ last ∷ []) up_to.faults;
+      session_is = session_after (earlier ++ last ∷ []) up_to.session;
+      files = files_told_after (earlier ++ last ∷ []) up_to.files;
+      faults = faults_after (earlier ++ last ∷ []) up_to.faults;
       wants = omega (arith, up_to.wants, is_opened.wants);
       counts = counts_within (bills first (earlier ++ last ∷ [])) (run_bill last_course before.files.wants m.files.wants status stopped) (all_shots last_course)
           before.counts m.counts (omega arith) (counts_all (earlier ++ last ∷ []) m.counts up_to.counts);

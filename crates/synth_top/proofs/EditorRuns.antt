@@ -8,7 +8,7 @@ use Rattle.plcs_base.specs.Count.{Rose, raised, raised_by}
 use Rattle.plcs_base.specs.PlainCounts.{ChecksAtMost}
 use Rattle.synth_session.specs.declared.key.Key.{Key}
 use Rattle.synth_session.specs.declared.key.Key.TheVariants.{Other}
-use Rattle.synth_session.specs.FileReply.{CountsWant, Reply, Request}
+use Rattle.synth_session.specs.KeyReply.{CountsWant, Reply, Request}
 use Rattle.synth_session.specs.KeyRequest.{request}
 use Rattle.synth_session.specs.Press.{press}
 use Rattle.synth_top.specs.declared.key.Keys.{Keys}
@@ -23,9 +23,9 @@ use Rattle.synth_top.specs.Private.EditorRuns.{EditorRuns}
 use Rattle.synth_top.specs.WholeRun.{AtLastKey, Course, EndRead, NoKeyComes, KeyWanted, LimitTaken, PressedAll, ReadCut, ReadsInTurn, ScreenCut, Stopped, Told, all_shots, painted_over, run_bill, written}
 use Rattle.synth_top.specs.Turn.{PressedKey, EditorState, bill, bills, state_after_keys, ends, grids, keys_pressed, turn}
 use Rattle.synth_top.specs.Options.{PlainOptions}
-use Rattle.synth_top.proofs.CountsInTurn.{counts_behind}
-use Rattle.synth_top.proofs.Courses.{InTurn, Opened, all_counts, all_course, all_going, all_runs, all_runs_counting, all_takes, at_last, behind_bill, behind_reply, counts_all, last_all, last_course, last_ends, last_runs, one_byte, told_at, whole_at}
-use Rattle.synth_top.proofs.KeysInOrder.{keys_pressed-append, bill_more, counts_more, reply_more, takes_more, both_shown, then_up_to, front_behind, wanted_behind, ends_more, painted_more}
+use Rattle.synth_top.proofs.CountsInTurn.{counts_after}
+use Rattle.synth_top.proofs.Courses.{InTurn, Opened, all_counts, all_course, all_going, all_runs, all_runs_counting, all_takes, at_last, bill_after, reply_after, counts_all, last_all, last_course, last_ends, last_runs, one_byte, told_at, whole_at}
+use Rattle.synth_top.proofs.KeysInOrder.{keys_pressed-append, bill_more, counts_more, reply_more, takes_more, both_shown, then_up_to, front_after, wanted_after, ends_more, painted_more}
 use Rattle.synth_top.proofs.OneKey.{none_shown, unchanged_itself}
 
 -- so many bytes were read, one a read, all keys that they complete were pressed, and all screens were written
@@ -111,6 +111,7 @@ rest_goes_on held m now (inr (inr bracket)) quit = rest_of_one m now (keys held)
 -- a count of wants never falls over a key that wanted memory
 wants_rose : (asks : Request) (before now : ℕ) → CountsWant asks before now → before ≤ now
 wants_rose Request.Nothing before now counts = omega (arith, counts)
+wants_rose (Request.Read category text) before now counts = omega (arith, counts)
 wants_rose (Request.Save name bytes) before now counts = omega (arith, counts)
 wants_rose (Request.Load name) before now counts = counts
 
@@ -151,8 +152,8 @@ module _ (number : ℕ) (options : PlainOptions) (first : EditorState) (before :
       (in_turn : (earlier : List PressedKey) → InTurn bytes (so.pressed ++ earlier))
       (reads_in_turn : (earlier : List PressedKey) → ReadsInTurn options (told_at now_left now_reads now) bytes reads (so.pressed ++ earlier))
       (quit_last : KeysQuit more m now → reads ≡ length bytes) where
-    nothing_behind : Consumes before.streams.left now_left (bytes ++ [])
-    nothing_behind = subst (Consumes before.streams.left now_left) (sym (append-nil bytes)) read
+    no_byte_after : Consumes before.streams.left now_left (bytes ++ [])
+    no_byte_after = subst (Consumes before.streams.left now_left) (sym (append-nil bytes)) read
 
     module _ (earlier : List PressedKey) (last : PressedKey) (front : IsFront (keys_pressed (earlier ++ last ∷ [])) more) (count : ℕ)
         (up_to : UpToLast m now earlier last count) where
@@ -161,7 +162,7 @@ module _ (number : ℕ) (options : PlainOptions) (first : EditorState) (before :
 
       in_front : IsFront (keys_pressed ((so.pressed ++ earlier) ++ last ∷ [])) (pressed_keys ++ more)
       in_front =
-          subst (λ l. IsFront (keys_pressed l) (pressed_keys ++ more)) joined (front_behind so.pressed pressed_keys more (earlier ++ last ∷ []) refl front)
+          subst (λ l. IsFront (keys_pressed l) (pressed_keys ++ more)) joined (front_after so.pressed pressed_keys more (earlier ++ last ∷ []) refl front)
 
       complete_front : IsFront (keys_pressed ((so.pressed ++ earlier) ++ last ∷ [])) (completed bytes) ⊎ NoKeyComes options (told_at now_left now_reads now) bytes reads
       complete_front = elim complete as (λ _. IsFront (keys_pressed ((so.pressed ++ earlier) ++ last ∷ [])) (completed bytes) ⊎ NoKeyComes options (told_at now_left now_reads now) bytes reads)
@@ -171,16 +172,16 @@ module _ (number : ℕ) (options : PlainOptions) (first : EditorState) (before :
       all_up_to = then_up_to so.opened m so.pressed so.all now earlier last count so.wants up_to
 
       abbrev course : Course options first before.streams (told_at now_left now_reads now)
-      course = last_course options first before so.opened now now_left now_reads so.is_opened bytes nothing_behind within reads made (so.pressed ++ earlier) last _ all_up_to
+      course = last_course options first before so.opened now now_left now_reads so.is_opened bytes no_byte_after within reads made (so.pressed ++ earlier) last _ all_up_to
           (front_trans _ _ _ in_front order) complete_front
 
       at_key : AtLastKey course
-      at_key = at_last options first before so.opened now now_left now_reads so.is_opened bytes nothing_behind within reads made (so.pressed ++ earlier) last _ all_up_to
+      at_key = at_last options first before so.opened now now_left now_reads so.is_opened bytes no_byte_after within reads made (so.pressed ++ earlier) last _ all_up_to
           (front_trans _ _ _ in_front order) complete_front (in_turn earlier) (reads_in_turn earlier)
 
       ends_as : (b : _) → ends (state_at m) (earlier ++ last ∷ []) ≡ b → ends first ((so.pressed ++ earlier) ++ last ∷ []) ≡ b
       ends_as b e =
-          last_ends options first before so.opened now now_left now_reads so.is_opened bytes nothing_behind within reads made (so.pressed ++ earlier) last _ all_up_to
+          last_ends options first before so.opened now now_left now_reads so.is_opened bytes no_byte_after within reads made (so.pressed ++ earlier) last _ all_up_to
           (front_trans _ _ _ in_front order) complete_front
           ∙ ap (ends (state_at so.opened)) (sym joined) ∙ ends_more so.opened m so.pressed so.all (earlier ++ last ∷ []) ∙ e
 
@@ -193,7 +194,7 @@ module _ (number : ℕ) (options : PlainOptions) (first : EditorState) (before :
           ap (λ l. length (painted_over so.opened.shown (grids (state_at so.opened) l))) (sym joined)
           ∙ ap length (painted_more so.opened m so.pressed so.all (earlier ++ last ∷ []))
           ∙ length-append shown_bytes (painted_over m.shown (grids (state_at m) (earlier ++ last ∷ []))) in
-          last_all options first before so.opened now now_left now_reads so.is_opened bytes nothing_behind within reads made (so.pressed ++ earlier) last _ all_up_to
+          last_all options first before so.opened now now_left now_reads so.is_opened bytes no_byte_after within reads made (so.pressed ++ earlier) last _ all_up_to
           (front_trans _ _ _ in_front order) complete_front (omega (arith, bytes_are, all))
 
       screen_cut : ends (state_at m) (earlier ++ last ∷ []) ≡ false → ScreenCut course
@@ -203,7 +204,7 @@ module _ (number : ℕ) (options : PlainOptions) (first : EditorState) (before :
       last_stopped : (status : Status) → Stopped course before.files.wants now.files.wants status → {after_reads after_fault : Type 0} → after_reads
           → EditorRuns status options first before (whole_at now_left now_reads now) after_reads after_fault now.session
       last_stopped status stopped led =
-          last_runs options first before so.opened now now_left now_reads so.is_opened bytes nothing_behind within reads made (so.pressed ++ earlier) last _ all_up_to
+          last_runs options first before so.opened now now_left now_reads so.is_opened bytes no_byte_after within reads made (so.pressed ++ earlier) last _ all_up_to
           (front_trans _ _ _ in_front order) complete_front status stopped led
 
     -- ---- keys up to one that wanted memory
@@ -216,7 +217,7 @@ module _ (number : ℕ) (options : PlainOptions) (first : EditorState) (before :
       all_shown = both_shown so.opened m so.pressed so.all shown_now next.pressed next.shown
 
       up_to_wanted : IsFront (keys_pressed (so.pressed ++ next.pressed) ++ next.wanted ∷ []) (pressed_keys ++ more)
-      up_to_wanted = wanted_behind so.pressed pressed_keys more next.pressed next.wanted refl next.front
+      up_to_wanted = wanted_after so.pressed pressed_keys more next.pressed next.wanted refl next.front
 
       in_keys : IsFront (keys_pressed (so.pressed ++ next.pressed) ++ next.wanted ∷ []) (keys bytes)
       in_keys = front_trans _ _ _ up_to_wanted order
@@ -230,25 +231,25 @@ module _ (number : ℕ) (options : PlainOptions) (first : EditorState) (before :
           [ inl h ↦ inl (front_without _ _ next.wanted h) | inr h ↦ inr h ]
 
       abbrev wanting_course : Course options first before.streams (told_at now_left now_reads now)
-      wanting_course = all_course options first before so.opened shown_now now_left now_reads so.is_opened bytes [] nothing_behind (omega arith) within reads made
+      wanting_course = all_course options first before so.opened shown_now now_left now_reads so.is_opened bytes [] no_byte_after (omega arith) within reads made
           (so.pressed ++ next.pressed) all_shown (front_without _ _ next.wanted in_keys) pressed_complete
 
       abbrev key_wanted : KeyWanted wanting_course before.files.wants now.files.wants
       key_wanted = record {
         wanted = next.wanted;
         reply = next.reply;
-        can_reply = behind_reply options first before so.opened shown_now now_left now_reads so.is_opened (so.pressed ++ next.pressed)
+        can_reply = reply_after options first before so.opened shown_now now_left now_reads so.is_opened (so.pressed ++ next.pressed)
             (record { key = next.wanted; reply = next.reply })
             (reply_more so.opened m so.pressed so.all next.pressed next.wanted next.reply next.can_reply);
-        takes = all_takes options first before so.opened shown_now now_left now_reads so.is_opened bytes [] nothing_behind (omega arith) within reads made
+        takes = all_takes options first before so.opened shown_now now_left now_reads so.is_opened bytes [] no_byte_after (omega arith) within reads made
             (so.pressed ++ next.pressed) all_shown (front_without _ _ next.wanted in_keys) pressed_complete next.wanted
             (takes_more so.opened m so.pressed so.all next.pressed next.wanted next.takes);
-        counts = all_counts options first before so.opened shown_now now_left now_reads so.is_opened bytes [] nothing_behind (omega arith) within reads made
+        counts = all_counts options first before so.opened shown_now now_left now_reads so.is_opened bytes [] no_byte_after (omega arith) within reads made
             (so.pressed ++ next.pressed) all_shown (front_without _ _ next.wanted in_keys) pressed_complete next.wanted now.files.wants
             (counts_more so.opened m so.pressed so.all next.pressed next.wanted now.files.wants so.wants next.counts);
         next = in_keys;
         complete = in_complete;
-        going = all_going options first before so.opened shown_now now_left now_reads so.is_opened bytes [] nothing_behind (omega arith) within reads made
+        going = all_going options first before so.opened shown_now now_left now_reads so.is_opened bytes [] no_byte_after (omega arith) within reads made
             (so.pressed ++ next.pressed) all_shown (front_without _ _ next.wanted in_keys) pressed_complete;
         taken = record { in_turn = in_turn next.pressed; reads = reads_in_turn next.pressed };
       }
@@ -256,19 +257,19 @@ module _ (number : ℕ) (options : PlainOptions) (first : EditorState) (before :
       abbrev wanted_stop : Stopped wanting_course before.files.wants now.files.wants NoMemory
       wanted_stop = inr (inr (omega arith, refl, inl key_wanted))
 
-      -- its bill behind all keys pressed, and its checks under it
+      -- its bill after all keys pressed, and its checks under it
       abbrev bill_then : ℕ
       bill_then = bill (state_after_keys first (so.pressed ++ next.pressed)) (record { key = next.wanted; reply = next.reply })
 
       wanted_checks : ChecksAtMost bill_then next.counted now.counts
       wanted_checks = subst (λ (bound : ℕ). ChecksAtMost bound next.counted now.counts)
           (bill_more so.opened m so.pressed so.all next.pressed next.wanted next.reply
-          ∙ behind_bill options first before so.opened shown_now now_left now_reads so.is_opened (so.pressed ++ next.pressed) next.wanted next.reply)
+          ∙ bill_after options first before so.opened shown_now now_left now_reads so.is_opened (so.pressed ++ next.pressed) next.wanted next.reply)
           next.checks
 
       -- what was counted, with these checks
       wanted_counts : CountsFor (run_bill wanting_course before.files.wants now.files.wants NoMemory wanted_stop) (all_shots wanting_course) before.counts now.counts
-      wanted_counts = counts_behind (bills first (so.pressed ++ next.pressed)) bill_then (run_bill wanting_course before.files.wants now.files.wants NoMemory wanted_stop)
+      wanted_counts = counts_after (bills first (so.pressed ++ next.pressed)) bill_then (run_bill wanting_course before.files.wants now.files.wants NoMemory wanted_stop)
           (all_shots wanting_course) before.counts next.counted now.counts (omega arith)
           (counts_all options first before so.opened shown_now now_left now_reads so.is_opened (so.pressed ++ next.pressed) next.counted all_shown.counts)
           wanted_checks
@@ -277,7 +278,7 @@ module _ (number : ℕ) (options : PlainOptions) (first : EditorState) (before :
       key_wanted_runs : {after_reads after_fault : Type 0} → after_reads
           → EditorRuns NoMemory options first before (whole_at now_left now_reads now) after_reads after_fault now.session
       key_wanted_runs led =
-          all_runs_counting options first before so.opened shown_now now_left now_reads so.is_opened bytes [] nothing_behind (omega arith) within reads made
+          all_runs_counting options first before so.opened shown_now now_left now_reads so.is_opened bytes [] no_byte_after (omega arith) within reads made
           (so.pressed ++ next.pressed) all_shown (front_without _ _ next.wanted in_keys) pressed_complete NoMemory
           (wants_rose (request (state_after_keys first (so.pressed ++ next.pressed)).session key_wanted.wanted) before.files.wants now.files.wants key_wanted.counts)
           wanted_stop now.counts wanted_counts (inl (led, refl))

@@ -6,10 +6,11 @@ use Rattle.std.proofs.KnownBytes.{Appends-trans}
 use Rattle.std.specs.Io.KnownBytes.{Appends}
 use Rattle.plcs_base.specs.Count.{Rose}
 use Rattle.plcs_base.specs.PlainCounts.{ChecksAtMost}
+use Rattle.synth_outside.specs.Cause.{RisesWith}
 use Rattle.synth_outside.specs.Files.{FileMap}
 use Rattle.screen_window.specs.PlainGrid.{PlainGrid}
 use Rattle.synth_session.specs.declared.key.Key.{Key}
-use Rattle.synth_session.specs.FileReply.{CountsWant, Reply}
+use Rattle.synth_session.specs.KeyReply.{CountsWant, Reply}
 use Rattle.synth_session.specs.KeyRequest.{request}
 use Rattle.synth_session.specs.MemoryTaken.{key_takes_memory}
 use Rattle.synth_session.specs.PlainSession.{PlainSession}
@@ -27,32 +28,36 @@ use Rattle.synth_top.proofs.CountsInTurn.{counts_both}
 use Rattle.synth_top.proofs.TurnsInOrder.{after-append, bills-append, ends-going, grids-append, HaveReplies-append, failures-append, painted_over-append, last_shown-append, shots-append}
 use Rattle.synth_top.specs.Keys.{IsFront}
 
+-- a count that rises after keys in which it stayed
+pub caused_after : (is_fault : Type 0) (p q s : ℕ) → q ≡ p → RisesWith is_fault q s → RisesWith is_fault p s
+caused_after is_fault p q s same cause = subst (λ n. RisesWith is_fault n s) same cause
+
 -- the keys of some and of others
 pub keys_pressed-append : (ps qs : List PressedKey) → keys_pressed (ps ++ qs) ≡ keys_pressed ps ++ keys_pressed qs
 keys_pressed-append ps qs = map-append (λ (p : PressedKey). p.key) ps qs
 
 module _ (a b : Moment) (ps : List PressedKey) (shown : AllShown a b ps) where
   -- the state after claims no more than the next moment tells
-  behind_less : ClaimsNoMore (state_after_keys (state_at a) ps) (state_at b)
-  behind_less = record { session = sym shown.session; files = shown.files }
+  after_claims_less : ClaimsNoMore (state_after_keys (state_at a) ps) (state_at b)
+  after_claims_less = record { session = sym shown.session; files = shown.files }
 
   -- the shots of others
   shots_more : (qs : List PressedKey) → shots (state_at a) (ps ++ qs) ≡ shots (state_at a) ps ++ shots (state_at b) qs
   shots_more qs =
       shots-append (state_at a) ps qs
-      ∙ ap (λ (all : List Shot). shots (state_at a) ps ++ all) (same_shots (state_after_keys (state_at a) ps) (state_at b) qs behind_less)
+      ∙ ap (λ (all : List Shot). shots (state_at a) ps ++ all) (same_shots (state_after_keys (state_at a) ps) (state_at b) qs after_claims_less)
 
   -- the bills of others
   bills_more : (qs : List PressedKey) → bills (state_at a) (ps ++ qs) ≡ bills (state_at a) ps + bills (state_at b) qs
   bills_more qs =
       bills-append (state_at a) ps qs
-      ∙ ap (λ (n : ℕ). bills (state_at a) ps + n) (same_bills (state_after_keys (state_at a) ps) (state_at b) qs behind_less)
+      ∙ ap (λ (n : ℕ). bills (state_at a) ps + n) (same_bills (state_after_keys (state_at a) ps) (state_at b) qs after_claims_less)
 
   -- the screens of others
   grids_more : (qs : List PressedKey) → grids (state_at a) (ps ++ qs) ≡ grids (state_at a) ps ++ grids (state_at b) qs
   grids_more qs =
       grids-append (state_at a) ps qs
-      ∙ ap (λ (gs : List PlainGrid). grids (state_at a) ps ++ gs) (same_grids (state_after_keys (state_at a) ps) (state_at b) qs behind_less)
+      ∙ ap (λ (gs : List PlainGrid). grids (state_at a) ps ++ gs) (same_grids (state_after_keys (state_at a) ps) (state_at b) qs after_claims_less)
 
   -- the bytes of all screens
   pub painted_more : (qs : List PressedKey)
@@ -64,13 +69,13 @@ module _ (a b : Moment) (ps : List PressedKey) (shown : AllShown a b ps) where
 
   -- whether the others end the session
   pub ends_more : (qs : List PressedKey) → ends (state_at a) (ps ++ qs) ≡ ends (state_at b) qs
-  ends_more qs = ends-going (state_at a) ps qs shown.going ∙ same_ends (state_after_keys (state_at a) ps) (state_at b) qs behind_less
+  ends_more qs = ends-going (state_at a) ps qs shown.going ∙ same_ends (state_after_keys (state_at a) ps) (state_at b) qs after_claims_less
 
   -- the state after claims no more than that after the others alone
   pub after_more : (qs : List PressedKey) → ClaimsNoMore (state_after_keys (state_at a) (ps ++ qs)) (state_after_keys (state_at b) qs)
   after_more qs =
       subst (λ s. ClaimsNoMore s (state_after_keys (state_at b) qs)) (sym (after-append (state_at a) ps qs))
-      (after_less (state_after_keys (state_at a) ps) (state_at b) qs behind_less)
+      (after_less (state_after_keys (state_at a) ps) (state_at b) qs after_claims_less)
 
   -- the last screen
   last_more : (qs : List PressedKey) → last_shown a.shown (grids (state_at a) (ps ++ qs)) ≡ last_shown b.shown (grids (state_at b) qs)
@@ -87,10 +92,10 @@ module _ (a b : Moment) (ps : List PressedKey) (shown : AllShown a b ps) where
       (counts_both (bills (state_at a) ps) (bills (state_at b) qs) (bills (state_at a) (ps ++ qs)) (shots (state_at a) ps) (shots (state_at b) qs)
       a.counts b.counts c.counts (omega (arith, bills_more qs)) shown.counts counts)
 
-  -- what the files replied
+  -- what was replied
   replies_more : (qs : List PressedKey) → HaveReplies (state_at b) qs → HaveReplies (state_at a) (ps ++ qs)
   replies_more qs can =
-      HaveReplies-append (state_at a) ps qs shown.can_reply (replies_less (state_after_keys (state_at a) ps) (state_at b) qs behind_less can)
+      HaveReplies-append (state_at a) ps qs shown.can_reply (replies_less (state_after_keys (state_at a) ps) (state_at b) qs after_claims_less can)
 
   -- the map that is claimed
   files_more : (qs : List PressedKey) (files : Option FileMap) → IsToldAs (state_after_keys (state_at b) qs).files files → IsToldAs (state_after_keys (state_at a) (ps ++ qs)).files files
@@ -137,7 +142,7 @@ module _ (a b : Moment) (ps : List PressedKey) (shown : AllShown a b ps) where
         counts = subst (λ l. CountsFor (bills (state_at a) l) (shots (state_at a) l) a.counts c.counts) joined (counted_more c all next.counts);
       }
 
-  -- a key that wanted memory behind all of them
+  -- a key that wanted memory after all of them
   module _ (qs : List PressedKey) (wanted : Key) where
     pub takes_more : IsTrue (key_takes_memory (state_after_keys (state_at b) qs).session wanted) → IsTrue (key_takes_memory (state_after_keys (state_at a) (ps ++ qs)).session wanted)
     takes_more takes = subst (λ (s : PlainSession). IsTrue (key_takes_memory s wanted)) (sym (after_more qs).session) takes
@@ -158,18 +163,18 @@ module _ (a b : Moment) (ps : List PressedKey) (shown : AllShown a b ps) where
     bill_more reply = ap (λ (s : PlainSession). (press s wanted reply).checks) (sym (after_more qs).session)
 
 -- keys in front of others
-pub front_behind : (ps : List PressedKey) (keys more : List Key) (qs : List PressedKey) → keys_pressed ps ≡ keys → IsFront (keys_pressed qs) more
+pub front_after : (ps : List PressedKey) (keys more : List Key) (qs : List PressedKey) → keys_pressed ps ≡ keys → IsFront (keys_pressed qs) more
     → IsFront (keys_pressed (ps ++ qs)) (keys ++ more)
-front_behind ps keys more qs all front = (
+front_after ps keys more qs all front = (
   front.0,
   ap (λ l. keys ++ l) front.1 ∙ ap (λ l. l ++ (keys_pressed qs ++ front.0)) (sym all) ∙ sym (append_assoc (keys_pressed ps) (keys_pressed qs) front.0)
       ∙ ap (λ l. l ++ front.0) (sym (keys_pressed-append ps qs)),
 )
 
 -- keys and one that wanted memory, in front of others
-pub wanted_behind : (ps : List PressedKey) (keys more : List Key) (qs : List PressedKey) (wanted : Key) → keys_pressed ps ≡ keys
+pub wanted_after : (ps : List PressedKey) (keys more : List Key) (qs : List PressedKey) (wanted : Key) → keys_pressed ps ≡ keys
     → IsFront (keys_pressed qs ++ wanted ∷ []) more → IsFront (keys_pressed (ps ++ qs) ++ wanted ∷ []) (keys ++ more)
-wanted_behind ps keys more qs wanted all front = (
+wanted_after ps keys more qs wanted all front = (
   front.0,
   ap (λ l. keys ++ l) front.1 ∙ ap (λ l. l ++ ((keys_pressed qs ++ wanted ∷ []) ++ front.0)) (sym all)
       ∙ sym (append_assoc (keys_pressed ps) (keys_pressed qs ++ wanted ∷ []) front.0)
@@ -195,7 +200,7 @@ module _ (keys more : List Key) (a b c : Moment) (first : KeysShown keys a b) wh
       record {
         earlier = ps ++ next.earlier;
         last = next.last;
-        front = subst (λ l. IsFront (keys_pressed l) (keys ++ more)) joined (front_behind ps keys more all first.all next.front);
+        front = subst (λ l. IsFront (keys_pressed l) (keys ++ more)) joined (front_after ps keys more all first.all next.front);
         count = length (painted_over a.shown (grids (state_at a) ps)) + next.count;
         up_to = then_up_to a b ps first.shown c next.earlier next.last next.count first.wants next.up_to;
         quit = subst (λ l. ends (state_at a) l ≡ true) joined (ends_more a b ps first.shown all ∙ next.quit);
@@ -211,7 +216,7 @@ module _ (keys more : List Key) (a b c : Moment) (first : KeysShown keys a b) wh
       record {
         earlier = ps ++ next.earlier;
         last = next.last;
-        front = subst (λ l. IsFront (keys_pressed l) (keys ++ more)) joined (front_behind ps keys more all first.all next.front);
+        front = subst (λ l. IsFront (keys_pressed l) (keys ++ more)) joined (front_after ps keys more all first.all next.front);
         count = length (painted_over a.shown (grids (state_at a) ps)) + next.count;
         up_to = then_up_to a b ps first.shown c next.earlier next.last next.count first.wants next.up_to;
         going = subst (λ l. ends (state_at a) l ≡ false) joined (ends_more a b ps first.shown all ∙ next.going);
@@ -224,7 +229,7 @@ module _ (keys more : List Key) (a b c : Moment) (first : KeysShown keys a b) wh
         wanted = next.wanted;
         takes = takes_more a b ps first.shown next.pressed next.wanted next.takes;
         counts = counts_more a b ps first.shown next.pressed next.wanted c.files.wants first.wants next.counts;
-        front = wanted_behind ps keys more next.pressed next.wanted first.all next.front;
+        front = wanted_after ps keys more next.pressed next.wanted first.all next.front;
         counted = next.counted;
         shown = both_shown a b ps first.shown (record c { counts = next.counted }) next.pressed next.shown;
         reply = next.reply;
@@ -252,7 +257,7 @@ pub front_more : (front keys more : List Key) → IsFront front keys → IsFront
 front_more front keys more is_front =
     (is_front.0 ++ more, ap (λ l. l ++ more) is_front.1 ∙ append_assoc front is_front.0 more)
 
--- where a screen of one of some keys was cut short, others behind them don't matter
+-- where a screen of one of some keys was cut short, others after them don't matter
 cut_before : (keys more : List Key) (a b : Moment) → KeysCut keys a b → KeysCut (keys ++ more) a b
 cut_before keys more a b cut = record {
   earlier = cut.earlier;
@@ -263,7 +268,7 @@ cut_before keys more a b cut = record {
   going = cut.going;
 }
 
--- where the run ended at one of some keys, others behind them don't matter
+-- where the run ended at one of some keys, others after them don't matter
 pub pressed_before : (status : Status) (keys more : List Key) (a b : Moment) → Pressed (Over status) keys a b → Pressed (Over status) (keys ++ more) a b
 pressed_before Done keys more a b pressed = record {
   earlier = pressed.earlier;

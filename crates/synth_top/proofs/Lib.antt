@@ -9,13 +9,10 @@ pub mod ClapWords
 pub mod WordRows
 -- `keys` of KeyReader::feed: a byte before others
 pub mod KeyLists
--- `wrote` of Editor::start: fronts of bytes, and bytes one after the other
-pub mod Fronts
-pub mod WritesInTurn
 -- `runs` of Editor::run and `presses` of Editor::press: what is counted for some shots and then for others
 pub mod CountsInTurn
 -- `presses` of Editor::press and press_keys: turns of a state of which less is claimed, turns along a list of keys, one key, and
--- keys behind others
+-- keys after others
 pub mod ClaimedFiles
 pub mod TurnsInOrder
 pub mod OneKey
@@ -25,5 +22,5 @@ pub mod Courses
 pub mod EditorRuns
 -- `loads` of load_program: a program that was loaded, without its room
 pub mod FirstLoads
--- `wanted` of load_first and `ended` of edit: the loads, the run and what is saved behind it
+-- `wanted` of load_first and `ended` of edit: the loads, the run and what is saved after it
 pub mod Whole

@@ -11,7 +11,7 @@ use Rattle.screen_window.specs.PlainGrid.{PlainGrid}
 use Rattle.synth_session.specs.declared.answer.Answer.{Answer}
 use Rattle.synth_session.specs.declared.answer.Answer.TheVariants.{Done, Refused, Quit}
 use Rattle.synth_session.specs.declared.key.Key.{Key}
-use Rattle.synth_session.specs.FileReply.{HaveNoMemory, Reply}
+use Rattle.synth_session.specs.KeyReply.{HaveNoMemory, Reply}
 use Rattle.synth_session.specs.KeyOutcome.{KeyOutcome}
 use Rattle.synth_session.specs.KeyRequest.{request}
 use Rattle.synth_session.specs.MemoryTaken.{key_takes_memory}
@@ -22,7 +22,7 @@ use Rattle.synth_top.specs.Counted.{CountsFor}
 use Rattle.synth_top.specs.Private.Pressing.{AllShown, IsPressed, KeysCut, KeysQuit, KeysShown, KeysWanted, Moment, last_shown, state_at}
 use Rattle.synth_top.specs.WholeRun.{painted_over}
 use Rattle.synth_top.specs.Turn.{IsToldAs, PressedKey, Shot, Turn, bills, state_after_keys, ends, failures, files_after, grids, is_quit, screens_of, shot_of, shots, turn, turn_with}
-use Rattle.synth_top.proofs.ClaimedFiles.{fault_counted, told_behind, told_same}
+use Rattle.synth_top.proofs.ClaimedFiles.{fault_counted, told_after, told_same}
 use Rattle.synth_top.proofs.CountsInTurn.{counts_nothing, counts_within}
 
 -- an answer that isn't the end
@@ -37,7 +37,7 @@ or_nothing false = refl
 
 module _ (key : Key) (answer : Answer) (a b : Moment) (s : PlainSession) (pressed : IsPressed key answer a.session s a.files b.files)
     (same : b.session ≡ s) where
-  -- the key with what the files replied
+  -- the key with what was replied
   abbrev one : PressedKey
   one = record { key = key; reply = pressed.reply }
 
@@ -66,7 +66,7 @@ module _ (key : Key) (answer : Answer) (a b : Moment) (s : PlainSession) (presse
   files_told : IsToldAs (state_after_keys (state_at a) (one ∷ [])).files b.files.stored
   files_told =
       subst (λ (t : Turn). IsToldAs t.after.files b.files.stored) (sym turn_is)
-      (told_behind (request a.session key) pressed.reply a.files.stored b.files.stored pressed.files.stored)
+      (told_after (request a.session key) pressed.reply a.files.stored b.files.stored pressed.files.stored)
 
   -- the failures of the files in it
   faults_are : RoseBy (failures (one ∷ [])) a.files.faults b.files.faults

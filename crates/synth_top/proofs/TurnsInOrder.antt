@@ -39,7 +39,7 @@ pub grids-append : (s : EditorState) (ps qs : List PressedKey) → grids s (ps +
 grids-append s ps qs =
     ap screens_of (shots-append s ps qs) ∙ map-append (λ (shot : Shot). shot.screen) (shots s ps) (shots (state_after_keys s ps) qs)
 
--- what the files replied
+-- what was replied
 pub HaveReplies-append : (s : EditorState) (ps qs : List PressedKey) → HaveReplies s ps → HaveReplies (state_after_keys s ps) qs → HaveReplies s (ps ++ qs)
 HaveReplies-append s [] qs first second = second
 HaveReplies-append s (p ∷ ps) qs first second = (first.0, HaveReplies-append (turn s p).after ps qs first.1 second)

@@ -22,8 +22,8 @@ use Rattle.synth_top.proofs.CountsInTurn.{counts_both, counts_checks}
 -- ---- the loads
 
 -- the program was loaded, and then memory ran out over the input
-pub loads_nothing_behind : (count : ℕ) (a b c : PlainFiles) → OnlyRead count a b → LoadsNothing b c → LoadsNothing a c
-loads_nothing_behind count a b c read nothing = record {
+pub loads_nothing_after : (count : ℕ) (a b c : PlainFiles) → OnlyRead count a b → LoadsNothing b c → LoadsNothing a c
+loads_nothing_after count a b c read nothing = record {
   stored = nothing.stored ∙ read.stored;
   faults = omega (arith, read.later, nothing.faults);
   wants = omega (arith, read.wants, nothing.wants);
@@ -65,36 +65,36 @@ abbrev whole : ToldStreams → PlainFiles → PlainCounts → Told
 whole streams files counts = record { streams = streams; files = files; counts = counts }
 
 -- the loads, the run from the session that they make, and the rescue after it
-pub ran : (status : Status) (options : PlainOptions) (loads : PlainFirstLoads) (before now : ToldStreams) (files loaded behind files_now : PlainFiles)
+pub ran : (status : Status) (options : PlainOptions) (loads : PlainFirstLoads) (before now : ToldStreams) (files loaded at_end files_now : PlainFiles)
     (counts opened counts_now : PlainCounts) (first : EditorState) (after_reads after_fault : Type 0) (session : PlainSession)
     → BothLoad options loads files loaded → ChecksAtMost (opening_checks loads) counts opened → first ≡ first_state options files.stored loads
-    → EditorRuns status options first (whole before loaded opened) (whole now behind counts_now) after_reads after_fault session
-    → Rescues status session behind files_now
+    → EditorRuns status options first (whole before loaded opened) (whole now at_end counts_now) after_reads after_fault session
+    → Rescues status session at_end files_now
     → Ran status options (whole before files counts) (whole now files_now counts_now) after_reads after_fault
-ran status options loads before now files loaded behind files_now counts opened counts_now first after_reads after_fault session load opening is runs_first rescue =
-    let runs : EditorRuns status options (first_state options files.stored loads) (whole before loaded opened) (whole now behind counts_now) after_reads after_fault session =
-    subst (λ (s : EditorState). EditorRuns status options s (whole before loaded opened) (whole now behind counts_now) after_reads after_fault session) is runs_first in
+ran status options loads before now files loaded at_end files_now counts opened counts_now first after_reads after_fault session load opening is runs_first rescue =
+    let runs : EditorRuns status options (first_state options files.stored loads) (whole before loaded opened) (whole now at_end counts_now) after_reads after_fault session =
+    subst (λ (s : EditorState). EditorRuns status options s (whole before loaded opened) (whole now at_end counts_now) after_reads after_fault session) is runs_first in
     -- why it stopped, from the files' first count of wants on, and what was counted under its bill
-    let stopped : (why : Stopped runs.course files.wants behind.wants status)
-    × CountsFor (run_bill runs.course files.wants behind.wants status why) (all_shots runs.course) opened counts_now =
-    subst (λ (n : ℕ). (why : Stopped runs.course n behind.wants status) × CountsFor (run_bill runs.course n behind.wants status why) (all_shots runs.course) opened counts_now)
+    let stopped : (why : Stopped runs.course files.wants at_end.wants status)
+    × CountsFor (run_bill runs.course files.wants at_end.wants status why) (all_shots runs.course) opened counts_now =
+    subst (λ (n : ℕ). (why : Stopped runs.course n at_end.wants status) × CountsFor (run_bill runs.course n at_end.wants status why) (all_shots runs.course) opened counts_now)
     load.read.wants (runs.stopped, runs.counts) in
     record {
       loads = loads;
       can_load = load.can;
       course = runs.course;
-      wants = behind.wants;
+      wants = at_end.wants;
       wants_later = omega (arith, load.read.wants, runs.wants);
       stopped = stopped.0;
       source = runs.source;
       rescue = rescue.rescue;
       rescued = rescue.rescued;
       wants_now = rescue.wants;
-      files = files_with_less rescue.rescue (state_after runs.course) (record { session = session; files = behind.stored }) files_now.stored
+      files = files_with_less rescue.rescue (state_after runs.course) (record { session = session; files = at_end.stored }) files_now.stored
           runs.session_is runs.files rescue.files;
       faults = omega (arith, load.read.faults, runs.faults, rescue.faults);
-      counts = counts_both (opening_checks loads) (run_bill runs.course files.wants behind.wants status stopped.0)
-          (opening_checks loads + run_bill runs.course files.wants behind.wants status stopped.0) [] (all_shots runs.course) counts opened counts_now (omega arith)
+      counts = counts_both (opening_checks loads) (run_bill runs.course files.wants at_end.wants status stopped.0)
+          (opening_checks loads + run_bill runs.course files.wants at_end.wants status stopped.0) [] (all_shots runs.course) counts opened counts_now (omega arith)
           (counts_checks (opening_checks loads) counts opened opening) stopped.1;
     }
 

@@ -29,7 +29,7 @@ move_of byte =
     else (if byte == 68 then Left
     else Other)))
 
--- whether two bytes begin a move: ESC and [, behind which one byte more makes a key
+-- whether two bytes begin a move: ESC and [, after which one byte more makes a key
 abbrev pub begins_move : ℕ → ℕ → Bool
 begins_move byte next = byte == 27 && next == 91
 
@@ -65,8 +65,8 @@ held_bytes Bracket = 27 ∷ 91 ∷ []
 abbrev pub listed_keys : Keys → List Key
 listed_keys keys = option_to_list keys.first ++ option_to_list keys.second
 
--- a byte behind those held back gives these keys, and leaves those bytes held back: whatever comes
--- behind, the keys of all are these and then the others'
+-- a byte after those held back gives these keys, and leaves those bytes held back: whatever comes
+-- after it, the keys of all are these and then the others'
 pub record Feeds (held : List ℕ) (byte : ℕ) (given : Keys) (now : List ℕ) : Type 0 where
   pub all : (rest : List ℕ) → keys (held ++ byte ∷ rest) ≡ listed_keys given ++ keys (now ++ rest)
   pub complete : (rest : List ℕ) →

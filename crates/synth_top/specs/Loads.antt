@@ -7,7 +7,7 @@ use Rattle.file_store.specs.declared.refusal.FileRefusal.{FileRefusal}
 use Rattle.file_store.specs.FileReading.{Holds, IsFileRefused}
 use Rattle.file_store.specs.Limit.{longest_input}
 use Rattle.synth_session.specs.declared.answer.Refusal.{Refusal}
-use Rattle.synth_session.specs.FileReply.{CanReply, Reply, Request}
+use Rattle.synth_session.specs.KeyReply.{CanReply, Reply, Request}
 use Rattle.synth_session.specs.CheckedPhrases.{phrase_count}
 use Rattle.synth_session.specs.OpenedSession.{opened_session, tree_at_first}
 use Rattle.synth_session.specs.PlainSession.{PlainSession}

@@ -7,7 +7,7 @@ use Rattle.screen_window.specs.PlainGrid.{PlainGrid}
 use Rattle.synth_session.specs.declared.answer.Answer.{Answer}
 use Rattle.synth_session.specs.declared.answer.Answer.TheVariants.{Done, Refused, Quit}
 use Rattle.synth_session.specs.declared.key.Key.{Key}
-use Rattle.synth_session.specs.FileReply.{CanReply, Reply, Request}
+use Rattle.synth_session.specs.KeyReply.{CanReply, Reply, Request}
 use Rattle.synth_session.specs.KeyOutcome.{KeyOutcome}
 use Rattle.synth_session.specs.KeyRequest.{request}
 use Rattle.synth_session.specs.PlainSession.{PlainSession}
@@ -24,7 +24,7 @@ abbrev pub IsToldAs : (claimed told : Option FileMap) → Type 0
 IsToldAs None told = Unit {0}
 IsToldAs (Some map) told = told ≡ Some map
 
--- a key that is pressed, and what the files reply to what it asks of them
+-- a key that is pressed, and what is replied to what it asks
 pub record PressedKey : Type 0 where
   pub key : Key
   pub reply : Reply
@@ -36,11 +36,11 @@ failure reply = 0
 
 -- ---- one turn
 
--- what a pressed key asks of the files in its turn
+-- what a pressed key asks in its turn
 abbrev pub asked : EditorState → PressedKey → Request
 asked state pressed = request state.session pressed.key
 
--- in the turn of a pressed key the files can reply so
+-- in the turn of a pressed key what it asks can be replied to so
 abbrev pub HasReply : EditorState → PressedKey → Type 0
 HasReply state pressed = CanReply state.files (asked state pressed) pressed.reply
 
@@ -86,7 +86,7 @@ turn_with outcome files = record {
   ends = is_quit outcome.answer;
 }
 
--- the turn of a key, by what the files reply in it
+-- the turn of a key, by what is replied in it
 unfoldable pub turn : EditorState → PressedKey → Turn
 turn state pressed =
     turn_with (press state.session pressed.key pressed.reply) (files_after (asked state pressed) pressed.reply state.files)
@@ -124,7 +124,7 @@ abbrev pub ends : EditorState → List PressedKey → Bool
 ends state [] = false
 ends state (first ∷ rest) = (turn state first).ends || ends (turn state first).after rest
 
--- in the turn of each of some keys the files can reply so
+-- in the turn of each of some keys what it asks can be replied to so
 abbrev pub HaveReplies : EditorState → List PressedKey → Type 0
 HaveReplies state [] = Unit {0}
 HaveReplies state (first ∷ rest) = HasReply state first × HaveReplies (turn state first).after rest
@@ -139,6 +139,6 @@ abbrev pub bills : EditorState → List PressedKey → ℕ
 bills state [] = 0
 bills state (first ∷ rest) = bill state first + bills (turn state first).after rest
 
--- the keys that a run pressed, without what the files replied in them
+-- the keys that a run pressed, without what was replied in them
 abbrev pub keys_pressed : List PressedKey → List Key
 keys_pressed pressed = map (λ p. p.key) pressed

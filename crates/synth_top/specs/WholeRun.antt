@@ -8,7 +8,7 @@ use Rattle.synth_outside.specs.Files.{PlainFiles}
 use Rattle.screen_window.specs.Paint.{Paint, control}
 use Rattle.screen_window.specs.PlainGrid.{PlainGrid, blank_grid}
 use Rattle.synth_session.specs.declared.key.Key.{Key}
-use Rattle.synth_session.specs.FileReply.{CountsWant, Reply}
+use Rattle.synth_session.specs.KeyReply.{CountsWant, Reply}
 use Rattle.synth_session.specs.KeyRequest.{request}
 use Rattle.synth_session.specs.MemoryTaken.{key_takes_memory}
 use Rattle.synth_session.specs.PlainSession.{PlainSession}
@@ -62,18 +62,18 @@ pub record Told : Type 0 where
 
 -- ---- what a run has done
 
--- below the limit one read was made behind these bytes, and it found the source's end
+-- below the limit one read was made after these bytes, and it found the source's end
 pub record EndRead (options : PlainOptions) (now : ToldStreams) (bytes : List ℕ) (reads : ℕ) : Type 0 where
   pub one_more : reads ≡ length bytes + 1
   pub below : length bytes < options.key_limit
   pub ended : IsAtEnd now.left
 
--- as many bytes were taken as the limit says, and no read was made behind them
+-- as many bytes were taken as the limit says, and no read was made after them
 pub record LimitTaken (options : PlainOptions) (bytes : List ℕ) (reads : ℕ) : Type 0 where
   pub one_each : reads ≡ length bytes
   pub many : length bytes ≡ options.key_limit
 
--- no byte of keys comes behind these: the source's end was read, or the limit is met
+-- no byte of keys comes after these: the source's end was read, or the limit is met
 abbrev pub NoKeyComes : PlainOptions → ToldStreams → List ℕ → ℕ → Type 0
 NoKeyComes options now bytes reads = EndRead options now bytes reads ⊎ LimitTaken options bytes reads
 
@@ -95,7 +95,7 @@ pub record Course (options : PlainOptions) (first : EditorState) (before now : T
   -- how many reads were made
   pub reads : ℕ
   pub made : now.reads ≡ raised_by reads before.reads
-  -- the keys pressed, each with what the files replied in it; what isn't complete is pressed only where
+  -- the keys pressed, each with what was replied in it; what isn't complete is pressed only where
   -- no byte comes any more
   pub pressed : List PressedKey
   pub can_reply : HaveReplies first pressed
@@ -139,7 +139,7 @@ module _ {options : PlainOptions} {first : EditorState} {before now : ToldStream
     pub all : PressedAll (keys course.bytes)
     pub limit : LimitTaken options course.bytes course.reads
 
-  -- below the limit the read behind the bytes gave no answer, and what isn't complete wasn't pressed
+  -- below the limit the read after the bytes gave no answer, and what isn't complete wasn't pressed
   pub record ReadCut : Type 0 where
     pub all : PressedAll (completed course.bytes)
     pub below : length course.bytes < options.key_limit
@@ -147,7 +147,7 @@ module _ {options : PlainOptions} {first : EditorState} {before now : ToldStream
 
   -- the newest byte was taken, and the source's end read, only after the keys that the bytes before it
   -- complete, which are among these
-  pub record TakenBehind (pressed : List PressedKey) : Type 0 where
+  pub record TakenAfter (pressed : List PressedKey) : Type 0 where
     pub in_turn : (seen : List ℕ) (newest : ℕ) → course.bytes ≡ seen ++ newest ∷ [] →
         IsFront (completed seen) (keys_pressed pressed)
     pub reads : ReadsInTurn options now course.bytes course.reads pressed
@@ -160,7 +160,7 @@ module _ {options : PlainOptions} {first : EditorState} {before now : ToldStream
     pub is_last : course.pressed ≡ earlier ++ last ∷ []
     pub going : ends first earlier ≡ false
     pub shown : length (written first earlier) ≤ course.count
-    pub taken : TakenBehind earlier
+    pub taken : TakenAfter earlier
 
   -- the last key pressed ended the session, and no read was made after its byte
   pub record QuitPressed : Type 0 where
@@ -181,8 +181,8 @@ module _ {options : PlainOptions} {first : EditorState} {before now : ToldStream
 
   -- a key wanted memory, which is one that takes some, between these counts of the files' wants: it isn't
   -- among those pressed but is the next one of the keys of the bytes, those pressed didn't end the session,
-  -- and no byte was taken before they were. What it checked is billed by this reply, as files can
-  -- give it, whether or not it came to one
+  -- and no byte was taken before they were. What it checked is billed by this reply, which what it
+  -- asks can have, whether or not it came to one
   pub record KeyWanted (wants_before wants_now : ℕ) : Type 0 where
     pub wanted : Key
     pub reply : Reply
@@ -193,7 +193,7 @@ module _ {options : PlainOptions} {first : EditorState} {before now : ToldStream
     pub complete : IsFront (keys_pressed course.pressed ++ wanted ∷ []) (completed course.bytes)
         ⊎ NoKeyComes options now course.bytes course.reads
     pub going : ends first course.pressed ≡ false
-    pub taken : TakenBehind course.pressed
+    pub taken : TakenAfter course.pressed
 
   -- a step of the program's run wanted memory, in the turn of the last key pressed, which was taken and which asked the files for
   -- nothing; none before it ended the session
@@ -222,11 +222,11 @@ module _ {options : PlainOptions} {first : EditorState} {before now : ToldStream
   wanted_bill wants_before wants_now (inl last) = bill state_after (record { key = last.wanted; reply = last.reply })
   wanted_bill wants_before wants_now (inr step) = 0
 
-  -- the bill of a key behind those pressed, by why the run stopped: of one that wanted memory, and else there is none
+  -- the bill of a key after those pressed, by why the run stopped: of one that wanted memory, and else there is none
   abbrev pub last_bill : (wants_before wants_now : ℕ) (status : Status) → Stopped wants_before wants_now status → ℕ
   last_bill wants_before wants_now NoMemory (inl cut) = 0
   last_bill wants_before wants_now NoMemory (inr (inl cut)) = 0
-  last_bill wants_before wants_now NoMemory (inr (inr behind)) = wanted_bill wants_before wants_now behind.2
+  last_bill wants_before wants_now NoMemory (inr (inr later)) = wanted_bill wants_before wants_now later.2
   last_bill wants_before wants_now status stopped = 0
 
   -- the bill of a run that stopped so, from the opening screen on: those of the keys pressed together, and that of a key which wanted
@@ -236,7 +236,7 @@ module _ {options : PlainOptions} {first : EditorState} {before now : ToldStream
       bills first course.pressed + last_bill wants_before wants_now status stopped
 
   -- what the source keeps besides its bytes is as after reads that were Ok, and then no byte was lost;
-  -- or as behind one that wasn't, and then that read cut the run
+  -- or as after one that wasn't, and then that read cut the run
   abbrev pub LeavesSource : Type 0 → Type 0 → Type 0
   LeavesSource after_reads after_fault = (after_reads × NoneLost) ⊎ (after_fault × ReadCut)
 

@@ -7,7 +7,7 @@ ghost use Rattle.screen_window.specs.Paint.{Paint};
 ghost use Rattle.screen_window.specs.PlainGrid.{blank_grid};
 ghost use Rattle.screen_window.specs.Screen.{window_rows};
 ghost use Rattle.screen_window.specs.Writes.{Writes};
-ghost use Rattle.synth_outside.specs.Cause.{HasCause};
+ghost use Rattle.synth_outside.specs.Cause.{HasCause, RisesWith};
 ghost use Rattle.synth_outside.specs.Source.{LosesAtMost};
 ghost use Rattle.synth_session.specs.SessionScreen.{grid};
 ghost use Rattle.synth_session.specs.SessionView.{plain_session, shown_grid};
@@ -18,7 +18,7 @@ ghost use Rattle.synth_top.specs.Private.PlainForms.{plain_first_loads, plain_op
 ghost use Rattle.synth_top.specs.Private.Pressing.{IsOpened, IsReady, IsUnshown, PressesKeys, ReadsByte, ended_as, moment_of};
 ghost use Rattle.synth_top.specs.Private.EditorRuns.{Rescues, EditorRuns};
 ghost use Rattle.synth_top.specs.WholeRun.{opening};
-ghost use Rattle.synth_top.specs.Status.{CausedBy, LeftAs};
+ghost use Rattle.synth_top.specs.Status.{LeftAs};
 
 use crate::key::{KeyReader, Keys};
 use crate::loading::FirstLoads;
@@ -26,7 +26,7 @@ use crate::options::Options;
 use crate::status::Status;
 use file_store::FileRefusal;
 use plcs_base::{OutOfMemory, Work};
-use screen_window::write_piece;
+use screen_window::{write_piece, writes_in_turn};
 use std::alloc::Global;
 use synth_outside::{Files, Sink, SinkFault, Source, SourceFault};
 use synth_session::{Answer, Key, Refusal, Session};
@@ -124,19 +124,29 @@ impl<W: Work> Editor<W> {
         ensures runs { EditorRuns result (plain_options options.now)
             (record { session = plain_session self.old.session; files = (F.told files.old).stored })
             (record {
-              streams = record { left = S.left keys.old; reads = S.reads keys.old; taken = K.taken screen.old; wants = K.wants screen.old };
+              streams = record {
+                left = S.left keys.old;
+                reads = S.reads keys.old;
+                taken = K.taken screen.old;
+                wants = K.wants screen.old;
+              };
               files = F.told files.old;
               counts = W.counts work.old;
             })
             (record {
-              streams = record { left = S.left keys.new; reads = S.reads keys.new; taken = K.taken screen.new; wants = K.wants screen.new };
+              streams = record {
+                left = S.left keys.new;
+                reads = S.reads keys.new;
+                taken = K.taken screen.new;
+                wants = K.wants screen.new;
+              };
               files = F.told files.new;
               counts = W.counts work.new;
             })
             (S.leads_to keys.old keys.new) (S.breaks_at keys.old keys.new) (plain_session self.new.session) }
         ensures ready { IsReady self.new }
-        ensures read { CausedBy (result ≡ Status.ReadFault) (S.faults keys.old) (S.faults keys.new) }
-        ensures write { CausedBy (result ≡ Status.WriteFault)
+        ensures read { RisesWith (result ≡ Status.ReadFault) (S.faults keys.old) (S.faults keys.new) }
+        ensures write { RisesWith (result ≡ Status.WriteFault)
             (K.faults screen.old) (K.faults screen.new) }
         ensures source { LeftAs result
             (S.leads_to keys.old keys.new) (S.breaks_at keys.old keys.new) }
@@ -184,6 +194,7 @@ impl<W: Work> Editor<W> {
         ensures counts { LaysAtMost (window_rows (plain_session self.old.session).size.rows)
             (W.counts work.old) (W.counts work.new) }
     {
+        writes_in_turn();
         write_piece(screen, b"\x1b[0m\x1b[2J")?;
         self.show(screen, work)
     }

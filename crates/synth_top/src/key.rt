@@ -121,7 +121,7 @@ impl Fed {
         }
     }
 
-    /// What a byte gives behind an ESC that is a key of its own.
+    /// What a byte gives after an ESC that is a key of its own.
     fn after_escape(self) -> Self
         ensures { result ≡ record {
           keys = record { first = Some Other; second = self.keys.first };
@@ -138,7 +138,7 @@ impl Fed {
     }
 }
 
-/// Takes a byte behind those that the reader holds back.
+/// Takes a byte after those that the reader holds back.
 #[tactic(auto, unfolding(crate::specs::Keys::keys, crate::specs::Keys::completed))]
 fn next_byte(held: Held, byte: u8) -> Fed
     ensures keys { Feeds (held_bytes held) byte result.keys (held_bytes result.held) }
@@ -163,7 +163,7 @@ fn first_byte(byte: u8) -> Fed
     Fed::complete(key_of(byte))
 }
 
-/// Takes a byte behind ESC: a bracket is held back too, and before any other byte the ESC is a key
+/// Takes a byte after ESC: a bracket is held back too, and before any other byte the ESC is a key
 /// of its own.
 fn byte_after_escape(byte: u8) -> Fed
     ensures keys { Feeds (27 ∷ []) byte result.keys (held_bytes result.held) }

@@ -2,9 +2,10 @@
 #![tactic(auto)]
 
 ghost use Rattle.std.specs.Prelude.{◌≡◌, ◌⊎◌, None, map, IfSome, string_bytes};
+ghost use Rattle.synth_outside.specs.Cause.{RisesWith};
 ghost use Rattle.synth_top.specs.Private.PlainForms.{plain_options};
 ghost use Rattle.synth_top.specs.WholeRun.{Ended, TaskEnded};
-ghost use Rattle.synth_top.specs.Status.{CausedBy, LeftAs};
+ghost use Rattle.synth_top.specs.Status.{LeftAs};
 ghost use Rattle.synth_top.specs.Task.{task_of};
 
 mod command;
@@ -31,7 +32,7 @@ pub use words::words_of;
 
 /// Edits a program: reads the words that follow the program's name, loads the files that they name, and then
 /// writes the opening screen and one screen after each key to the screen's sink, until a key ends the session
-/// or the source of keys ends. Key bytes are taken one a read, and no read is made behind the source's end,
+/// or the source of keys ends. Key bytes are taken one a read, and no read is made after the source's end,
 /// the limit or a quit. Where a key wants memory, it does nothing, and the editor ends.
 ///
 /// The words are `--rows N`, `--cols N`, `--keys N`, `--input FILE` and `PROGRAM`, each once at most and in any
@@ -60,20 +61,30 @@ pub fn synth<S: Source, K: Sink, F: Files, W: Work>(
     ensures ended { IfSome (task_of (map string_bytes words.now)) (λ task.
         TaskEnded task result
         (record {
-          streams = record { left = S.left keys.old; reads = S.reads keys.old; taken = K.taken screen.old; wants = K.wants screen.old };
+          streams = record {
+            left = S.left keys.old;
+            reads = S.reads keys.old;
+            taken = K.taken screen.old;
+            wants = K.wants screen.old;
+          };
           files = F.told files.old;
           counts = W.counts work.old;
         })
         (record {
-          streams = record { left = S.left keys.new; reads = S.reads keys.new; taken = K.taken screen.new; wants = K.wants screen.new };
+          streams = record {
+            left = S.left keys.new;
+            reads = S.reads keys.new;
+            taken = K.taken screen.new;
+            wants = K.wants screen.new;
+          };
           files = F.told files.new;
           counts = W.counts work.new;
         })
         (S.leads_to keys.old keys.new) (S.breaks_at keys.old keys.new)) }
 
     // A fault is answered exactly where the count of its own cause rose.
-    ensures read { CausedBy (result ≡ Status.ReadFault) (S.faults keys.old) (S.faults keys.new) }
-    ensures write { CausedBy (result ≡ Status.WriteFault)
+    ensures read { RisesWith (result ≡ Status.ReadFault) (S.faults keys.old) (S.faults keys.new) }
+    ensures write { RisesWith (result ≡ Status.WriteFault)
         (K.faults screen.old) (K.faults screen.new) }
 
     // Of what the source keeps besides its bytes, its own relations hold.
@@ -96,18 +107,28 @@ fn edit<S: Source, K: Sink, F: Files, W: Work>(
 ) -> Status
     ensures ended { Ended result (plain_options options.now)
         (record {
-          streams = record { left = S.left keys.old; reads = S.reads keys.old; taken = K.taken screen.old; wants = K.wants screen.old };
+          streams = record {
+            left = S.left keys.old;
+            reads = S.reads keys.old;
+            taken = K.taken screen.old;
+            wants = K.wants screen.old;
+          };
           files = F.told files.old;
           counts = W.counts work.old;
         })
         (record {
-          streams = record { left = S.left keys.new; reads = S.reads keys.new; taken = K.taken screen.new; wants = K.wants screen.new };
+          streams = record {
+            left = S.left keys.new;
+            reads = S.reads keys.new;
+            taken = K.taken screen.new;
+            wants = K.wants screen.new;
+          };
           files = F.told files.new;
           counts = W.counts work.new;
         })
         (S.leads_to keys.old keys.new) (S.breaks_at keys.old keys.new) }
-    ensures read { CausedBy (result ≡ Status.ReadFault) (S.faults keys.old) (S.faults keys.new) }
-    ensures write { CausedBy (result ≡ Status.WriteFault)
+    ensures read { RisesWith (result ≡ Status.ReadFault) (S.faults keys.old) (S.faults keys.new) }
+    ensures write { RisesWith (result ≡ Status.WriteFault)
         (K.faults screen.old) (K.faults screen.new) }
     ensures source { LeftAs result (S.leads_to keys.old keys.new) (S.breaks_at keys.old keys.new) }
 {

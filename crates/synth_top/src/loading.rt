@@ -6,7 +6,7 @@ ghost use Rattle.synth_top.specs.Private.Loading.{BothLoad, InputLoads, IsInputI
 ghost use Rattle.synth_top.specs.Private.PlainForms.{input_reply, plain_first_loads, plain_options, program_reply};
 
 use crate::options::Options;
-use file_store::{FileRefusal, load, load_input};
+use file_store::{FileRefusal, load, load_input, loading_ignores_room};
 use plcs_base::OutOfMemory;
 use std::alloc::Global;
 use synth_outside::Files;
@@ -108,6 +108,7 @@ fn load_program<F: Files>(
     ensures wanted { IfErr result (λ _. LoadsNothing (F.told files.old) (F.told files.new)) }
 {
     room_is_not_shown();
+    loading_ignores_room();
     let Some(name) = name else {
         return Ok(FileLoad::NotAsked);
     };

@@ -1,6 +1,8 @@
 -- What came of an edit of the program, and why an edit isn't made or phrase text isn't entered.
-use Rattle.std.specs.Prelude.{◌≡◌, ℕ}
+use Rattle.std.specs.Prelude.{◌≡◌, ℕ, Result, Ok, Err}
+use Rattle.plcs_grammar.specs.declared.phrase.Phrase.{Phrase}
 use Rattle.plcs_grammar.specs.OverLimit.{OverLimit}
+use Rattle.plcs_grammar.specs.PlainPhrase.{plain_phrase}
 use Rattle.phrase_parser.specs.Standing.{Standing}
 use Rattle.phrase_parser.specs.declared.fault.PhraseFault.{PhraseFault}
 use Rattle.phrase_parser.specs.declared.fault.PhraseFault.TheVariants.{Syntax, NumberTooLarge, TooDeep, OutOfMemory}
@@ -35,3 +37,8 @@ IsTextFault standing (Syntax place) = standing ≡ Standing.wrong_at place
 IsTextFault standing (NumberTooLarge place) = standing ≡ Standing.over (OverLimit.number_too_large place)
 IsTextFault standing (TooDeep place) = standing ≡ Standing.over (OverLimit.too_deep place)
 IsTextFault standing OutOfMemory = Unit {0}
+
+-- this was read of phrase text of this standing: its phrase, or its fault
+abbrev pub IsReadOf : Standing → Result Phrase PhraseFault → Type 0
+IsReadOf standing (Ok phrase) = standing ≡ Standing.phrase (plain_phrase phrase)
+IsReadOf standing (Err fault) = IsTextFault standing fault

@@ -4,7 +4,7 @@ use Rattle.plcs_base.specs.declared.memory.OutOfMemory.{OutOfMemory}
 use Rattle.synth_outside.specs.Files.{PlainFiles}
 use Rattle.synth_session.specs.declared.answer.Answer.{Answer}
 use Rattle.synth_session.specs.declared.session.Session.{Session}
-use Rattle.synth_session.specs.FileReply.{FilesDo, Reply, Request}
+use Rattle.synth_session.specs.KeyReply.{FilesDo, Reply, Request}
 use Rattle.synth_session.specs.KeyOutcome.{KeyOutcome}
 use Rattle.synth_session.specs.SessionView.{Does}
 

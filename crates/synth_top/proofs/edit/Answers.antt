@@ -9,7 +9,7 @@ use Rattle.synth_top.specs.Turn.{EditorState}
 use Rattle.synth_top.proofs.Whole.{opened_first, ran, unloaded, unopened}
 use Rattle.synth_top.proofs.edit.Goals as goal
 
--- the loads, the run, and what was saved behind it
+-- the loads, the run, and what was saved after it
 pub returns-clause-ended : goal.returns-clause-ended
 returns-clause-ended g c =
     let options = plain_options c.args.options.now in

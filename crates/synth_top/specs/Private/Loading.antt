@@ -7,7 +7,7 @@ use Rattle.template_tree.specs.Programs.PlainTree.{PlainTree}
 use Rattle.template_tree.specs.Programs.Tree.{IsTree}
 use Rattle.file_store.specs.declared.refusal.FileRefusal.{FileRefusal}
 use Rattle.file_store.specs.Limit.{longest_input}
-use Rattle.synth_session.specs.FileReply.{CanReply, Reply}
+use Rattle.synth_session.specs.KeyReply.{CanReply, Reply}
 use Rattle.synth_top.specs.declared.loading.FileLoad.{FileLoad}
 use Rattle.synth_top.specs.Loads.{CanLoad, InputReply, IsInputReply, PlainFirstLoads, input_failure, load_failures, program_request}
 use Rattle.synth_top.specs.Options.{PlainOptions}

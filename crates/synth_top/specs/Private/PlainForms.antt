@@ -2,7 +2,7 @@
 use Rattle.std.specs.Prelude.{ℕ, Vec, option_map}
 use Rattle.std.specs.declared.alloc.Global.{Global}
 use Rattle.template_tree.specs.Programs.PlainTree.{PlainTree, roomless_tree}
-use Rattle.synth_session.specs.FileReply.{Reply}
+use Rattle.synth_session.specs.KeyReply.{Reply}
 use Rattle.synth_top.specs.declared.command.Given.{Given}
 use Rattle.synth_top.specs.declared.loading.FileLoad.{FileLoad}
 use Rattle.synth_top.specs.declared.loading.FirstLoads.{FirstLoads}

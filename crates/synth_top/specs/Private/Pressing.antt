@@ -7,7 +7,7 @@ use Rattle.synth_outside.specs.Files.{PlainFiles}
 use Rattle.screen_window.specs.PlainGrid.{PlainGrid, blank_grid}
 use Rattle.synth_session.specs.declared.answer.Answer.{Answer}
 use Rattle.synth_session.specs.declared.key.Key.{Key}
-use Rattle.synth_session.specs.FileReply.{CountsWant, HaveReplied, Reply}
+use Rattle.synth_session.specs.KeyReply.{CountsWant, HaveReplied, Reply}
 use Rattle.synth_session.specs.KeyRequest.{request}
 use Rattle.synth_session.specs.MemoryTaken.{key_takes_memory}
 use Rattle.synth_session.specs.PlainSession.{PlainSession}
@@ -22,7 +22,7 @@ use Rattle.synth_top.specs.Counted.{CountsFor}
 use Rattle.synth_top.specs.Loads.{PlainFirstLoads, first_session}
 use Rattle.synth_top.specs.Options.{PlainOptions}
 use Rattle.synth_top.specs.WholeRun.{painted_over}
-use Rattle.synth_top.specs.Status.{CausedBy}
+use Rattle.synth_outside.specs.Cause.{RisesWith}
 use Rattle.synth_top.specs.Turn.{HasReply, HaveReplies, IsToldAs, PressedKey, EditorState, bill, bills, state_after_keys, ends, failures, grids, keys_pressed, shots}
 use Rattle.synth_top.specs.Keys.{IsFront}
 
@@ -50,7 +50,7 @@ ReadsByte None before now = Consumes before now [] × IsAtEnd now
 
 -- ---- one key
 
--- a key was pressed, and the files replied so to what it asked of them
+-- a key was pressed, and what it asked was replied to so
 pub record IsPressed (key : Key) (answer : Answer) (before now : PlainSession) (files_before files_now : PlainFiles) : Type 0 where
   pub reply : Reply
   pub files : HaveReplied (request before key) reply files_before files_now
@@ -143,7 +143,7 @@ pub record KeysCut (keys : List Key) (before now : Moment) : Type 0 where
   pub going : ends (state_at before) (earlier ++ last ∷ []) ≡ false
 
 -- these keys were pressed up to one that wanted memory, and so did nothing: from these counts on it checked phrases alone, under the
--- bill that it has with this reply, as files can give it
+-- bill that it has with this reply, which what it asks can have
 pub record KeysWanted (keys : List Key) (before now : Moment) : Type 0 where
   pub pressed : List PressedKey
   pub wanted : Key
@@ -177,12 +177,12 @@ MayEnd (Over ReadFault) = ⊥
 MayEnd (Over BadWords) = ⊥
 MayEnd (Over KeyLimit) = ⊥
 
--- keys were pressed: what became of them, the count of the sink's faults, and the editor behind
+-- keys were pressed: what became of them, the count of the sink's faults, and the editor then
 pub record PressesKeys {W : Type 0} (going : Going) (keys : List Key) (before now : Moment)
     (faults_before faults_now : ℕ) (e : Editor W) : Type 0 where
   pub ends : MayEnd going
   pub pressed : Pressed going keys before now
-  pub cause : CausedBy (going ≡ Over WriteFault) faults_before faults_now
+  pub cause : RisesWith (going ≡ Over WriteFault) faults_before faults_now
   pub ready : IsReady e
 
 -- the status that ended the run, or else this one

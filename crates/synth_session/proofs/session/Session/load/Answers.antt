@@ -1,18 +1,17 @@
 use Rattle.std.proofs.Common.{rules}
 use Rattle.template_tree.specs.Programs.PlainTree.{roomless_tree}
 use Rattle.file_store.specs.declared.refusal.FileRefusal.{FileRefusal}
-use Rattle.synth_session.specs.FileReply.{Reply}
+use Rattle.synth_session.specs.KeyReply.{Reply}
 use Rattle.synth_session.proofs.CheckedPhrases.{checks_free}
 use Rattle.synth_session.proofs.FileReplies.{loaded_files, refused_load, wanting_load}
 use Rattle.synth_session.proofs.session.Session.load.Goals as goal
 
 pub returns-in-Ok : goal.returns-in-Ok
 returns-in-Ok g c =
-    let laws = c.room_is_not_shown.ensures in
     record {
       does = record {
         reply = Reply.Loaded (roomless_tree c.in-Ok.tree);
-        files = loaded_files laws.trees laws.counts laws.listing _ _ _ c.in-Ok.tree _ _ c.in-Ok.ensures.tree c.in-Ok.ensures.says
+        files = loaded_files c.room_is_not_shown.ensures.trees c.loading_ignores_room.ensures _ _ _ c.in-Ok.tree _ _ c.in-Ok.ensures.tree c.in-Ok.ensures.says
             c.in-Ok.ensures.files c.take_program.result;
         does = c.take_program.ensures.does;
         counts = c.take_program.ensures.counts;

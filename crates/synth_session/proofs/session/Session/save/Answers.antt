@@ -1,5 +1,5 @@
 use Rattle.std.proofs.Common.{rules}
-use Rattle.synth_session.specs.FileReply.{Reply}
+use Rattle.synth_session.specs.KeyReply.{Reply}
 use Rattle.synth_session.proofs.FileReplies.{refused_save, wanting_save}
 use Rattle.synth_session.proofs.session.Session.save.Goals as goal
 

@@ -1,4 +1,4 @@
--- The session does what the key's outcome says, by what the files replied; so by whether it wanted memory, whether the key ended the
+-- The session does what the key's outcome says, by what was replied; so by whether it wanted memory, whether the key ended the
 -- session, and whether its screen was written, the one key was wanted, quit, cut or shown, as a list of one.
 use Rattle.std.proofs.Common.{ap, refl, arith, inl, inr, Err}
 use Rattle.synth_session.specs.PlainScreens.{PlainScreens}

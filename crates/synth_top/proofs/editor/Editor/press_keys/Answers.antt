@@ -1,8 +1,7 @@
-use Rattle.synth_top.proofs.KeysInOrder.{pressed_before, pressed_then}
-use Rattle.synth_top.proofs.WritesInTurn.{caused_behind}
+use Rattle.synth_top.proofs.KeysInOrder.{caused_after, pressed_before, pressed_then}
 use Rattle.synth_top.proofs.editor.Editor.press_keys.Goals as goal
 
--- the second key comes behind the first
+-- the second key comes after the first
 pub returns-clause-presses : goal.returns-clause-presses
 returns-clause-presses g c =
     let first = c.in_default.ensures.presses in
@@ -10,7 +9,7 @@ returns-clause-presses g c =
     record {
       ends = second.ends;
       pressed = pressed_then c.press_if-2.result _ _ _ _ _ first.pressed second.pressed;
-      cause = caused_behind _ _ _ (first.cause.same (λ e. absurd (cc))) second.cause;
+      cause = caused_after _ _ _ _ (first.cause.same (λ e. absurd (cc))) second.cause;
       ready = second.ready;
     }
 
