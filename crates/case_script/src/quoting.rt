@@ -32,7 +32,7 @@ fn put_byte(text: &mut String, byte: u8) -> Result<(), AllocError> {
     }
 }
 
-/// The digit of a number below 16.
+/// The digit of a number below 16, as an escape in a word in quotes has it.
 fn digit(number: u8) -> char {
     match number {
         0..=9 => (b'0' + number) as char,

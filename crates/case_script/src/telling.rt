@@ -6,7 +6,7 @@ use std::alloc::Global;
 use std::fmt::Debug;
 use std::io;
 
-/// Lines that are told.
+/// Lines that are told of a case.
 #[derive(Drop)]
 pub struct Told {
     alloc: Global,
@@ -26,7 +26,7 @@ impl ByteOut for Told {
 }
 
 impl Told {
-    /// Nothing yet.
+    /// No lines that are told yet.
     pub fn new(alloc: Global) -> Told {
         Told {
             alloc,
@@ -35,12 +35,12 @@ impl Told {
         }
     }
 
-    /// The allocator for what is made on the way to an answer.
+    /// The allocator for what is made on the way to what is told.
     pub fn alloc(&self) -> Global {
         self.alloc
     }
 
-    /// The bytes so far.
+    /// The bytes that were told so far.
     pub fn as_bytes(&self) -> &[u8] {
         self.bytes.as_slice()
     }
@@ -64,18 +64,18 @@ impl Told {
         self.whole = true;
     }
 
-    /// Tells a text.
+    /// Puts a text behind what is told.
     pub fn text(&mut self, text: &str) {
         put_bytes(text.as_bytes(), self);
     }
 
-    /// Tells a text, and ends the line.
+    /// Puts a text behind what is told, and ends the line.
     pub fn line(&mut self, text: &str) {
         self.text(text);
         self.put(b'\n');
     }
 
-    /// Tells a value as it is shown where code is traced.
+    /// Puts a value behind what is told, as it is shown where code is traced.
     pub fn value<T: Debug>(&mut self, value: &T) {
         match format!(in self.alloc; "{value:?}") {
             Ok(text) => self.text(text.as_str()),
@@ -83,13 +83,13 @@ impl Told {
         }
     }
 
-    /// Tells a value so, and ends the line.
+    /// Puts a value so behind what is told, and ends the line.
     pub fn value_line<T: Debug>(&mut self, value: &T) {
         self.value(value);
         self.put(b'\n');
     }
 
-    /// Tells bytes as a word of scripts, in quotes.
+    /// Puts bytes behind what is told, as a word of scripts, in quotes.
     pub fn word(&mut self, bytes: &[u8]) {
         match quoted(self.alloc, bytes) {
             Ok(text) => self.text(text.as_str()),
@@ -97,7 +97,7 @@ impl Told {
         }
     }
 
-    /// Tells bytes so, and ends the line.
+    /// Puts bytes so behind what is told, and ends the line.
     pub fn word_line(&mut self, bytes: &[u8]) {
         self.word(bytes);
         self.put(b'\n');

@@ -2,7 +2,7 @@
 
 use std::alloc::{AllocError, Global};
 
-/// The most times that a piece is repeated.
+/// The most times that a piece of a word is repeated.
 const MOST_TIMES: u32 = 100_000_000;
 
 /// The words of a line, or none where it isn't cut into words. They stand apart by blanks. A word is
@@ -26,7 +26,7 @@ pub fn words_of(alloc: Global, line: &[u8]) -> Result<Option<Vec<Vec<u8>>>, Allo
     })
 }
 
-/// The number that decimal digits stand for, up to 4294967295.
+/// The number that a word of decimal digits stands for, up to 4294967295.
 pub fn number_of(word: &[u8]) -> Option<u32> {
     if word.is_empty() {
         return None;
@@ -47,7 +47,7 @@ pub fn numbers_of(alloc: Global, words: &[Vec<u8>]) -> Option<Vec<u64>> {
     Some(numbers)
 }
 
-/// The value of a decimal digit.
+/// The value of a decimal digit of a word.
 fn digit_of(byte: u8) -> Option<u32> {
     match byte {
         b'0'..=b'9' => Some((byte - b'0') as u32),
@@ -55,7 +55,7 @@ fn digit_of(byte: u8) -> Option<u32> {
     }
 }
 
-/// The value of a hexadecimal digit.
+/// The value of a hexadecimal digit of a word's escape.
 fn hex_of(byte: u8) -> Option<u8> {
     match byte {
         b'0'..=b'9' => Some(byte - b'0'),
@@ -64,7 +64,7 @@ fn hex_of(byte: u8) -> Option<u8> {
     }
 }
 
-/// Where the cut stands.
+/// Where the cut of a line into words stands.
 #[derive(Clone, Copy)]
 enum State {
     /// Behind a blank, or at the line's beginning.
@@ -97,7 +97,7 @@ struct Cutter {
 }
 
 impl Cutter {
-    /// Takes the next byte of the line.
+    /// Takes the next byte of the line that is cut into words.
     fn take(&mut self, alloc: Global, byte: u8) -> Result<(), AllocError> {
         match self.state {
             State::Between | State::Plain => self.take_plain(alloc, byte),
@@ -116,7 +116,7 @@ impl Cutter {
         }
     }
 
-    /// Takes a byte outside of quotes.
+    /// Takes a byte of the line that stands outside of a word's quotes.
     fn take_plain(&mut self, alloc: Global, byte: u8) -> Result<(), AllocError> {
         if byte == b' ' {
             return self.end_word(alloc);
@@ -130,7 +130,7 @@ impl Cutter {
         Ok(())
     }
 
-    /// Takes a byte in quotes.
+    /// Takes a byte of a word in quotes.
     fn take_quoted(&mut self, byte: u8) -> Result<(), AllocError> {
         match byte {
             b'"' => self.state = State::Closed,
@@ -140,7 +140,7 @@ impl Cutter {
         Ok(())
     }
 
-    /// Takes the byte behind a backslash.
+    /// Takes the byte of a word behind a backslash.
     fn take_escaped(&mut self, byte: u8) -> Result<(), AllocError> {
         let meant = match byte {
             b'"' | b'\\' => byte,
@@ -162,7 +162,7 @@ impl Cutter {
         Ok(())
     }
 
-    /// Takes the second digit of a byte.
+    /// Takes the second digit of a byte of a word.
     fn take_low(&mut self, high: u8, byte: u8) -> Result<(), AllocError> {
         match hex_of(byte) {
             Some(low) => {
@@ -177,7 +177,7 @@ impl Cutter {
         }
     }
 
-    /// Takes a byte behind a closing quote: a blank, the quote of a next piece, `*`, or a digit behind it.
+    /// Takes a byte behind a closing quote of a word: a blank, the quote of a next piece, `*`, or a digit behind it.
     fn take_behind(&mut self, alloc: Global, byte: u8) -> Result<(), AllocError> {
         if byte == b' ' {
             return self.end_word(alloc);
@@ -225,7 +225,7 @@ impl Cutter {
     }
 }
 
-/// The state behind a closing quote and this byte: `*`, or a digit behind it.
+/// The state of the cut behind a closing quote of a word and this byte: `*`, or a digit behind it.
 fn times_behind(state: State, byte: u8) -> State {
     match state {
         State::Closed if byte == b'*' => State::Times(None),
@@ -237,7 +237,7 @@ fn times_behind(state: State, byte: u8) -> State {
     }
 }
 
-/// The number with one more digit, up to the most times.
+/// How many times a piece of a word is repeated, with one more digit, up to the most times.
 fn longer(number: u32, byte: u8) -> Option<u32> {
     let number = number.checked_mul(10)?.checked_add(digit_of(byte)?)?;
     if number > MOST_TIMES {

@@ -128,14 +128,14 @@ impl Scope for Decls {
     }
 }
 
-/// Whether a parameter's name stands among those of earlier ones.
+/// Whether a parameter's name stands among those of earlier ones, so that the table has no item for it.
 fn is_among(name: &Name, names: &[Name]) -> bool
     ensures { result ≡ list_any (bytes_eq name.now) names.now }
 {
     names.iter().any(|other| name == other)
 }
 
-/// The effective item that a table has of a name, if it is a scalar.
+/// The effective item that a table of declarations has of a name, if it is a scalar.
 fn scalar_item(item: Declared) -> Option<Declared>
     ensures { result ≡ scalar_item item }
 {

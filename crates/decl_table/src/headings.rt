@@ -27,7 +27,7 @@ impl Model for Headings {
 }
 
 impl Headings {
-    /// No effective headings.
+    /// No effective headings, before the slot of any is put under its name.
     pub(crate) fn new(alloc: Global) -> Headings
         ensures { result ≡ [] }
     {

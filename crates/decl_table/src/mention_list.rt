@@ -27,7 +27,7 @@ impl Model for MentionList {
 }
 
 impl MentionList {
-    /// A list of this one place.
+    /// The list of this one place of a phrase.
     pub(crate) fn of(alloc: Global, at: PhraseAt) -> Result<MentionList, OutOfMemory>
         ensures { IfOk result (λ places. places ≡ at ∷ []) }
     {

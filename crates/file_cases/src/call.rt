@@ -1,6 +1,6 @@
 //! The words that cases begin with.
 
-/// What a case asks for.
+/// What a case of files asks for, by its first word.
 #[derive(Clone, Copy)]
 pub(crate) enum Call {
     /// A call that takes the text.
@@ -15,7 +15,7 @@ pub(crate) enum Call {
     Stream(StreamCall),
 }
 
-/// A call that takes the text.
+/// A call on the text, by the word that a case of files begins with.
 #[derive(Clone, Copy)]
 pub(crate) enum TextCall {
     ReadListing,
@@ -32,7 +32,7 @@ pub(crate) enum Way {
     Higher,
 }
 
-/// A call on the files at hand.
+/// A call on the files at hand, by the word that a case begins with.
 #[derive(Clone, Copy)]
 pub(crate) enum FilesCall {
     OpenRead,
@@ -46,7 +46,7 @@ pub(crate) enum FilesCall {
     LoadInput,
 }
 
-/// Other files at hand, or a call on what lies where the program runs.
+/// Other files at hand, or a call on what lies where the program runs, by the word that a case begins with.
 #[derive(Clone, Copy)]
 pub(crate) enum PlaceCall {
     Memory,
@@ -58,7 +58,7 @@ pub(crate) enum PlaceCall {
     Link,
 }
 
-/// A source that is read, or a sink that is written to.
+/// A source that is read, or a sink that is written to, by the word that a case begins with.
 #[derive(Clone, Copy)]
 pub(crate) enum StreamCall {
     Source,
@@ -73,7 +73,7 @@ pub(crate) enum StreamCall {
     StumblingSink,
 }
 
-/// Each word with its call.
+/// Each word that a case of files begins with, with its call.
 static CALLS: [(&[u8], Call); 32] = [
     (b"read_listing", Call::Text(TextCall::ReadListing)),
     (b"damage", Call::Text(TextCall::Damage)),
@@ -115,7 +115,7 @@ static CALLS: [(&[u8], Call); 32] = [
     (b"stumbling_sink", Call::Stream(StreamCall::StumblingSink)),
 ];
 
-/// The call that the word names.
+/// The call that the first word of a case of files names.
 pub(crate) fn call_of(word: &[u8]) -> Option<Call> {
     for (name, call) in &CALLS {
         if *name == word {

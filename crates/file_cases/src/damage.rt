@@ -111,7 +111,7 @@ fn damaged(
     Ok(text)
 }
 
-/// Puts the line behind the text, damaged so.
+/// Puts the line of a listing behind the text, damaged so.
 fn push_damaged(text: &mut Vec<u8>, line: &[u8], damage: Damage) -> Result<(), AllocError> {
     match damage {
         Damage::Replaced(other) => text.extend_from_slice(other),
@@ -130,7 +130,7 @@ fn push_damaged(text: &mut Vec<u8>, line: &[u8], damage: Damage) -> Result<(), A
     }
 }
 
-/// Puts the line with its end behind the text.
+/// Puts a line of the listing of which one is damaged, with its end, behind the text.
 fn push_line(text: &mut Vec<u8>, line: &[u8]) -> Result<(), AllocError> {
     text.extend_from_slice(line)?;
     text.extend_from_slice(b"\n")

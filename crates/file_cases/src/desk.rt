@@ -27,7 +27,7 @@ impl<F: Files> Model for Desk<F> {
 }
 
 impl<F: Files> Desk<F> {
-    /// These files, of which nothing is told.
+    /// A desk of these files, of which nothing is told.
     pub(crate) fn new(files: F) -> Self {
         Desk {
             files,
@@ -36,7 +36,7 @@ impl<F: Files> Desk<F> {
         }
     }
 
-    /// Makes the call with these words behind its name, if it may be made.
+    /// Makes the call on the files of the desk with these words behind its name, if it may be made.
     pub(crate) fn make(
         &mut self,
         alloc: Global,
@@ -64,7 +64,7 @@ impl<F: Files> Desk<F> {
         }
     }
 
-    /// Opens the file of the name.
+    /// Opens the file of the name on the desk.
     fn open_read(&mut self, name: &[u8]) -> Result<(), FilesFault> {
         self.is_open = false;
         self.files.open_read(name)?;
@@ -72,7 +72,7 @@ impl<F: Files> Desk<F> {
         Ok(())
     }
 
-    /// Begins a new content for the name.
+    /// Begins a new content for the name on the desk.
     fn begin(&mut self, name: &[u8]) -> Result<(), FilesFault> {
         self.is_begun = false;
         self.files.begin(name)?;
@@ -80,7 +80,7 @@ impl<F: Files> Desk<F> {
         Ok(())
     }
 
-    /// Commits the new content, if one is begun.
+    /// Commits the new content, if one is begun on the desk.
     fn commit(&mut self, alloc: Global) -> Result<Option<String>, AllocError> {
         if !self.is_begun {
             return Ok(None);
@@ -94,7 +94,7 @@ impl<F: Files> Desk<F> {
         }
     }
 
-    /// Reads into a buffer of the size, of blanks, if a file is open.
+    /// Reads into a buffer of the size, of blanks, if a file is open on the desk.
     fn read(&mut self, alloc: Global, size: &[u8]) -> Result<Option<String>, AllocError> {
         let Some(size @ 1..) = number_of(size) else {
             return Ok(None);
@@ -108,7 +108,7 @@ impl<F: Files> Desk<F> {
         Ok(Some(format!(in alloc; "{answer:?} {shown}")?))
     }
 
-    /// Writes the piece, if a new content is begun.
+    /// Writes the piece, if a new content is begun on the desk.
     fn write(&mut self, alloc: Global, piece: &[u8]) -> Result<Option<String>, AllocError> {
         if piece.is_empty() || !self.is_begun {
             return Ok(None);
@@ -117,7 +117,7 @@ impl<F: Files> Desk<F> {
         Ok(Some(format!(in alloc; "{answer:?}")?))
     }
 
-    /// Loads the file of the name as a program.
+    /// Loads the file of the name from the desk's files as a program.
     fn load(&mut self, alloc: Global, name: &[u8]) -> Result<Option<String>, AllocError> {
         self.is_open = false;
         let slots = match load(alloc, name, &mut self.files) {
@@ -130,7 +130,7 @@ impl<F: Files> Desk<F> {
         }
     }
 
-    /// Loads the file of the name as the input of a program.
+    /// Loads the file of the name from the desk's files as the input of a program.
     fn load_input(&mut self, alloc: Global, name: &[u8]) -> Result<Option<String>, AllocError> {
         self.is_open = false;
         match load_input(alloc, name, &mut self.files) {
@@ -139,7 +139,7 @@ impl<F: Files> Desk<F> {
         }
     }
 
-    /// Saves the program whose listing the text is.
+    /// Saves the program whose listing the text is in the desk's files.
     pub(crate) fn save(
         &mut self,
         alloc: Global,
@@ -152,7 +152,7 @@ impl<F: Files> Desk<F> {
         save(&tree, name, &mut self.files)
     }
 
-    /// Loads a program, and saves it under another name.
+    /// Loads a program from the desk's files, and saves it under another name.
     fn load_and_save(
         &mut self,
         alloc: Global,
@@ -165,7 +165,7 @@ impl<F: Files> Desk<F> {
         save(&tree, other, &mut self.files)
     }
 
-    /// Loads a program, and rescues it.
+    /// Loads a program from the desk's files, and rescues it.
     fn load_and_rescue(&mut self, alloc: Global, name: &[u8]) -> Result<(), FileRefusal> {
         self.is_begun = false;
         self.is_open = false;
@@ -174,12 +174,12 @@ impl<F: Files> Desk<F> {
     }
 }
 
-/// Says how a call on files answered.
+/// Says how a call on the desk's files answered.
 fn said(alloc: Global, answer: Result<(), FilesFault>) -> Result<Option<String>, AllocError> {
     Ok(Some(format!(in alloc; "{answer:?}")?))
 }
 
-/// Says how a save or a load answered.
+/// Says how a save or a load of the desk's files answered.
 pub(crate) fn said_of_file(
     alloc: Global,
     answer: Result<(), FileRefusal>,
@@ -187,7 +187,7 @@ pub(crate) fn said_of_file(
     Ok(Some(format!(in alloc; "{answer:?}")?))
 }
 
-/// The bytes, quoted, or of more than 200 how many they are.
+/// What the desk says of bytes: these in quotes, or of more than 200 how many they are.
 pub(crate) fn shown(alloc: Global, bytes: &[u8]) -> Result<String, AllocError> {
     match bytes.len() {
         0..=200 => quoted(alloc, bytes),

@@ -17,7 +17,7 @@ pub(crate) enum FilesAtHand<'a, R: rt::Files<File = File>> {
 }
 
 impl<'a, R: rt::Files<File = File> + AllocGlobal> FilesAtHand<'a, R> {
-    /// Files in memory of which there is none yet; the calls of these numbers are to fail.
+    /// Files at hand in memory, of which there is none yet; the calls of these numbers are to fail.
     pub(crate) fn in_memory(alloc: Global, fails: Vec<u64>) -> Self {
         FilesAtHand::Memory(Desk::new(MemFiles::new(alloc, fails)))
     }
@@ -35,7 +35,7 @@ impl<'a, R: rt::Files<File = File> + AllocGlobal> FilesAtHand<'a, R> {
         }
     }
 
-    /// Saves the program whose listing the text is.
+    /// Saves the program whose listing the text is in the files at hand.
     pub(crate) fn save(
         &mut self,
         alloc: Global,
@@ -78,7 +78,7 @@ impl<'a, R: rt::Files<File = File> + AllocGlobal> FilesAtHand<'a, R> {
         }
     }
 
-    /// The bytes that the name has.
+    /// The bytes that the name has among the files at hand.
     fn content(&self, rt: &R, alloc: Global, name: &[u8]) -> Result<Option<String>, AllocError> {
         match self {
             FilesAtHand::Memory(desk) => said_of_content(alloc, desk.files.content(name)),
@@ -95,7 +95,7 @@ impl<'a, R: rt::Files<File = File> + AllocGlobal> FilesAtHand<'a, R> {
     }
 }
 
-/// The numbers among the words.
+/// The numbers of the calls that are to fail of the files at hand, among the words.
 pub(crate) fn numbers(alloc: Global, words: &[Vec<u8>]) -> Result<Vec<u64>, AllocError> {
     let mut numbers = Vec::new(alloc);
     for word in words {
@@ -106,7 +106,8 @@ pub(crate) fn numbers(alloc: Global, words: &[Vec<u8>]) -> Result<Vec<u64>, Allo
     Ok(numbers)
 }
 
-/// Makes a call on what lies where the program runs. A link leads to `/dev/full`, which takes no byte.
+/// Makes a call on what lies where the program runs, beside the files at hand. A link leads to `/dev/full`, which
+/// takes no byte.
 fn change<R: rt::Files>(
     rt: &R,
     alloc: Global,
@@ -122,7 +123,7 @@ fn change<R: rt::Files>(
     }
 }
 
-/// Whether the system did what was asked of it.
+/// Whether the system did what was asked of it where the program runs.
 fn outcome(alloc: Global, answer: io::Result<()>) -> Result<Option<String>, AllocError> {
     match answer {
         Ok(()) => Ok(Some(String::from_str(alloc, "Ok")?)),
@@ -130,7 +131,7 @@ fn outcome(alloc: Global, answer: io::Result<()>) -> Result<Option<String>, Allo
     }
 }
 
-/// Says what bytes a name has.
+/// Says what bytes a name has among the files at hand.
 fn said_of_content(alloc: Global, bytes: Option<&[u8]>) -> Result<Option<String>, AllocError> {
     match bytes {
         Some(bytes) => Ok(Some(shown(alloc, bytes)?)),

@@ -6,7 +6,7 @@ use file_store::{FileRefusal, read_listing};
 use plcs_base::ByteOut;
 use std::alloc::{AllocError, Global};
 
-/// Puts a line behind the text so many times, at these levels.
+/// Puts a line behind the text of a listing so many times, at these levels.
 pub(crate) fn lengthen(
     alloc: Global,
     text: &mut String,
@@ -31,7 +31,7 @@ pub(crate) fn lengthen(
     Ok(Some(format!(in alloc; "{times} lines")?))
 }
 
-/// Puts a line of the level behind the text.
+/// Puts a line of the level behind the text of a listing.
 fn push_at(text: &mut String, level: u32, line: &str) -> Result<(), AllocError> {
     for _ in 0..level {
         text.push_str("  ")?;
@@ -58,7 +58,7 @@ pub(crate) fn read(
     Ok(Some(answer))
 }
 
-/// What a text is read as.
+/// What a text is read as that may be a listing.
 #[derive(Clone, Copy)]
 pub(crate) enum Reading {
     /// A tree of so many slots, whose listing it is.
@@ -87,7 +87,7 @@ pub(crate) fn reading_of(alloc: Global, text: &[u8]) -> Reading {
     }
 }
 
-/// Compares what is put with what is awaited.
+/// Compares what is put of a listing with what is awaited.
 #[derive(Drop)]
 struct Listed<'a> {
     left: &'a [u8],

@@ -22,7 +22,7 @@ fn main(rt: HostRuntime) -> io::Result<()> {
     play(&rt)
 }
 
-/// Plays the script that standard input has.
+/// Plays the script of cases of files that standard input has.
 fn play<R: Files<File = File> + Input + Print + AllocGlobal>(rt: &R) -> io::Result<()> {
     let alloc = rt.alloc();
     let mut files = FilesAtHand::in_memory(alloc, Vec::new(alloc));
@@ -42,19 +42,19 @@ fn play<R: Files<File = File> + Input + Print + AllocGlobal>(rt: &R) -> io::Resu
     Ok(())
 }
 
-/// Whether a line that is none of a text is a case: all are but empty ones, and headings, which begin
-/// with `#`.
+/// Whether a line of the script of files that is none of a text is a case: all are but empty ones, and headings,
+/// which begin with `#`.
 fn is_case(line: &str) -> bool {
     !line.is_empty() && !line.starts_with("#")
 }
 
-/// Puts a line behind the text.
+/// Puts a line of the script of files behind the text.
 fn push_line(text: &mut String, line: &str) -> Result<(), AllocError> {
     text.push_str(line)?;
     text.push('\n')
 }
 
-/// Prints the lines of an answer.
+/// Prints the lines of an answer to a case of files.
 fn print_answer<R: Print + Alloc>(rt: &R, answer: Option<String>) -> io::Result<()> {
     match answer {
         Some(answer) => print_lines(rt, answer.as_str()),
@@ -62,7 +62,7 @@ fn print_answer<R: Print + Alloc>(rt: &R, answer: Option<String>) -> io::Result<
     }
 }
 
-/// Prints each line as one of an answer.
+/// Prints each line as one of an answer to a case of files.
 fn print_lines<R: Print + Alloc>(rt: &R, answer: &str) -> io::Result<()> {
     for line in answer.lines() {
         println!(rt; "= {line}")?;
@@ -70,7 +70,7 @@ fn print_lines<R: Print + Alloc>(rt: &R, answer: &str) -> io::Result<()> {
     Ok(())
 }
 
-/// The answer to a case, if it is one.
+/// The answer to a case of files, if it is one.
 fn answer_to<'a, R: Files<File = File> + AllocGlobal>(
     rt: &'a R,
     files: &mut FilesAtHand<'a, R>,
@@ -90,8 +90,8 @@ fn answer_to<'a, R: Files<File = File> + AllocGlobal>(
     }
 }
 
-/// Makes the call with these words behind its name. A call on the text takes it, but for those that make
-/// it longer.
+/// Makes the call of a case of files with these words behind its name. A call on the text takes it, but for those
+/// that make it longer.
 fn made<'a, R: Files<File = File> + AllocGlobal>(
     rt: &'a R,
     alloc: Global,

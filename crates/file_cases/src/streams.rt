@@ -116,7 +116,7 @@ fn file_stream<R: Files<File = File>>(
     }
 }
 
-/// Reads into buffers of these sizes, of blanks, and says each answer and what the buffer has.
+/// Reads a source into buffers of these sizes, of blanks, and says each answer and what the buffer has.
 fn reads<S: Source>(
     alloc: Global,
     source: &mut S,
@@ -135,7 +135,7 @@ fn reads<S: Source>(
     Ok(Some(text))
 }
 
-/// Writes the pieces, and says each answer.
+/// Writes the pieces to a sink, and says each answer.
 fn writes<S: Sink>(
     alloc: Global,
     sink: &mut S,

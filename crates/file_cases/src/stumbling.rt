@@ -16,7 +16,7 @@ impl Stumbling {
         Stumbling { calls: 0, failing }
     }
 
-    /// Counts one more call.
+    /// Counts one more call of the stream of which one alone fails.
     fn step(&mut self) -> io::Result<()> {
         self.calls = self.calls.saturating_add(1);
         if self.calls == self.failing {

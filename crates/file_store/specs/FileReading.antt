@@ -61,8 +61,8 @@ abbrev pub RefusesLoad : Result PlainTree FileRefusal → FileRefusal → Type 0
 RefusesLoad (Ok tree) refusal = ⊥
 RefusesLoad (Err own) refusal = (own ≡ refusal) ⊎ ((own ≡ FileRefusal.FileFault) ⊎ (own ≡ FileRefusal.OutOfMemory))
 
--- a call that only reads files: the map and what is begun are as before, the count of faults rises where it answers
--- that a call failed, and that of wants at most where it answers want of memory
+-- a load only reads files: the map and what is begun are as before, the count of faults rises where it answers that a
+-- call failed, and that of wants at most where it answers want of memory
 pub record OnlyReads {T : Type 0} (result : Result T FileRefusal) (before now : PlainFiles)
     (begun_before begun_now : Option NewContent) : Type 0 where
   pub stored : now.stored ≡ before.stored

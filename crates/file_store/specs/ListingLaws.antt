@@ -11,11 +11,11 @@ use Rattle.file_store.specs.Limit.{longest_listing}
 use Rattle.file_store.specs.ListedLine.{listed_program}
 use Rattle.file_store.specs.Loaded.{Refused, opened}
 
--- a text is the listing of at most one program, whose slots, elision and room play no part
+-- the law that a text is the listing of at most one program, whose slots, elision and room play no part
 abbrev pub OneListing : Type 0
 OneListing = (a b : Forest) (x : List ℕ) → Spells a x → Spells b x → Bare a ≡ Bare b
 
--- a text is refused for one reason at most
+-- the law that a text is refused as a listing for one reason at most
 abbrev pub OneRefusal : Type 0
 OneRefusal = (x : List ℕ) (a b : FileRefusal) → Refused x a → Refused x b → a ≡ b
 

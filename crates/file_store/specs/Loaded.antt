@@ -46,7 +46,7 @@ pub record Fine (x : List ℕ) (rows : List ListedLine) (rest : List ℕ) : Type
   pub shallow : All (λ row. ¬ (OpensTooDeep row)) rows
   pub few : opened rows ≤ most_slots
 
--- none of these bytes ends a line
+-- none of these bytes, which are left of a listing file, ends a line
 abbrev pub HasNoEnd : List ℕ → Type 0
 HasNoEnd [] = Unit {0}
 HasNoEnd (byte ∷ rest) = ¬ (byte ≡ 10) × HasNoEnd rest
@@ -89,12 +89,12 @@ abbrev pub Loaded : List ℕ → Result PlainTree FileRefusal → Type 0
 Loaded x (Ok tree) = IsListingOf x tree
 Loaded x (Err refusal) = RefusalSays x refusal
 
--- the program is what the bytes are read as, unless memory ran out
+-- the program is what the bytes of a listing file are read as, unless memory ran out
 abbrev pub ReadsOnly : Result PlainTree FileRefusal → Forest → Type 0
 ReadsOnly (Ok tree) items = Bare tree.items ≡ Bare items
 ReadsOnly (Err refusal) items = refusal ≡ FileRefusal.OutOfMemory
 
--- the bytes are refused for this, unless memory ran out
+-- the bytes of a listing file are refused for this, unless memory ran out
 abbrev pub RefusesOnly : Result PlainTree FileRefusal → FileRefusal → Type 0
 RefusesOnly (Ok tree) refusal = ⊥
 RefusesOnly (Err own) refusal = (own ≡ refusal) ⊎ (own ≡ FileRefusal.OutOfMemory)

@@ -126,7 +126,7 @@ impl Reader {
     }
 }
 
-/// Why a listing is refused whose line of this number wasn't read.
+/// Why the reader refuses a listing whose line of this number wasn't read.
 fn refused_in(number: u32, fault: NotRead) -> FileRefusal
     ensures { result ≡ refused_in number fault }
 {
@@ -176,7 +176,7 @@ fn is_left(bytes: &[u8]) -> bool
     bytes.len() > 0
 }
 
-/// The first line of what is left of a listing's text, and what stands behind its end.
+/// The first line of what the reader has left of a listing's text, and what stands behind its end.
 fn split_line(text: &[u8]) -> Option<(&[u8], &[u8])>
     ensures { MatchOption result (HasNoEnd text.now)
         (λ parts. (text.now ≡ parts.0.now ++ (10 ∷ parts.1.now)) × HasNoEnd parts.0.now) }

@@ -1,6 +1,6 @@
 //! The words that cases begin with.
 
-/// What a case asks for.
+/// What a case of the journal asks for, by its first word.
 #[derive(Clone, Copy)]
 pub(crate) enum Call {
     /// A call on the disk or the journal that is held.
@@ -13,7 +13,7 @@ pub(crate) enum Call {
     File(FileCall),
 }
 
-/// A call on the disk or the journal that is held.
+/// A call on the disk or the journal that is held, by the word that a case begins with.
 #[derive(Clone, Copy)]
 pub(crate) enum HeldCall {
     Disk,
@@ -31,7 +31,7 @@ pub(crate) enum HeldCall {
     Clear,
 }
 
-/// A call on the file of the system.
+/// A call on the journal's file of the system, by the word that a case begins with.
 #[derive(Clone, Copy)]
 pub(crate) enum FileCall {
     Session,
@@ -42,7 +42,7 @@ pub(crate) enum FileCall {
     RemoveFolder,
 }
 
-/// Each word with its call.
+/// Each word that a case of the journal begins with, with its call.
 static CALLS: [(&[u8], Call); 21] = [
     (b"disk", Call::Held(HeldCall::Disk)),
     (b"write_at", Call::Held(HeldCall::WriteAt)),
@@ -67,7 +67,7 @@ static CALLS: [(&[u8], Call); 21] = [
     (b"remove_folder", Call::File(FileCall::RemoveFolder)),
 ];
 
-/// The call that the word names.
+/// The call that the first word of a case of the journal names.
 pub(crate) fn call_of(word: &[u8]) -> Option<Call> {
     for (name, call) in &CALLS {
         if *name == word {

@@ -6,10 +6,10 @@ use key_journal::{Disk, DiskCall, DiskFault, JournalKeys, MemDisk};
 use std::alloc::{AllocError, Global};
 use synth_outside::{MemSource, Source, SourceFault};
 
-/// The most keys that are read in one go.
+/// The most keys that are read in one go, before a crash or after it.
 const MOST_KEYS: usize = 1000;
 
-/// Reads keys up to an answer that isn't one.
+/// Reads the keys of a session that may crash, up to an answer that isn't one.
 pub(crate) fn read_all<S: Source, D: Disk>(
     journal: &mut JournalKeys<S, D>,
     given: &mut Vec<u8>,
@@ -26,7 +26,7 @@ pub(crate) fn read_all<S: Source, D: Disk>(
     Ok(0)
 }
 
-/// A session over the disk with these new keys, up to their end: the keys that it gave, and the disk.
+/// A session that may crash, over the disk with these new keys, up to their end: the keys that it gave, and the disk.
 fn run(alloc: Global, disk: MemDisk, keys: &[u8]) -> Result<(Vec<u8>, MemDisk), DiskFault> {
     let source = MemSource::new(keys.to_vec(alloc)?, Vec::new(alloc));
     match JournalKeys::open(source, disk) {
@@ -40,13 +40,13 @@ fn run(alloc: Global, disk: MemDisk, keys: &[u8]) -> Result<(Vec<u8>, MemDisk), 
     }
 }
 
-/// The calls on an empty disk that a session with these keys makes.
+/// The calls on an empty disk that a session with these keys makes, at each of which a crash may come.
 fn session(alloc: Global, keys: &[u8]) -> Result<MemDisk, DiskFault> {
     let (_, disk) = run(alloc, MemDisk::new(alloc, Vec::new(alloc)), keys)?;
     Ok(disk)
 }
 
-/// The keys that are recovered from an image.
+/// The keys that are recovered after a crash from an image.
 fn recovered(alloc: Global, image: &[u8]) -> Result<Vec<u8>, DiskFault> {
     let mut disk = MemDisk::new(alloc, Vec::new(alloc));
     disk.write_at(0, image)?;
@@ -68,7 +68,7 @@ pub(crate) fn recoveries(alloc: Global, calls: &[DiskCall]) -> Result<String, Di
     Ok(lines_of(alloc, all.as_slice())?)
 }
 
-/// These keys, quoted, in lines.
+/// The keys that are recovered after a crash, quoted, in lines.
 fn lines_of(alloc: Global, all: &[Vec<u8>]) -> Result<String, AllocError> {
     let mut text = String::new(alloc);
     for keys in all {
@@ -100,12 +100,12 @@ pub(crate) fn walk(alloc: Global, words: &[Vec<u8>]) -> Result<Option<String>, D
     Ok(Some(said(alloc, seen)?))
 }
 
-/// The first ones of the calls, so many.
+/// The first ones of the calls, so many, which were made before a crash.
 fn first_of(calls: &[DiskCall], count: usize) -> &[DiskCall] {
     &calls[..count.min(calls.len())]
 }
 
-/// What is said of a session whose images all hold the keys.
+/// What is said of a session whose images after a crash all hold the keys.
 fn said(alloc: Global, seen: u64) -> Result<String, AllocError> {
     let images = if seen > 600 {
         "each of more than 600 images"
@@ -115,9 +115,9 @@ fn said(alloc: Global, seen: u64) -> Result<String, AllocError> {
     format!(in alloc; "{images} holds the keys that were given, or these and the next one")
 }
 
-/// After how many calls of the session so many keys were given, and no more. A session with one key more
-/// goes on behind one with fewer, so while it has done fewer calls than one with all the keys up to the
-/// next, so many were given.
+/// After how many calls of the session that may crash so many keys were given, and no more. A session with one key
+/// more goes on behind one with fewer, so while it has done fewer calls than one with all the keys up to the next, so
+/// many were given.
 fn end_of(alloc: Global, keys: &[u8], given: usize, calls: usize) -> Result<usize, DiskFault> {
     if given >= keys.len() {
         return Ok(calls.saturating_add(1));

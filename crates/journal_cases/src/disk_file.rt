@@ -8,7 +8,7 @@ use std::alloc::{AllocError, Global};
 use std::{fs, io};
 use synth_outside::MemSource;
 
-/// Makes the call on the file with these words behind its name.
+/// Makes the call on the journal's file with these words behind its name.
 pub(crate) fn make(
     rt: &HostRuntime,
     alloc: Global,
@@ -27,7 +27,7 @@ pub(crate) fn make(
     Ok(Some(answer))
 }
 
-/// Whether a call of the system succeeded.
+/// Whether a call of the system on the journal's file succeeded.
 fn outcome(alloc: Global, answer: io::Result<()>) -> Result<String, AllocError> {
     match answer {
         Ok(()) => String::from_str(alloc, "Ok"),
@@ -35,7 +35,7 @@ fn outcome(alloc: Global, answer: io::Result<()>) -> Result<String, AllocError> 
     }
 }
 
-/// The bytes of the file.
+/// The bytes of the journal's file.
 fn bytes(rt: &HostRuntime, alloc: Global) -> Result<String, AllocError> {
     match fs::read(rt, JOURNAL) {
         Ok(bytes) => quoted(alloc, bytes.as_slice()),
@@ -43,7 +43,7 @@ fn bytes(rt: &HostRuntime, alloc: Global) -> Result<String, AllocError> {
     }
 }
 
-/// A session over the file with these new keys, up to their end: its last answer, and the keys it gave.
+/// A session over the journal's file with these new keys, up to their end: its last answer, and the keys it gave.
 fn session(rt: &HostRuntime, alloc: Global, keys: &[u8]) -> Result<String, DiskFault> {
     let source = MemSource::new(keys.to_vec(alloc)?, Vec::new(alloc));
     let Ok(disk) = StdDisk::open(rt) else {

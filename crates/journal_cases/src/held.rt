@@ -8,7 +8,7 @@ use std::alloc::{AllocError, Global};
 use std::mem;
 use synth_outside::{MemSource, Source};
 
-/// A journal in memory.
+/// The journal in memory that may be held.
 type Journal = JournalKeys<MemSource, MemDisk>;
 
 /// The disk or the journal that is held.
@@ -19,12 +19,12 @@ pub(crate) enum Held {
 }
 
 impl Held {
-    /// An empty disk of which no call fails.
+    /// An empty disk of which no call fails, to be held.
     pub(crate) fn new(alloc: Global) -> Self {
         Held::Disk(MemDisk::new(alloc, Vec::new(alloc)))
     }
 
-    /// Makes the call with these words behind its name, if it is one of what is held.
+    /// Makes the call with these words behind its name, if it is one of the disk or the journal that is held.
     pub(crate) fn make(
         &mut self,
         alloc: Global,
@@ -57,7 +57,7 @@ impl Held {
         }
     }
 
-    /// Opens a journal over the disk, with these new keys, of whose source these calls fail.
+    /// Opens a journal over the disk that is held, with these new keys, of whose source these calls fail.
     fn open(&mut self, alloc: Global, words: &[Vec<u8>]) -> Result<Option<String>, DiskFault> {
         let [keys, fails @ ..] = words else {
             return Ok(None);
@@ -110,7 +110,7 @@ impl Held {
     }
 }
 
-/// The numbers among the words.
+/// The numbers among the words of a call on what is held.
 fn numbers(alloc: Global, words: &[Vec<u8>]) -> Result<Vec<u64>, AllocError> {
     let mut numbers = Vec::new(alloc);
     for word in words {
@@ -121,7 +121,7 @@ fn numbers(alloc: Global, words: &[Vec<u8>]) -> Result<Vec<u64>, AllocError> {
     Ok(numbers)
 }
 
-/// Makes the call on the disk.
+/// Makes the call on the disk that is held.
 fn ask_disk(
     alloc: Global,
     disk: &mut MemDisk,
@@ -146,7 +146,7 @@ fn ask_disk(
     }
 }
 
-/// Writes to the disk, at a place within it or at its end.
+/// Writes to the disk that is held, at a place within it or at its end.
 fn write_at(
     alloc: Global,
     disk: &mut MemDisk,
@@ -163,7 +163,7 @@ fn write_at(
     Ok(Some(format!(in alloc; "{answer:?}")?))
 }
 
-/// Reads from the disk into a buffer of the size, of blanks.
+/// Reads from the disk that is held into a buffer of the size, of blanks.
 fn read_at(
     alloc: Global,
     disk: &mut MemDisk,
@@ -179,7 +179,7 @@ fn read_at(
     Ok(Some(format!(in alloc; "{answer:?} {shown}")?))
 }
 
-/// Makes the call on the journal.
+/// Makes the call on the journal that is held.
 fn ask_journal(
     alloc: Global,
     journal: &mut Journal,

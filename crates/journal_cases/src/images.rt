@@ -3,7 +3,7 @@
 use key_journal::{Disk, DiskCall, DiskFault, MemDisk};
 use std::alloc::{AllocError, Global};
 
-/// Each image that a crash may leave after these calls on an empty disk.
+/// Each image that a crash may leave after these calls on an empty disk, which a case makes.
 pub(crate) fn images(alloc: Global, calls: &[DiskCall]) -> Result<Vec<Vec<u8>>, DiskFault> {
     let mut disk = MemDisk::new(alloc, Vec::new(alloc));
     let mut images = only(alloc, b"")?;
@@ -21,15 +21,15 @@ pub(crate) fn images(alloc: Global, calls: &[DiskCall]) -> Result<Vec<Vec<u8>>, 
     Ok(images)
 }
 
-/// The image alone.
+/// The image of a case's disk alone.
 fn only(alloc: Global, image: &[u8]) -> Result<Vec<Vec<u8>>, AllocError> {
     let mut images = Vec::new(alloc);
     images.push(image.to_vec(alloc)?)?;
     Ok(images)
 }
 
-/// The images with the range of a piece torn in each way: each byte of it as it was, as it is written, or
-/// another one, and each length.
+/// The images of a case's disk with the range of a piece torn in each way: each byte of it as it was, as it is
+/// written, or another one, and each length.
 fn torn(
     alloc: Global,
     images: &[Vec<u8>],
@@ -48,7 +48,7 @@ fn torn(
     Ok(torn)
 }
 
-/// The images with the byte at the place as it was, as it is written, or another one.
+/// The images of a case's disk with the byte at the place as it was, as it is written, or another one.
 fn torn_at(
     alloc: Global,
     images: &[Vec<u8>],
@@ -65,7 +65,7 @@ fn torn_at(
     Ok(torn)
 }
 
-/// The image with another byte at a place within it or at its end.
+/// The image of a case's disk with another byte at a place within it or at its end.
 fn with_byte(alloc: Global, image: &[u8], place: usize, value: u8) -> Result<Vec<u8>, AllocError> {
     let mut bytes = image.to_vec(alloc)?;
     if place < bytes.len() {

@@ -30,12 +30,12 @@ fn main(rt: HostRuntime) -> io::Result<()> {
     Ok(())
 }
 
-/// Whether a line is a case: all are but empty ones, and headings, which begin with `#`.
+/// Whether a line of the script of the journal is a case: all are but empty ones, and headings, which begin with `#`.
 fn is_case(line: &str) -> bool {
     !line.is_empty() && !line.starts_with("#")
 }
 
-/// Prints the lines of an answer.
+/// Prints the lines of an answer to a case of the journal.
 fn print_answer(rt: &HostRuntime, answer: Result<Option<String>, DiskFault>) -> io::Result<()> {
     match answer {
         Ok(Some(text)) => print_lines(rt, text.as_str()),
@@ -44,7 +44,7 @@ fn print_answer(rt: &HostRuntime, answer: Result<Option<String>, DiskFault>) -> 
     }
 }
 
-/// Prints each line of the text as one of an answer.
+/// Prints each line of the text as one of an answer to a case of the journal.
 fn print_lines(rt: &HostRuntime, text: &str) -> io::Result<()> {
     for line in text.lines() {
         println!(rt; "= {line}")?;
@@ -52,7 +52,7 @@ fn print_lines(rt: &HostRuntime, text: &str) -> io::Result<()> {
     Ok(())
 }
 
-/// The answer to a case, if it is one.
+/// The answer to a case of the journal, if it is one.
 fn answer_to(rt: &HostRuntime, held: &mut Held, line: &[u8]) -> Result<Option<String>, DiskFault> {
     let alloc = rt.alloc();
     let Some(words) = words_of(alloc, line)? else {
@@ -67,7 +67,7 @@ fn answer_to(rt: &HostRuntime, held: &mut Held, line: &[u8]) -> Result<Option<St
     }
 }
 
-/// Makes the call with these words behind its name.
+/// Makes the call of a case of the journal with these words behind its name.
 fn made(
     rt: &HostRuntime,
     alloc: Global,

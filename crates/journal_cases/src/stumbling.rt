@@ -33,8 +33,8 @@ pub(crate) fn stumble(alloc: Global, words: &[Vec<u8>]) -> Result<Option<String>
     Ok(Some(text))
 }
 
-/// A session over the file with these new keys, up to an answer that isn't one: that answer and the keys
-/// that it gave, and the disk as it stands.
+/// A session over the journal's file of which one call fails, with these new keys, up to an answer that isn't one:
+/// that answer and the keys that it gave, and the disk as it stands.
 fn session(
     alloc: Global,
     file: Stumbling,
@@ -76,7 +76,7 @@ impl Stumbling {
         })
     }
 
-    /// The bytes of the file.
+    /// The bytes of the file of which one call fails.
     fn bytes(&self) -> &[u8] {
         self.disk.bytes()
     }
@@ -86,7 +86,7 @@ impl Stumbling {
         self.calls >= self.failing
     }
 
-    /// Counts one more call.
+    /// Counts one more call of the file of which one alone fails.
     fn step(&mut self) -> io::Result<()> {
         self.calls = self.calls.saturating_add(1);
         if self.calls == self.failing {
@@ -126,7 +126,7 @@ impl DiskFile for Stumbling {
     }
 }
 
-/// The answer of a call on a disk as one of the system.
+/// The answer of a call on the disk of a file that fails, as one of the system.
 fn done<T>(answer: Result<T, DiskFault>) -> io::Result<T> {
     answer.map_err(|_| Error::from(ErrorKind::Other))
 }

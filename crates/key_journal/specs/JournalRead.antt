@@ -41,8 +41,8 @@ pub record ReadsKey {E : Type 0} (left left_after : Option (List ℕ)) (place : 
   pub each : Throughout (LeavesOneOf (kept_keys past) taken) past past_after
   pub answer : IfOk result (λ key. NextOrEnd key left_after place (kept_keys past) taken past_after)
 
--- the sum of the counts of faults of source and disk has the cause of the answer in it; neither falls,
--- and both stay where a key or the end is answered
+-- in a read of a journal the sum of the counts of faults of source and disk has the cause of the answer in it;
+-- neither falls, and both stay where a key or the end is answered
 pub record HasEitherCause {T : Type 0} (source source_after disk disk_after : ℕ)
     (result : Result T SourceFault) : Type 0 where
   pub sum : HasCause Failed (both_counts source disk) (both_counts source_after disk_after) result

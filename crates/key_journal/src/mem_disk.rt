@@ -25,7 +25,7 @@ impl Model for Piece {
 }
 
 impl Piece {
-    /// The bytes of the piece that was written.
+    /// The bytes of the piece that was written to the disk in memory.
     pub fn bytes(&self) -> &[u8]
         ensures { result.now ≡ self.now }
     {
@@ -94,7 +94,7 @@ impl MemDisk {
         self.bytes.as_slice()
     }
 
-    /// The writes and syncs that were done, in their order.
+    /// The writes and syncs of the disk in memory that were done, in their order.
     pub fn done(&self) -> &[DiskCall]
         ensures { result.now ≡ self.now.done }
     {
@@ -176,14 +176,14 @@ impl Disk for MemDisk {
     }
 }
 
-// Whether a write would reach a byte that no disk has.
+// Whether a write to the disk in memory would reach a byte that no disk has.
 fn is_outside(at: u64, piece: &[u8]) -> bool
     ensures { IsTrue result ↔ (DISK_END < at + length piece.now) }
 {
     at > DISK_END || piece.len() as u64 > DISK_END - at
 }
 
-// Copies the bytes of the disk from `at` on to the front of the buffer, as many as there are and as fit.
+// Copies the bytes of the disk in memory from `at` on to the front of the buffer, as many as there are and as fit.
 fn copy_from(bytes: &[u8], at: u64, buf: &mut [u8]) -> usize
     ensures exact { result ≡ min (length buf.old) (length bytes.now - at) }
     ensures same { take result buf.new ≡ take result (drop at bytes.now) }
@@ -194,7 +194,7 @@ fn copy_from(bytes: &[u8], at: u64, buf: &mut [u8]) -> usize
     count
 }
 
-// The bytes of the disk with the piece written over those from `at` on.
+// The bytes of the disk in memory with the piece written over those from `at` on.
 fn written_over(alloc: Global, bytes: &[u8], at: u64, piece: &[u8]) -> Result<Vec<u8>, AllocError>
     requires within { at ≤ length bytes.now }
     requires inside { at + length piece.now ≤ DISK_END }

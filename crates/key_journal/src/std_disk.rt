@@ -11,7 +11,7 @@ use std::io;
 use std::marker::Model;
 use std::rt::Files;
 
-/// The name of the file that a journal is kept in.
+/// The name of the file over which the disk of a journal stands.
 pub const JOURNAL: &str = "JOURNAL";
 
 /// A disk over a file of the system. It tells nothing: what the system keeps in a crash isn't claimed.
@@ -35,7 +35,7 @@ impl<F> Model for FileDisk<F> {
 }
 
 impl FileDisk<File> {
-    /// The file `JOURNAL` of the current folder, which is made where there is none.
+    /// The disk over the file `JOURNAL` of the current folder, which is made where there is none.
     pub fn open<R: Files<File = File>>(rt: &R) -> io::Result<Self> {
         let file = OpenOptions::new()
             .read(true)
@@ -89,7 +89,7 @@ impl<F: DiskFile> Disk for FileDisk<F> {
     }
 }
 
-// Raises the count of faults where a call on the file failed.
+// Raises the disk's count of faults where a call on its file failed.
 fn counted<T: Drop>(faults: &mut u64, answer: io::Result<T>) -> Result<T, DiskFault>
     ensures cause { HasCause DiskFault.Failed faults.old faults.new result }
     ensures value { IfOk result (λ value. answer ≡ Ok value) }
@@ -105,7 +105,7 @@ fn counted<T: Drop>(faults: &mut u64, answer: io::Result<T>) -> Result<T, DiskFa
     }
 }
 
-// Reads the file from `at` on until the buffer is full or the file ends, and answers how many bytes.
+// Reads the disk's file from `at` on until the buffer is full or the file ends, and answers how many bytes.
 fn fill_at<F: DiskFile>(file: &mut F, at: u64, buf: &mut [u8]) -> io::Result<usize>
     ensures count { IfOk result (λ count. count ≤ length buf.new) }
     ensures bytes { IfOk result (λ count.

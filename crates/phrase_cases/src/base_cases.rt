@@ -5,7 +5,7 @@ use plcs_base::{
 };
 use plcs_grammar::numeral_value;
 
-/// A class of bytes.
+/// A class of bytes that a case names.
 #[derive(Clone, Copy)]
 pub enum ByteClass {
     Letter,
@@ -15,7 +15,7 @@ pub enum ByteClass {
 }
 
 impl ByteClass {
-    /// Whether the byte is of the class.
+    /// Whether the byte is of the class that a case names.
     fn has(self, byte: u8) -> bool {
         match self {
             ByteClass::Letter => is_letter(byte),
@@ -26,7 +26,7 @@ impl ByteClass {
     }
 }
 
-/// Those of all 256 bytes that are of the class.
+/// Answers a case on bytes: those of all 256 bytes that are of the class.
 pub fn put_class(class: ByteClass, told: &mut Told) -> Option<()> {
     let mut found = Told::new(told.alloc());
     for byte in 0..=255u8 {
@@ -38,7 +38,7 @@ pub fn put_class(class: ByteClass, told: &mut Told) -> Option<()> {
     Some(())
 }
 
-/// The name that the bytes are.
+/// Answers a case on names: the name that the bytes are.
 pub fn put_name(bytes: &[u8], told: &mut Told) -> Option<()> {
     match Name::read(bytes) {
         Some(name) => told.word(name.as_bytes()),
@@ -47,7 +47,7 @@ pub fn put_name(bytes: &[u8], told: &mut Told) -> Option<()> {
     Some(())
 }
 
-/// The text of a value that the bytes are.
+/// Answers a case on texts: the text of a value that the bytes are.
 pub fn put_text_value(bytes: &[u8], told: &mut Told) -> Option<()> {
     match TextValue::read(bytes) {
         Some(text) => told.word(text.as_bytes()),
@@ -56,7 +56,7 @@ pub fn put_text_value(bytes: &[u8], told: &mut Told) -> Option<()> {
     Some(())
 }
 
-/// The counts, each from this number on, once these words were counted.
+/// Answers a case on counts: the counts, each from this number on, once these words were counted.
 pub fn put_counts(from: &[u8], counted: &[Vec<u8>], told: &mut Told) -> Option<()> {
     let first = numeral_value(from);
     let mut counts = Counts {
@@ -72,7 +72,7 @@ pub fn put_counts(from: &[u8], counted: &[Vec<u8>], told: &mut Told) -> Option<(
     Some(())
 }
 
-/// Counts what the word names.
+/// Counts what the word of a case on counts names.
 fn count(word: &[u8], counts: &mut Counts) -> Option<()> {
     match word {
         b"emitted" => counts.emitted(),

@@ -10,7 +10,7 @@ use crate::grammar_cases::{
 use crate::text_cases::{put_comparison, put_cut, put_number_shown, put_reading};
 use case_script::Told;
 
-/// A call of the crates under test.
+/// A call of the crates under test, which a script may name.
 #[derive(Clone, Copy)]
 pub enum Call {
     Class(ByteClass),
@@ -70,7 +70,7 @@ pub static CALLS: [(&[u8], Call); 27] = [
     (b"no_message", Call::NoMessage),
 ];
 
-/// Makes the call with these arguments, and puts what it answers, if it takes such arguments.
+/// Makes the call that a script names with these arguments, and puts what it answers, if it takes such arguments.
 pub fn play(call: Call, arguments: &[Vec<u8>], told: &mut Told) -> Option<()> {
     match (call, arguments) {
         (Call::Class(class), []) => put_class(class, told),
@@ -86,7 +86,7 @@ pub fn play(call: Call, arguments: &[Vec<u8>], told: &mut Told) -> Option<()> {
     }
 }
 
-/// Makes a call that takes one argument.
+/// Makes a call that a script names and that takes one argument.
 fn play_one(call: Call, argument: &[u8], told: &mut Told) -> Option<()> {
     match call {
         Call::ReadName => put_name(argument, told),

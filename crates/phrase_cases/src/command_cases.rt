@@ -7,7 +7,7 @@ use session_words::{
     is_file_name, read_command,
 };
 
-/// The refusals of which the message has no number.
+/// The refusals of which the message has no number, as cases name them.
 static REFUSALS: [RefusalMessage; 19] = [
     RefusalMessage::UnknownCommand,
     RefusalMessage::NotHere,
@@ -30,7 +30,7 @@ static REFUSALS: [RefusalMessage; 19] = [
     RefusalMessage::AtEdge,
 ];
 
-/// The notices.
+/// The notices, as cases on messages name them.
 static NOTICES: [Notice; 17] = [
     Notice::Placeholder,
     Notice::MarkedPhrase,
@@ -51,7 +51,7 @@ static NOTICES: [Notice; 17] = [
     Notice::TraceOff,
 ];
 
-/// The command that the line is, or why it is none.
+/// Answers a case on command lines: the command that the line is, or why it is none.
 pub fn put_command(line: &[u8], told: &mut Told) -> Option<()> {
     if !begins_with_point(line) {
         told.text("NO POINT");
@@ -70,7 +70,7 @@ pub fn put_command(line: &[u8], told: &mut Told) -> Option<()> {
     Some(())
 }
 
-/// The word of a command line.
+/// Answers a case on command lines: the word of one.
 pub fn put_command_word(line: &[u8], told: &mut Told) -> Option<()> {
     if begins_with_point(line) {
         tell_found(command_word(line), told);
@@ -80,13 +80,13 @@ pub fn put_command_word(line: &[u8], told: &mut Told) -> Option<()> {
     Some(())
 }
 
-/// Whether the bytes are a file name.
+/// Answers a case on file names: whether the bytes are one.
 pub fn put_file_name(bytes: &[u8], told: &mut Told) -> Option<()> {
     told.value(&is_file_name(bytes));
     Some(())
 }
 
-/// The text of a message, behind the number of its kind if it is a refusal's.
+/// Answers a case on messages: the text of one, behind the number of its kind if it is a refusal's.
 pub fn put_message(name: &[u8], number: Option<&Vec<u8>>, told: &mut Told) -> Option<()> {
     let message = match number {
         Some(digits) => Message::Refusal(numbered(name, digits, told)?),
@@ -100,7 +100,7 @@ pub fn put_message(name: &[u8], number: Option<&Vec<u8>>, told: &mut Told) -> Op
     Some(())
 }
 
-/// The message of this name that has no number.
+/// The message without a number that a case names.
 fn plain_message(name: &[u8], told: &Told) -> Option<Message> {
     if let Some(refusal) = named(told.alloc(), &REFUSALS, name) {
         return Some(Message::Refusal(refusal));
@@ -111,7 +111,7 @@ fn plain_message(name: &[u8], told: &Told) -> Option<Message> {
     named(told.alloc(), &[Message::NotBuilt], name)
 }
 
-/// The refusal of this name that has a number.
+/// The refusal with a number in its message that a case names.
 fn numbered(name: &[u8], digits: &[u8], told: &Told) -> Option<RefusalMessage> {
     let number = number_of(digits)?;
     let refusals = [
@@ -131,7 +131,7 @@ fn numbered(name: &[u8], digits: &[u8], told: &Told) -> Option<RefusalMessage> {
     named(told.alloc(), &refusals, whole.as_bytes())
 }
 
-/// The text where there is no message.
+/// Answers a case on messages: the text where there is none.
 pub fn put_no_message(told: &mut Told) -> Option<()> {
     told.word(MessageText::none().as_bytes());
     Some(())

@@ -28,7 +28,8 @@ fn main(rt: HostRuntime) -> io::Result<()> {
     Ok(())
 }
 
-/// Plays a line of the script, which is a case unless it is empty or a heading, and tells its answer.
+/// Plays a line of the script on phrases and words, which is a case unless it is empty or a heading, and tells its
+/// answer.
 fn play_line(alloc: Global, line: &[u8], told: &mut Told) {
     told.clear();
     if matches!(line, [] | [b'#', ..]) {
@@ -40,7 +41,7 @@ fn play_line(alloc: Global, line: &[u8], told: &mut Told) {
     }
 }
 
-/// Plays a case, if it is one.
+/// Plays a case on phrases and words, if it is one.
 fn play_case(alloc: Global, case: &[u8], told: &mut Told) -> Option<()> {
     match words_of(alloc, case) {
         Ok(Some(words)) => play_words(words.as_slice(), told),
@@ -48,7 +49,7 @@ fn play_case(alloc: Global, case: &[u8], told: &mut Told) -> Option<()> {
     }
 }
 
-/// Makes the call that the words are, if they are one, and tells its answer.
+/// Makes the call on phrases and words that a case asks for by these words, if it is one, and tells its answer.
 fn play_words(words: &[Vec<u8>], told: &mut Told) -> Option<()> {
     let (word, arguments) = words.split_first()?;
     play(meaning(&CALLS, word.as_slice())?, arguments, told)

@@ -37,19 +37,19 @@ pub fn put_parts(phrase: &Phrase, told: &mut Told) {
     }
 }
 
-/// Puts the expression behind a word.
+/// Puts the expression part by part behind a word.
 fn put_under(word: &str, expr: &Expr, told: &mut Told) {
     told.text(word);
     put_expr(expr, told);
 }
 
-/// Puts a name behind a word.
+/// Puts a name, as a part of a phrase, behind a word.
 fn put_name(word: &str, name: &Name, told: &mut Told) {
     told.text(word);
     put_bytes(name.as_bytes(), told);
 }
 
-/// Puts each variable of a list.
+/// Puts each variable of a list, part by part.
 fn put_variables(variables: &[VarRef], told: &mut Told) {
     told.text("VariableList <");
     for variable in variables {
@@ -59,7 +59,7 @@ fn put_variables(variables: &[VarRef], told: &mut Told) {
     told.put(b'>');
 }
 
-/// Puts each item of a declaration.
+/// Puts each item of a declaration, part by part.
 fn put_items(items: &[Item], told: &mut Told) {
     told.text("DeclaredList <");
     for item in items {
@@ -74,7 +74,7 @@ fn put_items(items: &[Item], told: &mut Told) {
     told.put(b'>');
 }
 
-/// Puts each of the names.
+/// Puts each of the names, as parts of a phrase.
 fn put_names(names: &[Name], told: &mut Told) {
     told.text("NameList <");
     for name in names {
@@ -84,7 +84,7 @@ fn put_names(names: &[Name], told: &mut Told) {
     told.put(b'>');
 }
 
-/// Puts the expression.
+/// Puts the expression part by part, in braces round each operator.
 #[cycle(parts)]
 fn put_expr(expr: &Expr, told: &mut Told) {
     match expr {
@@ -119,7 +119,7 @@ fn put_expr(expr: &Expr, told: &mut Told) {
     }
 }
 
-/// Puts the variable, with its subscript if it has one.
+/// Puts the variable part by part, with its subscript if it has one.
 #[cycle(parts)]
 fn put_variable(variable: &VarRef, told: &mut Told) {
     put_bytes(variable.name.as_bytes(), told);
@@ -130,7 +130,7 @@ fn put_variable(variable: &VarRef, told: &mut Told) {
     }
 }
 
-/// Puts each of the expressions.
+/// Puts each of the expressions, part by part.
 #[cycle(parts)]
 fn put_exprs(exprs: &[Expr], told: &mut Told) {
     told.put(b'<');

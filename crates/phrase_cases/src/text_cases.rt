@@ -12,7 +12,7 @@ use std::alloc::Global;
 /// How many bytes the canonical text of a phrase has at most of which the answer tells the bytes.
 const LONGEST_TOLD: usize = 1000;
 
-/// What the text reads as in the category.
+/// Answers a case on texts: what the text reads as in the category.
 pub fn put_reading(category: &[u8], text: &[u8], told: &mut Told) -> Option<()> {
     let category = category_of(category, told)?;
     match parsed(told.alloc(), category, text)? {
@@ -31,7 +31,7 @@ fn parsed(alloc: Global, category: Category, text: &[u8]) -> Option<Result<Phras
     }
 }
 
-/// The phrase, and whether its canonical text reads as it again.
+/// Answers a case on texts: the phrase, and whether its canonical text reads as it again.
 fn put_phrase(category: Category, phrase: &Phrase, told: &mut Told) {
     let text = shown(told.alloc(), phrase);
     told.text("Ok ");
@@ -44,7 +44,7 @@ fn put_phrase(category: Category, phrase: &Phrase, told: &mut Told) {
     }
 }
 
-/// The canonical text of the phrase.
+/// The canonical text of the phrase that a case on texts has.
 fn shown(alloc: Global, phrase: &Phrase) -> Told {
     let mut text = Told::new(alloc);
     show(phrase, &mut text);
@@ -86,7 +86,7 @@ fn is_read_again(alloc: Global, phrase: &Phrase, text: &[u8]) -> bool {
     }
 }
 
-/// An expression that is this number, also a negative one, as no text reads.
+/// Answers a case on texts that are shown: an expression that is this number, also a negative one, as no text reads.
 pub fn put_number_shown(word: &[u8], told: &mut Told) -> Option<()> {
     let phrase = Phrase::Expression(Expr::Number(integer_of(word)?));
     let text = shown(told.alloc(), &phrase);
@@ -94,7 +94,7 @@ pub fn put_number_shown(word: &[u8], told: &mut Told) -> Option<()> {
     Some(())
 }
 
-/// Which of the phrases, each given by its category and a text of it, are the same: a line for each, with
+/// Answers a case on phrases that are compared, each given by its category and a text of it: a line for each, with
 /// `+` for each that is the same as it and `-` for each that isn't.
 pub fn put_comparison(words: &[Vec<u8>], told: &mut Told) -> Option<()> {
     let phrases = phrases_of(words, told)?;
@@ -109,7 +109,7 @@ pub fn put_comparison(words: &[Vec<u8>], told: &mut Told) -> Option<()> {
     Some(())
 }
 
-/// The phrases of categories and texts, which the words are in turn.
+/// The phrases of categories and texts that are compared, which the words are in turn.
 fn phrases_of(words: &[Vec<u8>], told: &Told) -> Option<Vec<Phrase>> {
     let mut phrases = Vec::new(told.alloc());
     let mut category = None;
@@ -130,7 +130,7 @@ fn phrases_of(words: &[Vec<u8>], told: &Told) -> Option<Vec<Phrase>> {
     }
 }
 
-/// What stands before and behind the first divider outside of quotes.
+/// Answers a case on lines that are cut: what stands before and behind the first divider outside of quotes.
 pub fn put_cut(text: &[u8], divider: &[u8], told: &mut Told) -> Option<()> {
     match cut_at(text, divider) {
         Some((before, behind)) => {

@@ -47,7 +47,8 @@ pub fn parse(alloc: Global, category: Category, text: &[u8]) -> Result<Phrase, P
     }
 }
 
-/// The phrase that a text reads as by its tokens, which are cut, checked and built; the check begins with this shape.
+/// The phrase that the parser reads a text as by its tokens, which are cut, checked and built; the check begins with
+/// this shape.
 fn phrase(
     alloc: Global,
     category: Category,

@@ -16,7 +16,7 @@ keywords =
 unfoldable pub is_keyword : List ℕ → Bool
 is_keyword bytes = list_any (bytes_eq bytes) keywords
 
--- whether the bytes are a word: a letter, then letters, digits or `_`
+-- whether the bytes are a word, as a name or a keyword is: a letter, then letters, digits or `_`
 abbrev pub is_word : List ℕ → Bool
 is_word [] = false
 is_word (first ∷ rest) = is_letter first && list_all is_name_byte rest

@@ -12,19 +12,19 @@ use Rattle.std.specs.declared.cmp.Ordering.TheVariants.{Less, Equal, Greater}
 use Rattle.plcs_base.specs.Mark.{phrase_cmp}
 use Rattle.plcs_base.specs.declared.place.PhraseAt.{PhraseAt}
 
--- places are in one order
+-- places of phrases are in one order
 pub places_total : IsTotalOrder phrase_cmp
 places_total = then_total (on_total (λ (at : PhraseAt). at.slot.0) nat_cmp_total) (on_total (λ (at : PhraseAt). at.part) nat_cmp_total)
 
--- to be equal in it is an equivalence
+-- to be equal in the order of places is an equivalence
 pub places_equiv : IsEquivalence (eq_by_cmp phrase_cmp)
 places_equiv = eq_by_cmp_equiv places_total
 
--- no test is true and false
+-- in the order of places no test is true and false
 never : {X : Type 0} → false ≡ true → X
 never e = absurd (true≢false (sym e))
 
--- places that are equal in it are the same
+-- places that are equal in their order are the same
 pub same_place : (x y : PhraseAt) → eq_by_cmp phrase_cmp x y ≡ true → x ≡ y
 same_place x y same = by (nat_cmp x.slot.0 y.slot.0) (nat_cmp x.part y.part) refl refl same
   where
@@ -36,7 +36,7 @@ same_place x y same = by (nat_cmp x.slot.0 y.slot.0) (nat_cmp x.part y.part) ref
     by Equal Less e f same = never same
     by Equal Greater e f same = never same
 
--- the test of numbers is that of their order
+-- the test of numbers, of slots and of parts, is that of their order
 pub nat_ties : (m n : ℕ) → nat_eq m n ≡ is_eq (nat_cmp m n)
 nat_ties m n = by (nat_eq m n) (nat_lt m n) refl refl
   where
@@ -46,7 +46,7 @@ nat_ties m n = by (nat_eq m n) (nat_lt m n) refl refl
     by false true e f = refl
     by false false e f = refl
 
--- the test of places is that of the order
+-- the test of places is that of their order
 pub place_ties : (x y : PhraseAt) → (nat_eq x.slot.0 y.slot.0 && nat_eq x.part y.part) ≡ eq_by_cmp phrase_cmp x y
 place_ties x y =
     ap (λ b. b && nat_eq x.part y.part) (nat_ties x.slot.0 y.slot.0)
@@ -58,11 +58,11 @@ place_ties x y =
     by Equal b = refl
     by Greater b = refl
 
--- places that pass the test are the same
+-- places that pass the test of their order are the same
 pub place_equal : (x y : PhraseAt) → (nat_eq x.slot.0 y.slot.0 && nat_eq x.part y.part) ≡ true → x ≡ y
 place_equal x y same = same_place x y (sym (place_ties x y) ∙ same)
 
--- the test is an equivalence
+-- the test of places is an equivalence
 pub place_test_equiv : IsEquivalence (λ (x y : PhraseAt). nat_eq x.slot.0 y.slot.0 && nat_eq x.part y.part)
 place_test_equiv = record {
   refl = λ x. place_ties x x ∙ places_equiv.refl x;

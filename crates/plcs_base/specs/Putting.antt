@@ -23,7 +23,7 @@ pub puts_behind : {Out : Type 0} {puts : Out → ℕ → Out → Type 0} {before
     → PutsAll puts before bytes between → puts between byte after → PutsAll puts before (bytes ++ (byte ∷ [])) after
 puts_behind done one = puts_append done (puts_one one)
 
--- putting three lists of bytes, one after the other
+-- putting three lists of bytes, one after the other, puts them joined
 pub puts_three : {Out : Type 0} {puts : Out → ℕ → Out → Type 0} {a b c d : Out} {first second third : List ℕ}
     → PutsAll puts a first b → PutsAll puts b second c → PutsAll puts c third d → PutsAll puts a (first ++ (second ++ third)) d
 puts_three one two three = puts_append one (puts_append two three)

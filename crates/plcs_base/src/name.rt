@@ -126,7 +126,7 @@ fn is_keyword(bytes: &[u8]) -> bool
     is_one_of(bytes, &KEYWORDS)
 }
 
-/// Whether the bytes are one of these words, such as the keywords.
+/// Whether the bytes are one of these words, such as the keywords, which are no names.
 fn is_one_of(bytes: &[u8], words: &[&[u8]]) -> bool
     ensures { result ≡ list_any (λ word. bytes_eq bytes.now word.now) words.now }
 {

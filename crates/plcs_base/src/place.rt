@@ -1,4 +1,4 @@
-//! Where something stands in a program.
+//! Slots, points and places: where something stands in a program.
 
 /// The number of a node: of a main procedure, a procedure, a declaration or a statement.
 ///

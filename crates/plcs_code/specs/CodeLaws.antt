@@ -16,36 +16,36 @@ use Rattle.plcs_code.specs.PlainInstr.{PlainInstr, place_of}
 
 -- ---- lengths
 
--- the lengths of codes are told without them: jumps don't change how long a code is
+-- the law that the lengths of codes are told without them: jumps don't change how long a code is
 abbrev pub LengthsAreTold : Type 0
 LengthsAreTold = (marks : MarkMap) (items : ItemMap) (nodes : Forest) → map length (node_codes marks items nodes) ≡ node_lengths marks items nodes
 
--- the own code of a node is as long, whatever the lengths of the codes inside it
+-- the law that the own code of a node is as long, whatever the lengths of the codes inside it
 abbrev pub OwnLengthsStay : Type 0
 OwnLengthsStay =
     (marks : MarkMap) (items : ItemMap) (label : Label) (lengths : List ℕ)
     → length (own_instrs marks items label lengths) ≡ own_length marks items label
 
--- the own code of a slot is as long as that of the node there
+-- the law that the own code of a slot is as long as that of the node there
 abbrev pub OwnCodesAreTold : Type 0
 OwnCodesAreTold =
     (marks : MarkMap) (items : ItemMap) (program : Forest) (slot : ℕ) (found : Site) → site program slot ≡ Some found
     → length (own_code marks items program slot) ≡ own_length marks items found.label
 
--- how many instructions the own codes of nodes have together, those of nodes inside others too
+-- by the laws of code: how many instructions the own codes of nodes have together, those of nodes inside others too
 abbrev pub own_lengths : MarkMap → ItemMap → Forest → ℕ
 own_lengths marks items Forest.nil = 0
 own_lengths marks items (Forest.cons label inner rest) =
     own_length marks items label + own_lengths marks items inner + own_lengths marks items rest
 
--- the code of a program is as long as the own codes of all its nodes together
+-- the law that the code of a program is as long as the own codes of all its nodes together
 abbrev pub OwnCodesAddUp : Type 0
 OwnCodesAddUp =
     (marks : MarkMap) (items : ItemMap) (program : Forest) → length (Gen marks items program).instrs ≡ own_lengths marks items program
 
 -- ---- jumps
 
--- how far an instruction jumps, if it may jump
+-- how far an instruction jumps, if it may jump; by the laws of code each jump stays in the code
 abbrev pub jump_of : PlainInstr → Option ℤ
 jump_of (PlainInstr.place at) = None
 jump_of PlainInstr.suspend_placeholder = None
@@ -82,17 +82,17 @@ JumpsStayIn code =
     (address : ℕ) (d : ℤ) → option_and_then jump_of (slice_get code address) ≡ Some d
     → (target : ℕ) × (pos target ≡ pos (address + 1) +ℤ d) × (target ≤ length code)
 
--- the jumps of a program's code stay inside it
+-- the law that the jumps of a program's code stay inside it
 abbrev pub JumpsStayInside : Type 0
 JumpsStayInside = (marks : MarkMap) (items : ItemMap) (program : Forest) → JumpsStayIn (Gen marks items program).instrs
 
--- the jumps of the code of each of the nodes stay inside that
+-- the law that the jumps of the code of each of the nodes stay inside that
 abbrev pub JumpsStayInNodes : Type 0
 JumpsStayInNodes = (marks : MarkMap) (items : ItemMap) (nodes : Forest) → All JumpsStayIn (node_codes marks items nodes)
 
 -- ---- spans
 
--- the instructions from an address on are the code, if it isn't longer than they are
+-- the instructions from an address on are the code, if it isn't longer than they are, as the law of spans says it
 abbrev pub HasCodeAt : List PlainInstr → (start : ℕ) → List PlainInstr → Type 0
 HasCodeAt instrs start code = take (length code) (drop start instrs) ≡ code
 
@@ -103,8 +103,8 @@ SpanHolds marks items program slot site =
     let code = code_around marks items site.label (node_codes marks items site.inner) in
     (start : ℕ) × (get whole.spans slot ≡ Some (start, length code)) × HasCodeAt whole.instrs start code
 
--- the slot of each node that has code has the span of that code; a slot that stands but once, at a node without code, has
--- none, and nor has one that stands nowhere
+-- the law that the slot of each node that has code has the span of that code; a slot that stands but once, at a node
+-- without code, has none, and nor has one that stands nowhere
 pub record SpansHoldCode : Type 0 where
   pub held : (marks : MarkMap) (items : ItemMap) (program : Forest) (slot : ℕ) (found : Site)
       → site program slot ≡ Some found → has_code found.label.kind ≡ true
@@ -117,11 +117,12 @@ pub record SpansHoldCode : Type 0 where
 
 -- ---- places
 
--- whether the marks have one of the first phrase in the slot
+-- whether the marks have one of the first phrase in the slot, as the law of places asks
 abbrev pub is_marked_first : MarkMap → (slot : ℕ) → Bool
 is_marked_first marks slot = is_some (get marks (phrase_at slot 0))
 
--- a place of a program whose slot stands but once exists, by the marks, exactly where it has an address
+-- the law that a place of a program whose slot stands but once exists, by the marks, exactly where code has an
+-- address for it
 abbrev pub PlacesHaveAddresses : Type 0
 PlacesHaveAddresses =
     (marks : MarkMap) (items : ItemMap) (program : Forest) (place : PlainPlace) → IsProgram program → times place.slot program ≤ 1
@@ -129,12 +130,12 @@ PlacesHaveAddresses =
 
 -- ---- what stands at addresses
 
--- whether a step ends at the point of a node of the kind, if a run has that: not at the start of what passes a run on, nor where
--- a call comes back
+-- whether a step ends at the point of a node of the kind, if a run has that, as the law of addresses says it: not at
+-- the start of what passes a run on, nor where a call comes back
 abbrev pub ends_step : NodeKind → (point : ℕ) → Bool
 ends_step kind point = not (passes_in kind) && not (is_call kind && (point == 1))
 
--- a place whose slot stands but once has at its address the step that ends there
+-- the law that a place whose slot stands but once has at its address the step that ends there
 abbrev pub AddressesHoldSteps : Type 0
 AddressesHoldSteps =
     (marks : MarkMap) (items : ItemMap) (program : Forest) (place : PlainPlace) (found : Site) (address : ℕ)
@@ -142,8 +143,8 @@ AddressesHoldSteps =
     → get (Gen marks items program).addresses (place_of place) ≡ Some address
     → slice_get (Gen marks items program).instrs address ≡ Some (PlainInstr.place place)
 
--- the start of a group or a comment of a program has the address at which its span begins, and there stands the step at which a
--- run begins that comes to it
+-- the law that the start of a group or a comment of a program has the address at which the span of its code begins,
+-- and there stands the step at which a run begins that comes to it
 abbrev pub PassedStartsStand : Type 0
 PassedStartsStand =
     (marks : MarkMap) (items : ItemMap) (program : Forest) (slot : ℕ) (found : Site) → IsProgram program
@@ -152,7 +153,7 @@ PassedStartsStand =
     × (get (Gen marks items program).addresses (place_of (place_at slot 0)) ≡ Some start)
     × (slice_get (Gen marks items program).instrs start ≡ Some (PlainInstr.place (site_start found)))
 
--- where a call comes back has the address at which its span ends
+-- the law that where a call comes back has the address at which the span of its code ends
 abbrev pub CallsComeBack : Type 0
 CallsComeBack =
     (marks : MarkMap) (items : ItemMap) (program : Forest) (slot : ℕ) (found : Site)
@@ -162,14 +163,14 @@ CallsComeBack =
 
 -- ---- entries
 
--- the headings that code knows are the effective ones, each of the same slot
+-- the law that the headings that code knows are the effective ones, each of the same slot
 abbrev pub EntriesAreHeadings : Type 0
 EntriesAreHeadings =
     (marks : MarkMap) (items : ItemMap) (program : Forest) (name : List ℕ)
     → option_map (λ entry. entry.slot.0) (get (Gen marks items program).headings name)
     ≡ option_map (λ signature. signature.slot) (Sig program name)
 
--- the procedure of an entry, whose slot stands but once, begins at the address of the entry
+-- the law that the procedure of an entry, whose slot stands but once, begins at the address of the entry
 abbrev pub EntriesBeginProcedures : Type 0
 EntriesBeginProcedures =
     (marks : MarkMap) (items : ItemMap) (program : Forest) (name : List ℕ) (entry : HeadingEntry) → times entry.slot.0 program ≤ 1

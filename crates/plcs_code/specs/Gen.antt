@@ -22,7 +22,7 @@ use Rattle.plcs_code.specs.Pieces.{CodeJumps, CodePieces, jumps, pieces}
 
 -- ---- the instructions
 
--- codes, one after the other
+-- the codes of a program's nodes, one after the other
 abbrev pub codes_joined : List (List PlainInstr) → List PlainInstr
 codes_joined [] = []
 codes_joined (code ∷ codes) = code ++ codes_joined codes
@@ -104,7 +104,7 @@ sort_has_code Sort.Procedure = true
 sort_has_code Sort.Declaration = false
 sort_has_code Sort.Statement = true
 
--- whether a node of the kind has code: a declaration has none, nor a hole for a procedure
+-- whether a node of the kind has code, and so a span: a declaration has none, nor a hole for a procedure
 abbrev pub has_code : NodeKind → Bool
 has_code NodeKind.ProcedureHole = false
 has_code other = sort_has_code (sort_of other)
@@ -120,11 +120,11 @@ span_by_slot node = if has_code node.kind then (node.slot.0, (node.start, node.l
 
 -- ---- where places stand
 
--- the order of places: by slot, and within a slot by point
+-- the order of places in the map of their addresses: by slot, and within a slot by point
 abbrev pub place_cmp : Place → Place → Ordering
 place_cmp = then_cmp (on (λ at. at.slot.0) nat_cmp) (on (λ at. at.point.0) nat_cmp)
 
--- the addresses of places
+-- the addresses in a program's code by places
 abbrev pub AddressMap : Type 0
 AddressMap = FinMap place_cmp ℕ
 
@@ -138,7 +138,7 @@ abbrev pub addresses_in : (address : ℕ) → List PlainInstr → List (Place ×
 addresses_in address [] = []
 addresses_in address (instr ∷ code) = address_by_place address instr ++ addresses_in (address + 1) code
 
--- whether a node of the kind is a call
+-- whether a node of the kind is a call, which has an address where it comes back
 abbrev pub is_call : NodeKind → Bool
 is_call (NodeKind.Filled Template.Call) = true
 is_call other = false
@@ -152,11 +152,11 @@ node_address node =
 
 -- ---- where procedures are entered
 
--- the order of names: that of their bytes
+-- the order of names in the map of effective headings: that of their bytes
 abbrev pub name_cmp : List ℕ → List ℕ → Ordering
 name_cmp = slice_cmp nat_cmp
 
--- the effective headings by their names
+-- the effective headings that code knows by their names
 abbrev pub EntryMap : Type 0
 EntryMap = FinMap name_cmp HeadingEntry
 

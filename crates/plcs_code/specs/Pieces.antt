@@ -20,7 +20,7 @@ use Rattle.plcs_code.specs.PlainInstr.{PlainInstr}
 
 -- ---- where a phrase is missing or marked
 
--- whether one of the parts is empty
+-- whether one of the parts is empty, so that a piece stops a run
 abbrev pub has_empty : List (Option PlainPhrase) → Bool
 has_empty [] = false
 has_empty (place ∷ parts) = not (is_some place) || has_empty parts
@@ -36,7 +36,7 @@ suspension marks slot parts =
     if has_empty parts then Some PlainInstr.suspend_placeholder
     else (if has_marked_part marks slot 0 parts then Some PlainInstr.suspend_marked else None)
 
--- the code, or what stops a run in its place
+-- the code of a piece, or what stops a run in its place
 abbrev pub unless_stopped : Option PlainInstr → List PlainInstr → List PlainInstr
 unless_stopped None code = code
 unless_stopped (Some stop) code = stop ∷ []
@@ -233,21 +233,21 @@ own_jumps marks label before first others =
 
 -- ---- by the items of a program, and by the lengths of the codes inside
 
--- the length of the first code
+-- the length of the first code inside a node, on which its jumps depend
 abbrev pub first_length : List ℕ → ℕ
 first_length [] = 0
 first_length (n ∷ ns) = n
 
--- the length of the codes behind the first one
+-- the length of the codes inside a node behind the first one, on which its jumps depend
 abbrev pub other_lengths : List ℕ → ℕ
 other_lengths [] = 0
 other_lengths (n ∷ ns) = sum ns
 
--- the pieces of a node
+-- the pieces of a node's code
 abbrev pub pieces : MarkMap → ItemMap → Label → CodePieces
 pieces marks items label = own_pieces marks (items_in items label.slot) label
 
--- the jumps of a node, where the codes of the nodes inside it have these lengths
+-- the jumps of a node's code, where the codes of the nodes inside it have these lengths
 abbrev pub jumps : MarkMap → ItemMap → Label → (lengths : List ℕ) → CodeJumps
 jumps marks items label lengths =
     own_jumps marks label (length (pieces marks items label).before) (first_length lengths) (other_lengths lengths)

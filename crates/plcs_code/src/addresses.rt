@@ -68,7 +68,7 @@ impl Addresses {
         }
     }
 
-    /// No addresses.
+    /// No addresses of places yet.
     fn new(alloc: Global) -> Addresses
         ensures { result ≡ empty }
     {
@@ -127,7 +127,8 @@ impl Addresses {
     }
 }
 
-/// Whether a run that comes to a node of the kind goes to its first item at once.
+/// Whether a run that comes to a node of the kind goes to its first item at once, so that its start has the address
+/// of that.
 fn passes_in(kind: NodeKind) -> bool
     ensures { result ≡ passes_in kind }
 {
@@ -141,7 +142,8 @@ fn passes_in(kind: NodeKind) -> bool
     }
 }
 
-/// Whether a run that comes to the template goes to its first item at once.
+/// Whether a run that comes to the template goes to its first item at once, so that its start has the address of
+/// that.
 fn passes_in_template(template: Template) -> bool
     ensures { result ≡ passes_in_template template }
 {
@@ -165,7 +167,7 @@ fn passes_in_template(template: Template) -> bool
     }
 }
 
-/// Whether a node of the kind is a call.
+/// Whether a node of the kind is a call, which has an address where it comes back.
 fn is_call(kind: NodeKind) -> bool
     ensures { result ≡ is_call kind }
 {
@@ -179,7 +181,7 @@ fn is_call(kind: NodeKind) -> bool
     }
 }
 
-/// Whether the template is a call.
+/// Whether the template is a call, which has an address where it comes back.
 fn is_call_template(template: Template) -> bool
     ensures { result ≡ is_call (NodeKind.Filled template) }
 {

@@ -32,7 +32,7 @@ impl Model for Headings {
 }
 
 impl Headings {
-    /// No headings.
+    /// No headings that code knows yet.
     pub(crate) fn new(alloc: Global) -> Headings
         ensures { result ≡ empty }
     {
@@ -57,7 +57,7 @@ impl Headings {
         self.put(name_of(name), HeadingEntry { address, slot })
     }
 
-    /// What is known of the effective heading of the name, or `None` where none has it.
+    /// What code knows of the effective heading of the name, or `None` where none has it.
     pub(crate) fn get(&self, name: &Name) -> Option<HeadingEntry>
         ensures { result ≡ get self.now name.now }
     {
@@ -67,7 +67,7 @@ impl Headings {
         }
     }
 
-    /// Puts what is known of a heading under its name, if nothing is there.
+    /// Puts what code knows of a heading under its name, if nothing is there.
     fn put(&mut self, name: Name, entry: HeadingEntry) -> Result<(), OutOfMemory>
         ensures { OnOk result (self.new ≡ with_first self.old name entry) }
     {

@@ -53,7 +53,7 @@ impl<W> Model for Laid<W> {
 }
 
 impl<W> Laid<W> {
-    /// No code yet. It takes no memory.
+    /// No code that is laid yet. It takes no memory.
     pub(crate) fn new(alloc: Global) -> Laid<W>
         ensures { result ≡ record { instrs = []; spans = [] } }
     {
@@ -63,14 +63,14 @@ impl<W> Laid<W> {
         }
     }
 
-    /// How many instructions there are so far.
+    /// How many instructions are laid so far.
     pub(crate) fn length(&self) -> u32
         ensures { result ≡ length self.now.instrs }
     {
         self.draft.length()
     }
 
-    /// The instructions, and the spans of the nodes.
+    /// The instructions that were laid, and the spans of the nodes.
     pub(crate) fn into_parts(self) -> (Block<W>, Vec<NodeSpan>)
         ensures block { result.0 ≡ self.instrs }
         ensures spans { result.1.items ≡ self.spans }
@@ -253,7 +253,7 @@ impl<W: Work> Laid<W> {
         Ok(())
     }
 
-    /// Lays a jump, if there is one.
+    /// Lays a jump into the code of a program that is laid node by node, if there is one.
     fn lay_jump(&mut self, jump: Option<Instr>, work: &mut W) -> Result<(), OutOfMemory>
         ensures laid { OnOk result (self.new ≡ with_instrs (option_to_list (option_map plain_instr jump)) self.old) }
         ensures counted { OnOk result (Emits (length (option_to_list (option_map plain_instr jump))) (W.counts work.old)

@@ -76,7 +76,7 @@ fn lay_template<W: Work, O: InstrOut<W>>(
     }
 }
 
-/// Lays the piece of one instruction alone, at the start of a slot.
+/// Lays the piece of one instruction alone, at the start of a slot, before what is inside.
 fn lay_alone<W: Work, O: InstrOut<W>>(slot: Slot, instr: Instr, out: &mut O, work: &mut W)
     ensures { LaysAll O.lays out.old (W.counts work.old) (piece_at slot.0 0 None (plain_instr instr ∷ []))
         out.new (W.counts work.new) }
@@ -86,7 +86,7 @@ fn lay_alone<W: Work, O: InstrOut<W>>(slot: Slot, instr: Instr, out: &mut O, wor
     out.put(instr, work);
 }
 
-/// Lays the instructions that make the cells of a procedure with these parameters.
+/// Lays the instructions that make the cells of a procedure with these parameters, before what is inside.
 fn lay_items_of<W: Work, O: InstrOut<W>>(
     items: &[Declared],
     names: &[Name],
@@ -101,7 +101,8 @@ fn lay_items_of<W: Work, O: InstrOut<W>>(
     lay_cells(items, names, out, work);
 }
 
-/// The parameters in the heading of a procedure: none where no list of them stands there.
+/// The parameters in the heading of a procedure, whose cells are laid before what is inside: none where no list of
+/// them stands there.
 fn parameters_of(node: &Node) -> &[Name]
     ensures { result.now ≡ unwrap_or (parameters_given node.now.label.parts) [] }
 {

@@ -68,7 +68,7 @@ fn lay_template<W: Work, O: InstrOut<W>>(
     }
 }
 
-/// Lays the piece before the next iteration of a loop that counts.
+/// Lays, behind what is inside a loop that counts, the piece before its next iteration.
 fn lay_iteration<W: Work, O: InstrOut<W>>(
     slot: Slot,
     stop: Option<Instr>,
@@ -81,7 +81,7 @@ fn lay_iteration<W: Work, O: InstrOut<W>>(
     begin(slot, 1, stop, out, work);
 }
 
-/// Lays the end of main or a procedure.
+/// Lays the end of main or a procedure, behind what is inside.
 fn lay_end<W: Work, O: InstrOut<W>>(slot: Slot, out: &mut O, work: &mut W)
     ensures { LaysAll O.lays out.old (W.counts work.old)
         (PlainInstr.place (place_at slot.0 1) ∷ PlainInstr.leave ∷ [])

@@ -83,7 +83,7 @@ fn lay_cell<W: Work, O: InstrOut<W>>(item: &Declared, names: &[Name], out: &mut 
     out.put(Instr::Cell(name_of(&item.name), item.ty, item.size), work);
 }
 
-/// Whether a name stands among the names of parameters.
+/// Whether a name stands among those of parameters, whose cells are made first.
 fn is_among(name: &Name, names: &[Name]) -> bool
     ensures { result ≡ list_any (bytes_eq name.now) names.now }
 {

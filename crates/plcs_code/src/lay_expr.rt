@@ -99,7 +99,7 @@ pub(crate) fn lay_exprs<W: Work, O: InstrOut<W>>(
     }
 }
 
-/// The instruction that pushes the value of a variable.
+/// The instruction that pushes the value of a variable in an expression.
 fn load(variable: &VarRef) -> Instr
     ensures { plain_instr result ≡ variable_instr PlainInstr.load PlainInstr.load_at (plain_var_ref variable.now) }
 {

@@ -123,7 +123,7 @@ fn put_item_place<W: Work, O: InstrOut<W>>(slot: Slot, k: usize, out: &mut O, wo
     out.put(Instr::At(Place { slot, point }), work);
 }
 
-/// The instruction that stores a value into a variable.
+/// The instruction that stores a value into a variable, for the phrase of an assignment.
 fn store(variable: &VarRef) -> Instr
     ensures { plain_instr result ≡ variable_instr PlainInstr.store PlainInstr.store_at (plain_var_ref variable.now) }
 {
@@ -133,7 +133,7 @@ fn store(variable: &VarRef) -> Instr
     }
 }
 
-/// The instruction that reads an item into a variable.
+/// The instruction that reads an item into a variable, for the phrase of a GET.
 fn get(variable: &VarRef) -> Instr
     ensures { plain_instr result ≡ variable_instr PlainInstr.get PlainInstr.get_at (plain_var_ref variable.now) }
 {
@@ -143,7 +143,7 @@ fn get(variable: &VarRef) -> Instr
     }
 }
 
-/// The instruction that passes a variable by reference.
+/// The instruction that passes a variable by reference, for the phrase of a call.
 fn refer(variable: &VarRef) -> Instr
     ensures { plain_instr result ≡ variable_instr PlainInstr.reference PlainInstr.reference_at
         (plain_var_ref variable.now) }

@@ -143,7 +143,7 @@ fn lay_listed<W: Work, O: InstrOut<W>>(
     put_counted(exprs.len(), skip, out, work);
 }
 
-/// Lays the instruction that writes so many values.
+/// Lays the instruction of a PUT's piece that writes so many values.
 fn put_counted<W: Work, O: InstrOut<W>>(number: usize, skip: bool, out: &mut O, work: &mut W)
     ensures { LaysAll O.lays out.old (W.counts work.old) (put_instr skip number ∷ []) out.new (W.counts work.new) }
 {
@@ -154,7 +154,7 @@ fn put_counted<W: Work, O: InstrOut<W>>(number: usize, skip: bool, out: &mut O, 
     out.put(put_instr(skip, number as u32), work);
 }
 
-/// The instruction that writes so many values, on a new line or not.
+/// The instruction of a PUT's piece that writes so many values, on a new line or not.
 fn put_instr(skip: bool, number: u32) -> Instr
     ensures { plain_instr result ≡ put_instr skip number }
 {

@@ -91,7 +91,7 @@ impl Lengths {
         self.list.pop()
     }
 
-    /// No lengths yet. It takes no memory.
+    /// No lengths of codes yet. It takes no memory.
     fn new(alloc: Global) -> Lengths
         ensures { result ≡ [] }
     {

@@ -56,7 +56,7 @@ impl Spans {
         }
     }
 
-    /// No spans.
+    /// No spans of slots yet.
     fn new(alloc: Global) -> Spans
         ensures { result ≡ empty }
     {
@@ -84,7 +84,7 @@ impl Spans {
     }
 }
 
-/// Whether a node of the kind has code: a declaration has none, nor a hole for a procedure.
+/// Whether a node of the kind has code, and so a span: a declaration has none, nor a hole for a procedure.
 fn has_code(kind: NodeKind) -> bool
     ensures { result ≡ has_code kind }
 {
@@ -98,7 +98,7 @@ fn has_code(kind: NodeKind) -> bool
     }
 }
 
-/// Whether nodes of the sort have code.
+/// Whether nodes of the sort have code, and so spans.
 fn sort_has_code(sort: Sort) -> bool
     ensures { result ≡ sort_has_code sort }
 {

@@ -28,7 +28,7 @@ priority Divide = 6
 abbrev pub tightest : ℕ
 tightest = 7
 
--- the variable is no call: a built-in name before a parenthesis is a call's, and no variable's
+-- the variable at its level is no call: a built-in name before a parenthesis is a call's, and no variable's
 abbrev pub IsNoCall : PlainVarRef → Type 0
 IsNoCall (PlainVarRef.simple name) = Unit {0}
 IsNoCall (PlainVarRef.subscripted name index) = IsTrue (not (is_builtin_name name))

@@ -11,7 +11,7 @@ use Rattle.plcs_grammar.specs.declared.row.Row.{Row}
 use Rattle.plcs_grammar.specs.declared.template.Template.{Template}
 use Rattle.plcs_grammar.specs.Placeholder.{placeholder}
 
--- a segment of a line: bytes as they stand, or a part that holds a phrase of the category
+-- a segment of a template's line: bytes as they stand, or a part that holds a phrase of the category
 pub data PlainSegment : Type 0 where
   words : List ℕ → PlainSegment
   part : Category → PlainSegment
@@ -32,19 +32,19 @@ pub record PlainRow : Type 0 where
   pub sections : List PlainSection
   pub last : Option (List ℕ)
 
--- the section of a list: one item of the sort or more
+-- the section of a template that is a list: one item of the sort or more
 abbrev pub list_of : Sort → PlainSection
 list_of sort = record { lead = None; sort = sort; amount = Amount.Many }
 
--- the section of one statement, without a line before it
+-- the section of a template that is one statement, without a line before it
 abbrev pub body : PlainSection
 body = record { lead = None; sort = Sort.Statement; amount = Amount.One }
 
--- the section of one statement behind a line of its own
+-- the section of a template that is one statement behind a line of its own
 abbrev pub body_after : List ℕ → PlainSection
 body_after lead = record { lead = Some lead; sort = Sort.Statement; amount = Amount.One }
 
--- the sections that stand inside a procedure
+-- the sections that stand inside a procedure, by the table of templates
 abbrev pub procedure_sections : List PlainSection
 procedure_sections = list_of Sort.Declaration ∷ list_of Sort.Statement ∷ []
 
@@ -52,30 +52,30 @@ procedure_sections = list_of Sort.Declaration ∷ list_of Sort.Statement ∷ []
 abbrev pub closing : Option (List ℕ)
 closing = Some (codes "END;")
 
--- the row of a hole: its word alone
+-- the row of the table of templates for a hole: its word alone
 abbrev pub hole_row : Sort → List ℕ → PlainRow
 hole_row sort word = record { sort = sort; command = None; line = PlainSegment.words word ∷ []; sections = []; last = None }
 
--- the row of a procedure
+-- the row of the table of templates for a procedure
 abbrev pub procedure_row : List ℕ → List PlainSegment → PlainRow
 procedure_row command line =
     record { sort = Sort.Procedure; command = Some command; line = line; sections = procedure_sections; last = closing }
 
--- the row of a declaration
+-- the row of the table of templates for a declaration
 abbrev pub declaration_row : List ℕ → List PlainSegment → PlainRow
 declaration_row command line =
     record { sort = Sort.Declaration; command = Some command; line = line; sections = []; last = None }
 
--- the row of a statement with nothing inside
+-- the row of the table of templates for a statement with nothing inside
 abbrev pub simple_row : List ℕ → List PlainSegment → PlainRow
 simple_row command line = record { sort = Sort.Statement; command = Some command; line = line; sections = []; last = None }
 
--- the row of a statement that a body or two follow
+-- the row of the table of templates for a statement that a body or two follow
 abbrev pub choice_row : List ℕ → List PlainSegment → List PlainSection → PlainRow
 choice_row command line sections =
     record { sort = Sort.Statement; command = Some command; line = line; sections = sections; last = None }
 
--- the row of a statement with a list of statements and an end
+-- the row of the table of templates for a statement with a list of statements and an end
 abbrev pub loop_row : List ℕ → List PlainSegment → PlainRow
 loop_row command line =
     record { sort = Sort.Statement; command = Some command; line = line; sections = list_of Sort.Statement ∷ []; last = closing }
@@ -145,7 +145,7 @@ templates =
     ∷ Template.Group ∷ Template.Get ∷ Template.Put ∷ Template.PutSkip ∷ Template.Call ∷ Template.Return
     ∷ Template.Comment ∷ Template.Proc ∷ Template.ProcP ∷ []
 
--- whether the word is that of a row's command, if the row has one
+-- whether the word is that of the command of a row of the table of templates, if the row has one
 abbrev pub is_command : List ℕ → Option (List ℕ) → Bool
 is_command word None = false
 is_command word (Some own) = bytes_eq word own
@@ -183,17 +183,17 @@ program_sections =
     record { lead = None; sort = Sort.Main; amount = Amount.One }
     ∷ list_of Sort.Procedure ∷ []
 
--- the plain form of a segment of a line in the code's table
+-- the plain form of a segment of a line in the code's table of templates
 abbrev pub plain_segment : Segment → PlainSegment
 plain_segment (Segment.Words bytes) = PlainSegment.words bytes.now
 plain_segment (Segment.Part category) = PlainSegment.part category
 
--- the plain form of a section in the code's table
+-- the plain form of a section in the code's table of templates
 abbrev pub plain_section : Section → PlainSection
 plain_section section =
     record { lead = option_map (λ bytes. bytes.now) section.lead; sort = section.sort; amount = section.amount }
 
--- the plain form of a row of the code's table
+-- the plain form of a row of the code's table of templates
 abbrev pub plain_row : Row → PlainRow
 plain_row row =
     record {

@@ -22,11 +22,11 @@ abbrev pub begins_with : (ℕ → Bool) → List ℕ → Bool
 begins_with test [] = false
 begins_with test (byte ∷ rest) = test byte
 
--- the byte of a quote, as it stands around constants
+-- the byte of a quote, as it stands around tokens that are constants
 abbrev pub quote : ℕ
 quote = 39
 
--- whether the byte is a quote, as it stands around constants
+-- whether the byte is a quote, as it stands around tokens that are constants
 abbrev pub is_quote : ℕ → Bool
 is_quote byte = byte == quote
 
@@ -43,7 +43,7 @@ with_quotes_doubled (byte ∷ rest) = doubled byte ++ with_quotes_doubled rest
 abbrev pub quoted : List ℕ → List ℕ
 quoted bytes = quote ∷ (with_quotes_doubled bytes ++ (quote ∷ []))
 
--- how a bit constant is written
+-- how a token that is a bit constant is written
 abbrev pub bit_bytes : Bool → List ℕ
 bit_bytes false = codes "'0'B"
 bit_bytes true = codes "'1'B"

@@ -1,7 +1,7 @@
 //! The categories of phrases, and what stands for a phrase of each that is not there yet.
 ghost use Rattle.std.specs.Prelude.{◌≡◌};
 
-/// What is shown where a statement is still wanted.
+/// The word of the placeholder that stands for a statement that is not there yet.
 pub(crate) const STATEMENT_HOLE_WORD: &[u8] = b"{statement}";
 
 /// The category of a phrase: what kind of phrase a part of a template holds.

@@ -6,7 +6,7 @@ ghost use Rattle.plcs_grammar.specs.Token.{bit_bytes, numeral_value, quoted, wit
 
 use plcs_base::{ByteOut, put_bytes};
 
-/// Puts the digits of a number, without leading zeros.
+/// Puts the digits of a number as it is written, without leading zeros.
 pub fn put_decimal<O: ByteOut>(number: u32, out: &mut O)
     ensures { PutsAll O.puts out.old (decimal number) out.new }
 {
@@ -18,7 +18,7 @@ pub fn put_decimal<O: ByteOut>(number: u32, out: &mut O)
     }
 }
 
-/// Puts a number, with its sign before it where it is negative.
+/// Puts a number as it is written, with its sign before it where it is negative.
 pub fn put_number<O: ByteOut>(number: i32, out: &mut O)
     ensures { PutsAll O.puts out.old (signed_decimal number) out.new }
 {

@@ -17,7 +17,7 @@ pub enum Segment {
     Part(Category),
 }
 
-/// How many items a section holds.
+/// How many items a section of a template holds.
 #[derive(Clone, Copy, Debug, PartialEq, Eq)]
 pub enum Amount {
     /// Exactly one item.
@@ -26,7 +26,7 @@ pub enum Amount {
     Many,
 }
 
-/// What stands inside a node in one stretch.
+/// What stands inside a template's node in one stretch.
 #[derive(Clone, Copy, Debug)]
 pub struct Section {
     /// The line before the section, at the node's level, if there is one.
@@ -68,7 +68,7 @@ impl NodeKind {
     }
 }
 
-/// Whether the word is that of a row's command, if the row has one.
+/// Whether the word is that of the command of a row of the table of templates, if the row has one.
 fn is_command(word: &[u8], command: Option<&[u8]>) -> bool
     ensures { result ≡ is_command word.now (option_map (λ own. own.now) command.entry) }
 {
@@ -143,7 +143,7 @@ pub fn program_sections() -> &'static [Section]
     PROGRAM
 }
 
-/// The sections of a program.
+/// The sections of a program, beside the table of templates.
 const PROGRAM: &[Section] = &[
     Section {
         lead: None,
@@ -157,40 +157,41 @@ const PROGRAM: &[Section] = &[
     },
 ];
 
-/// A section of one declaration or more.
+/// A section of a template: one declaration or more.
 const LIST_OF_DECLARATIONS: Section = Section {
     lead: None,
     sort: Sort::Declaration,
     amount: Amount::Many,
 };
 
-/// A section of one statement or more.
+/// A section of a template: one statement or more.
 const LIST_OF_STATEMENTS: Section = Section {
     lead: None,
     sort: Sort::Statement,
     amount: Amount::Many,
 };
 
-/// A section of one statement.
+/// A section of a template: one statement.
 const BODY: Section = Section {
     lead: None,
     sort: Sort::Statement,
     amount: Amount::One,
 };
 
-/// A section of one statement behind a line ELSE.
+/// A section of a template: one statement behind a line ELSE.
 const ELSE_BODY: Section = Section {
     lead: Some(b"ELSE"),
     sort: Sort::Statement,
     amount: Amount::One,
 };
 
-/// The sections that stand inside a procedure.
+/// The sections of templates that stand inside a procedure.
 const BLOCK: &[Section] = &[LIST_OF_DECLARATIONS, LIST_OF_STATEMENTS];
 
 /// The last line of each template that encloses a list.
 const CLOSING: Option<&[u8]> = Some(b"END;");
 
+/// The row of the template for a declaration of whole numbers.
 static FIXED: Row = Row {
     sort: Sort::Declaration,
     command: Some(b"fixed"),
@@ -203,6 +204,7 @@ static FIXED: Row = Row {
     last: None,
 };
 
+/// The row of the template for a declaration of bits.
 static BIT: Row = Row {
     sort: Sort::Declaration,
     command: Some(b"bit"),
@@ -215,6 +217,7 @@ static BIT: Row = Row {
     last: None,
 };
 
+/// The row of the template for a declaration of texts.
 static CHAR: Row = Row {
     sort: Sort::Declaration,
     command: Some(b"char"),
@@ -229,6 +232,7 @@ static CHAR: Row = Row {
     last: None,
 };
 
+/// The row of the template for an IF without ELSE.
 static IF: Row = Row {
     sort: Sort::Statement,
     command: Some(b"if"),
@@ -241,6 +245,7 @@ static IF: Row = Row {
     last: None,
 };
 
+/// The row of the template for an IF with ELSE.
 static IF_ELSE: Row = Row {
     sort: Sort::Statement,
     command: Some(b"ifelse"),
@@ -253,6 +258,7 @@ static IF_ELSE: Row = Row {
     last: None,
 };
 
+/// The row of the template for a loop with a condition.
 static WHILE: Row = Row {
     sort: Sort::Statement,
     command: Some(b"while"),
@@ -265,6 +271,7 @@ static WHILE: Row = Row {
     last: CLOSING,
 };
 
+/// The row of the template for a loop that counts.
 static FOR: Row = Row {
     sort: Sort::Statement,
     command: Some(b"for"),
@@ -283,6 +290,7 @@ static FOR: Row = Row {
     last: CLOSING,
 };
 
+/// The row of the template for a group.
 static GROUP: Row = Row {
     sort: Sort::Statement,
     command: Some(b"group"),
@@ -291,6 +299,7 @@ static GROUP: Row = Row {
     last: CLOSING,
 };
 
+/// The row of the template for a GET.
 static GET: Row = Row {
     sort: Sort::Statement,
     command: Some(b"get"),
@@ -303,6 +312,7 @@ static GET: Row = Row {
     last: None,
 };
 
+/// The row of the template for a PUT.
 static PUT: Row = Row {
     sort: Sort::Statement,
     command: Some(b"put"),
@@ -315,6 +325,7 @@ static PUT: Row = Row {
     last: None,
 };
 
+/// The row of the template for a PUT on a new line.
 static PUT_SKIP: Row = Row {
     sort: Sort::Statement,
     command: Some(b"puts"),
@@ -327,6 +338,7 @@ static PUT_SKIP: Row = Row {
     last: None,
 };
 
+/// The row of the template for a call.
 static CALL: Row = Row {
     sort: Sort::Statement,
     command: Some(b"call"),
@@ -339,6 +351,7 @@ static CALL: Row = Row {
     last: None,
 };
 
+/// The row of the template for a RETURN.
 static RETURN: Row = Row {
     sort: Sort::Statement,
     command: Some(b"return"),
@@ -347,6 +360,7 @@ static RETURN: Row = Row {
     last: None,
 };
 
+/// The row of the template for a comment with its refinement.
 static COMMENT: Row = Row {
     sort: Sort::Statement,
     command: Some(b"comment"),
@@ -359,6 +373,7 @@ static COMMENT: Row = Row {
     last: None,
 };
 
+/// The row of the template for a procedure without parameters.
 static PROC: Row = Row {
     sort: Sort::Procedure,
     command: Some(b"proc"),
@@ -370,6 +385,7 @@ static PROC: Row = Row {
     last: CLOSING,
 };
 
+/// The row of the template for a procedure with parameters.
 static PROC_P: Row = Row {
     sort: Sort::Procedure,
     command: Some(b"procp"),
@@ -383,6 +399,7 @@ static PROC_P: Row = Row {
     last: CLOSING,
 };
 
+/// The row of the table of templates for a hole for a declaration.
 const DECLARATION_HOLE: Row = Row {
     sort: Sort::Declaration,
     command: None,
@@ -391,6 +408,7 @@ const DECLARATION_HOLE: Row = Row {
     last: None,
 };
 
+/// The row of the table of templates for a hole for a statement.
 const STATEMENT_HOLE: Row = Row {
     sort: Sort::Statement,
     command: None,
@@ -399,6 +417,7 @@ const STATEMENT_HOLE: Row = Row {
     last: None,
 };
 
+/// The row of the table of templates for a hole for a procedure.
 const PROCEDURE_HOLE: Row = Row {
     sort: Sort::Procedure,
     command: None,
@@ -407,6 +426,7 @@ const PROCEDURE_HOLE: Row = Row {
     last: None,
 };
 
+/// The row of the table of templates for main.
 const MAIN: Row = Row {
     sort: Sort::Main,
     command: None,
@@ -415,6 +435,7 @@ const MAIN: Row = Row {
     last: CLOSING,
 };
 
+/// The row of the table of templates for an assignment.
 const ASSIGN: Row = Row {
     sort: Sort::Statement,
     command: None,

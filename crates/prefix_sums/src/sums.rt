@@ -126,7 +126,7 @@ impl PrefixSums {
 }
 
 impl PrefixSums {
-    /// Makes room for so many more numbers, or leaves the list as it is where there is no memory for it.
+    /// Makes room for so many more numbers in the list, or leaves it as it is where there is no memory for that.
     pub fn reserve(&mut self, more: usize) -> Result<(), AllocError>
         requires few { length self.old.numbers + more < 2 ^ 48 }
         ensures room { OnOk result (more ≤ self.new.spare) }
@@ -184,7 +184,7 @@ impl PrefixSums {
     }
 }
 
-/// Puts a number in this place into a list of numbers, in the room that it has.
+/// Puts a number in this place into a list of numbers with their sums, in the room that it has.
 fn insert_reserved(numbers: &mut Vec<u32>, k: usize, number: u32)
     requires there { k ≤ vec_len numbers.old }
     requires room { vec_len numbers.old < vec_capacity numbers.old }

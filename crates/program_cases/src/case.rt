@@ -2,7 +2,7 @@
 
 use crate::declarations::Question;
 
-/// A case of the script, without the words behind its name.
+/// A case on what is derived from a program, by its name, without the words behind that.
 #[derive(Clone, Copy)]
 pub enum Case {
     /// Reads a program from the lines of text.
@@ -35,7 +35,7 @@ pub enum Case {
     Sums,
 }
 
-/// The cases with their names.
+/// The cases on what is derived from a program, with their names.
 pub static CASES: [(&[u8], Case); 18] = [
     (b"program", Case::Program),
     (b"take", Case::Take),

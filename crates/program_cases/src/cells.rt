@@ -3,7 +3,7 @@
 use case_script::Told;
 use plcs_base::ByteOut;
 
-/// Tells a row of this number without the blanks behind it, where something is left.
+/// Tells the cells of a row of this number without the blanks behind it, where something is left.
 pub fn tell_row(number: u16, cells: &[u16], told: &mut Told) {
     let shown = visible(cells);
     if !shown.is_empty() {
@@ -14,7 +14,7 @@ pub fn tell_row(number: u16, cells: &[u16], told: &mut Told) {
     }
 }
 
-/// The cells up to the last that isn't a blank in default image.
+/// The cells of a row that are told: up to the last that isn't a blank in default image.
 fn visible(cells: &[u16]) -> &[u16] {
     let mut end = 0;
     for (col, cell) in cells.iter().enumerate() {
@@ -36,7 +36,7 @@ pub fn tell_cells(cells: &[u16], told: &mut Told) {
     tell_stretches(cells, told);
 }
 
-/// Tells each stretch of the cells in negative image.
+/// Tells each stretch of a row's cells in negative image.
 fn tell_stretches(cells: &[u16], told: &mut Told) {
     let mut start = None;
     for (col, cell) in cells.iter().enumerate() {
@@ -54,7 +54,7 @@ fn tell_stretches(cells: &[u16], told: &mut Told) {
     }
 }
 
-/// Tells a stretch from this column to that one.
+/// Tells a stretch of cells from this column to that one.
 fn tell_stretch(from: usize, to: usize, told: &mut Told) {
     told.text(" negative ");
     told.value(&from);

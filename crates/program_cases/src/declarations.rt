@@ -37,7 +37,7 @@ pub fn declarations(
     answer(alloc, &decls, question, words, told)
 }
 
-/// Asks the table.
+/// Asks the table of declarations.
 fn answer(
     alloc: Global,
     decls: &Decls,
@@ -61,7 +61,7 @@ fn answer(
     Some(())
 }
 
-/// Tells the effective items of the procedure in the slot.
+/// Tells the effective items that the table of declarations has of the procedure in the slot.
 fn tell_items(decls: &Decls, slot: Slot, told: &mut Told) {
     for k in 0..u32::MAX {
         let Some(item) = decls.declared(slot, k) else {
@@ -72,7 +72,7 @@ fn tell_items(decls: &Decls, slot: Slot, told: &mut Told) {
     tell_item(None, told);
 }
 
-/// Tells an effective item: its name and its type, and the cells of an array.
+/// Tells an effective item that the table of declarations has: its name and its type, and the cells of an array.
 fn tell_item(item: Option<Declared>, told: &mut Told) {
     let Some(item) = item else {
         told.line("None");
@@ -89,7 +89,8 @@ fn tell_item(item: Option<Declared>, told: &mut Told) {
     told.put(b'\n');
 }
 
-/// Tells the item of a parameter of the procedure in the slot, behind the earlier ones that are named.
+/// Tells the item that the table of declarations has of a parameter of the procedure in the slot, behind the earlier
+/// ones that are named.
 fn tell_parameter(alloc: Global, decls: &Decls, words: &[Vec<u8>], told: &mut Told) -> Option<()> {
     let [slot, name, earlier @ ..] = words else {
         return None;
@@ -101,7 +102,7 @@ fn tell_parameter(alloc: Global, decls: &Decls, words: &[Vec<u8>], told: &mut To
     Some(())
 }
 
-/// The names that the words are.
+/// The names that the words are, of which the table of declarations is asked.
 fn names_of(alloc: Global, words: &[Vec<u8>]) -> Option<Vec<Name>> {
     let mut names = Vec::new(alloc);
     for word in words {
@@ -110,7 +111,8 @@ fn names_of(alloc: Global, words: &[Vec<u8>]) -> Option<Vec<Name>> {
     Some(names)
 }
 
-/// Tells the slots and the parts of the phrases that mention a name.
+/// Tells the uses that the table of declarations has of a name: the slots and the parts of the phrases that mention
+/// it.
 fn tell_uses(uses: &[PhraseAt], told: &mut Told) {
     for (number, at) in uses.iter().enumerate() {
         if number > 0 {
@@ -121,7 +123,7 @@ fn tell_uses(uses: &[PhraseAt], told: &mut Told) {
     told.put(b'\n');
 }
 
-/// Tells the slot and the part of a phrase.
+/// Tells the place of a use that the table of declarations has: the slot and the part of a phrase.
 pub fn tell_place(at: PhraseAt, told: &mut Told) {
     told.value(&at.slot.0);
     told.put(b'.');

@@ -9,7 +9,7 @@ use plcs_base::PhraseAt;
 use std::alloc::{AllocError, Global};
 use template_tree::Tree;
 
-/// What is held from case to case.
+/// What the cases on a program hold from one to the next.
 #[derive(Drop)]
 pub struct Held {
     /// The program.
@@ -39,7 +39,7 @@ impl Held {
         })
     }
 
-    /// Marks the phrase in the slot and the part that are named, or none by hand where nothing is.
+    /// Holds a mark by hand, of the phrase in the slot and the part that are named, or none where nothing is.
     pub fn mark(&mut self, words: &[Vec<u8>], told: &mut Told) -> Option<()>
         requires { IsTree self.old.tree }
         ensures { IsTree self.new.tree }

@@ -18,7 +18,7 @@ use template_tree::{Stop, Tree};
 use type_marks::Marks;
 use unparse_layout::{Layout, Line};
 
-/// Tells the lines from this number to that one, or all of them and that none comes behind them.
+/// Tells the lines of the screen from this number to that one, or all of them and that none comes behind them.
 pub fn lines(
     alloc: Global,
     tree: &Tree,
@@ -32,7 +32,8 @@ pub fn lines(
     lines_of(alloc, &layout, tree, marked, words, told)
 }
 
-/// The same of the program's layout.
+/// Tells the lines of the program's layout from this number to that one, or all of them and that none comes behind
+/// them.
 fn lines_of(
     alloc: Global,
     layout: &Layout<Counts>,
@@ -55,7 +56,7 @@ fn lines_of(
     }
 }
 
-/// Tells the lines under the marks of the program.
+/// Tells the lines of the screen under the marks of the program.
 fn tell_marked_lines(
     alloc: Global,
     layout: &Layout<Counts>,
@@ -73,7 +74,7 @@ fn tell_marked_lines(
     Some(())
 }
 
-/// The marks of the program, of which this is the table.
+/// The marks of the program under which its lines are told, of which this is the table.
 pub fn marks_of(alloc: Global, tree: &Tree, decls: &Decls) -> Option<Marks<Counts>>
     requires tree { IsTree tree.now }
     requires decls { IsDeclsOf decls.now tree.now.items }
@@ -81,7 +82,7 @@ pub fn marks_of(alloc: Global, tree: &Tree, decls: &Decls) -> Option<Marks<Count
     Marks::new(alloc, tree, decls, &mut Counts::default()).ok()
 }
 
-/// Tells the lines under these marks, and what was counted.
+/// Tells the lines of the screen under these marks, and what was counted.
 fn tell_lines<M: Marked>(
     layout: &Layout<Counts>,
     tree: &Tree,
@@ -105,7 +106,7 @@ fn tell_lines<M: Marked>(
     told.value_line(&work);
 }
 
-/// Tells which of its node's lines a line is, the slot of that, and its cells.
+/// Tells which of its node's lines a line of the screen is, the slot of that, and its cells.
 fn tell_line(line: &Line<Counts>, told: &mut Told) {
     told.value(&line.kind());
     told.text(" of ");
@@ -147,7 +148,7 @@ fn have_same_lines(layout: &Layout<Counts>, other: &Layout<Counts>, tree: &Tree)
     true
 }
 
-/// Whether two lines are the same, or none.
+/// Whether two lines of the screen are the same, or none.
 fn is_same(line: Option<Line<Counts>>, other: Option<Line<Counts>>) -> bool {
     match (line, other) {
         (Some(line), Some(other)) => {
@@ -160,7 +161,7 @@ fn is_same(line: Option<Line<Counts>>, other: Option<Line<Counts>>) -> bool {
     }
 }
 
-/// Tells the line of each visible stop, from the first one on.
+/// Answers a case on the lines of stops: tells the line on which each visible stop stands, from the first one on.
 pub fn stops(alloc: Global, tree: &Tree, told: &mut Told) -> Option<()>
     requires { IsTree tree.now }
 {
@@ -169,7 +170,7 @@ pub fn stops(alloc: Global, tree: &Tree, told: &mut Told) -> Option<()>
     Some(())
 }
 
-/// Tells the line that each visible stop has in the layout.
+/// Tells the line of the screen that each visible stop has in the layout.
 fn tell_stops(layout: &Layout<Counts>, tree: &Tree, told: &mut Told)
     requires tree { IsTree tree.now }
     requires agrees { IsLayoutOf layout.now tree.now }
@@ -184,7 +185,7 @@ fn tell_stops(layout: &Layout<Counts>, tree: &Tree, told: &mut Told)
     }
 }
 
-/// Tells the line of the stop.
+/// Tells the line of the screen on which the stop stands.
 fn tell_stop(layout: &Layout<Counts>, tree: &Tree, stop: &Stop, told: &mut Told)
     requires tree { IsTree tree.now }
     requires agrees { IsLayoutOf layout.now tree.now }

@@ -42,7 +42,7 @@ fn main(rt: HostRuntime) -> io::Result<()> {
     play_script(&rt, &mut held)
 }
 
-/// Plays the script that standard input has.
+/// Plays the script of cases on a program that standard input has.
 fn play_script(rt: &HostRuntime, held: &mut Held) -> io::Result<()>
     requires { IsTree held.old.tree }
 {
@@ -57,7 +57,7 @@ fn play_script(rt: &HostRuntime, held: &mut Held) -> io::Result<()>
     Ok(())
 }
 
-/// Plays a line of the script: a heading, a line of text, or a case, whose answer is told.
+/// Plays a line of the script on a program: a heading, a line of text, or a case, whose answer is told.
 fn play_line(alloc: Global, held: &mut Held, line: &[u8], told: &mut Told) -> io::Result<()>
     requires { IsTree held.old.tree }
     ensures { IsTree held.new.tree }
@@ -77,7 +77,7 @@ fn play_line(alloc: Global, held: &mut Held, line: &[u8], told: &mut Told) -> io
     Ok(())
 }
 
-/// Plays a case, if it is one.
+/// Plays a case on what is derived from a program, if it is one.
 fn play_case(alloc: Global, held: &mut Held, case: &[u8], told: &mut Told) -> Option<()>
     requires { IsTree held.old.tree }
     ensures { IsTree held.new.tree }
@@ -88,7 +88,7 @@ fn play_case(alloc: Global, held: &mut Held, case: &[u8], told: &mut Told) -> Op
     }
 }
 
-/// Plays the case of the first word with those behind it.
+/// Plays the case on a program that the first word names, with the words behind it.
 fn play_words(alloc: Global, held: &mut Held, words: &[Vec<u8>], told: &mut Told) -> Option<()>
     requires { IsTree held.old.tree }
     ensures { IsTree held.new.tree }
@@ -97,7 +97,7 @@ fn play_words(alloc: Global, held: &mut Held, words: &[Vec<u8>], told: &mut Told
     play(alloc, held, meaning(&CASES, name.as_slice())?, words, told)
 }
 
-/// Plays the case with these words behind its name, if it takes them.
+/// Plays the case on a program with these words behind its name, if it takes them.
 fn play(
     alloc: Global,
     held: &mut Held,
@@ -117,7 +117,7 @@ fn play(
     }
 }
 
-/// Plays a case that leaves the program as it is, if it takes these words.
+/// Plays a case on what is derived from a program, which it leaves as it is, if it takes these words.
 fn ask(alloc: Global, held: &mut Held, case: Case, words: &[Vec<u8>], told: &mut Told) -> Option<()>
     requires { IsTree held.old.tree }
     ensures { IsTree held.new.tree }

@@ -34,7 +34,7 @@ pub fn check(alloc: Global, tree: &mut Tree, words: &[Vec<u8>], told: &mut Told)
     set(tree, &stop, PhrasePlace::Empty)
 }
 
-/// Puts this into the part at the stop, if it may stand there.
+/// Puts this, of which the mark is told then, into the part at the stop, if it may stand there.
 fn set(tree: &mut Tree, stop: &Stop, place: PhrasePlace) -> Option<()>
     requires tree { IsTree tree.old }
     requires place { IsPhrasePlace (plain_phrase_place place) }
@@ -46,7 +46,7 @@ fn set(tree: &mut Tree, stop: &Stop, place: PhrasePlace) -> Option<()>
     }
 }
 
-/// What the text reads as in the part at the stop.
+/// What the text, of which the mark is told, reads as in the part at the stop.
 fn place_at(alloc: Global, tree: &Tree, stop: &Stop, text: &[u8]) -> Option<PhrasePlace>
     requires { IsTree tree.now }
     ensures { IfSome result (λ place. IsPhrasePlace (plain_phrase_place place)) }
@@ -64,7 +64,7 @@ pub fn marks(alloc: Global, tree: &Tree, only: Option<PhraseAt>, told: &mut Told
     tell_marks(alloc, tree, &decls, only, told)
 }
 
-/// The same by the table of the program.
+/// Tells the phrases of the program with their marks by its table, or only the one at the place.
 fn tell_marks(
     alloc: Global,
     tree: &Tree,

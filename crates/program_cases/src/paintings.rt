@@ -49,7 +49,8 @@ fn paint_some(
     paint_each(alloc, tree, size, count, numbers, &mut terminal, &mut grid)
 }
 
-/// The same on this terminal, which shows this grid.
+/// Paints so many random views of the program one over the other on this terminal, which shows this grid, and tells
+/// whether it has the cells and the cursor of each.
 fn paint_each(
     alloc: Global,
     tree: &Tree,
@@ -77,7 +78,7 @@ fn paint_each(
     Some(same)
 }
 
-/// A random view of the program on a grid of this size.
+/// A random view of the program, which is to be painted, on a grid of this size.
 fn drawn(alloc: Global, tree: &Tree, size: (u16, u16), numbers: &mut Numbers) -> Option<Grid>
     requires tree { IsTree tree.now }
     requires least_rows { FEWEST_ROWS ≤ size.0 }
@@ -105,7 +106,7 @@ fn is_shown(alloc: Global, old: &Grid, new: &Grid, terminal: &mut Terminal) -> b
     painted && has_cells(terminal, new)
 }
 
-/// Whether the terminal has the grid's cells and cursor.
+/// Whether the terminal on which a view was painted has the grid's cells and cursor.
 fn has_cells(terminal: &Terminal, grid: &Grid) -> bool
     requires { terminal.now.rows ≡ grid.now.rows }
 {
@@ -116,7 +117,7 @@ fn has_cells(terminal: &Terminal, grid: &Grid) -> bool
     same
 }
 
-/// Draws a random view of the program on a grid: in one of three cases of code.
+/// Draws a random view of the program, which is to be painted, on a grid: in one of three cases of code.
 fn draw_random(alloc: Global, tree: &Tree, numbers: &mut Numbers, grid: &mut Grid) -> Option<()>
     requires { IsTree tree.now }
     ensures rows { grid.new.rows ≡ grid.old.rows }
@@ -142,7 +143,7 @@ fn draw_random(alloc: Global, tree: &Tree, numbers: &mut Numbers, grid: &mut Gri
     Some(())
 }
 
-/// Random rows of code, or none in two of three cases.
+/// Random rows of code of a view that is painted, or none in two of three cases.
 fn code_rows(alloc: Global, numbers: &mut Numbers) -> Result<Vec<Vec<u8>>, AllocError> {
     let mut rows = Vec::new(alloc);
     if numbers.below(3) == 0 {
@@ -153,7 +154,7 @@ fn code_rows(alloc: Global, numbers: &mut Numbers) -> Result<Vec<Vec<u8>>, Alloc
     Ok(rows)
 }
 
-/// A random phrase that is marked by hand, or in every other case none.
+/// A random phrase of a view that is painted, which is marked by hand, or in every other case none.
 fn random_mark(numbers: &mut Numbers) -> Option<PhraseAt> {
     let slot = Slot(numbers.below(60));
     let part = numbers.below(4) as u8;

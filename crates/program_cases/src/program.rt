@@ -21,7 +21,7 @@ pub fn read_program(alloc: Global, tree: &mut Tree, text: &[Vec<u8>], told: &mut
     Some(())
 }
 
-/// The lines of text as one, each with its end.
+/// The lines of text that are read as a program as one, each with its end.
 fn listing_of(alloc: Global, text: &[Vec<u8>]) -> Result<Vec<u8>, AllocError> {
     let mut listing = Vec::new(alloc);
     for line in text {
@@ -31,7 +31,7 @@ fn listing_of(alloc: Global, text: &[Vec<u8>]) -> Result<Vec<u8>, AllocError> {
     Ok(listing)
 }
 
-/// Makes the tree that of the listing, unless it is refused.
+/// Makes the program of the cases that of the listing, unless it is refused.
 fn take_listing(alloc: Global, tree: &mut Tree, listing: &[u8], told: &mut Told)
     requires { IsTree tree.old }
     ensures { IsTree tree.new }
@@ -59,14 +59,15 @@ pub fn take(alloc: Global, tree: &mut Tree, words: &[Vec<u8>], told: &mut Told) 
     Some(())
 }
 
-/// The path to the node in the slot, or one that leads nowhere where the slot isn't live.
+/// The path to the node in the slot of the program that was read, or one that leads nowhere where the slot isn't
+/// live.
 pub fn path_to(tree: &Tree, slot: u32) -> Path
     requires { IsTree tree.now }
 {
     tree.path_of(Slot(slot)).unwrap_or(Path::new())
 }
 
-/// Turns the comments in these slots one after the other, and mends one layout each time.
+/// Edits the program: turns the comments in these slots one after the other, and mends one layout each time.
 pub fn elide(alloc: Global, tree: &mut Tree, words: &[Vec<u8>], told: &mut Told) -> Option<()>
     requires { IsTree tree.old }
     ensures { IsTree tree.new }
@@ -75,7 +76,7 @@ pub fn elide(alloc: Global, tree: &mut Tree, words: &[Vec<u8>], told: &mut Told)
     turn_each(alloc, &mut layout, tree, words, told)
 }
 
-/// Turns the comments in these slots, and mends this layout.
+/// Turns the comments in these slots of the program, and mends this layout.
 fn turn_each(
     alloc: Global,
     layout: &mut Layout<Counts>,
@@ -98,7 +99,7 @@ fn turn_each(
     Some(())
 }
 
-/// Turns the comment in the slot, mends the layout, and tells whether the refinement is hidden now.
+/// Turns the comment in the slot of the program, mends the layout, and tells whether the refinement is hidden now.
 fn turn(layout: &mut Layout<Counts>, tree: &mut Tree, slot: u32) -> Option<bool>
     requires tree { IsTree tree.old }
     requires agrees { IsLayoutOf layout.old tree.old }

@@ -10,12 +10,12 @@ pub struct Numbers {
 }
 
 impl Numbers {
-    /// The numbers behind this one.
+    /// The numbers that look random behind this one.
     pub fn behind(seed: u32) -> Numbers {
         Numbers { last: seed }
     }
 
-    /// The next number below a bound.
+    /// The next number that looks random, below a bound.
     pub fn below(&mut self, bound: u32) -> u32
         requires { 0 < bound }
         ensures { result < bound }
@@ -27,8 +27,8 @@ impl Numbers {
         (self.last >> 8) % bound
     }
 
-    /// A text of less than so many bytes, of which one in eight is any byte, one ends a line, and the
-    /// others are printable.
+    /// A text that looks random of less than so many bytes, of which one in eight is any byte, one ends a line, and
+    /// the others are printable.
     pub fn text(&mut self, alloc: Global, bound: u32) -> Result<Vec<u8>, AllocError>
         requires { 0 < bound }
     {

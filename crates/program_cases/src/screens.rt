@@ -19,7 +19,7 @@ use synth_outside::MemSink;
 use template_tree::{Stop, Tree};
 use unparse_layout::Layout;
 
-/// The last two grids.
+/// The last two grids on which views were drawn.
 #[derive(Drop)]
 pub struct Screens {
     before: Grid,
@@ -46,7 +46,7 @@ impl Screens {
         Ok(Screens { before, last })
     }
 
-    /// A blank grid of this size behind the last one.
+    /// Takes a blank grid of this size behind the last one.
     fn turn(&mut self, alloc: Global, rows: u16, cols: u16) -> Option<()>
         requires least_rows { FEWEST_ROWS ≤ rows }
         requires most_rows { rows ≤ MOST_ROWS }
@@ -59,7 +59,7 @@ impl Screens {
     }
 }
 
-/// Draws a view on a grid, and tells that.
+/// Draws a view on a grid, and tells the grid.
 pub fn grid(
     alloc: Global,
     tree: &Tree,
@@ -101,7 +101,7 @@ pub fn draw_marked(
     draw(alloc, tree, &marks, code, view, grid)
 }
 
-/// Draws a view under these marks; code is shown where there are rows of it.
+/// Draws a view on a grid under these marks; code is shown where there are rows of it.
 fn draw<M: Marked>(
     alloc: Global,
     tree: &Tree,

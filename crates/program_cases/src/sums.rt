@@ -38,7 +38,8 @@ impl Pair {
         }
     }
 
-    /// Puts so many numbers into both lists, and tells whether there was memory for them.
+    /// Puts so many numbers into both lists, the one with sums and the plain one, and tells whether there was memory
+    /// for them.
     fn fill(&mut self, count: u32) -> bool {
         let mut same = true;
         for _ in 0..count {
@@ -47,7 +48,8 @@ impl Pair {
         same
     }
 
-    /// Edits both lists so often in each way, and tells whether both did the same.
+    /// Edits both lists, the one with sums and the plain one, so often in each way, and tells whether both did the
+    /// same.
     fn edit(&mut self, times: u32) -> bool {
         let mut same = true;
         for _ in 0..times {
@@ -129,7 +131,7 @@ impl Pair {
     }
 }
 
-/// Puts a number into a small list.
+/// Puts a number into the list with its sums, as long as it is small.
 fn put(sums: &mut PrefixSums, k: usize, number: u32) -> Option<()> {
     if k > sums.len() || sums.len() > 100_000 || sums.total() > 1_000_000 || number > 1_000 {
         return None;
@@ -139,7 +141,7 @@ fn put(sums: &mut PrefixSums, k: usize, number: u32) -> Option<()> {
     Some(())
 }
 
-/// Sets a number of a small list.
+/// Sets a number of the list with its sums, as long as it is small.
 fn replace(sums: &mut PrefixSums, k: usize, number: u32) -> bool {
     if k >= sums.len() || sums.total() > 1_000_000 || number > 1_000 {
         return false;

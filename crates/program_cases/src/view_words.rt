@@ -22,7 +22,7 @@ pub struct ViewWords<'a> {
 }
 
 impl ViewWords<'_> {
-    /// The place of the run.
+    /// The place of the run that the words of a view say.
     pub fn run_place(&self) -> Option<Place> {
         let slot = self.run?;
         Some(Place {
@@ -32,7 +32,7 @@ impl ViewWords<'_> {
     }
 }
 
-/// What a pair of words is about.
+/// What a pair of words of a view is about.
 #[derive(Clone, Copy)]
 enum Field {
     Slot,
@@ -46,7 +46,7 @@ enum Field {
     Typed,
 }
 
-/// The names of the fields.
+/// The names of a view's fields, as the words say them.
 static FIELDS: [(&[u8], Field); 9] = [
     (b"at", Field::Slot),
     (b"part", Field::Part),

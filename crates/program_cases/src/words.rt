@@ -6,7 +6,7 @@ use case_script::number_of;
 use plcs_base::{PhraseAt, Slot};
 use screen_window::{FEWEST_COLS, FEWEST_ROWS, MOST_COLS, MOST_ROWS};
 
-/// The word of this number, counted from 0, or no bytes where there are fewer.
+/// The word of this number behind the name of a case, counted from 0, or no bytes where there are fewer.
 pub fn word_at(words: &[Vec<u8>], k: usize) -> &[u8] {
     match words.get(k) {
         Some(word) => word.as_slice(),
@@ -14,7 +14,7 @@ pub fn word_at(words: &[Vec<u8>], k: usize) -> &[u8] {
     }
 }
 
-/// The number that the word of this number is, if it is one.
+/// The number that the word of this number behind the name of a case is, if it is one.
 pub fn number_at(words: &[Vec<u8>], k: usize) -> Option<u32> {
     number_of(word_at(words, k))
 }
@@ -29,7 +29,7 @@ pub fn phrase_at(words: &[Vec<u8>]) -> Option<PhraseAt> {
     })
 }
 
-/// The rows and the columns that the first two words behind the name of the case say, where a screen has so many.
+/// What the first two words behind the name of a case say as a size: rows and columns, where a screen has so many.
 pub fn size_at(words: &[Vec<u8>]) -> Option<(u16, u16)>
     ensures least_rows { IfSome result (λ size. FEWEST_ROWS ≤ size.0) }
     ensures most_rows { IfSome result (λ size. size.0 ≤ MOST_ROWS) }
@@ -41,7 +41,7 @@ pub fn size_at(words: &[Vec<u8>]) -> Option<(u16, u16)>
     Some((rows, cols))
 }
 
-/// The number, if it is one from the least to the most.
+/// The number, which a word behind the name of a case says, if it is one from the least to the most.
 fn number_within(number: u32, least: u16, most: u16) -> Option<u16>
     ensures least { IfSome result (λ number. least ≤ number) }
     ensures most { IfSome result (λ number. number ≤ most) }

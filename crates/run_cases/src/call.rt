@@ -1,6 +1,6 @@
 //! The words that cases begin with.
 
-/// What a case asks for.
+/// What a case on runs asks for, by its first word.
 #[derive(Clone, Copy)]
 pub(crate) enum Call {
     /// The next item of an input.
@@ -17,7 +17,7 @@ pub(crate) enum Call {
     Output,
 }
 
-/// The calls with their words.
+/// The calls of cases on runs, with the words that these begin with.
 pub(crate) static CALLS: [(&'static [u8], Call); 6] = [
     (b"read_item", Call::ReadItem),
     (b"kept_value", Call::KeptValue),

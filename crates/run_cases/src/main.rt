@@ -23,7 +23,7 @@ fn main(rt: HostRuntime) -> io::Result<()> {
     play_script(&rt, &mut state)
 }
 
-/// Plays the script that standard input has, over the state of a run.
+/// Plays the script of cases on runs that standard input has, over the state of a run.
 fn play_script(rt: &HostRuntime, state: &mut RunState) -> io::Result<()> {
     let alloc = rt.alloc();
     let mut told = Told::new(alloc);
@@ -36,7 +36,7 @@ fn play_script(rt: &HostRuntime, state: &mut RunState) -> io::Result<()> {
     Ok(())
 }
 
-/// Plays a line of the script, which is a case unless it is empty or a heading, and tells its answer.
+/// Plays a line of the script on runs, which is a case unless it is empty or a heading, and tells its answer.
 fn play_line(state: &mut RunState, line: &[u8], told: &mut Told) {
     told.clear();
     if matches!(line, [] | [b'#', ..]) {
@@ -48,7 +48,7 @@ fn play_line(state: &mut RunState, line: &[u8], told: &mut Told) {
     }
 }
 
-/// Plays a case, if it is one.
+/// Plays a case on runs, if it is one.
 fn play_case(state: &mut RunState, case: &[u8], told: &mut Told) -> Option<()> {
     match words_of(told.alloc(), case) {
         Ok(Some(words)) => play_words(state, words.as_slice(), told),
@@ -56,7 +56,7 @@ fn play_case(state: &mut RunState, case: &[u8], told: &mut Told) -> Option<()> {
     }
 }
 
-/// Makes the call of the first word with those behind it.
+/// Makes the call of a case on runs, which the first word names, with the words behind it.
 fn play_words(state: &mut RunState, words: &[Vec<u8>], told: &mut Told) -> Option<()> {
     let (name, words) = words.split_first()?;
     match (meaning(&CALLS, name.as_slice())?, words) {

@@ -42,7 +42,7 @@ pub(crate) fn put(
     Some(())
 }
 
-/// The values that the words spell.
+/// The values that are written to the output, which the words spell.
 fn values_of(alloc: Global, words: &[Vec<u8>]) -> Option<Vec<Value>> {
     let mut values = Vec::new(alloc);
     for word in words {

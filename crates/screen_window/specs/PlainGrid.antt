@@ -20,7 +20,7 @@ blank_lines rows cols = replicate rows (replicate cols blank)
 abbrev pub blank_grid : ℕ → ℕ → PlainGrid
 blank_grid rows cols = record { rows = rows; cols = cols; lines = blank_lines rows cols; row = 1; col = 1 }
 
--- there are so many rows of cells, each with so many
+-- a grid's rows: there are so many, each with so many cells
 pub record AreLines (rows cols : ℕ) (lines : List (List ℕ)) : Type 0 where
   pub count : length lines ≡ rows
   pub width : All (λ line. length line ≡ cols) lines

@@ -12,7 +12,8 @@ use Rattle.screen_window.specs.PlainTerminal.{PlainTerminal}
 
 -- ---- digits and `;` behind `ESC [`
 
--- a number in a control sequence with one more digit; one past 9999, which is past any screen, counts as 9999
+-- a number in a control sequence of the terminal with one more digit; one past 9999, which is past any screen, counts
+-- as 9999
 abbrev pub longer : ℕ → ℕ → ℕ
 longer value digit = min (value * 10 + digit) 9999
 

@@ -11,7 +11,7 @@ use crate::limit::MOST_COLS;
 use arrayvec::ArrayVec;
 use synth_outside::{Sink, SinkFault};
 
-/// The bytes of one row with all its changes of image.
+/// The bytes that paint one row with all its changes of image.
 type Piece = ArrayVec<u8, 1024>;
 
 /// Writes the bytes that turn a terminal which shows the old grid into one which shows the new: each
@@ -70,7 +70,7 @@ fn paint_cursor<K: Sink>(grid: &Grid, sink: &mut K) -> Result<(), SinkFault>
     write_piece(sink, piece.as_slice())
 }
 
-/// Puts the bytes of one row, whose number counts from 1, into an empty piece.
+/// Puts the bytes that paint one row, whose number counts from 1, into an empty piece.
 #[tactic(auto, unfolding(crate::specs::Paint::row_piece), using(std::proofs::Common::append_assoc))]
 fn put_row_piece(piece: &mut Piece, number: u16, cells: &[u16])
     requires empty { piece.old.items ≡ [] }
@@ -112,7 +112,7 @@ fn put_image_change(piece: &mut Piece, image: bool, negative: bool)
     }
 }
 
-/// Puts into an empty piece the sequence that moves the cursor.
+/// Puts into an empty piece, for painting, the sequence that moves the cursor.
 #[tactic(auto, unfolding(crate::specs::Paint::go_to), using(std::proofs::Common::append_assoc))]
 fn put_go_to(piece: &mut Piece, row: u16, col: u16)
     requires { piece.old.items ≡ [] }
@@ -126,7 +126,7 @@ fn put_go_to(piece: &mut Piece, row: u16, col: u16)
     put(piece, b"H");
 }
 
-/// Appends the number of a row or a column to a piece, in decimal.
+/// Appends the number of a row or a column that is painted to a piece, in decimal.
 fn put_number(piece: &mut Piece, number: u16)
     requires { array_vec_len piece.old ≤ 900 }
     ensures number { piece.new.items ≡ piece.old.items ++ decimal number }
@@ -135,7 +135,7 @@ fn put_number(piece: &mut Piece, number: u16)
     put(piece, itoa::Buffer::new().format(number).as_bytes());
 }
 
-/// Appends bytes to a piece; they have to fit.
+/// Appends bytes to the piece of a row that is painted; they have to fit.
 fn put(piece: &mut Piece, bytes: &[u8])
     requires { array_vec_len piece.old + length bytes.now ≤ 1024 }
     ensures { piece.new.items ≡ piece.old.items ++ bytes.now }

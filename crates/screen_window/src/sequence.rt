@@ -14,7 +14,7 @@ pub enum Sequence {
     Behind(Gathered),
 }
 
-/// Digits and `;` that were gathered behind `ESC [`. A number past 9999 counts as 9999.
+/// Digits and `;` of a control sequence that were gathered behind `ESC [`. A number past 9999 counts as 9999.
 #[derive(Clone, Copy)]
 pub enum Gathered {
     /// No byte.

@@ -12,7 +12,7 @@ use std::alloc::Global;
 use synth_outside::MemFiles;
 use synth_session::{Refusal, Session};
 
-/// What is asked of a session.
+/// What a case asks of a session.
 #[derive(Clone, Copy)]
 pub enum Asked {
     /// What the last of the keys at hand answers, and how many slots are live then.
@@ -35,7 +35,7 @@ pub fn ask(alloc: Global, scene: &mut Scene, asked: Asked, words: &[Vec<u8>]) ->
     answer(alloc, &mut sitting, scene, asked, words)
 }
 
-/// Asks this session.
+/// Asks this session over a new program.
 fn answer(
     alloc: Global,
     sitting: &mut Sitting,
@@ -55,7 +55,7 @@ fn answer(
     }
 }
 
-/// Tells what the last key answers, and how many slots are live then.
+/// Tells what the session that is asked answers to its last key, and how many slots are live then.
 fn tell_answer(alloc: Global, sitting: &mut Sitting, scene: &mut Scene) -> Option<()>
     requires { IsSession sitting.old.session }
 {
@@ -69,7 +69,7 @@ fn tell_answer(alloc: Global, sitting: &mut Sitting, scene: &mut Scene) -> Optio
     Some(())
 }
 
-/// Tells the listing of the session's program after the keys.
+/// Tells the listing of the program of a session that is asked for it after the keys.
 fn listing(alloc: Global, sitting: &mut Sitting, scene: &mut Scene) -> Option<()>
     requires { IsSession sitting.old.session }
 {
@@ -78,7 +78,7 @@ fn listing(alloc: Global, sitting: &mut Sitting, scene: &mut Scene) -> Option<()
     Some(())
 }
 
-/// Tells the listing of the session's program.
+/// Tells the listing of the program of a session that is asked for it.
 fn tell_listing(alloc: Global, session: &Session<Counts>, told: &mut Told)
     requires { IsSession session.now }
 {
@@ -87,7 +87,7 @@ fn tell_listing(alloc: Global, session: &Session<Counts>, told: &mut Told)
     told.word_line(listing.as_bytes());
 }
 
-/// Tells what painting writes once this refusal is shown after the keys.
+/// Tells what painting writes for a session that is asked once this refusal is shown after the keys.
 fn tell_message(
     alloc: Global,
     sitting: &mut Sitting,
@@ -106,7 +106,7 @@ fn tell_message(
     Some(())
 }
 
-/// Shows the refusal in the session.
+/// Shows the refusal in the session of which its message is asked.
 fn show(session: &mut Session<Counts>, refusal: Refusal)
     requires { IsSession session.old }
     ensures { IsSession session.new }
@@ -114,8 +114,8 @@ fn show(session: &mut Session<Counts>, refusal: Refusal)
     session.show_message(refusal);
 }
 
-/// Rescues the program after the keys, where the calls of the files of these numbers fail. Tells the save, and what
-/// the file of rescued programs holds.
+/// Asks a session for the rescue of its program after the keys, where the calls of the files of these numbers fail.
+/// Tells the save, and what the file of rescued programs holds.
 fn rescue(alloc: Global, sitting: &mut Sitting, scene: &mut Scene, fails: &[Vec<u8>]) -> Option<()>
     requires { IsSession sitting.old.session }
 {
@@ -126,7 +126,7 @@ fn rescue(alloc: Global, sitting: &mut Sitting, scene: &mut Scene, fails: &[Vec<
     Some(())
 }
 
-/// Tells what comes of the rescue of the session's program.
+/// Tells what comes of the rescue for which a session is asked.
 fn tell_rescue(session: &Session<Counts>, files: &mut MemFiles, told: &mut Told)
     requires { IsSession session.now }
 {

@@ -65,7 +65,7 @@ pub fn told(alloc: Global, scene: &mut Scene, keys: &[u8]) -> Option<()> {
     Some(())
 }
 
-/// Where the row of messages begins on a screen of 12 rows.
+/// Where the row of messages, which a case of files tells, begins on a screen of 12 rows.
 const MESSAGE_ROW: &[u8] = b"\x1b[11;1H";
 
 /// Tells the messages that were shown in turn by what was written, each on a line.

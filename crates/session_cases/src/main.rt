@@ -27,7 +27,7 @@ fn main(rt: HostRuntime) -> io::Result<()> {
     play_script(&rt, &mut scene)
 }
 
-/// Plays the script that standard input has.
+/// Plays the script of whole sessions that standard input has.
 fn play_script(rt: &HostRuntime, scene: &mut Scene) -> io::Result<()> {
     let alloc = rt.alloc();
     for line in BufReader::new(alloc, rt.reader())?.lines(alloc) {
@@ -39,7 +39,7 @@ fn play_script(rt: &HostRuntime, scene: &mut Scene) -> io::Result<()> {
     Ok(())
 }
 
-/// Plays a line of the script: a heading, a line of text, or a case, whose answer is told.
+/// Plays a line of the script of whole sessions: a heading, a line of text, or a case, whose answer is told.
 fn play_line(alloc: Global, scene: &mut Scene, line: &[u8]) -> io::Result<()> {
     scene.told.clear();
     match line {
@@ -58,7 +58,7 @@ fn play_line(alloc: Global, scene: &mut Scene, line: &[u8]) -> io::Result<()> {
     Ok(())
 }
 
-/// Plays a case, if it is one.
+/// Plays a case on whole sessions, if it is one.
 fn play_case(alloc: Global, scene: &mut Scene, case: &[u8]) -> Option<()> {
     match words_of(alloc, case) {
         Ok(Some(words)) => play_words(alloc, scene, words.as_slice()),
@@ -66,13 +66,13 @@ fn play_case(alloc: Global, scene: &mut Scene, case: &[u8]) -> Option<()> {
     }
 }
 
-/// Plays the case of these words, if they are one.
+/// Plays the case on whole sessions that these words are, if they are one.
 fn play_words(alloc: Global, scene: &mut Scene, words: &[Vec<u8>]) -> Option<()> {
     let (word, arguments) = words.split_first()?;
     play(alloc, scene, meaning(&CASES, word.as_slice())?, arguments)
 }
 
-/// The cases.
+/// The cases on whole sessions.
 #[derive(Clone, Copy)]
 enum Case {
     From,
@@ -93,7 +93,7 @@ enum Case {
     Status,
 }
 
-/// The first words of the cases.
+/// The first words of the cases on whole sessions.
 static CASES: [(&[u8], Case); 16] = [
     (b"from", Case::From),
     (b"on", Case::On),
@@ -113,7 +113,7 @@ static CASES: [(&[u8], Case); 16] = [
     (b"status", Case::Status),
 ];
 
-/// Plays a case with these arguments, if it takes them.
+/// Plays a case on whole sessions with these arguments, if it takes them.
 fn play(alloc: Global, scene: &mut Scene, case: Case, arguments: &[Vec<u8>]) -> Option<()> {
     match (case, arguments) {
         (Case::From, [keys]) => session_cases::from(alloc, scene, keys),

@@ -6,14 +6,14 @@ use std::alloc::Global;
 use synth_outside::{MemFiles, MemSink, MemSource, Source};
 use synth_top::{Status, synth};
 
-/// Which read of keys and which write of a screen fail, counted from 1; 0 is none.
+/// Which read of keys and which write of a screen fail in a run of the editor, counted from 1; 0 is none.
 #[derive(Clone, Copy)]
 pub struct Failing {
     pub read: u64,
     pub write: u64,
 }
 
-/// No read and no write fails.
+/// No read and no write of a run of the editor fails.
 pub const NOTHING: Failing = Failing { read: 0, write: 0 };
 
 /// What a run ended with, what it left unread, and what it wrote.
@@ -25,7 +25,7 @@ pub struct Played {
 }
 
 impl Played {
-    /// A run of no keys that wrote nothing.
+    /// A run of the editor with no keys that wrote nothing.
     pub fn none(alloc: Global) -> Played {
         Played {
             status: Status::Done,
@@ -102,7 +102,7 @@ pub fn play_on(alloc: Global, rows: &[u8], cols: &[u8], keys: &[u8]) -> Option<P
     play_alone(alloc, words.as_slice(), keys, NOTHING)
 }
 
-/// The words that ask for a screen of this size.
+/// The words of a run of the editor that ask for a screen of this size.
 pub fn size_words(alloc: Global, rows: &[u8], cols: &[u8]) -> Option<Vec<String>> {
     let mut texts = Vec::new(alloc);
     for word in [b"--rows".as_slice(), rows, b"--cols", cols] {
@@ -111,7 +111,7 @@ pub fn size_words(alloc: Global, rows: &[u8], cols: &[u8]) -> Option<Vec<String>
     Some(texts)
 }
 
-/// Puts the word behind the others, if it is a text.
+/// Puts the word behind the others with which the editor is run, if it is a text.
 pub fn push_word(alloc: Global, texts: &mut Vec<String>, word: &[u8]) -> Option<()> {
     let text = String::from_str(alloc, str::from_utf8(word).ok()?).ok()?;
     texts.push(text).ok()

@@ -62,14 +62,14 @@ pub fn compare_screen(
     Some(())
 }
 
-/// Whether terminals that take these bytes show the same.
+/// Whether terminals that take these bytes, painted over or anew, show the same.
 fn show_the_same(alloc: Global, bytes: &[u8], others: &[u8]) -> Option<bool> {
     let terminal = terminal_of(alloc, (12, 40), bytes)?;
     let other = terminal_of(alloc, (12, 40), others)?;
     Some(terminal.cursor() == other.cursor() && have_the_same_rows(&terminal, &other))
 }
 
-/// Whether two terminals of 12 rows have the same cells.
+/// Whether two terminals of 12 rows, painted over or anew, have the same cells.
 fn have_the_same_rows(terminal: &Terminal, other: &Terminal) -> bool
     requires terminal { terminal.now.rows ≡ 12 }
     requires other { other.now.rows ≡ 12 }

@@ -22,7 +22,7 @@ pub fn on(alloc: Global, scene: &mut Scene, keys: &[u8]) -> Option<()> {
     ask(alloc, scene, Asked::Answer, &[])
 }
 
-/// Refusals, and the words that name them.
+/// Refusals that are shown in a session, and the words that name them.
 static REFUSALS: [(&[u8], Refusal); 22] = [
     (b"UnknownCommand", Refusal::UnknownCommand),
     (b"NotHere", Refusal::NotHere),

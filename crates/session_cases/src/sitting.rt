@@ -22,7 +22,7 @@ pub struct Sitting {
 }
 
 impl Sitting {
-    /// A session over a new program, of which nothing is painted.
+    /// A sitting over a new program, of which nothing is painted.
     pub fn new(alloc: Global) -> Option<Sitting>
         ensures { IfSome result (λ sitting. IsSession sitting.session) }
     {
@@ -36,7 +36,7 @@ impl Sitting {
         })
     }
 
-    /// Presses the keys of these bytes, the last of which end there.
+    /// Presses the keys of these bytes in the sitting, the last of which end there.
     pub fn press_all(&mut self, alloc: Global, bytes: &[u8]) -> Option<()>
         requires { IsSession self.old.session }
         ensures { IsSession self.new.session }
@@ -46,7 +46,7 @@ impl Sitting {
         self.press(alloc, last)
     }
 
-    /// Presses the keys that these bytes complete.
+    /// Presses the keys in the sitting that these bytes complete.
     pub fn press_bytes(&mut self, alloc: Global, bytes: &[u8]) -> Option<()>
         requires { IsSession self.old.session }
         ensures { IsSession self.new.session }
@@ -58,7 +58,7 @@ impl Sitting {
         Some(())
     }
 
-    /// Presses these keys.
+    /// Presses these keys in the sitting.
     fn press_keys(&mut self, alloc: Global, keys: Keys) -> Option<()>
         requires { IsSession self.old.session }
         ensures { IsSession self.new.session }
@@ -67,7 +67,7 @@ impl Sitting {
         self.press(alloc, keys.second)
     }
 
-    /// Presses the key, if there is one.
+    /// Presses the key in the sitting, if there is one.
     fn press(&mut self, alloc: Global, key: Option<Key>) -> Option<()>
         requires { IsSession self.old.session }
         ensures { IsSession self.new.session }
@@ -79,7 +79,7 @@ impl Sitting {
         Some(())
     }
 
-    /// Paints the session's screen behind what was painted.
+    /// Paints the screen of the sitting's session behind what was painted.
     pub fn paint(&mut self)
         requires { IsSession self.old.session }
         ensures { IsSession self.new.session }
@@ -89,14 +89,14 @@ impl Sitting {
     }
 }
 
-/// A session over a new program on a screen of this size.
+/// The session of a sitting: over a new program, on a screen of this size.
 fn opened(alloc: Global, size: ScreenSize) -> Option<Session<Counts>>
     ensures { IfSome result IsSession }
 {
     Session::open(alloc, size, None, Vec::new(alloc), &mut Counts::default()).ok()
 }
 
-/// Presses the key, and gives what it answers.
+/// Presses the key in the session of a sitting, and gives what it answers.
 fn pressed(
     alloc: Global,
     session: &mut Session<Counts>,
@@ -111,7 +111,7 @@ fn pressed(
         .ok()
 }
 
-/// Draws the session's screen.
+/// Draws the screen of a sitting's session.
 fn draw(session: &mut Session<Counts>)
     requires { IsSession session.old }
     ensures { IsSession session.new }

@@ -24,7 +24,7 @@ pub fn run(alloc: Global, scene: &mut Scene, words: &[Vec<u8>]) -> Option<()> {
     Some(())
 }
 
-/// Takes the words of a run, if they are texts.
+/// Takes the words of a whole run, if they are texts.
 fn take_words(alloc: Global, scene: &mut Scene, words: &[Vec<u8>]) -> Option<()> {
     scene.words.clear();
     for word in words {
@@ -33,7 +33,7 @@ fn take_words(alloc: Global, scene: &mut Scene, words: &[Vec<u8>]) -> Option<()>
     Some(())
 }
 
-/// Runs the editor on the words and the keys that were taken, over the files at hand.
+/// Runs the editor for a case of whole runs on the words and the keys that were taken, over the files at hand.
 fn play_taken(alloc: Global, scene: &mut Scene) -> Option<()> {
     scene.played = play(
         alloc,
@@ -69,17 +69,17 @@ pub fn fail(alloc: Global, scene: &mut Scene, kind: &[u8], number: &[u8]) -> Opt
     Some(())
 }
 
-/// The words of what fails.
+/// The words of what fails in a whole run.
 static KINDS: [(&[u8], Kind); 2] = [(b"read", Kind::Read), (b"write", Kind::Write)];
 
-/// What fails: a read of keys or a write of a screen.
+/// What fails in a whole run: a read of keys or a write of a screen.
 #[derive(Clone, Copy)]
 enum Kind {
     Read,
     Write,
 }
 
-/// The read or the write that these words name.
+/// The read or the write of a whole run that is to fail by these words.
 fn failing_of(kind: &[u8], number: &[u8]) -> Option<Failing> {
     let number = u64::from(number_of(number)?);
     match meaning(&KINDS, kind)? {

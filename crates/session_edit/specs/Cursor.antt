@@ -20,7 +20,7 @@ stop_or_next stop next = if starts_with nat_eq next.path stop.path then next els
 abbrev pub onward : Forest → PlainStop → PlainStop
 onward items stop = option_map_or (stop_or_next stop) (stop_right items stop) stop
 
--- whether a node of the sort of an item that was dropped stands at the path
+-- whether a node of the sort of an item that was dropped stands at the path, to which the cursor then goes
 abbrev pub has_sort : Sort → Forest → List ℕ → Bool
 has_sort sort items path = option_map_or (λ node. same_sort (sort_of node.label.kind) sort) (node_at items path) false
 

@@ -50,14 +50,14 @@ fn category_in(kind: NodeKind, part: Option<u8>) -> Option<Category>
     }
 }
 
-/// Whether an assignment is typed at nodes of the kind.
+/// Whether an assignment is typed at a stop at nodes of the kind.
 fn is_typed(kind: NodeKind) -> bool
     ensures { result ≡ is_typed kind }
 {
     matches!(kind, NodeKind::StatementHole | NodeKind::Assign)
 }
 
-/// Whether something can be taken out at the part of the node, or at the node itself.
+/// Whether something can be taken out at the stop: at the part of the node, or at the node itself.
 fn can_take(node: &Node, part: Option<u8>) -> bool
     ensures { result ≡ can_take part node.now }
 {

@@ -7,18 +7,18 @@ use Rattle.session_words.specs.declared.message.RefusalMessage.TheVariants as re
 use Rattle.session_words.specs.declared.message.Notice.{Notice as NoticeKind}
 use Rattle.session_words.specs.declared.message.Notice.TheVariants as notice
 
--- the row of a refusal: the number of its kind, the words of the message, and the number behind them, if
--- there is one: a place, a line or a slot
+-- the row of a refusal's message: the number of its kind, the words, and the number behind them, if there is one: a
+-- place, a line or a slot
 pub record PlainRefusalRow : Type 0 where
   pub number : ℕ
   pub words : List ℕ
   pub value : Option ℕ
 
--- a refusal's row, of which the words have no number behind them
+-- the row of a refusal's message, of which the words have no number behind them
 abbrev pub plain_row_of_words : ℕ → List ℕ → PlainRefusalRow
 plain_row_of_words number words = record { number = number; words = words; value = None }
 
--- a refusal's row, of which the words have this number behind them
+-- the row of a refusal's message, of which the words have this number behind them
 abbrev pub numbered_row : ℕ → List ℕ → ℕ → PlainRefusalRow
 numbered_row number words n = record { number = number; words = words; value = Some n }
 

@@ -53,11 +53,11 @@ plain_command (asked.Load file) = PlainCommand.load file.now
 plain_command (asked.Code n) = PlainCommand.code n
 plain_command asked.Quit = PlainCommand.quit
 
--- what a line is read as: a plain command, or why there is none
+-- what a line is read as: a command as plain data, or why there is none
 abbrev pub PlainReading : Type 0
 PlainReading = Result PlainCommand CommandFault
 
--- the plain form of what a line is read as
+-- the plain form of what a line is read as: of a command, or of why there is none
 abbrev pub plain_reading : Result Command CommandFault → PlainReading
 plain_reading (Ok command) = Ok (plain_command command)
 plain_reading (Err fault) = Err fault

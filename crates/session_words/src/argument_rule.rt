@@ -24,7 +24,7 @@ pub enum ArgumentRule {
     File(Filed),
 }
 
-/// The numbers that a command takes.
+/// The numbers that a command takes behind its word.
 #[derive(Clone, Copy)]
 pub struct Range {
     /// The least of them.
@@ -35,7 +35,7 @@ pub struct Range {
     pub otherwise: u32,
 }
 
-/// The commands without an argument.
+/// The commands that take no argument behind their words.
 #[derive(Clone, Copy)]
 pub enum Alone {
     /// `Command::Template`
@@ -64,7 +64,7 @@ pub enum Alone {
     Quit,
 }
 
-/// The commands with the name of a clip.
+/// The commands that take the name of a clip behind their words.
 #[derive(Clone, Copy)]
 pub enum Named {
     /// `Command::Cut`
@@ -75,7 +75,7 @@ pub enum Named {
     Insert,
 }
 
-/// The commands with a number.
+/// The commands that take a number behind their words.
 #[derive(Clone, Copy)]
 pub enum Numbered {
     /// `Command::Step`
@@ -86,14 +86,14 @@ pub enum Numbered {
     Code,
 }
 
-/// The commands with a text.
+/// The commands that take a text behind their words.
 #[derive(Clone, Copy)]
 pub enum Texted {
     /// `Command::Input`
     Input,
 }
 
-/// The commands with the name of a file.
+/// The commands that take the name of a file behind their words.
 #[derive(Clone, Copy)]
 pub enum Filed {
     /// `Command::Save`

@@ -112,8 +112,7 @@ pub enum Notice {
     TraceOff,
 }
 
-/// The row of a refusal: the number of its kind, the words of the message, and the number behind them,
-/// if there is one.
+/// The row of a refusal's message: the number of its kind, the words, and the number behind them, if there is one.
 #[derive(Clone, Copy)]
 struct RefusalRow {
     number: u8,
@@ -154,14 +153,14 @@ impl Message {
 }
 
 impl RefusalMessage {
-    /// The number of the kind of a refusal, from 1 to 14.
+    /// The number of the kind of a refusal's message, from 1 to 14.
     pub fn number(self) -> u8
         ensures { result ≡ (refusal_row self).number }
     {
         self.row().number
     }
 
-    /// The row of each refusal.
+    /// The row of each refusal's message.
     fn row(self) -> RefusalRow
         ensures number { result.number ≡ (refusal_row self).number }
         ensures words { result.words.now ≡ (refusal_row self).words }
@@ -200,7 +199,7 @@ impl RefusalMessage {
 }
 
 impl Notice {
-    /// The words of each notice.
+    /// The words of each notice, a message.
     fn words(self) -> &'static [u8]
         ensures words { result.now ≡ notice_words self }
         ensures short { length result.now ≤ 20 }
@@ -227,7 +226,7 @@ impl Notice {
     }
 }
 
-/// A refusal's row, of which the words have no number behind them.
+/// The row of a refusal's message, of which the words have no number behind them.
 fn row_of(number: u8, words: &'static [u8]) -> RefusalRow
     ensures number { result.number ≡ number }
     ensures words { result.words.now ≡ words.entry.now }
@@ -240,7 +239,7 @@ fn row_of(number: u8, words: &'static [u8]) -> RefusalRow
     }
 }
 
-/// A refusal's row, of which the words have this number behind them.
+/// The row of a refusal's message, of which the words have this number behind them.
 fn with_number(number: u8, words: &'static [u8], value: u32) -> RefusalRow
     ensures number { result.number ≡ number }
     ensures words { result.words.now ≡ words.entry.now }

@@ -65,7 +65,7 @@ impl Entries {
     }
 }
 
-/// An entry: a name with its bytes.
+/// An entry of files in memory: a name with its bytes.
 #[derive(Debug, Drop)]
 pub(crate) struct Entry {
     name: Vec<u8>,
@@ -91,12 +91,14 @@ impl Entry {
         })
     }
 
+    /// Whether an entry of files in memory has the name.
     fn is_named(&self, name: &[u8]) -> bool
         ensures { result ≡ bytes_eq self.now.0 name.now }
     {
         self.name.as_slice() == name
     }
 
+    /// The bytes of an entry of files in memory.
     fn bytes(&self) -> &[u8]
         ensures { result.now ≡ self.now.1 }
     {

@@ -54,7 +54,7 @@ pub trait Files {
         ensures files { LeavesMap (told self.old) (told self.new) result }
         ensures same_begun { begun self.new ≡ begun self.old };
 
-    /// Begins a new content for the name, with no byte, and drops one that was begun before.
+    /// Begins a new content for the name of a file, with no byte, and drops one that was begun before.
     ///
     /// After an answer that isn't `Ok` it isn't told whether a content is begun.
     fn begin(&mut self, name: &[u8]) -> Result<(), FilesFault>
@@ -65,7 +65,7 @@ pub trait Files {
         ensures same_readable { is_open self.new ≡ is_open self.old }
         ensures same_left { left self.new ≡ left self.old };
 
-    /// Appends the first bytes of the piece to the new content, at least one, and answers how many.
+    /// Appends the first bytes of the piece to the new content of a file, at least one, and answers how many.
     ///
     /// A write that isn't `Ok` may have appended a prefix of the piece, and doesn't say how long it
     /// is.

@@ -18,7 +18,7 @@ pub trait Sink {
 
     ghost wants: { Self → ℕ };
 
-    /// Takes the first bytes of the piece, at least one, and answers how many.
+    /// Takes the first bytes of the piece into the sink, at least one, and answers how many.
     ///
     /// A write that isn't `Ok` may have taken a prefix of the piece, and doesn't say how long it is.
     fn write(&mut self, piece: &[u8]) -> Result<usize, SinkFault>

@@ -30,7 +30,7 @@ pub trait Source {
 
     ghost leads_to_itself: { (source : Self) → leads_to source source };
 
-    /// Moves the first bytes left into the front of the buffer, and answers how many.
+    /// Moves the first bytes that the source has left into the front of the buffer, and answers how many.
     ///
     /// `Ok(0)` is the end. A read that isn't `Ok` may have lost some first bytes, at most as many
     /// as the buffer holds. What stands in the buffer behind the bytes given, or where the read

@@ -108,7 +108,7 @@ impl<'a, R: rt::Files<File = File>> Files for StdFiles<'a, R> {
     }
 }
 
-/// The file of a new content, which is written beside the one of the name.
+/// The file of the system with a new content, which is written beside the one of the name.
 #[derive(Debug, Drop)]
 struct Beside {
     name: Vec<u8>,
@@ -156,7 +156,7 @@ impl Beside {
     }
 }
 
-/// Reads once from the reader, whose fault is counted and never taken for its end.
+/// Reads once from a file of the system, whose fault is counted and never taken for its end.
 fn read_once<R: Read>(reader: &mut R, faults: &mut u64, buf: &mut [u8]) -> Result<usize, FilesFault>
     requires { 0 < length buf.old }
     ensures bytes { GivesBytes (R.remaining reader.old) (R.remaining reader.new) buf.new result }
@@ -169,7 +169,7 @@ fn read_once<R: Read>(reader: &mut R, faults: &mut u64, buf: &mut [u8]) -> Resul
     }
 }
 
-/// Writes once to the writer, whose fault is counted; that it takes no byte is one.
+/// Writes once to a file of the system, whose fault is counted; that it takes no byte is one.
 fn write_once<W: Write>(writer: &mut W, faults: &mut u64, piece: &[u8]) -> Result<usize, FilesFault>
     requires { 0 < length piece.now }
     ensures bytes { TakesBytes (W.contents writer.old) (W.contents writer.new) piece.now result }

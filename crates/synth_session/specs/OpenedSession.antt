@@ -13,7 +13,8 @@ abbrev pub tree_at_first : Option PlainTree → PlainTree
 tree_at_first None = new_tree
 tree_at_first (Some tree) = tree
 
--- where the cursor stands at first: at the new program's hole for a statement, or at main of a program that is given
+-- where the cursor stands in the session with which an editor is opened: at the new program's hole for a statement,
+-- or at main of a program that is given
 abbrev pub stop_at_first : Option PlainTree → PlainStop
 stop_at_first None = node_stop (0 ∷ 1 ∷ [])
 stop_at_first (Some tree) = first_stop tree.items

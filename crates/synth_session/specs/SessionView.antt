@@ -43,13 +43,14 @@ shown_grid s = s.screens.shown
 abbrev pub next_grid : {W : Type 0} → Session W → PlainGrid
 next_grid s = s.screens.next
 
--- what depends on the program of a session is that of this tree: its layout, its table of declarations and its verdicts
+-- what depends on the program of a session in the code is that of this tree: its layout, its table of declarations
+-- and its verdicts
 pub record DependOn {W : Type 0} (dependents : Dependents W) (tree : PlainTree) : Type 0 where
   pub layout : IsLayoutOf dependents.layout tree
   pub decls : IsDeclsOf dependents.decls tree.items
   pub marks : dependents.marks ≡ Verdicts tree.items
 
--- the program of a session is a tree, and what depends on it is that of this tree
+-- the program of a session in the code is a tree, and what depends on it is that of this tree
 pub record Agrees {W : Type 0} (program : Program W) : Type 0 where
   pub tree : IsTree program.tree
   pub dependents : DependOn program.dependents program.tree
@@ -71,21 +72,23 @@ pub record IsSession {W : Type 0} (s : Session W) : Type 0 where
   pub placed : IsPlaced (plain_session s)
   pub seen : IsSeen (plain_session s)
 
--- what became of a key that may take memory, or may not: its outcome, or memory ran out and the session is as it was
+-- what became of a session in a key that may take memory, or may not: its outcome, or memory ran out and the session
+-- is as it was
 abbrev pub Meets : (may_take_memory : Bool) → KeyOutcome → PlainSession → PlainSession → Result Answer OutOfMemory
     → Type 0
 Meets may_take_memory outcome before now (Ok answer) = (now ≡ outcome.after) × (answer ≡ outcome.answer)
 Meets may_take_memory outcome before now (Err error) = IsTrue may_take_memory × (now ≡ before)
 
--- a key did this, as far as memory allows; the session's parts keep their conditions, and its screens stay
+-- what became of a session in a key: it did this, as far as memory allows; the session's parts keep their conditions,
+-- and its screens stay
 pub record Does {W : Type 0} (may_take_memory : Bool) (outcome : KeyOutcome) (before now : Session W)
     (result : Result Answer OutOfMemory) : Type 0 where
   pub session : IsSession now
   pub screens : now.screens ≡ before.screens
   pub met : Meets may_take_memory outcome (plain_session before) (plain_session now) result
 
--- a key that asked this did this, by what was replied, as far as memory allows, and checked no more phrases than its
--- bill says
+-- what became of a session in a key that asked this: it did this, by what was replied, as far as memory allows, and
+-- checked no more phrases than its bill says
 pub record DoesByReply {W : Type 0} (may_take_memory : Bool) (request : Request) (outcome : Reply → KeyOutcome)
     (before now : Session W) (files_before files_now : PlainFiles) (counts_before counts_now : PlainCounts)
     (result : Result Answer OutOfMemory) : Type 0 where

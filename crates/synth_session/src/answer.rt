@@ -18,7 +18,7 @@ pub enum Answer {
     Quit,
 }
 
-/// Why a key was refused.
+/// Why a key was refused, as its answer tells.
 #[derive(Clone, Copy, Debug, PartialEq, Eq)]
 pub enum Refusal {
     /// The line is no command, or the key has no meaning.
@@ -45,7 +45,7 @@ pub enum Refusal {
     NotBuilt,
 }
 
-/// Why a clip was refused.
+/// Why a key with a command of clips was refused, as its answer tells.
 #[derive(Clone, Copy, Debug, PartialEq, Eq)]
 pub enum ClipRefusal {
     /// No clip has the name.

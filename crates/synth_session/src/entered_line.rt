@@ -86,7 +86,7 @@ impl<W: Work> Session<W> {
         }
     }
 
-    /// Does what a command asks for that asks nothing of the files.
+    /// Does what a command in the entered line asks for that asks nothing of the files.
     fn obey(
         &mut self,
         alloc: Global,
@@ -199,7 +199,7 @@ fn is_unbuilt(line: &[u8]) -> bool
     }
 }
 
-/// Whether a word is among these words of commands.
+/// Whether the word of a line is among these words of commands.
 fn is_among(word: &[u8], words: &[&[u8]]) -> bool
     ensures { result ≡ list_any (λ listed. bytes_eq word.now listed.now) words.now }
 {

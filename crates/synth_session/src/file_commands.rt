@@ -69,8 +69,8 @@ impl<W: Work> Session<W> {
         }
     }
 
-    /// Takes a program in place of the one that is edited, with the cursor at main. All memory is taken
-    /// before anything is changed.
+    /// Takes a program that was loaded in place of the one that is edited, with the cursor at main. All memory is
+    /// taken before anything is changed.
     fn take_program(
         &mut self,
         alloc: Global,
@@ -90,7 +90,7 @@ impl<W: Work> Session<W> {
         }
     }
 
-    /// Begins with a program in place of the one that is edited, with the cursor at main.
+    /// Begins with a program that was loaded in place of the one that is edited, with the cursor at main.
     fn begin_with(&mut self, program: Program<W>) -> Answer
         requires session { IsSession self.old }
         requires agrees { Agrees program }

@@ -130,7 +130,8 @@ impl<W: Work> Program<W> {
         Ok(())
     }
 
-    /// Takes what stands at the stop out of the program, from which it can be taken. A phrase is copied first.
+    /// Takes what stands at the stop out of the program and of all that depends on it; it is something that can be
+    /// taken from there. A phrase is copied first.
     pub(crate) fn take(
         &mut self,
         alloc: Global,
@@ -151,7 +152,8 @@ impl<W: Work> Program<W> {
         }
     }
 
-    /// Takes the node at the stop out of the program, from which it can be taken.
+    /// Takes the node at the stop out of the program and of all that depends on it; it is one that can be taken from
+    /// there.
     fn take_node(&mut self, alloc: Global, at: &Stop, work: &mut W) -> Result<Taken, TreeFault>
         requires agrees { Agrees self.old }
         requires stop { IsStop (roomless_tree self.old.tree).items (plain_stop at.now) }
@@ -172,7 +174,7 @@ impl<W: Work> Program<W> {
         }
     }
 
-    /// Takes the phrase at the stop out of the program; a copy of it is made first.
+    /// Takes the phrase at the stop out of the program and of all that depends on it; a copy of it is made first.
     fn take_phrase(&mut self, alloc: Global, at: &Stop, work: &mut W) -> Result<Taken, TreeFault>
         requires agrees { Agrees self.old }
         requires stop { IsStop (roomless_tree self.old.tree).items (plain_stop at.now) }
@@ -226,7 +228,7 @@ impl<W: Work> Dependents<W> {
     }
 }
 
-/// The table of declarations of the tree, and the verdicts of its phrases.
+/// The table of declarations of a program's tree, and the verdicts of its phrases, which depend on it.
 fn checked<W: Work>(
     alloc: Global,
     tree: &Tree,

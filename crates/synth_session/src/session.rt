@@ -149,7 +149,7 @@ impl<W: Work> Session<W> {
 }
 
 impl<W: Work> Session<W> {
-    /// Refuses a key, which changes the message alone.
+    /// Refuses a key of the session, which changes the message alone.
     pub(crate) fn refuse(&mut self, why: Refusal) -> Answer
         requires { IsSession self.old }
         ensures { HasOutcome (refusal_outcome (plain_session self.old) why) self.old self.new result }
@@ -206,7 +206,7 @@ fn new_tree(alloc: Global) -> Result<Tree, OutOfMemory>
     Tree::new(alloc)
 }
 
-/// The stop of the new program's hole for a statement.
+/// The stop of a session over the new program: that of its hole for a statement.
 fn new_stop() -> Stop
     ensures path { result.path.items ≡ 0 ∷ 1 ∷ [] }
     ensures part { result.part ≡ None }

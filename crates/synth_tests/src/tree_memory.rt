@@ -16,7 +16,7 @@ use template_tree::{
     LONGEST_PHRASE, Node, Nodes, Path, PhrasePlace, Side, Stop, Tree, TreeFault, copy_path,
 };
 
-/// An edit of a row.
+/// An edit of a row, which is refused for want of memory.
 #[derive(Clone, Copy)]
 enum Edit {
     /// A hole is filled.
@@ -37,7 +37,7 @@ enum Edit {
     Drop,
 }
 
-/// An edit, and the numbers of the path at which it is made.
+/// An edit that is refused for want of memory, and the numbers of the path at which it is made.
 type Row = (Edit, &'static [u32]);
 
 /// Edits of each kind. The second copy is one of a group with phrases and with a comment in it.
@@ -107,7 +107,7 @@ fn all_come_at_last(alloc: Global, tree: &mut Tree, rows: &[Row]) -> Result<bool
     Ok(true)
 }
 
-/// The path of these numbers.
+/// The path of a row's numbers.
 fn path(numbers: &[u32]) -> Result<Path, Fail> {
     let mut path = Path::new();
     path.try_extend_from_slice(numbers).map_err(|_| "a path")?;
@@ -170,7 +170,7 @@ fn is_as_before(tree: &Tree, before: &Seen) -> bool
     same && now.whole && before.whole && now.slots == before.slots
 }
 
-/// Makes the edit at the path, and says why it is refused, if it is.
+/// Makes the edit of a row at the path, and says why it is refused, if it is, as for want of memory.
 fn fault_of(alloc: Global, tree: &mut Tree, edit: Edit, at: &Path) -> Option<TreeFault>
     requires { IsTree tree.old }
     ensures { IsTree tree.new }
@@ -197,7 +197,7 @@ fn fault_of(alloc: Global, tree: &mut Tree, edit: Edit, at: &Path) -> Option<Tre
     }
 }
 
-/// The fault of a refusal.
+/// The fault of a refusal, as for want of memory.
 fn fault_alone(refused: Option<(TreeFault, Phrase)>) -> Option<TreeFault> {
     match refused {
         Some((fault, _)) => Some(fault),
@@ -219,7 +219,7 @@ fn phrase(alloc: Global, category: Category, text: &[u8]) -> Option<Phrase>
     Some(phrase)
 }
 
-/// Sets a part of the node at the path, and says why that is refused, if it is.
+/// Sets a part of the node at the path, and says why that is refused, if it is, as for want of memory.
 fn set(tree: &mut Tree, at: &Path, part: u8, place: PhrasePlace) -> Option<TreeFault>
     requires tree { IsTree tree.old }
     requires place { IsPhrasePlace (plain_phrase_place place) }
@@ -235,8 +235,8 @@ fn set(tree: &mut Tree, at: &Path, part: u8, place: PhrasePlace) -> Option<TreeF
     }
 }
 
-/// Puts a copy of the node in the slot in place of the hole at the path, and says why that is refused, if it
-/// is.
+/// Puts a copy of the node in the slot in place of the hole at the path, and says why that is refused, if it is, as
+/// for want of memory.
 fn copy(alloc: Global, tree: &mut Tree, slot: Slot, at: &Path) -> Option<TreeFault>
     requires { IsTree tree.old }
     ensures { IsTree tree.new }
@@ -294,7 +294,8 @@ fn assignment_at_last(alloc: Global, text: &[u8]) -> Option<Phrase>
     phrase(alloc, Category::Assignment, text)
 }
 
-/// Puts the assignment at the path. Where that is refused, says why, and gives back what came back.
+/// Puts the assignment at the path. Where that is refused, as for want of memory, says why, and gives back what came
+/// back.
 fn assign(alloc: Global, tree: &mut Tree, at: &Path, phrase: Phrase) -> Option<(TreeFault, Phrase)>
     requires tree { IsTree tree.old }
     requires phrase { IsPhrasePlace (Some (plain_phrase phrase)) }

@@ -73,12 +73,12 @@ loaded_input reply = []
 abbrev pub opening_checks : PlainFirstLoads → ℕ
 opening_checks loads = phrase_count (tree_at_first (loaded_program loads.program))
 
--- why the file with the program was refused, if it was
+-- why the file with the program was refused when it was loaded, if it was
 abbrev pub program_refusal : Reply → Option FileRefusal
 program_refusal (Reply.Refused refusal) = Some refusal
 program_refusal reply = None
 
--- why the file with the input was refused, if it was
+-- why the file with the input was refused when it was loaded, if it was
 abbrev pub input_refusal : InputReply → Option FileRefusal
 input_refusal (InputReply.Refused refusal) = Some refusal
 input_refusal reply = None

@@ -21,12 +21,12 @@ abbrev pub count_between : ℕ → ℕ → List ℕ → Option ℕ
 count_between least most word =
     option_and_then (λ n. if nat_le least n then Some n else None) (number_in_digits most word)
 
--- the number that words ask for, in its range: the one that they give, or else the usual one
+-- the number that the words of an option ask for, in its range: the one that they give, or else the usual one
 abbrev pub count_given : ℕ → ℕ → (usual : ℕ) → Option (List ℕ) → Option ℕ
 count_given least most usual None = Some usual
 count_given least most usual (Some word) = count_between least most word
 
--- whether words name no file, or one by a name that a file may have
+-- whether the words of an option name no file, or one by a name that a file may have
 abbrev pub is_name_given : Option (List ℕ) → Bool
 is_name_given name = option_map_or is_file_name name true
 

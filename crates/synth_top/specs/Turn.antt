@@ -19,12 +19,12 @@ pub record EditorState : Type 0 where
   pub session : PlainSession
   pub files : Option FileMap
 
--- the map that is claimed of the files is the one that they tell; where there is none, nothing is claimed
+-- the map of the files that is claimed in turns is the one that they tell; where there is none, nothing is claimed
 abbrev pub IsToldAs : (claimed told : Option FileMap) → Type 0
 IsToldAs None told = Unit {0}
 IsToldAs (Some map) told = told ≡ Some map
 
--- a key that is pressed, and what is replied to what it asks
+-- a key that is pressed in a turn, and what is replied to what it asks
 pub record PressedKey : Type 0 where
   pub key : Key
   pub reply : Reply
@@ -91,7 +91,7 @@ unfoldable pub turn : EditorState → PressedKey → Turn
 turn state pressed =
     turn_with (press state.session pressed.key pressed.reply) (files_after (asked state pressed) pressed.reply state.files)
 
--- what a pressed key is answered
+-- what a pressed key is answered in its turn
 abbrev pub answered : EditorState → PressedKey → Answer
 answered state pressed = (press state.session pressed.key pressed.reply).answer
 
@@ -134,11 +134,11 @@ abbrev pub failures : List PressedKey → ℕ
 failures [] = 0
 failures (first ∷ rest) = failure first.reply + failures rest
 
--- the bills of some keys together
+-- the bills of the turns of some keys together
 abbrev pub bills : EditorState → List PressedKey → ℕ
 bills state [] = 0
 bills state (first ∷ rest) = bill state first + bills (turn state first).after rest
 
--- the keys that a run pressed, without what was replied in them
+-- the keys of some turns, without what was replied in them
 abbrev pub keys_pressed : List PressedKey → List Key
 keys_pressed pressed = map (λ p. p.key) pressed

@@ -26,20 +26,20 @@ use Rattle.synth_top.specs.Turn.{HasReply, HaveReplies, IsToldAs, PressedKey, Ed
 
 -- ---- what is written
 
--- the first piece, which sets the default image and clears the screen
+-- the first piece that a whole run writes, which sets the default image and clears the screen
 abbrev pub clear_piece : List ℕ
 clear_piece = control (codes "0m") ++ control (codes "2J")
 
--- the bytes of the opening screen, which is painted over a cleared one
+-- the bytes of the opening screen of a whole run, which is painted over a cleared one
 unfoldable pub opening : PlainSession → List ℕ
 opening s = clear_piece ++ Paint (blank_grid s.size.rows s.size.cols) (grid s)
 
--- the bytes of screens in turn: each painted over the one before, the first over the one that is shown
+-- the bytes of a run's screens in turn: each painted over the one before, the first over the one that is shown
 abbrev pub painted_over : PlainGrid → List PlainGrid → List ℕ
 painted_over shown [] = []
 painted_over shown (next ∷ rest) = Paint shown next ++ painted_over next rest
 
--- all bytes that a run writes: the opening screen, and then turn by turn each screen over the one before
+-- all bytes that a whole run writes: the opening screen, and then turn by turn each screen over the one before
 unfoldable pub written : EditorState → List PressedKey → List ℕ
 written state pressed =
     opening state.session ++ painted_over (grid state.session) (grids state pressed)
@@ -62,18 +62,18 @@ pub record Told : Type 0 where
 
 -- ---- what a run has done
 
--- below the limit one read was made after these bytes, and it found the source's end
+-- in a run below the limit one read was made after these bytes, and it found the source's end
 pub record EndRead (options : PlainOptions) (now : ToldStreams) (bytes : List ℕ) (reads : ℕ) : Type 0 where
   pub one_more : reads ≡ length bytes + 1
   pub below : length bytes < options.key_limit
   pub ended : IsAtEnd now.left
 
--- as many bytes were taken as the limit says, and no read was made after them
+-- a run took as many bytes as the limit says, and made no read after them
 pub record LimitTaken (options : PlainOptions) (bytes : List ℕ) (reads : ℕ) : Type 0 where
   pub one_each : reads ≡ length bytes
   pub many : length bytes ≡ options.key_limit
 
--- no byte of keys comes after these: the source's end was read, or the limit is met
+-- no byte of keys comes after these in a run: the source's end was read, or the limit is met
 abbrev pub NoKeyComes : PlainOptions → ToldStreams → List ℕ → ℕ → Type 0
 NoKeyComes options now bytes reads = EndRead options now bytes reads ⊎ LimitTaken options bytes reads
 
@@ -129,23 +129,23 @@ module _ {options : PlainOptions} {first : EditorState} {before now : ToldStream
     pub pressed : keys_pressed course.pressed ≡ all
     pub going : ends first course.pressed ≡ false
 
-  -- the source's end was read below the limit, and then what isn't complete was pressed too
+  -- a run read the source's end below the limit, and then what isn't complete was pressed too
   pub record SourceEnded : Type 0 where
     pub all : PressedAll (keys course.bytes)
     pub end : EndRead options now course.bytes course.reads
 
-  -- as many bytes were taken as the limit says, and then what isn't complete was pressed too
+  -- a run took as many bytes as the limit says, and then what isn't complete was pressed too
   pub record LimitMet : Type 0 where
     pub all : PressedAll (keys course.bytes)
     pub limit : LimitTaken options course.bytes course.reads
 
-  -- below the limit the read after the bytes gave no answer, and what isn't complete wasn't pressed
+  -- in a run below the limit the read after the bytes gave no answer, and what isn't complete wasn't pressed
   pub record ReadCut : Type 0 where
     pub all : PressedAll (completed course.bytes)
     pub below : length course.bytes < options.key_limit
     pub one_more : course.reads ≡ length course.bytes + 1
 
-  -- the newest byte was taken, and the source's end read, only after the keys that the bytes before it
+  -- in a run the newest byte was taken, and the source's end read, only after the keys that the bytes before it
   -- complete, which are among these
   pub record TakenAfter (pressed : List PressedKey) : Type 0 where
     pub in_turn : (seen : List ℕ) (newest : ℕ) → course.bytes ≡ seen ++ newest ∷ [] →
@@ -162,27 +162,27 @@ module _ {options : PlainOptions} {first : EditorState} {before now : ToldStream
     pub shown : length (written first earlier) ≤ course.count
     pub taken : TakenAfter earlier
 
-  -- the last key pressed ended the session, and no read was made after its byte
+  -- in a run the last key pressed ended the session, and no read was made after its byte
   pub record QuitPressed : Type 0 where
     pub at_key : AtLastKey
     pub quit : ends first course.pressed ≡ true
     pub no_read : course.reads ≡ length course.bytes
 
-  -- a write of the opening screen gave no answer, before any read
+  -- in a run a write of the opening screen gave no answer, before any read
   pub record OpeningCut : Type 0 where
     pub no_read : course.reads ≡ 0
     pub no_byte : course.bytes ≡ []
     pub no_key : course.pressed ≡ []
 
-  -- a write of a screen of the last key pressed gave no answer
+  -- in a run a write of a screen of the last key pressed gave no answer
   pub record ScreenCut : Type 0 where
     pub at_key : AtLastKey
     pub going : ends first course.pressed ≡ false
 
-  -- a key wanted memory, which is one that takes some, between these counts of the files' wants: it isn't
-  -- among those pressed but is the next one of the keys of the bytes, those pressed didn't end the session,
-  -- and no byte was taken before they were. What it checked is billed by this reply, which what it
-  -- asks can have, whether or not it came to one
+  -- in a run a key wanted memory, which is one that takes some, between these counts of the files' wants: it isn't
+  -- among those pressed but is the next one of the keys of the bytes, those pressed didn't end the session, and no
+  -- byte was taken before they were. What it checked is billed by this reply, which what it asks can have, whether or
+  -- not it came to one
   pub record KeyWanted (wants_before wants_now : ℕ) : Type 0 where
     pub wanted : Key
     pub reply : Reply
@@ -195,19 +195,19 @@ module _ {options : PlainOptions} {first : EditorState} {before now : ToldStream
     pub going : ends first course.pressed ≡ false
     pub taken : TakenAfter course.pressed
 
-  -- a step of the program's run wanted memory, in the turn of the last key pressed, which was taken and which asked the files for
-  -- nothing; none before it ended the session
+  -- in a whole run a step of the program's run wanted memory, in the turn of the last key pressed, which was taken
+  -- and which asked the files for nothing; none before it ended the session
   pub record StepWanted (wants_before wants_now : ℕ) : Type 0 where
     pub at_key : AtLastKey
     pub steps : IsTrue (makes_steps (answered (state_after_keys first at_key.earlier) at_key.last))
     pub wants : wants_now ≡ wants_before
     pub going : ends first course.pressed ≡ false
 
-  -- in a turn memory ran out: a key wanted some, or a step in the turn of a key that was taken
+  -- in a run memory ran out in a turn: a key wanted some, or a step in the turn of a key that was taken
   abbrev pub TurnWanted : (wants_before wants_now : ℕ) → Type 0
   TurnWanted wants_before wants_now = KeyWanted wants_before wants_now ⊎ StepWanted wants_before wants_now
 
-  -- what each status says of the run, between these counts of the files' wants
+  -- what each status says of the whole run, between these counts of the files' wants
   abbrev pub Stopped : (wants_before wants_now : ℕ) → Status → Type 0
   Stopped wants_before wants_now Done = AllWritten × NoneLost × (SourceEnded ⊎ QuitPressed)
   Stopped wants_before wants_now KeyLimit = AllWritten × NoneLost × LimitMet
@@ -217,12 +217,13 @@ module _ {options : PlainOptions} {first : EditorState} {before now : ToldStream
       (AllWritten × ReadCut) ⊎ ((NoneLost × (OpeningCut ⊎ ScreenCut) × Rose before.wants now.wants) ⊎ (AllWritten × NoneLost × TurnWanted wants_before wants_now))
   Stopped wants_before wants_now BadWords = ⊥
 
-  -- the bill of a turn in which memory ran out, where the key isn't among those pressed
+  -- the bill of a run's turn in which memory ran out, where the key isn't among those pressed
   abbrev pub wanted_bill : (wants_before wants_now : ℕ) → TurnWanted wants_before wants_now → ℕ
   wanted_bill wants_before wants_now (inl last) = bill state_after (record { key = last.wanted; reply = last.reply })
   wanted_bill wants_before wants_now (inr step) = 0
 
-  -- the bill of a key after those pressed, by why the run stopped: of one that wanted memory, and else there is none
+  -- the bill of a key after those that a run pressed, by why it stopped: of one that wanted memory, and else there is
+  -- none
   abbrev pub last_bill : (wants_before wants_now : ℕ) (status : Status) → Stopped wants_before wants_now status → ℕ
   last_bill wants_before wants_now NoMemory (inl cut) = 0
   last_bill wants_before wants_now NoMemory (inr (inl cut)) = 0
@@ -242,15 +243,15 @@ module _ {options : PlainOptions} {first : EditorState} {before now : ToldStream
 
 -- ---- a whole run
 
--- memory ran out where a session was opened over what these loads gave: each phrase of its program was checked once at most, and
--- nothing else was counted
+-- a whole run in which memory ran out where a session was opened over what these loads gave: each phrase of its
+-- program was checked once at most, and nothing else was counted
 pub record OpeningWanted (options : PlainOptions) (before now : Told) : Type 0 where
   pub loads : PlainFirstLoads
   pub can_load : CanLoad options before.files.stored loads
   pub counts : ChecksAtMost (opening_checks loads) before.counts now.counts
 
--- no session was opened, for want of memory: nothing was read or written, the map of the files is as before, their counts
--- haven't fallen, and nothing was counted, or what opening a session counts
+-- a whole run in which no session was opened, for want of memory: nothing was read or written, the map of the files
+-- is as before, their counts haven't fallen, and nothing was counted, or what opening a session counts
 pub record NotOpened (status : Status) (options : PlainOptions) (before now : Told) (after_reads : Type 0) : Type 0 where
   pub wanted : status ≡ NoMemory
   pub same : now.streams ≡ before.streams
@@ -260,7 +261,7 @@ pub record NotOpened (status : Status) (options : PlainOptions) (before now : To
   pub wants : before.files.wants ≤ now.files.wants
   pub counts : CountsNothing before.counts now.counts ⊎ OpeningWanted options before now
 
--- a session was opened: the run did this, and stopped, left its source and saved as its status says
+-- a whole run in which a session was opened: it did this, and stopped, left its source and saved as its status says
 pub record Ran (status : Status) (options : PlainOptions) (before now : Told) (after_reads after_fault : Type 0) : Type 0 where
   -- what the files did in the loads before the first screen
   pub loads : PlainFirstLoads
@@ -284,11 +285,11 @@ pub record Ran (status : Status) (options : PlainOptions) (before now : Told) (a
   pub counts : CountsFor (opening_checks loads + run_bill course before.files.wants wants status stopped) (all_shots course)
       before.counts now.counts
 
--- the editor ended so: no session was opened, or the run went to its end
+-- the editor's whole run ended so: no session was opened, or the run went to its end
 abbrev pub Ended : Status → PlainOptions → (before now : Told) → (after_reads after_fault : Type 0) → Type 0
 Ended status options before now after_reads after_fault =
     NotOpened status options before now after_reads ⊎ Ran status options before now after_reads after_fault
 
--- a task ended so
+-- the whole run for a task ended so
 abbrev pub TaskEnded : PlainTask → Status → (before now : Told) → (after_reads after_fault : Type 0) → Type 0
 TaskEnded (Edit options) status before now after_reads after_fault = Ended status options before now after_reads after_fault

@@ -16,10 +16,10 @@ const FEWEST_KEYS: u32 = 1;
 /// The greatest number of bytes of keys that words can ask for; where they ask for none, it is this.
 const MOST_KEYS: u32 = 1_000_000_000;
 
-/// How many rows a screen has where no words say it.
+/// How many rows a screen has where no option says it.
 const USUAL_ROWS: u16 = 24;
 
-/// How many columns a screen has where no words say it.
+/// How many columns a screen has where no option says it.
 const USUAL_COLS: u16 = 80;
 
 /// The options: what the words ask for.

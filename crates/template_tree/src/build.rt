@@ -106,7 +106,7 @@ pub(crate) fn draw_slots(list: &mut Nodes, first: u32) -> u32
     next
 }
 
-/// Shows each refinement again in nodes that come in place of others.
+/// Shows each refinement again in nodes that come into a tree.
 fn reveal(list: &mut Nodes)
     ensures { list.new ≡ record list.old { items = nodes (whole (forest list.old.items)) } }
 {

@@ -17,6 +17,7 @@ use std::marker::PhantomData;
 pub(crate) trait Descent {
     ghost limit: { ℕ };
 
+    /// The node lent at the end of the descent: at the path below the item of this number of the list.
     fn down<'a>(list: &'a mut Nodes, k: usize, path: &[u32]) -> Option<&'a mut Node>
         requires { length path.now ≤ limit }
         ensures* writes_back { sem 𝓛 (LendsIf list_row.the_row node_row.the_row list.entry result

@@ -1,6 +1,6 @@
 //! The limits of a tree.
 
-/// How many numbers a path may have.
+/// How many numbers a path in a tree may have.
 pub const DEEPEST_PATH: usize = 64;
 
 /// How many slots may be live.

@@ -44,14 +44,14 @@ pub(crate) fn slots_up_to_limit(list: &Nodes) -> u32
     MOST_SLOTS - left
 }
 
-/// Whether so many holes may stand inside the node at the path.
+/// Whether the limit of depth allows so many holes inside the node at the path.
 pub(crate) fn depth_allows(path: &Path, slots: u32) -> bool
     ensures { IsTrue result ↔ (length path.now.items + min slots 1 ≤ deepest_path) }
 {
     path.len() + slots.min(1) as usize <= DEEPEST_PATH
 }
 
-/// Whether no path in these nodes has more than so many numbers. Its stack grows with that number.
+/// Whether no path in these nodes has more than so many numbers, as the limit asks. Its stack grows with that number.
 pub(crate) fn is_within_depth(nodes: &[Node], most: u32) -> bool
     ensures { IsTrue result ↔ (depth (forest nodes.now) ≤ most) }
 {
@@ -66,8 +66,8 @@ pub(crate) fn is_within_depth(nodes: &[Node], most: u32) -> bool
     true
 }
 
-/// How many slots are left of so many that may be live, when each node has one, or `None` where they are
-/// too few.
+/// How many slots are left below the limit of so many that may be live, when each node has one, or `None` where they
+/// are too few.
 pub(crate) fn slots_left(nodes: &[Node], slots: u32) -> Option<u32>
     ensures left { IfSome result (λ left. left + count (forest nodes.now) ≡ slots) }
     ensures few { IfNone result (slots < count (forest nodes.now)) }

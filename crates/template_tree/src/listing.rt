@@ -96,7 +96,7 @@ fn put_segments<O: ByteOut>(segments: &[Segment], parts: &[PhrasePlace], out: &m
     }
 }
 
-/// Puts a segment of a line where these parts are left, and gives back those that are left after it.
+/// Puts a segment of a line of the listing where these parts are left, and gives back those that are left after it.
 fn put_segment<'a, O: ByteOut>(
     segment: Segment,
     parts: &'a [PhrasePlace],

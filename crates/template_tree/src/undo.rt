@@ -55,7 +55,7 @@ impl Tree {
 }
 
 impl Tree {
-    /// Puts a node again in place of the one at the path, if there is one to come back.
+    /// Puts a node again in place of the one at the path, once an edit is undone, if there is one to come back.
     fn restore_node(&mut self, path: &Path, back: Option<Node>)
         requires tree { IsTree self.old }
         ensures { roomless_tree self.new ≡ with_edit (λ item. node_back back item ∷ []) path.now.items
@@ -70,7 +70,7 @@ impl Tree {
         mem::replace(there, node);
     }
 
-    /// Sets a part of the node at the path again to what it held.
+    /// Sets a part of the node at the path again to what it held before the edit that is undone.
     fn restore_part(&mut self, path: &Path, part: u8, place: PhrasePlace)
         requires tree { IsTree self.old }
         ensures { roomless_tree self.new ≡ with_edit (λ item. with_part part (plain_phrase_place place) item ∷ [])
@@ -82,7 +82,7 @@ impl Tree {
         node.restore_part(part, place);
     }
 
-    /// Takes the item at the path, which an edit added, out of its list.
+    /// Undoes an addition: takes the item at the path, which an edit added, out of its list.
     fn remove_added(&mut self, path: &Path)
         requires tree { IsTree self.old }
         ensures { roomless_tree self.new ≡ with_edit (λ _. []) path.now.items (roomless_tree self.old) }
@@ -93,7 +93,7 @@ impl Tree {
         self.items.remove_at(*k as usize, rest);
     }
 
-    /// Puts the hole, which an edit dropped, back into its list beside the item at the path.
+    /// Undoes a drop: puts the hole, which an edit dropped, back into its list beside the item at the path.
     fn restore_dropped(&mut self, path: &Path, side: Side, hole: Node)
         requires tree { IsTree self.old }
         requires room { 0 < list_room self.old.spare self.old.items path.now.items }
@@ -108,7 +108,7 @@ impl Tree {
 }
 
 impl Node {
-    /// Sets a part of this node again to what it held.
+    /// Sets a part of this node again to what it held before the edit that is undone.
     fn restore_part(&mut self, part: u8, place: PhrasePlace)
         ensures { self.new ≡ with_part part (plain_phrase_place place) self.old }
     {

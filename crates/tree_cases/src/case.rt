@@ -9,7 +9,7 @@ use crate::stop_calls::StopsCall;
 use crate::stop_edits::StopCall;
 use crate::tree_calls::TreeCall;
 
-/// What a case asks for.
+/// What a case on trees asks for, by its first word.
 #[derive(Clone, Copy)]
 pub(crate) enum Case {
     /// An edit.
@@ -32,7 +32,7 @@ pub(crate) enum Case {
     Clips(ClipCall),
 }
 
-/// Each word with its case.
+/// Each word that a case on trees begins with, with its case.
 pub(crate) static CASES: [(&[u8], Case); 46] = [
     (b"fill", Case::Edit(EditWord::Fill)),
     (b"fill_assign", Case::Edit(EditWord::FillAssign)),

@@ -69,7 +69,7 @@ fn make_new(alloc: Global, clips: &mut Clips, call: ClipCall, told: &mut Told) -
     Some(())
 }
 
-/// Tells what is under the name.
+/// Tells what clips have under the name.
 fn tell_clip(clips: &Clips, name: &Name, told: &mut Told) {
     match clips.get(name) {
         Some(fragment) => tell_fragment(fragment, told),
@@ -78,14 +78,15 @@ fn tell_clip(clips: &Clips, name: &Name, told: &mut Told) {
     told.put(b'\n');
 }
 
-/// Puts the phrase under the name.
+/// Puts the phrase under the name among the clips.
 fn put_phrase(clips: &mut Clips, name: Name, phrase: Phrase, told: &mut Told)
     requires { IsPhrasePlace (Some (plain_phrase phrase)) }
 {
     put(clips, name, Fragment::Phrase(phrase), told);
 }
 
-/// Puts the fragment under the name. Tells what was there before, or why it isn't taken, and what comes back.
+/// Puts the fragment under the name among the clips. Tells what was there before, or why it isn't taken, and what
+/// comes back.
 fn put(clips: &mut Clips, name: Name, fragment: Fragment, told: &mut Told)
     requires fragment { IsFragment (plain_fragment fragment) }
     requires few { slots_of (plain_fragment fragment) ≤ 4294967295 }
@@ -105,7 +106,7 @@ fn put(clips: &mut Clips, name: Name, fragment: Fragment, told: &mut Told)
     told.put(b'\n');
 }
 
-/// Tells a fragment: how many slots a node has, or the text of a phrase.
+/// Tells a fragment of clips: how many slots a node has, or the text of a phrase.
 fn tell_fragment(fragment: &Fragment, told: &mut Told)
     requires { slots_of (plain_fragment fragment.now) ≤ 4294967295 }
 {

@@ -14,10 +14,10 @@ use plcs_grammar::{Category, Template};
 use std::alloc::Global;
 use template_tree::{Node, Path, PhrasePlace, Receipt, Side, Stop, Tree, TreeFault, copy_path};
 
-/// An edit, and where it is made.
+/// An edit of a tree, and where it is made, as a case or a walk has it.
 pub(crate) type Step<'a> = (Edit<'a>, At<'a>);
 
-/// An edit.
+/// An edit of a tree, as a case or a walk makes it.
 #[derive(Clone, Copy)]
 pub(crate) enum Edit<'a> {
     Fill(Template),
@@ -33,7 +33,7 @@ pub(crate) enum Edit<'a> {
     DropHole,
 }
 
-/// The words of edits.
+/// The words that name edits of trees.
 #[derive(Clone, Copy)]
 pub(crate) enum EditWord {
     Fill,
@@ -46,6 +46,7 @@ pub(crate) enum EditWord {
     DropHole,
 }
 
+/// Each word of an edit of a tree, with what it names.
 static EDITS: [(&[u8], EditWord); 8] = [
     (b"fill", EditWord::Fill),
     (b"fill_assign", EditWord::FillAssign),
@@ -89,7 +90,7 @@ fn edit_of(word: EditWord, rest: &[Vec<u8>]) -> Option<Edit<'_>> {
     }
 }
 
-/// The part of the word: a number up to 255, or `-` for the node itself.
+/// The part of which an edit is, as its word says: a number up to 255, or `-` for the node itself.
 fn part_of(word: &[u8]) -> Option<Option<u8>> {
     if word == b"-".as_slice() {
         return Some(None);
@@ -161,7 +162,7 @@ fn no_such_phrase(back: &mut Told) -> TreeFault {
     TreeFault::OutOfMemory
 }
 
-/// Makes what stands at the path the assignment of the text.
+/// Makes the edit by which what stands at the path becomes the assignment of the text.
 fn fill_assign(
     alloc: Global,
     tree: &mut Tree,
@@ -191,7 +192,7 @@ fn fill_assign(
     }
 }
 
-/// Sets a part of the node at the path.
+/// Makes the edit that sets a part of the node at the path.
 fn set(
     tree: &mut Tree,
     at: &Path,
@@ -222,7 +223,7 @@ fn set(
     }
 }
 
-/// Puts a copy of the one node in place of the hole at the path.
+/// Makes the edit that puts a copy of the one node in place of the hole at the path.
 fn insert_copy(
     alloc: Global,
     tree: &mut Tree,
@@ -253,7 +254,7 @@ fn insert_copy(
     }
 }
 
-/// Tells that the node comes back.
+/// Tells that the node of an edit comes back.
 pub(crate) fn tell_back(node: &Node, back: &mut Told) {
     back.text(", ");
     tell_node(node, back);

@@ -111,7 +111,7 @@ fn changed(
     }
 }
 
-/// Tells what an edit changed, or why it is refused, and what comes back then.
+/// Tells what an edit of a case changed, or why it is refused, and what comes back then.
 pub(crate) fn tell_answer(answer: Result<Change, TreeFault>, back: &Told, told: &mut Told) {
     match answer {
         Ok(change) => tell_change(change, told),
@@ -199,7 +199,7 @@ fn nested(alloc: Global, tree: &mut Tree, times: u32, at: Path, template: Templa
     times
 }
 
-/// Makes the edits of the lines of text and undoes them. Tells each answer, and whether each step back led to
+/// Makes the edits that the lines of text say, and undoes them. Tells each answer, and whether each step back led to
 /// the tree before it.
 fn walk_lines(alloc: Global, tree: &mut Tree, text: &[u8], told: &mut Told) -> Option<()>
     requires { IsTree tree.old }
@@ -214,7 +214,7 @@ fn walk_lines(alloc: Global, tree: &mut Tree, text: &[u8], told: &mut Told) -> O
     Some(())
 }
 
-/// The words of each line of the text.
+/// The words of each line of the text, which says an edit.
 fn lines_of(alloc: Global, text: &[u8]) -> Option<Vec<Vec<Vec<u8>>>> {
     let mut lines = Vec::new(alloc);
     for line in text.split(|byte| *byte == b'\n') {
@@ -256,7 +256,8 @@ fn walk_at_random(
     Some(())
 }
 
-/// Tells whether more edits than the least number were made, and whether each step back led to the tree before it.
+/// Tells whether more edits of a random walk than the least number were made, and whether each step back led to the
+/// tree before it.
 fn tell_made(walked: &Walked, least: u32, told: &mut Told) {
     told.text(if walked.made > least {
         "more than "

@@ -33,7 +33,7 @@ pub(crate) enum HeldCall {
     Retake,
 }
 
-/// Plays a case of two words behind the first.
+/// Plays a case of nodes that are held, which has two words behind the first.
 pub(crate) fn play(
     alloc: Global,
     trees: &mut Trees,
@@ -75,7 +75,7 @@ fn take_as(alloc: Global, trees: &mut Trees, at: &[u8], name: &[u8], told: &mut 
     Some(())
 }
 
-/// Takes the node at the path out.
+/// Takes the node at the path out, to be held.
 fn taken(alloc: Global, tree: &mut Tree, at: &Path) -> Result<(Fragment, Change), TreeFault>
     requires { IsTree tree.old }
     ensures tree { IsTree tree.new }
@@ -111,7 +111,7 @@ fn copy_node(
     Some(())
 }
 
-/// A copy of the node at the path.
+/// A copy of the node at the path, to be held.
 fn copied(alloc: Global, tree: &Tree, at: &Path) -> Result<Fragment, TreeFault>
     requires { IsTree tree.now }
     ensures fragment { IfOk result (λ copy. IsFragment (plain_fragment copy)) }
@@ -181,7 +181,7 @@ fn insert_at(
     Some(())
 }
 
-/// Puts the node in place of the hole at the path.
+/// Puts the node, which was held, in place of the hole at the path.
 fn insert(alloc: Global, tree: &mut Tree, at: &Path, node: Node, told: &mut Told)
     requires tree { IsTree tree.old }
     requires node { IsSubtree node }
@@ -192,7 +192,7 @@ fn insert(alloc: Global, tree: &mut Tree, at: &Path, node: Node, told: &mut Told
     tell_answer(answer, &back, told);
 }
 
-/// Puts the node in place of the hole at the path. Where it is refused, what comes back is told.
+/// Puts the node, which was held, in place of the hole at the path. Where it is refused, what comes back is told.
 fn inserted(tree: &mut Tree, at: &Path, node: Node, back: &mut Told) -> Result<Change, TreeFault>
     requires tree { IsTree tree.old }
     requires node { IsSubtree node }
@@ -218,7 +218,7 @@ fn tell_held(held: &Clips, name: &[u8], below: &[u8], told: &mut Told) -> Option
     Some(())
 }
 
-/// Tells what stands at the path below the node.
+/// Tells what stands at the path below the node that is held.
 fn tell_below(node: &Node, below: &[u32], told: &mut Told) {
     match node_below(node, below) {
         Some(node) => tell_node(node, told),
@@ -227,7 +227,7 @@ fn tell_below(node: &Node, below: &[u32], told: &mut Told) {
     told.put(b'\n');
 }
 
-/// The node at the path below the node.
+/// The node at the path below the node that is held.
 fn node_below<'a>(node: &'a Node, below: &[u32]) -> Option<&'a Node> {
     let mut there = node;
     for k in below {
@@ -236,7 +236,7 @@ fn node_below<'a>(node: &'a Node, below: &[u32]) -> Option<&'a Node> {
     Some(there)
 }
 
-/// Takes the node at the path out and puts it in again, so many times. Tells how many times it was put in.
+/// Takes the node at the path out, holds it and puts it in again, so many times. Tells how many times it was put in.
 fn retake(alloc: Global, tree: &mut Tree, times: &[u8], at: &[u8], told: &mut Told) -> Option<()>
     requires { IsTree tree.old }
     ensures { IsTree tree.new }
@@ -249,8 +249,8 @@ fn retake(alloc: Global, tree: &mut Tree, times: &[u8], at: &[u8], told: &mut To
     Some(())
 }
 
-/// Takes the node at the path out and puts it in again, so many times; where it is refused at last, it comes
-/// back. Says how many times it was put in.
+/// Takes the node at the path out, holds it and puts it in again, so many times; where it is refused at last, it
+/// comes back. Says how many times it was put in.
 fn retaken(alloc: Global, tree: &mut Tree, at: &Path, times: u32) -> u32
     requires { IsTree tree.old }
     ensures { IsTree tree.new }
@@ -263,7 +263,7 @@ fn retaken(alloc: Global, tree: &mut Tree, at: &Path, times: u32) -> u32
     times
 }
 
-/// Takes the node at the path out and puts it in again, or gives the tree back as it was.
+/// Takes the node at the path out, holds it and puts it in again, or gives the tree back as it was.
 fn is_retaken(alloc: Global, tree: &mut Tree, at: &Path) -> bool
     requires { IsTree tree.old }
     ensures { IsTree tree.new }

@@ -28,7 +28,7 @@ pub(crate) fn play(alloc: Global, tree: &Tree, words: &[Vec<u8>], told: &mut Tol
     put_in(alloc, &mut other, &at, part, rest, told)
 }
 
-/// Puts what the words say into a part of the node at the path.
+/// Puts what the words say into a part of the node at the path, which is lent for it.
 fn put_in(
     alloc: Global,
     tree: &mut Tree,
@@ -45,7 +45,7 @@ fn put_in(
     Some(())
 }
 
-/// What is to be put into a part.
+/// What is to be put into a part of a node that is lent.
 fn place_of(alloc: Global, words: &[Vec<u8>]) -> Option<PhrasePlace>
     ensures { IfSome result (λ place. IsPhrasePlace (plain_phrase_place place)) }
 {
@@ -56,7 +56,7 @@ fn place_of(alloc: Global, words: &[Vec<u8>]) -> Option<PhrasePlace>
     }
 }
 
-/// A tree with the listing of this one.
+/// A tree with the listing of this one, of which a node is lent.
 fn copied(alloc: Global, tree: &Tree) -> Option<Tree>
     requires { IsTree tree.now }
     ensures { IfSome result IsTree }
@@ -66,7 +66,7 @@ fn copied(alloc: Global, tree: &Tree) -> Option<Tree>
     tree_of(alloc, listing.as_bytes()).ok()
 }
 
-/// Puts this into a part of the node at the path, and tells what comes of it.
+/// Puts this into a part of the node at the path, which is lent for it, and tells what comes of it.
 fn put_part(tree: &mut Tree, at: &Path, part: u8, place: PhrasePlace, told: &mut Told)
     requires tree { IsTree tree.old }
     requires place { IsPhrasePlace (plain_phrase_place place) }

@@ -35,7 +35,7 @@ fn main(rt: HostRuntime) -> io::Result<()> {
     play_script(&rt, &mut cases)
 }
 
-/// Plays the script that standard input has.
+/// Plays the script of cases on trees that standard input has.
 fn play_script(rt: &HostRuntime, cases: &mut Cases) -> io::Result<()>
     requires { IsTree cases.old.trees.tree }
 {
@@ -50,7 +50,7 @@ fn play_script(rt: &HostRuntime, cases: &mut Cases) -> io::Result<()>
     Ok(())
 }
 
-/// What cases are played on, and the lines of text for the next of them.
+/// What cases on trees are played on, and the lines of text for the next of them.
 #[derive(Drop)]
 struct Cases {
     trees: Trees,
@@ -75,7 +75,7 @@ impl Cases {
     }
 }
 
-/// Plays a line of the script: a heading, a line of text, or a case, whose answer is told.
+/// Plays a line of the script on trees: a heading, a line of text, or a case, whose answer is told.
 fn play_line(alloc: Global, cases: &mut Cases, line: &[u8], told: &mut Told) -> io::Result<()>
     requires { IsTree cases.old.trees.tree }
     ensures { IsTree cases.new.trees.tree }
@@ -98,7 +98,7 @@ fn play_line(alloc: Global, cases: &mut Cases, line: &[u8], told: &mut Told) -> 
     Ok(())
 }
 
-/// Plays a case, if it is one.
+/// Plays a case on trees, if it is one.
 fn play_case(alloc: Global, cases: &mut Cases, case: &[u8], told: &mut Told) -> Option<()>
     requires { IsTree cases.old.trees.tree }
     ensures { IsTree cases.new.trees.tree }
@@ -109,7 +109,7 @@ fn play_case(alloc: Global, cases: &mut Cases, case: &[u8], told: &mut Told) -> 
     }
 }
 
-/// Plays the case of the first word with those behind it.
+/// Plays the case on trees that the first word names, with the words behind it.
 fn play_words(alloc: Global, cases: &mut Cases, words: &[Vec<u8>], told: &mut Told) -> Option<()>
     requires { IsTree cases.old.trees.tree }
     ensures { IsTree cases.new.trees.tree }
@@ -118,7 +118,7 @@ fn play_words(alloc: Global, cases: &mut Cases, words: &[Vec<u8>], told: &mut To
     play(alloc, cases, meaning(&CASES, word.as_slice())?, rest, told)
 }
 
-/// Plays the case with these words behind its first one, if it takes them.
+/// Plays the case on trees with these words behind its first one, if it takes them.
 fn play(
     alloc: Global,
     cases: &mut Cases,
@@ -156,7 +156,7 @@ fn play(
     }
 }
 
-/// Plays a case that leaves the tree as it is, if it takes these words.
+/// Plays a case on trees that leaves the tree as it is, if it takes these words.
 fn ask(
     alloc: Global,
     cases: &mut Cases,

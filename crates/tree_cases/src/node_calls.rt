@@ -49,7 +49,7 @@ pub(crate) fn play(tree: &Tree, reader: Reader, words: &[Vec<u8>], told: &mut To
     Some(())
 }
 
-/// Tells the path of the node in the slot.
+/// Tells the path of the node in the slot of the tree that is read.
 fn tell_path_of(tree: &Tree, slot: u32, told: &mut Told)
     requires { IsTree tree.now }
 {
@@ -60,7 +60,7 @@ fn tell_path_of(tree: &Tree, slot: u32, told: &mut Told)
     told.put(b'\n');
 }
 
-/// All that a tree shows: its listing, each node in its slot with its path, and how many slots are live.
+/// All that a tree shows that is read: its listing, each node in its slot with its path, and how many slots are live.
 pub(crate) fn tell_tree(tree: &Tree, told: &mut Told)
     requires { IsTree tree.now }
 {
@@ -69,7 +69,7 @@ pub(crate) fn tell_tree(tree: &Tree, told: &mut Told)
     told.value(&tree.slots());
 }
 
-/// Tells the nodes of the tree in listing order, each on a line.
+/// Tells the nodes of the tree that is read in listing order, each on a line.
 fn tell_nodes(tree: &Tree, told: &mut Told)
     requires { IsTree tree.now }
 {
@@ -82,8 +82,8 @@ fn tell_nodes(tree: &Tree, told: &mut Told)
     }
 }
 
-/// Goes on to the next node in listing order: the first one inside, or the next one behind. Says whether there
-/// is one.
+/// Goes on, as a tree is read, to the next node in listing order: the first one inside, or the next one behind. Says
+/// whether there is one.
 fn goes_on(tree: &Tree, at: &mut Path) -> bool
     requires { IsTree tree.now }
 {
@@ -105,8 +105,8 @@ fn goes_on(tree: &Tree, at: &mut Path) -> bool
     false
 }
 
-/// Tells the node at the path: its slot and its path, what it is, how many slots it has, and how many nodes
-/// stand inside.
+/// Tells the node at the path of the tree that is read: its slot and its path, what it is, how many slots it has, and
+/// how many nodes stand inside.
 fn tell_node_at(tree: &Tree, at: &Path, told: &mut Told)
     requires { IsTree tree.now }
 {
@@ -126,7 +126,8 @@ fn tell_node_at(tree: &Tree, at: &Path, told: &mut Told)
     told.line(" inside");
 }
 
-/// How many of the slots below the number are live, or `None` where a path leads to another slot.
+/// How many of the slots below the number are live in the tree that is read, or `None` where a path leads to another
+/// slot.
 fn live_below(tree: &Tree, drawn: u32) -> Option<u32>
     requires { IsTree tree.now }
 {

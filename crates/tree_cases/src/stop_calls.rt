@@ -9,7 +9,7 @@ use cursor_moves::{Move, bottom, down, left, right, top, up};
 use plcs_base::ByteOut;
 use template_tree::{Stop, Tree};
 
-/// A call on the visible stops.
+/// A call of a case on moves of the cursor over the visible stops.
 #[derive(Clone, Copy)]
 pub(crate) enum StopsCall {
     /// `stops`: each visible stop, with the stops to which the moves left, right, up and down go from it.
@@ -20,7 +20,7 @@ pub(crate) enum StopsCall {
     Bottom,
 }
 
-/// Plays such a case.
+/// Plays a case on moves of the cursor.
 pub(crate) fn play(tree: &Tree, call: StopsCall, told: &mut Told) -> Option<()>
     requires { IsTree tree.now }
 {

@@ -33,7 +33,7 @@ pub(crate) enum StopCall {
     Shown,
 }
 
-/// Plays such a case.
+/// Plays a case of edits at the stop of the cursor, or of what may be done there.
 pub(crate) fn play(
     alloc: Global,
     tree: &mut Tree,
@@ -113,7 +113,7 @@ fn move_to(alloc: Global, tree: &mut Tree, from: &[u8], to: &[u8], told: &mut To
     }
 }
 
-/// Takes out what stands at the stop, and gives the node that was moved out, if one was.
+/// Takes out what stands at the stop, by an edit there, and gives the node that was moved out, if one was.
 fn taken_at(alloc: Global, tree: &mut Tree, at: &Stop) -> Result<Option<Node>, TreeFault>
     requires tree { IsTree tree.old }
     requires stop { IsStop (roomless_tree tree.old).items (plain_stop at.now) }
@@ -126,7 +126,7 @@ fn taken_at(alloc: Global, tree: &mut Tree, at: &Stop) -> Result<Option<Node>, T
     }
 }
 
-/// Inserts the node at the stop, and tells the answer.
+/// Inserts the node at the stop, by an edit there, and tells the answer.
 fn insert_at(alloc: Global, tree: &mut Tree, at: &[u8], node: Node, told: &mut Told) -> Option<()>
     requires tree { IsTree tree.old }
     requires node { IsSubtree node }
@@ -160,7 +160,7 @@ fn tell_applied(tree: &Tree, applied: &Applied, told: &mut Told)
     told.put(b'\n');
 }
 
-/// Tells why an edit is refused, and how many slots are live.
+/// Tells why an edit at a stop is refused, and how many slots are live.
 fn tell_refused(tree: &Tree, fault: TreeFault, told: &mut Told)
     requires { IsTree tree.now }
 {
@@ -169,7 +169,7 @@ fn tell_refused(tree: &Tree, fault: TreeFault, told: &mut Told)
     told.put(b'\n');
 }
 
-/// Tells how many slots are live.
+/// Tells how many slots are live behind an edit at a stop.
 fn tell_slots(tree: &Tree, told: &mut Told)
     requires { IsTree tree.now }
 {
@@ -244,10 +244,10 @@ fn stop_at(tree: &Tree, word: &[u8]) -> Option<Stop>
     None
 }
 
-/// The most parts that a node has.
+/// The most parts that a node has, at which an edit may be made.
 const MOST_PARTS: u32 = 4;
 
-/// The stop that the word says.
+/// The stop that the word of an edit says.
 fn stop_of(word: &[u8]) -> Option<Stop> {
     let mut halves = word.split(|byte| *byte == b':');
     let path = path(halves.next()?)?;
@@ -270,6 +270,7 @@ enum StopEdit {
     Insert,
 }
 
+/// Each word of an edit at a stop, with what it names.
 static STOP_EDITS: [(&[u8], StopEdit); 7] = [
     (b"delete", StopEdit::Delete),
     (b"take", StopEdit::Take),
@@ -280,7 +281,7 @@ static STOP_EDITS: [(&[u8], StopEdit); 7] = [
     (b"insert", StopEdit::Insert),
 ];
 
-/// The edit that the words say.
+/// The edit at a stop that the words say.
 fn edit_of(alloc: Global, tree: &Tree, words: &[Vec<u8>]) -> Option<Edit>
     requires { IsTree tree.now }
     ensures { IfSome result BringsWhatMayStand }
@@ -302,7 +303,7 @@ fn edit_of(alloc: Global, tree: &Tree, words: &[Vec<u8>]) -> Option<Edit>
     }
 }
 
-/// The edit that inserts a copy of the node at the path.
+/// The edit at a stop that inserts a copy of the node at the path.
 fn insertion_of_copy(alloc: Global, tree: &Tree, from: &[u8]) -> Option<Edit>
     requires { IsTree tree.now }
     ensures { IfSome result BringsWhatMayStand }

@@ -5,7 +5,7 @@ use plcs_base::ByteOut;
 use plcs_grammar::{Phrase, show};
 use template_tree::{Change, PhrasePlace, Stop};
 
-/// Tells numbers with a comma between them; none are `-`.
+/// Tells a path: numbers with a comma between them; none are `-`.
 pub(crate) fn tell_path(numbers: &[u32], told: &mut Told) {
     if numbers.is_empty() {
         told.put(b'-');

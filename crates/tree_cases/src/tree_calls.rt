@@ -33,7 +33,7 @@ impl Trees {
     }
 }
 
-/// The new tree.
+/// The new tree that a case makes.
 fn new_tree(alloc: Global) -> Option<Tree>
     ensures { IfSome result IsTree }
 {
@@ -55,7 +55,7 @@ pub(crate) enum TreeCall {
     Elide,
 }
 
-/// Plays such a case.
+/// Plays a case that makes a tree, hides or shows a refinement, or compares a tree with one before.
 pub(crate) fn play(
     alloc: Global,
     trees: &mut Trees,
@@ -89,7 +89,7 @@ fn make_new(alloc: Global, trees: &mut Trees, told: &mut Told) -> Option<()>
     Some(())
 }
 
-/// Makes the tree that of the listing, unless it is refused.
+/// Makes the tree of the cases that of the listing, unless it is refused.
 fn read(alloc: Global, tree: &mut Tree, text: &[u8], told: &mut Told) -> Option<()>
     requires { IsTree tree.old }
     ensures { IsTree tree.new }
@@ -104,14 +104,14 @@ fn read(alloc: Global, tree: &mut Tree, text: &[u8], told: &mut Told) -> Option<
     Some(())
 }
 
-/// The tree of the listing.
+/// The tree of the listing that a case makes.
 pub(crate) fn tree_of(alloc: Global, text: &[u8]) -> Result<Tree, FileRefusal>
     ensures { IfOk result IsTree }
 {
     read_listing(alloc, text)
 }
 
-/// Keeps what the tree shows.
+/// Keeps what the tree shows, so that another one is compared with it.
 fn keep(trees: &mut Trees, told: &mut Told) -> Option<()>
     requires { IsTree trees.old.tree }
     ensures { IsTree trees.new.tree }
@@ -132,7 +132,8 @@ fn compare(trees: &Trees, told: &mut Told) -> Option<()>
     Some(())
 }
 
-/// Hides the refinement of the comment there, or shows it again, and tells whether it is hidden now.
+/// Hides the refinement of the comment there in the tree of the cases, or shows it again, and tells whether it is
+/// hidden now.
 fn elide(tree: &mut Tree, at: &[u8], told: &mut Told) -> Option<()>
     requires { IsTree tree.old }
     ensures { IsTree tree.new }

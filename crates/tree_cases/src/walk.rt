@@ -35,7 +35,7 @@ impl Walked {
         }
     }
 
-    /// Tells whether the tree before each edit came again.
+    /// Tells whether the tree before each edit of the walk came again.
     pub(crate) fn tell(&self, told: &mut Told) {
         told.line(if self.same {
             "undone, each step back the same"
@@ -67,7 +67,7 @@ pub(crate) fn walk(
     compare(alloc, tree, &before, walked);
 }
 
-/// All that a tree shows.
+/// All that a tree shows on a walk of edits.
 fn picture_of(alloc: Global, tree: &Tree) -> Told
     requires { IsTree tree.now }
 {
@@ -76,7 +76,7 @@ fn picture_of(alloc: Global, tree: &Tree) -> Told
     picture
 }
 
-/// Keeps whether a tree that came again looks as it did before.
+/// Keeps whether a tree that came again on a walk looks as it did before.
 fn compare(alloc: Global, tree: &Tree, before: &Told, walked: &mut Walked)
     requires { IsTree tree.now }
 {
@@ -84,8 +84,8 @@ fn compare(alloc: Global, tree: &Tree, before: &Told, walked: &mut Walked)
     walked.same = walked.same && after.is_same(before);
 }
 
-/// Makes the first of the last so many edits that isn't refused and drops no hole. Gives its receipt, the node
-/// that it took out, if it took one, and how many steps are left behind it.
+/// Makes the first of the last so many edits of a walk that isn't refused and drops no hole. Gives its receipt, the
+/// node that it took out, if it took one, and how many steps are left behind it.
 fn first_made(
     alloc: Global,
     tree: &mut Tree,
@@ -114,8 +114,8 @@ fn first_made(
     None
 }
 
-/// Makes the edit, unless it is refused. Gives its receipt, and the node that it took out, if it took one. A
-/// hole that is dropped comes back at once, since its room may be gone later.
+/// Makes the edit of a walk, unless it is refused. Gives its receipt, and the node that it took out, if it took one.
+/// A hole that is dropped comes back at once, since its room may be gone later.
 fn made_at(
     alloc: Global,
     tree: &mut Tree,
@@ -149,7 +149,7 @@ fn made_at(
     }
 }
 
-/// Drops the hole at the path, unless that is refused, and undoes that.
+/// Drops the hole at the path, as a step of a walk, unless that is refused, and undoes that.
 fn drop_and_undo(alloc: Global, tree: &mut Tree, at: &Path, walked: &mut Walked)
     requires tree { IsTree tree.old }
     ensures tree { IsTree tree.new }
@@ -168,6 +168,7 @@ fn drop_and_undo(alloc: Global, tree: &mut Tree, at: &Path, walked: &mut Walked)
     }
 }
 
+/// The templates of which a walk draws.
 static TEMPLATES: [Template; 16] = [
     Template::Fixed,
     Template::Bit,
@@ -187,7 +188,7 @@ static TEMPLATES: [Template; 16] = [
     Template::ProcP,
 ];
 
-/// Categories of first parts.
+/// Categories of first parts, of which a walk draws.
 static CATEGORIES: [Category; 4] = [
     Category::Condition,
     Category::DeclaredList,
@@ -195,7 +196,7 @@ static CATEGORIES: [Category; 4] = [
     Category::ExpressionList,
 ];
 
-/// So many steps, drawn by a generator of pseudo-random numbers that begins with this one.
+/// So many steps of a walk, drawn by a generator of pseudo-random numbers that begins with this one.
 pub(crate) fn drawn_steps(
     alloc: Global,
     first: u32,
@@ -210,7 +211,7 @@ pub(crate) fn drawn_steps(
     Ok(steps)
 }
 
-/// The step of a number of 24 bits, at one of the first 32 slots.
+/// The step of a walk that a number of 24 bits stands for, at one of the first 32 slots.
 fn step(number: u32) -> Step<'static> {
     let slot = At::Slot(number % 32);
     let other = At::Slot((number / 32) % 32);

@@ -12,7 +12,7 @@ use plcs_grammar::{Category, Phrase, Template, shown_len};
 use std::alloc::Global;
 use template_tree::{LONGEST_PHRASE, Path, Side, Tree};
 
-/// The words of templates.
+/// The words of cases for templates.
 pub(crate) static TEMPLATES: [(&[u8], Template); 16] = [
     (b"fixed", Template::Fixed),
     (b"bit", Template::Bit),
@@ -32,7 +32,7 @@ pub(crate) static TEMPLATES: [(&[u8], Template); 16] = [
     (b"procp", Template::ProcP),
 ];
 
-/// The words of categories.
+/// The words of cases for categories.
 pub(crate) static CATEGORIES: [(&[u8], Category); 12] = [
     (b"assignment", Category::Assignment),
     (b"condition", Category::Condition),
@@ -48,10 +48,10 @@ pub(crate) static CATEGORIES: [(&[u8], Category); 12] = [
     (b"comment_text", Category::CommentText),
 ];
 
-/// The words of sides.
+/// The words of cases for sides.
 pub(crate) static SIDES: [(&[u8], Side); 2] = [(b"before", Side::Before), (b"after", Side::After)];
 
-/// The phrase of the category that the text reads as, if it may stand in a part.
+/// The phrase of the category that the words of a case say by its text, if it may stand in a part.
 pub(crate) fn phrase(alloc: Global, category: Category, text: &[u8]) -> Option<Phrase>
     ensures { IfSome result (λ phrase. IsPhrasePlace (Some (plain_phrase phrase))) }
 {
@@ -64,7 +64,7 @@ pub(crate) fn phrase(alloc: Global, category: Category, text: &[u8]) -> Option<P
     }
 }
 
-/// The phrase of the category that a text reads as.
+/// The phrase of the category that a text among the words of a case reads as.
 fn parsed(alloc: Global, category: Category, text: &[u8]) -> Option<Phrase>
     requires { length text.now ≤ 1000 }
     ensures well_formed { IfSome result (λ phrase. IsWellFormed category (plain_phrase phrase)) }
@@ -127,7 +127,7 @@ pub(crate) fn path(word: &[u8]) -> Option<Path> {
     Some(path)
 }
 
-/// Puts the numbers of a piece at the end of the path, if they fit.
+/// Puts the numbers of a piece of the path's word at the end of the path, if they fit.
 fn push_piece(path: &mut Path, piece: &[u8]) -> Option<()> {
     let mut halves = piece.split(|byte| *byte == b'*');
     let number = number_of(halves.next()?)?;

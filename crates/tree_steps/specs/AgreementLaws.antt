@@ -11,24 +11,24 @@ use Rattle.tree_steps.specs.EditStep.{CameByEdits, IsEditStep, substance}
 
 -- ---- where slots stand
 
--- a live slot stands somewhere
+-- of a tree, as agreement asks: a live slot stands somewhere
 abbrev pub LiveSlotsStand : Type 0
 LiveSlotsStand =
     (items : Forest) (slot : ℕ) → 1 ≤ times slot items → (kind : NodeKind) × (around : Around) × StandsInside items slot kind around
 
--- a slot that stands somewhere is live
+-- of a tree, as agreement asks: a slot that stands somewhere is live
 abbrev pub StandingSlotsLive : Type 0
 StandingSlotsLive =
     (items : Forest) (slot : ℕ) (kind : NodeKind) (around : Around) → StandsInside items slot kind around → 1 ≤ times slot items
 
--- a slot that is there but once stands at one place
+-- of a tree, as agreement asks: a slot that is there but once stands at one place
 abbrev pub SlotsStandOnce : Type 0
 SlotsStandOnce =
     (items : Forest) (slot : ℕ) (kind other_kind : NodeKind) (around other : Around) → times slot items ≤ 1
     → StandsInside items slot kind around → StandsInside items slot other_kind other
     → (kind ≡ other_kind) × (around ≡ other)
 
--- the procedure of a slot is the outermost node round it
+-- of a tree, as agreement asks: the procedure of a slot is the outermost node round it
 abbrev pub ProceduresStandOutermost : Type 0
 ProceduresStandOutermost =
     (items : Forest) (slot : ℕ) (kind : NodeKind) (around : Around) → times slot items ≤ 1
@@ -36,7 +36,7 @@ ProceduresStandOutermost =
 
 -- ---- agreement
 
--- a tree agrees with those from which edits made it
+-- edits give agreement: a tree agrees with those from which edits made it
 abbrev pub EditsAgree : Type 0
 EditsAgree = (before after : PlainTree) → IsTree before → CameByEdits before after → AgreesWith before after
 
@@ -45,7 +45,7 @@ abbrev pub EditStepsKeepAgreement : Type 0
 EditStepsKeepAgreement =
     (earlier before after : PlainTree) → AgreesWith earlier before → IsEditStep before after → AgreesWith earlier after
 
--- so does going back to a kept tree that agreed, also where more slots are drawn by now
+-- going back to a kept tree that agreed keeps the agreement, also where more slots are drawn by now
 abbrev pub GoingBackAgrees : Type 0
 GoingBackAgrees =
     (earlier kept back : PlainTree) → AgreesWith earlier kept

@@ -7,16 +7,16 @@ use Rattle.template_tree.specs.Programs.Program.{sort_of}
 use Rattle.template_tree.specs.Programs.Tree.{IsTree}
 use Rattle.template_tree.specs.Edits.TreeEdit.{TreeEdit, tree_after}
 
--- the substance of nodes, which edits alone change: nothing elided, and without the room of lists
+-- the substance of nodes, which edit steps alone change: nothing elided, and without the room of lists
 abbrev pub substance : Forest → Forest
 substance items = roomless (whole items)
 
--- two trees are the same but for elision and room, with as many slots drawn
+-- two trees are the same to edit steps: but for elision and room, with as many slots drawn
 pub record IsSameTree (one other : PlainTree) : Type 0 where
   pub items : substance one.items ≡ substance other.items
   pub drawn : one.drawn ≡ other.drawn
 
--- an edit at the node leaves one of its sort in its slot, if it leaves one
+-- an edit step at the node leaves one of its sort in its slot, if it leaves one
 abbrev pub BringsSort : TreeEdit → PlainNode → Type 0
 BringsSort (TreeEdit.put new) node = sort_of new.label.kind ≡ sort_of node.label.kind
 BringsSort (TreeEdit.add side) node = Unit {0}

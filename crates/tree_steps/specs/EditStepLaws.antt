@@ -16,49 +16,49 @@ use Rattle.tree_steps.specs.EditStep.{CameByEdits, IsSameTree, IsEditStep}
 
 -- ---- each edit is a step
 
--- a hole that was filled with a template
+-- a hole that was filled with a template is a step
 abbrev pub FillIsEditStep : Type 0
 FillIsEditStep =
     (before after : PlainTree) (receipt : PlainReceipt) (path : List ℕ) (template : Template) → IsTree before
     → Edits (TreeEdit.put (fresh_node (NodeKind.Filled template))) (node_at before.items path) (IsHoleFor (NodeKind.Filled template)) before after receipt
     → IsEditStep before after
 
--- a hole or an assignment that became an assignment
+-- a hole or an assignment that became an assignment is a step
 abbrev pub FillAssignIsEditStep : Type 0
 FillAssignIsEditStep =
     (before after : PlainTree) (receipt : PlainReceipt) (path : List ℕ) (phrase : PlainPhrase) → IsTree before
     → Edits (TreeEdit.put (assignment_node phrase)) (node_at before.items path) (TakesAssignment phrase) before after receipt
     → IsEditStep before after
 
--- a hole that became a node
+-- a hole that became a node is a step
 abbrev pub InsertIsEditStep : Type 0
 InsertIsEditStep =
     (before after : PlainTree) (receipt : PlainReceipt) (path : List ℕ) (node : PlainNode) → IsTree before
     → Edits (TreeEdit.put node) (node_at before.items path) (IsHoleFor node.label.kind) before after receipt
     → IsEditStep before after
 
--- a part that was set
+-- a part that was set is a step
 abbrev pub SetPhraseIsEditStep : Type 0
 SetPhraseIsEditStep =
     (before after : PlainTree) (receipt : PlainReceipt) (path : List ℕ) (part : ℕ) (place : Option PlainPhrase) → IsTree before
     → Edits (TreeEdit.set_part part place) (node_at before.items path) (TakesAtStop part place) before after receipt
     → IsEditStep before after
 
--- a node that was taken out
+-- a node that was taken out is a step
 abbrev pub TakeIsEditStep : Type 0
 TakeIsEditStep =
     (before after : PlainTree) (receipt : PlainReceipt) (path : List ℕ) (node : PlainNode) → IsTree before
     → node_at before.items path ≡ Some node → TakesOut node before after receipt
     → IsEditStep before after
 
--- a hole that was added
+-- a hole that was added is a step
 abbrev pub AddHoleIsEditStep : Type 0
 AddHoleIsEditStep =
     (before after : PlainTree) (receipt : PlainReceipt) (path : List ℕ) (side : Side) → IsTree before
     → Edits (TreeEdit.add side) (node_at before.items path) (IsListItem before.items path) before after receipt
     → IsEditStep before after
 
--- a hole that was dropped
+-- a hole that was dropped is a step
 abbrev pub DropHoleIsEditStep : Type 0
 DropHoleIsEditStep =
     (before after : PlainTree) (receipt : PlainReceipt) (path : List ℕ) → IsTree before
@@ -67,11 +67,11 @@ DropHoleIsEditStep =
 
 -- ---- what is no step
 
--- a turned comment leaves the same tree
+-- a turned comment leaves the same tree, and is no edit step
 abbrev pub TogglesAreNoEdits : Type 0
 TogglesAreNoEdits = (tree : PlainTree) (path : List ℕ) → IsSameTree tree (with_toggled_at path tree)
 
--- trees that are the same without room are the same tree
+-- room is no edit step: trees that are the same without room are the same tree
 abbrev pub RoomIsNoEdit : Type 0
 RoomIsNoEdit = (one other : PlainTree) → roomless_tree one ≡ roomless_tree other → IsSameTree one other
 

@@ -24,19 +24,19 @@ PlacesIgnoreRoom = (items : Forest) → PlacesAlike (roomless items) items
 abbrev pub PlacesIgnoreElision : Type 0
 PlacesIgnoreElision = (items : Forest) (path : List ℕ) → PlacesAlike (edit_at toggled path items) items
 
--- programs of the same substance have the same sites
+-- programs of the same substance have the same sites, where a run goes on at the same places
 abbrev pub SitesAreOfSubstance : Type 0
 SitesAreOfSubstance = (one other : Forest) → substance one ≡ substance other → SitesAlike one other
 
 -- ---- sites
 
--- the site of a slot is of a node that stands in it
+-- the site of a slot, at which a run has places, is of a node that stands in it
 abbrev pub SitesStand : Type 0
 SitesStand =
     (items : Forest) (slot : ℕ) (found : Site) → site items slot ≡ Some found
     → (found.label.slot ≡ slot) × (around : Around) × StandsInside items slot found.label.kind around
 
--- a slot that stands somewhere has a site
+-- a slot that stands somewhere has a site, at which a run has places
 abbrev pub StandingSlotsHaveSites : Type 0
 StandingSlotsHaveSites =
     (items : Forest) (slot : ℕ) (kind : NodeKind) (around : Around) → StandsInside items slot kind around

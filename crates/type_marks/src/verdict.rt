@@ -111,8 +111,8 @@ pub(crate) fn checked<W: Work>(
     }
 }
 
-/// The first offence of a phrase, by its category: it is one of the node in the slot, which stands in
-/// main or the procedure or is it.
+/// The first offence of a phrase, by its category, which is its verdict: it is one of the node in the slot, which
+/// stands in main or the procedure or is it.
 fn phrase_offence(
     tree: &Tree,
     decls: &Decls,

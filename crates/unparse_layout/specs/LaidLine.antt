@@ -16,12 +16,13 @@ abbrev pub screen_cell : Bool → ℕ → ℕ
 screen_cell false byte = byte
 screen_cell true byte = byte + 256
 
--- whether the part of the node in a slot, if it is one, has a mark
+-- whether the part of the node in a slot, if it is one, has a mark, so that its cells are in negative image
 abbrev pub has_mark : MarkMap → ℕ → Option ℕ → Bool
 has_mark marks slot None = false
 has_mark marks slot (Some part) = is_some (get marks record { slot = record { 0 = slot }; part = part })
 
--- whether a stretch is marked, of a line that belongs to the slot: it is a phrase, in a part that has a mark
+-- whether a stretch is marked, so that its cells are in negative image, of a line that belongs to the slot: it is a
+-- phrase, in a part that has a mark
 abbrev pub is_marked : MarkMap → ℕ → Stretch → Bool
 is_marked marks slot stretch = stretch.filled && has_mark marks slot stretch.part
 

@@ -30,7 +30,7 @@ stretch_of next (PlainSegment.words bytes) parts = record { part = None; filled 
 stretch_of next (PlainSegment.part category) parts =
     record { part = Some next; filled = is_some (part_at parts next); bytes = part_text category (part_at parts next) }
 
--- the number of the next part behind the stretch of a segment
+-- the number of the next part of a node's line behind the stretch of a segment
 abbrev pub next_after : ℕ → PlainSegment → ℕ
 next_after next (PlainSegment.words bytes) = next
 next_after next (PlainSegment.part category) = next + 1

@@ -51,7 +51,7 @@ fn lay_first<W, M: Marked>(level: u32, node: &Node, marks: &M) -> Line<W>
     Line::laid(node.slot(), LineKind::First, out.cells)
 }
 
-/// Puts the cells of the blanks before a line of the level.
+/// Puts the cells of the blanks before a line that is laid at the level.
 fn put_blanks(level: u32, out: &mut CellsOut)
     requires plain { out.old.negative ≡ false }
     requires short { length out.old.cells.items ≤ longest_line }
@@ -62,7 +62,7 @@ fn put_blanks(level: u32, out: &mut CellsOut)
     }
 }
 
-/// Puts the cells of the first line of a node behind the blanks.
+/// Puts the cells of the first line of a node that is laid behind the blanks.
 fn put_first<M: Marked>(node: &Node, marks: &M, out: &mut CellsOut)
     requires plain { out.old.negative ≡ false }
     requires short { length out.old.cells.items ≤ longest_line }
@@ -77,8 +77,8 @@ fn put_first<M: Marked>(node: &Node, marks: &M, out: &mut CellsOut)
     }
 }
 
-/// Puts the cells of a segment, where the next part has this number, and gives the number of the part
-/// after it.
+/// Puts the cells of a segment of a line that is laid, where the next part has this number, and gives the number of
+/// the part after it.
 fn put_segment<M: Marked>(
     segment: Segment,
     node: &Node,
@@ -107,8 +107,8 @@ fn put_segment<M: Marked>(
     }
 }
 
-/// Puts the cells of what stands in a part: its phrase, in negative image where it is marked, or the
-/// placeholder of the category.
+/// Puts the cells of what stands in a part of a line that is laid: its phrase, in negative image where it is marked,
+/// or the placeholder of the category.
 fn put_part<M: Marked>(category: Category, node: &Node, part: u8, marks: &M, out: &mut CellsOut)
     requires plain { out.old.negative ≡ false }
     requires short { length out.old.cells.items ≤ longest_line }

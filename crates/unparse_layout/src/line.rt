@@ -9,7 +9,7 @@ use std::marker::{Model, PhantomData};
 /// How many cells a line may have: what goes beyond is cut.
 pub const LONGEST_LINE: usize = 158;
 
-/// What is added to a byte in negative image.
+/// What is added to a byte of a line in negative image.
 const NEGATIVE: u16 = 256;
 
 /// Which of a node's lines a line of the screen is.
@@ -81,7 +81,7 @@ impl<W> Line<W> {
     }
 }
 
-/// A byte as a cell of the screen, in negative image or not.
+/// A byte of a line as a cell of the screen, in negative image or not.
 pub fn screen_cell(negative: bool, byte: u8) -> u16
     ensures { result ≡ screen_cell negative byte }
 {

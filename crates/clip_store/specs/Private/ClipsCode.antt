@@ -9,23 +9,27 @@ use Rattle.plcs_grammar.specs.Private.PhraseCode.{phrase_code}
 use Rattle.clip_store.specs.PlainFragment.{PlainFragment}
 use Rattle.clip_store.specs.PlainClips.{Pair, PlainClips}
 
--- a fragment as the one or the other of its two cases
+-- a fragment of clips that are told apart, as the one or the other of its two cases
 abbrev pub case_of : PlainFragment → PlainNode ⊎ PlainPhrase
 case_of (PlainFragment.node n) = inl n
 case_of (PlainFragment.phrase p) = inr p
 
+-- the fragment of clips that is the one or the other of its two cases
 abbrev pub fragment_of : PlainNode ⊎ PlainPhrase → PlainFragment
 fragment_of (inl n) = PlainFragment.node n
 fragment_of (inr p) = PlainFragment.phrase p
 
+-- the fragment that is made of its case is that fragment
 pub fragment_back : (fragment : PlainFragment) → fragment_of (case_of fragment) ≡ fragment
 fragment_back (PlainFragment.node n) = refl
 fragment_back (PlainFragment.phrase p) = refl
 
+-- fragments of clips are told apart by their cases
 abbrev pub fragment_code : Coded PlainFragment
 fragment_code =
     code_by (PlainNode ⊎ PlainPhrase) (coded⊎ node_row.the_row.coded phrase_code) case_of fragment_of fragment_back
 
+-- clips are told apart by their pairs and their room
 abbrev pub clips_code : Coded PlainClips
 clips_code =
     code_by (List Pair × ℕ) (coded× (coded_list (coded× (coded_list coded_ℕ) fragment_code)) coded_ℕ)

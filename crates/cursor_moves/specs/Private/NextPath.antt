@@ -4,7 +4,7 @@ use Rattle.std.specs.Option.{option_map_or, option_or}
 use Rattle.template_tree.specs.Programs.PlainTree.{Forest, PlainNode, nodes}
 use Rattle.template_tree.specs.Positions.Stop.{visible_at}
 
--- the nodes that stand inside the item of this number
+-- the nodes inside the item of this number, among which a next path goes on
 abbrev pub inner_of : Forest → ℕ → Forest
 inner_of items k = option_map_or (λ item. item.inner) (slice_get (nodes items) k) Forest.nil
 
@@ -12,7 +12,7 @@ inner_of items k = option_map_or (λ item. item.inner) (slice_get (nodes items) 
 abbrev pub item_behind : Forest → ℕ → Option (List ℕ)
 item_behind items k = option_map (λ _. (k + 1) ∷ []) (slice_get (nodes items) (k + 1))
 
--- the path of the first visible item of a node, if there is one
+-- the next path where it leads into a node: that of the node's first visible item, if there is one
 abbrev pub first_inside : PlainNode → Option (List ℕ)
 first_inside node = if node.label.elided then None else option_map (λ _. 0 ∷ []) (slice_get (nodes node.inner) 0)
 
@@ -27,7 +27,7 @@ next_with inside items (k ∷ path) =
 abbrev pub next_of : Forest → List ℕ → Option (List ℕ)
 next_of items path = option_and_then (λ node. next_with (first_inside node) items path) (visible_at items path)
 
--- there is a node at each step of the path
+-- the path leads on to a next one: there is a node at each step of it
 abbrev pub LeadsOn : Forest → List ℕ → Type 0
 LeadsOn items [] = Unit {0}
 LeadsOn items (k ∷ path) = IsSomeAnd (slice_get (nodes items) k) (λ item. LeadsOn item.inner path)

@@ -10,15 +10,15 @@ use Rattle.decl_table.specs.PlainDecls.{PlainHeadings, PlainDecls, PlainUses, sl
 use Rattle.decl_table.specs.Private.ItemsView.{items_code}
 use Rattle.decl_table.specs.Private.UsesView.{AddsNodes, uses_code}
 
--- the code of the items of procedures
+-- the code of the items of procedures in a table
 abbrev pub item_map_code : Coded ItemMap
 item_map_code = code coded_ℕ items_code
 
--- the code of headings
+-- the code of the headings in a table
 abbrev pub headings_code : Coded PlainHeadings
 headings_code = coded_list (coded× (coded_list coded_ℕ) coded_ℕ)
 
--- the code of a table
+-- the code of a table of declarations
 abbrev pub decls_code : Coded PlainDecls
 decls_code =
     code_by (ItemMap × (PlainHeadings × PlainUses)) (coded× item_map_code (coded× headings_code uses_code))
@@ -26,7 +26,7 @@ decls_code =
     (λ t. record { items = t.0; headings = t.1.0; uses = t.1.1 })
     (λ _. refl)
 
--- the heading of a procedure was taken, and comes before those of later ones
+-- the heading of a procedure was taken into the table, and comes before those of later ones
 abbrev pub TakesHeading : PlainNode → PlainHeadings → PlainHeadings → Type 0
 TakesHeading node old new =
     (name : List ℕ) → slot_of name new ≡ option_or (option_map (λ signature. signature.slot) (signature_for name node)) (slot_of name old)

@@ -10,7 +10,7 @@ use Rattle.template_tree.specs.Programs.Limit.{most_cells}
 use Rattle.decl_table.specs.declared.items.Shape.{Shape}
 use Rattle.decl_table.specs.declared.items.Items.TheInside.{Inside}
 
--- the item of the name, with the type and size that are kept of it
+-- the effective item of the name, with the type and size that are kept of it
 abbrev pub shaped : List ℕ → Shape → Declared
 shaped name shape = record { name = name; ty = shape.ty; size = shape.size }
 
@@ -22,12 +22,12 @@ items_of entries = map (λ entry. shaped entry.0 entry.1) entries
 abbrev pub seen : Inside → List Declared
 seen a = items_of a.shapes.entries
 
--- no name stands twice, and the cells are counted and within the limit
+-- what is kept of a procedure's effective items: no name stands twice, and the cells are counted and within the limit
 pub record IsKept (a : Inside) : Type 0 where
   pub once : IsDistinct bytes_eq (keys_of a.shapes.entries)
   pub counted : a.cells ≡ cells (items_of a.shapes.entries)
   pub few : a.cells ≤ most_cells
 
--- the code of items
+-- the code of the effective items of a procedure
 abbrev pub items_code : Coded (List Declared)
 items_code = coded_list declared_row.the_row.coded

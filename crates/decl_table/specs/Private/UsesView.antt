@@ -12,15 +12,15 @@ use Rattle.template_tree.specs.Checks.Mention.{mention, mentions, part_mentions}
 use Rattle.template_tree.specs.Programs.PlainTree.{Forest}
 use Rattle.decl_table.specs.PlainDecls.{PlainUses, mentions_of}
 
--- the code of places
+-- the code of the places of a name's uses
 abbrev pub mention_list_code : Coded (List PhraseAt)
 mention_list_code = coded_list place_row.the_row.coded
 
--- the code of uses
+-- the code of the uses of names
 abbrev pub uses_code : Coded PlainUses
 uses_code = coded_list (coded× (coded_list coded_ℕ) mention_list_code)
 
--- whether the place is among those that are noted
+-- whether the place is among those that are noted of a name's uses
 abbrev pub is_among : PhraseAt → List PhraseAt → Bool
 is_among at places = list_any (eq_by_cmp phrase_cmp at) places
 

@@ -78,7 +78,7 @@ SaysNothing line = (said : Said) → IsSaying said.saying → said_bytes said �
 
 -- ---- comparing
 
--- a byte that is put is taken off the text that is awaited, if it is its first
+-- a byte that is put is taken off the text of a line that is awaited, if it is its first
 abbrev pub taken_off : ℕ → Option (List ℕ) → Option (List ℕ)
 taken_off byte None = None
 taken_off byte (Some []) = None

@@ -14,31 +14,31 @@ use Rattle.template_tree.specs.Listings.Section.{same_sort, left_for, left_after
 
 -- ---- what a line says
 
--- the kind of a node as its first line tells it: an IF may still become one with an ELSE
+-- the kind of a node as the reader knows it by its first line: an IF may still become one with an ELSE
 abbrev pub shape : NodeKind → NodeKind
 shape (NodeKind.Filled Template.If) = NodeKind.Filled Template.IfElse
 shape kind = kind
 
--- what a line says: it is the first line of a node of the shape with these parts, the line before a section, or the last
--- line of a node
+-- what a line says to the reader: it is the first line of a node of the shape with these parts, the line before a
+-- section, or the last line of a node
 pub data Saying : Type 0 where
   head : NodeKind → List (Option PlainPhrase) → Saying
   lead : List ℕ → Saying
   last : List ℕ → Saying
 
--- what is written behind the blanks of a line that says this
+-- what is written behind the blanks of a line that says this to the reader
 abbrev pub text_of : Saying → List ℕ
 text_of (head kind parts) = segments_text (row_of kind).line parts
 text_of (lead text) = text
 text_of (last text) = text
 
--- whether a node begins in a line that says this
+-- whether a node begins in a line that says this to the reader
 abbrev pub opens : Saying → Bool
 opens (head kind parts) = true
 opens (lead text) = false
 opens (last text) = false
 
--- some listing may have a line that says this
+-- some listing may have a line that says this to the reader
 abbrev pub IsSaying : Saying → Type 0
 IsSaying (head kind parts) = (shape kind ≡ kind) × AreParts (parts_of (row_of kind).line) parts
 IsSaying (lead text) = text ≡ codes "ELSE"
@@ -70,7 +70,7 @@ pub record Entry : Type 0 where
   pub before : Option (List ℕ)
   pub next : Filling
 
--- how an item of the sort comes into the first of the sections
+-- how an item of the sort comes into the first of the sections of the reader's list
 abbrev pub first_entry : Sort → List PlainSection → Option Entry
 first_entry sort [] = None
 first_entry sort (section ∷ left) =
@@ -78,12 +78,12 @@ first_entry sort (section ∷ left) =
     then Some (record { before = section.lead; next = filling_after section.amount section.sort left })
     else None
 
--- whether a list of this sort goes on
+-- whether a list of this sort goes on, as the reader counts how far it has come
 abbrev pub goes_on : Option Sort → Sort → Bool
 goes_on None sort = false
 goes_on (Some own) sort = same_sort own sort
 
--- how an item of the sort comes into the list, if it may
+-- how an item of the sort comes into the reader's list, if it may
 abbrev pub item_entry : Sort → Filling → Option Entry
 item_entry sort filling =
     if goes_on filling.going sort then Some (record { before = None; next = filling }) else first_entry sort filling.left
@@ -96,7 +96,7 @@ unled item = if is_none item.before then Some item.next else None
 abbrev pub advanced : Sort → Filling → Option Filling
 advanced sort filling = option_and_then unled (item_entry sort filling)
 
--- whether the text is that line of the table, if there is one
+-- whether the text of a line that the reader takes is that line of the table, if there is one
 abbrev pub is_text : List ℕ → Option (List ℕ) → Bool
 is_text text None = false
 is_text text (Some own) = bytes_eq text own
@@ -107,7 +107,7 @@ led_sections text [] = None
 led_sections text (section ∷ left) =
     if is_text text section.lead then Some (unfilled (record section { lead = None } ∷ left)) else None
 
--- whether a list for which these sections are left may end: a section with a line before it may be absent
+-- whether the reader's list for which these sections are left may end: a section with a line before it may be absent
 abbrev pub optional : List PlainSection → Bool
 optional [] = true
 optional (section ∷ left) = is_some section.lead && optional left
@@ -134,20 +134,20 @@ pub record OpenNodes : Type 0 where
 abbrev pub unread : OpenNodes
 unread = record { own = record { items = Forest.nil; filling = unfilled program_sections }; outer = [] }
 
--- the kind of a node of the shape with these items: an IF with one body alone has no ELSE
+-- the kind of a node of the shape that the reader has with these items: an IF with one body alone has no ELSE
 abbrev pub kind_with : NodeKind → Forest → NodeKind
 kind_with (NodeKind.Filled Template.IfElse) (Forest.cons label inner Forest.nil) = NodeKind.Filled Template.If
 kind_with kind items = kind
 
--- the node that an open one becomes with these items
+-- the node that the reader's open one becomes with these items
 abbrev pub node_of : OpenNode → Forest → Forest
 node_of frame items = Forest.cons (built_label (kind_with frame.kind items) frame.parts 0) items Forest.nil
 
--- the list around an open node, once the node has ended in it
+-- the reader's list around an open node, once the node has ended in it
 abbrev pub closed : OpenList → OpenNode → OpenList
 closed own frame = record frame.around { items = join frame.around.items (node_of frame own.items) }
 
--- the list around the innermost open node, once that has ended without a line of its own, if it may
+-- the reader's list around the innermost open node, once that has ended without a line of its own, if it may
 abbrev pub shut : OpenList → OpenNode → Option OpenList
 shut own frame =
     if is_none (row_of frame.kind).last && optional own.filling.left then Some (closed own frame) else None
@@ -214,7 +214,7 @@ abbrev pub lines_taken : OpenNodes → List Said → Option OpenNodes
 lines_taken stack [] = Some stack
 lines_taken stack (said ∷ rest) = option_and_then (λ s. lines_taken s rest) (line_taken stack said)
 
--- the items of the outermost list, if it may end
+-- the items of the reader's outermost list, if it may end
 abbrev pub finished : OpenList → Option Forest
 finished own = if optional own.filling.left then Some own.items else None
 
@@ -224,17 +224,17 @@ program_of stack = option_and_then (λ s. finished s.own) (lowered 0 stack.own s
 
 -- ---- the lines of nodes in this form
 
--- what the line before a section says, if the table has one
+-- what the line before a section says to the reader, if the table has one
 abbrev pub said_lead : ℕ → Option (List ℕ) → List Said
 said_lead level None = []
 said_lead level (Some text) = record { level = level; saying = lead text } ∷ []
 
--- what the last line of a node says, if the table has one
+-- what the last line of a node says to the reader, if the table has one
 abbrev pub said_last : ℕ → Option (List ℕ) → List Said
 said_last level None = []
 said_last level (Some text) = record { level = level; saying = last text } ∷ []
 
--- what the lines say that nodes in order have at a level, where these sections are left for them
+-- what the lines say to the reader that nodes in order have at a level, where these sections are left for them
 abbrev pub sayings : (level : ℕ) (left : List PlainSection) → Forest → List Said
 sayings level left Forest.nil = []
 sayings level left (Forest.cons label inner rest) =

@@ -12,7 +12,7 @@ pub record Come : Type 0 where
   pub lines : ℕ
   pub opened : ℕ
 
--- a node may begin in the line, behind so many others
+-- a node may begin in the line that the reader takes, behind so many others
 pub record MayOpen (said : Said) (opened : ℕ) : Type 0 where
   pub shallow : opens said.saying ≡ true → said.level < deepest_path
   pub few : opens said.saying ≡ true → opened < most_slots
@@ -46,12 +46,12 @@ IsLineRefused line before FileRefusal.NoFile = ⊥
 IsLineRefused line before FileRefusal.FileFault = ⊥
 IsLineRefused line before FileRefusal.TooLong = ⊥
 
--- why a listing is refused whose line of this number wasn't read
+-- why the reader refuses a listing whose line of this number wasn't read
 abbrev pub refused_in : (number : ℕ) → NotRead → FileRefusal
 refused_in number NotRead.OutOfMemory = FileRefusal.OutOfMemory
 refused_in number NotRead.Refused = FileRefusal.NotAListing number
 
--- what is past a limit where a node may begin at a level behind so many others
+-- what is past a limit where a node may begin in the line that the reader takes, at a level behind so many others
 abbrev pub IsPast : Bool → ℕ → ℕ → Option FileRefusal → Type 0
 IsPast opens level opened None = (opens ≡ true → level < deepest_path) × (opens ≡ true → opened < most_slots)
 IsPast opens level opened (Some FileRefusal.TooDeep) = (opens ≡ true) × (deepest_path ≤ level)

@@ -88,7 +88,7 @@ pub(crate) const LEAD: &[u8] = b"ELSE";
 /// The last line of a node.
 pub(crate) const LAST: &[u8] = b"END;";
 
-/// Whether a list of this sort goes on.
+/// Whether a list of this sort goes on where it has come behind an item.
 fn goes_on(going: Option<Sort>, sort: Sort) -> bool
     ensures { result ≡ goes_on going sort }
 {

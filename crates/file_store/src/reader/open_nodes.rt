@@ -62,7 +62,7 @@ pub(crate) fn line_taken(alloc: Global, stack: OpenNodes, said: Said) -> Result<
     }
 }
 
-/// The items of the program, if the lines are its whole listing.
+/// The items of the program that stand in the open lists, if the lines are its whole listing.
 pub(crate) fn finish(stack: OpenNodes) -> Result<Nodes, NotRead>
     ensures { Gives (λ list. roomless (forest list.items)) result (program_of (open_nodes_of stack)) }
 {
@@ -130,7 +130,7 @@ fn closed(own: OpenList, frame: OpenNode) -> Result<OpenList, NotRead>
     with_node(around, node)
 }
 
-/// The kind of a node of the shape with so many items: an IF with one body alone has no ELSE.
+/// The kind of an open node of the shape with so many items: an IF with one body alone has no ELSE.
 fn kind_with(kind: NodeKind, count: usize) -> NodeKind
     ensures { (items : Forest) → count ≡ min (length (nodes items)) (2 ^ 64 - 1) → result ≡ kind_with kind items }
 {

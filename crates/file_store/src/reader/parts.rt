@@ -81,7 +81,7 @@ fn nothing_more(text: &[u8], parts: Vec<PhrasePlace>) -> Result<Vec<PhrasePlace>
     Err(NotRead::Refused)
 }
 
-/// Whether nothing is left: of segments, or of a text.
+/// Whether nothing is left of a line whose parts are read: of its segments, or of its text.
 fn is_empty<T>(items: &[T]) -> bool
     ensures { Decides result (items.now ≡ []) }
 {
@@ -229,7 +229,7 @@ impl ByteOut for Awaited<'_> {
     }
 }
 
-/// What stands behind the words in the text of a line, if it begins with them.
+/// What stands behind the words that divide parts in the text of a line, if it begins with them.
 pub(crate) fn behind<'a>(text: &'a [u8], words: &[u8]) -> Option<&'a [u8]>
     ensures { MatchOption result ((rest : List ℕ) → text.now ≢ words.now ++ rest)
         (λ rest. text.now ≡ words.now ++ rest.now) }
@@ -237,7 +237,7 @@ pub(crate) fn behind<'a>(text: &'a [u8], words: &[u8]) -> Option<&'a [u8]>
     text.strip_prefix(words)
 }
 
-/// What stands before the words in the text of a line, if it ends with them.
+/// What stands before the words that end a part in the text of a line, if it ends with them.
 fn before<'a>(text: &'a [u8], words: &[u8]) -> Option<&'a [u8]>
     ensures { MatchOption result ((front : List ℕ) → text.now ≢ front ++ words.now)
         (λ front. text.now ≡ front.now ++ words.now) }

@@ -23,7 +23,7 @@ pub record KeepsKey {E : Type 0} (given key : ℕ) (past past_after : List DiskS
   pub safe : OnOk result (Newest (LeavesOnly (kept_keys past ++ key ∷ [])) past_after)
   pub holds : OnOk result (Newest (IsAppending (given + 1)) past_after)
 
--- a gate that isn't open is put behind the last whole block
+-- a gate that isn't open is put behind the last whole block, before a new key is kept
 pub record ShutsGate {E : Type 0} (given : ℕ) (past past_after : List DiskState)
     (result : Result Unit E) : Type 0 where
   pub each : Throughout (LeavesOnly (kept_keys past)) past past_after
@@ -52,7 +52,8 @@ pub record ReplaysAt {E : Type 0} (stage : Stage) (given : ℕ) (past past_after
   pub replays : Replays given past past_after result
   pub stage_is : IfOk result (λ key. stage ≡ stage_after key)
 
--- what holds of the disk after a step that gave this key, or the end
+-- what holds of the disk after a step of a read that looked for a kept key, or kept a new one: it gave this key, or
+-- the end
 abbrev pub HoldsAfter : Stage → ℕ → Option ℕ → List DiskState → Type 0
 HoldsAfter stage given (Some key) past = HoldsAt stage (given + 1) past × (given + 1 ≤ 2 ^ 61)
 HoldsAfter stage given None past = HoldsAt stage given past

@@ -3,17 +3,18 @@ use Rattle.std.specs.Prelude.{◌≡◌, ℕ, List, [], length, Result, OnOk}
 use Rattle.key_journal.specs.Crash.{Throughout}
 use Rattle.key_journal.specs.Disk.{DiskState, MayLeave, Newest, Torn, disk_bytes, overwritten}
 
--- a disk is synced with these bytes: it reads as these, and a crash leaves them
+-- a disk is synced with these bytes, as before and after a write that is synced at once: it reads as these, and a
+-- crash leaves them
 pub record IsSyncedAs (bytes : List ℕ) (state : DiskState) : Type 0 where
   pub none : state.pending ≡ []
   pub synced : state.synced ≡ bytes
   pub reads : state.bytes ≡ bytes
 
--- a disk is synced: a crash leaves what it reads as
+-- a disk is synced, as before a write that is synced at once: a crash leaves what it reads as
 abbrev pub IsSynced : DiskState → Type 0
 IsSynced state = IsSyncedAs state.bytes state
 
--- a crash leaves these bytes with the range torn
+-- a crash in a write that is synced at once leaves these bytes with the range torn
 pub record IsTornFrom (at count : ℕ) (bytes : List ℕ) (state : DiskState) : Type 0 where
   pub images : (image : List ℕ) → MayLeave state image → Torn at count bytes image
   pub reads : Torn at count bytes state.bytes

@@ -34,7 +34,7 @@ front_of_word length x =
 abbrev pub word_front : List ℕ → Option Front
 word_front x = front_of_word (prefix_len is_name_byte x) x
 
--- the number that the first so many digits of a text write, as it is kept
+-- the number that the first so many digits at the front of a text write, as it is kept
 abbrev pub number_kept : ℕ → List ℕ → Front
 number_kept length x = record { kind = kind.Number (min (numeral_value (take length x)) greatest_kept); length = length }
 
@@ -42,7 +42,7 @@ number_kept length x = record { kind = kind.Number (min (numeral_value (take len
 abbrev pub number_front : List ℕ → Front
 number_front x = number_kept (prefix_len is_digit x) x
 
--- the bit that a digit of a bit constant stands for
+-- the bit that a digit of a bit constant at the front of a text stands for
 abbrev pub bit_value : ℕ → Option Bool
 bit_value digit = if digit == 48 then Some false else if digit == 49 then Some true else None
 
@@ -60,7 +60,8 @@ abbrev pub end_if_short : ℕ → ℕ → Option ℕ
 end_if_short end content = if nat_le content longest_text then Some end else None
 
 abbrev mutual
-  -- how many bytes a character constant has, where so many are read, with so many of its value, and x is left
+  -- how many bytes a character constant at the front of a text has, where so many are read, with so many of its
+  -- value, and x is left
   pub constant_end : ℕ → ℕ → List ℕ → Option ℕ
   constant_end read content [] = None
   constant_end read content (byte ∷ rest) =
@@ -68,7 +69,7 @@ abbrev mutual
       else if is_printable byte then constant_end (read + 1) (content + 1) rest
       else None
 
-  -- how many bytes a character constant has, where a quote of it was read and x is left
+  -- how many bytes a character constant at the front of a text has, where a quote of it was read and x is left
   pub constant_end_at_quote : ℕ → ℕ → List ℕ → Option ℕ
   constant_end_at_quote read content [] = end_if_short (read + 1) content
   constant_end_at_quote read content (byte ∷ rest) =
@@ -84,7 +85,7 @@ constant_of None None = None
 abbrev pub constant_front : List ℕ → Option Front
 constant_front x = constant_of (bit_constant x) (constant_end 1 0 (drop 1 x))
 
--- the sign that the first two bytes of a text are, if there is a second
+-- the sign that the first two bytes at the front of a text are, if there is a second
 abbrev pub double_at : ℕ → List ℕ → Option Sign
 double_at first [] = None
 double_at first (second ∷ rest) = sign_of (first ∷ second ∷ [])

@@ -7,7 +7,7 @@ use plcs_base::Name;
 use plcs_grammar::{Expr, Item, VarRef};
 use std::alloc::AllocError;
 
-/// A list of expressions with one more at its end.
+/// A phrase's list of expressions with one more at its end.
 #[tactic(auto, using(crate::proofs::Frames::FrameStacks::exprs_of_push))]
 pub fn with_expr(done: Vec<Expr>, expr: Expr) -> Result<Vec<Expr>, AllocError>
     ensures { IfOk result (λ all. plain_exprs all.items ≡ expr_push (plain_exprs done.items) (plain_expr expr)) }
@@ -17,7 +17,7 @@ pub fn with_expr(done: Vec<Expr>, expr: Expr) -> Result<Vec<Expr>, AllocError>
     Ok(all)
 }
 
-/// A list of variables with one more at its end.
+/// A phrase's list of variables with one more at its end.
 #[tactic(auto, using(crate::proofs::Frames::FrameStacks::references_of_push))]
 pub fn with_variable(done: Vec<VarRef>, variable: VarRef) -> Result<Vec<VarRef>, AllocError>
     ensures { IfOk result
@@ -28,7 +28,7 @@ pub fn with_variable(done: Vec<VarRef>, variable: VarRef) -> Result<Vec<VarRef>,
     Ok(all)
 }
 
-/// A list of declared items with one more at its end.
+/// A phrase's list of declared items with one more at its end.
 pub fn with_item(done: Vec<Item>, name: Name, size: Option<u32>) -> Result<Vec<Item>, AllocError>
     ensures { IfOk result (λ all. all.items ≡ done.items ++ (record { name = name; size = size } ∷ [])) }
 {
@@ -37,7 +37,7 @@ pub fn with_item(done: Vec<Item>, name: Name, size: Option<u32>) -> Result<Vec<I
     Ok(all)
 }
 
-/// A list of names with one more at its end.
+/// A phrase's list of names with one more at its end.
 pub fn with_name(done: Vec<Name>, name: Name) -> Result<Vec<Name>, AllocError>
     ensures { IfOk result (λ all. all.items ≡ done.items ++ (name ∷ [])) }
 {

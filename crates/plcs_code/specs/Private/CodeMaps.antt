@@ -9,15 +9,15 @@ use Rattle.plcs_code.specs.Gen.{AddressMap, EntryMap, PlainCode, SpanMap}
 use Rattle.plcs_code.specs.PlainInstr.{PlainInstr}
 use Rattle.plcs_code.specs.Private.InstrCode.{block_code}
 
--- the code of spans
+-- the code of the map of spans
 abbrev pub span_map_code : Coded SpanMap
 span_map_code = code coded_ℕ (coded× coded_ℕ coded_ℕ)
 
--- the code of addresses
+-- the code of the map of addresses
 abbrev pub address_map_code : Coded AddressMap
 address_map_code = code place_row.the_row.coded coded_ℕ
 
--- the code of effective headings
+-- the code of the map of effective headings
 abbrev pub entry_map_code : Coded EntryMap
 entry_map_code = code (coded_list coded_ℕ) entry_row.the_row.coded
 
@@ -30,16 +30,16 @@ plain_code_code =
     (λ t. record { instrs = t.0; addresses = t.1.0; headings = t.1.1.0; spans = t.1.1.1 }) (λ _. refl)
 
 module _ {K X : Type 0} {R : K → K → Ordering} where
-  -- the map with these entries before what it has
+  -- a map of code with these entries before what it has
   abbrev pub with_all : List (K × X) → FinMap R X → FinMap R X
   with_all [] map = map
   with_all (entry ∷ entries) map = insert (with_all entries map) entry.0 entry.1
 
-  -- the map with an entry behind what it has, of which the first of a key counts
+  -- a map of code with an entry behind what it has, of which the first of a key counts
   abbrev pub with_first : FinMap R X → K → X → FinMap R X
   with_first map key value = if contains_key map key then map else insert map key value
 
-  -- the map with these entries behind what it has, of which the first of a key counts
+  -- a map of code with these entries behind what it has, of which the first of a key counts
   abbrev pub with_firsts : FinMap R X → List (K × X) → FinMap R X
   with_firsts map [] = map
   with_firsts map (entry ∷ entries) = with_firsts (with_first map entry.0 entry.1) entries

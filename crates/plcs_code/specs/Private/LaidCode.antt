@@ -18,24 +18,24 @@ use Rattle.plcs_code.specs.Private.InstrCode.{block_code}
 
 -- ---- items
 
--- whether the own code of a node of the sort depends on items
+-- whether the own code of a node of the sort depends on items, by which it is laid
 abbrev pub has_items : Sort → Bool
 has_items Sort.Main = true
 has_items Sort.Procedure = true
 has_items Sort.Declaration = false
 has_items Sort.Statement = false
 
--- a node has the pieces that it has with these items
+-- a node that is laid has the pieces that it has with these items
 abbrev pub HasItems : ItemMap → Label → List Declared → Type 0
 HasItems map label items = (marks : MarkMap) → own_pieces marks items label ≡ pieces marks map label
 
 -- ---- lengths counted ahead
 
--- lengths are told by their list
+-- lengths that were counted ahead are told by their list
 abbrev pub lengths_code : Coded (List NodeLength)
 lengths_code = coded_list length_row.the_row.coded
 
--- the length of a node, inside which the codes of nodes have these lengths
+-- the length of a node's code, counted ahead, inside which the codes of nodes have these lengths
 abbrev pub length_of : MarkMap → ItemMap → Label → (lengths : List ℕ) → NodeLength
 length_of marks items label lengths =
     record {
@@ -44,7 +44,7 @@ length_of marks items label lengths =
       others = other_lengths lengths;
     }
 
--- the lengths of nodes and of those inside them, in listing order
+-- the lengths of nodes and of those inside them, counted ahead, in listing order
 abbrev pub listed_lengths : MarkMap → ItemMap → Forest → List NodeLength
 listed_lengths marks items Forest.nil = []
 listed_lengths marks items (Forest.cons label inner rest) =
@@ -58,21 +58,21 @@ pub record PlainLaid : Type 0 where
   pub instrs : List PlainInstr
   pub spans : List NodeSpan
 
--- it is told by its fields
+-- code while it is laid is told by its fields
 abbrev pub laid_code : Coded PlainLaid
 laid_code =
     code_by (List PlainInstr × List NodeSpan) (coded× block_code (coded_list span_row.the_row.coded))
     (λ laid. (laid.instrs, laid.spans)) (λ t. record { instrs = t.0; spans = t.1 }) (λ _. refl)
 
--- with some more instructions
+-- code while it is laid, with some more instructions
 abbrev pub with_instrs : List PlainInstr → PlainLaid → PlainLaid
 with_instrs code laid = record { instrs = laid.instrs ++ code; spans = laid.spans }
 
--- with one more span
+-- code while it is laid, with one more span
 abbrev pub with_span : NodeSpan → PlainLaid → PlainLaid
 with_span span laid = record { instrs = laid.instrs; spans = laid.spans ++ (span ∷ []) }
 
--- with the codes of nodes, the first of which has this behind it
+-- code while it is laid, with the codes of nodes, the first of which has this behind it
 abbrev pub with_nodes : MarkMap → ItemMap → (between : List PlainInstr) → Forest → PlainLaid → PlainLaid
 with_nodes marks items between nodes laid =
     record {
@@ -80,16 +80,16 @@ with_nodes marks items between nodes laid =
       spans = laid.spans ++ node_spans marks items (length laid.instrs) (length between) nodes;
     }
 
--- the jumps of a node, inside which the codes of nodes have these lengths
+-- the jumps of a node that is laid, inside which the codes of nodes have these lengths
 abbrev pub jumps_by : MarkMap → ItemMap → Label → NodeLength → CodeJumps
 jumps_by marks items label lengths =
     own_jumps marks label (length (pieces marks items label).before) lengths.first lengths.others
 
--- what stands in a node's own code before what is inside, with the jump ahead
+-- what is laid in a node's own code before what is inside, with the jump ahead
 abbrev pub front : MarkMap → ItemMap → Label → NodeLength → List PlainInstr
 front marks items label lengths =
     (pieces marks items label).before ++ option_to_list (jumps_by marks items label lengths).ahead
 
--- the lengths begin with these
+-- the lengths that were counted ahead begin with these
 abbrev pub BeginWith : List NodeLength → List NodeLength → Type 0
 BeginWith first lengths = (rest : List NodeLength) × (lengths ≡ first ++ rest)

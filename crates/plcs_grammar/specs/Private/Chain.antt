@@ -17,7 +17,7 @@ leftmost (PlainExpr.binary op a b) (suc times) = leftmost a times
 leftmost (PlainExpr.builtin function arguments) times = PlainExpr.builtin function arguments
 leftmost (PlainExpr.parenthesized a) times = PlainExpr.parenthesized a
 
--- the text of an operator with a blank on each side, and of its right operand
+-- the text of an operator of a chain with a blank on each side, and of its right operand
 abbrev pub operator_text : InfixOp → PlainExpr → List ℕ
 operator_text op b = behind_sign (infix_sign op) (canon b)
 

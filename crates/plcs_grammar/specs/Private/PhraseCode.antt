@@ -15,15 +15,16 @@ use Rattle.plcs_grammar.specs.contracts.item.Item as item_row
 use Rattle.plcs_grammar.specs.contracts.category.Category as category_row
 use Rattle.plcs_grammar.specs.PlainPhrase.{PlainExpr, PlainVarRef, PlainExprs, PlainPhrase}
 
--- what a label may be
+-- what a label of a phrase's bush may be
 abbrev pub Mark : Type 0
 Mark = ℤ ⊎ (List ℕ ⊎ (Bool ⊎ (PrefixOp ⊎ (InfixOp ⊎ (Builtin ⊎ Bool)))))
 
--- a label with what hangs on it to the left and to the right
+-- a bush by which phrases are told apart: a label with what hangs on it to the left and to the right
 pub data Bush : Type 0 where
   leaf : Bush
   twig : (mark : Mark) (left right : Bush) → Bush
 
+-- labels of a phrase's bush are told apart by their cases
 abbrev pub mark_code : Coded Mark
 mark_code =
     coded⊎ coded_ℤ
@@ -33,35 +34,42 @@ mark_code =
     (coded⊎ infix_row.the_row.coded
     (coded⊎ function_row.the_row.coded coded_bool)))))
 
+-- the code of a bush by which phrases are told apart
 abbrev pub bush_code_of : Bush → Gv
 bush_code_of leaf = gnil
 bush_code_of (twig mark left right) = gcons (mark_code.code mark) (gcons (bush_code_of left) (bush_code_of right))
 
+-- what stands left in the code of a bush
 abbrev pub head : Gv → Gv
 head gnil = gnil
 head (gnum n) = gnil
 head (gcons a b) = a
 
+-- what stands right in the code of a bush
 abbrev pub tail : Gv → Gv
 tail gnil = gnil
 tail (gnum n) = gnil
 tail (gcons a b) = b
 
+-- the code is that of a bush with a label
 abbrev pub IsCons : Gv → Type 0
 IsCons gnil = ⊥
 IsCons (gnum n) = ⊥
 IsCons (gcons a b) = Unit {0}
 
+-- bushes with one code are one, so that phrases are told apart by them
 pub bush_code_of_inj : (x y : Bush) → bush_code_of x ≡ bush_code_of y → x ≡ y
 bush_code_of_inj leaf leaf p = refl
 bush_code_of_inj (twig m a b) (twig n c d) p = λ i. twig (mark_code.inj m n (ap head p) i) (bush_code_of_inj a c (ap (λ g. head (tail g)) p) i) (bush_code_of_inj b d (ap (λ g. tail (tail g)) p) i)
 bush_code_of_inj leaf (twig n c d) p = absurd (subst IsCons (sym p) tt)
 bush_code_of_inj (twig m a b) leaf p = absurd (subst IsCons p tt)
 
+-- bushes of labels are told apart by their codes
 abbrev pub bush_code : Coded Bush
 bush_code = record { code = bush_code_of; inj = bush_code_of_inj }
 
 abbrev mutual
+  -- the bush of an expression of a phrase
   pub expr_bush : PlainExpr → Bush
   expr_bush (PlainExpr.number z) = twig (inl z) leaf leaf
   expr_bush (PlainExpr.text value) = twig (inr (inl value)) leaf leaf
@@ -72,20 +80,23 @@ abbrev mutual
   expr_bush (PlainExpr.variable reference) = twig (inr (inr (inr (inr (inr (inr true)))))) (reference_bush reference) leaf
   expr_bush (PlainExpr.parenthesized a) = twig (inr (inr (inr (inr (inr (inr false)))))) (expr_bush a) leaf
 
+  -- the bush of a variable of a phrase
   pub reference_bush : PlainVarRef → Bush
   reference_bush (PlainVarRef.simple name) = twig (inr (inl name)) leaf leaf
   reference_bush (PlainVarRef.subscripted name index) = twig (inr (inl name)) (expr_bush index) (twig (inl (pos 0)) leaf leaf)
 
+  -- the bush of a list of expressions of a phrase
   pub exprs_bush : PlainExprs → Bush
   exprs_bush PlainExprs.nil = leaf
   exprs_bush (PlainExprs.cons a rest) = twig (inl (pos 0)) (expr_bush a) (exprs_bush rest)
 
--- what a bush may stand for
+-- what a bush of labels may stand for: a phrase, or a part of one
 pub record Built : Type 0 where
   pub expr : PlainExpr
   pub reference : PlainVarRef
   pub exprs : PlainExprs
 
+-- the expression that a label of a bush stands for, with what hangs on it
 abbrev pub expr_of : Mark → Built → Built → PlainExpr
 expr_of (inl z) a b = PlainExpr.number z
 expr_of (inr (inl value)) a b = PlainExpr.text value
@@ -96,15 +107,18 @@ expr_of (inr (inr (inr (inr (inr (inl f)))))) a b = PlainExpr.builtin f a.exprs
 expr_of (inr (inr (inr (inr (inr (inr true)))))) a b = PlainExpr.variable a.reference
 expr_of (inr (inr (inr (inr (inr (inr false)))))) a b = PlainExpr.parenthesized a.expr
 
+-- the name that a label of a bush is
 abbrev pub name_in_code : Mark → List ℕ
 name_in_code (inl z) = []
 name_in_code (inr (inl value)) = value
 name_in_code (inr (inr other)) = []
 
+-- the variable that a label of a bush stands for, with what hangs on it
 abbrev pub reference_of : Mark → Built → Bush → PlainVarRef
 reference_of mark a leaf = PlainVarRef.simple (name_in_code mark)
 reference_of mark a (twig other left right) = PlainVarRef.subscripted (name_in_code mark) a.expr
 
+-- what a bush of labels stands for
 abbrev pub built : Bush → Built
 built leaf = record { expr = PlainExpr.bit false; reference = PlainVarRef.simple []; exprs = PlainExprs.nil }
 built (twig mark left right) =
@@ -115,6 +129,7 @@ built (twig mark left right) =
     }
 
 mutual
+  -- an expression's bush gives the expression back
   pub expr_back : (e : PlainExpr) → (built (expr_bush e)).expr ≡ e
   expr_back (PlainExpr.number z) = refl
   expr_back (PlainExpr.text value) = refl
@@ -125,20 +140,25 @@ mutual
   expr_back (PlainExpr.variable reference) = ap PlainExpr.variable (reference_back reference)
   expr_back (PlainExpr.parenthesized a) = ap PlainExpr.parenthesized (expr_back a)
 
+  -- a variable's bush gives the variable back
   pub reference_back : (r : PlainVarRef) → (built (reference_bush r)).reference ≡ r
   reference_back (PlainVarRef.simple name) = refl
   reference_back (PlainVarRef.subscripted name index) = ap (PlainVarRef.subscripted name) (expr_back index)
 
+  -- the bush of a list of expressions gives the list back
   pub exprs_back : (es : PlainExprs) → (built (exprs_bush es)).exprs ≡ es
   exprs_back PlainExprs.nil = refl
   exprs_back (PlainExprs.cons a rest) = λ i. PlainExprs.cons (expr_back a i) (exprs_back rest i)
 
+-- expressions of phrases are told apart by their bushes
 abbrev pub expr_code : Coded PlainExpr
 expr_code = code_by Bush bush_code expr_bush (λ b. (built b).expr) expr_back
 
+-- variables of phrases are told apart by their bushes
 abbrev pub reference_code : Coded PlainVarRef
 reference_code = code_by Bush bush_code reference_bush (λ b. (built b).reference) reference_back
 
+-- lists of expressions of phrases are told apart by their bushes
 abbrev pub exprs_code : Coded PlainExprs
 exprs_code = code_by Bush bush_code exprs_bush (λ b. (built b).exprs) exprs_back
 
@@ -151,12 +171,15 @@ pub record Made : Type 0 where
   pub names : List (List ℕ)
   pub number : ℕ
 
+-- what a phrase of the category that is told apart is made of, before anything comes into it
 abbrev pub nothing_of : Category → Made
 nothing_of c = record { category = c; references = []; exprs = PlainExprs.nil; items = []; names = []; number = 0 }
 
+-- the list of the one expression of which a phrase that is told apart is made
 abbrev pub one_expr : PlainExpr → PlainExprs
 one_expr e = PlainExprs.cons e PlainExprs.nil
 
+-- what each phrase is made of, by which it is told apart
 abbrev pub made_of : PlainPhrase → Made
 made_of (PlainPhrase.assignment target value) =
     record (nothing_of Category.Assignment) { references = target ∷ []; exprs = one_expr value }
@@ -172,18 +195,22 @@ made_of (PlainPhrase.name_list names) = record (nothing_of Category.NameList) { 
 made_of (PlainPhrase.greatest_length n) = record (nothing_of Category.Length) { number = n }
 made_of (PlainPhrase.comment bytes) = record (nothing_of Category.CommentText) { names = bytes ∷ [] }
 
+-- the first of the variables of which a phrase that is told apart is made
 abbrev pub first_reference : List PlainVarRef → PlainVarRef
 first_reference [] = PlainVarRef.simple []
 first_reference (r ∷ rs) = r
 
+-- the first of the expressions of which a phrase that is told apart is made
 abbrev pub first_expr : PlainExprs → PlainExpr
 first_expr PlainExprs.nil = PlainExpr.bit false
 first_expr (PlainExprs.cons e es) = e
 
+-- the first of the names of which a phrase that is told apart is made
 abbrev pub first_name : List (List ℕ) → List ℕ
 first_name [] = []
 first_name (name ∷ names) = name
 
+-- the phrase of the category that is made of this, given back from its code
 abbrev pub phrase_from : Category → Made → PlainPhrase
 phrase_from Category.Assignment m = PlainPhrase.assignment (first_reference m.references) (first_expr m.exprs)
 phrase_from Category.Condition m = PlainPhrase.condition (first_expr m.exprs)

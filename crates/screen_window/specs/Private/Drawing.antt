@@ -36,6 +36,6 @@ pub record IsDrawn (draw : ℕ → List ℕ) (count : ℕ) (old new : PlainGrid)
   pub cols : new.cols ≡ old.cols
   pub drawn : (k : ℕ) → k < count → slice_index_or new.lines k [] ≡ draw k
 
--- a number, or the greatest one that is kept in 32 bits
+-- a column as it is counted while a view is drawn: the number, or the greatest one that is kept in 32 bits
 abbrev pub capped : ℕ → ℕ
 capped number = min number 4294967295

@@ -15,7 +15,7 @@ use Rattle.session_words.specs.declared.argument_rule.Filed.TheVariants as filed
 use Rattle.session_words.specs.PlainCommand.{PlainCommand}
 use Rattle.session_words.specs.Argument.{PlainArgumentRule}
 
--- a command without an argument
+-- the plain form of what the code says of a command without an argument
 abbrev pub alone_command : Alone → PlainCommand
 alone_command (alone.Template t) = PlainCommand.template t
 alone_command alone.Float = PlainCommand.float
@@ -30,28 +30,28 @@ alone_command alone.Resume = PlainCommand.resume
 alone_command alone.Trace = PlainCommand.trace
 alone_command alone.Quit = PlainCommand.quit
 
--- a command with the name of a clip
+-- the plain form of what the code says of a command that takes the name of a clip
 abbrev pub named_command : Named → List ℕ → PlainCommand
 named_command named.Cut name = PlainCommand.cut name
 named_command named.Copy name = PlainCommand.copy name
 named_command named.Insert name = PlainCommand.insert name
 
--- a command with a number
+-- the plain form of what the code says of a command that takes a number
 abbrev pub numbered_command : Numbered → ℕ → PlainCommand
 numbered_command numbered.Step n = PlainCommand.step n
 numbered_command numbered.Back n = PlainCommand.back n
 numbered_command numbered.Code n = PlainCommand.code n
 
--- a command with a text
+-- the plain form of what the code says of a command that takes a text
 abbrev pub texted_command : Texted → List ℕ → PlainCommand
 texted_command texted.Input text = PlainCommand.input text
 
--- a command with a file name
+-- the plain form of what the code says of a command that takes a file name
 abbrev pub filed_command : Filed → List ℕ → PlainCommand
 filed_command filed.Save name = PlainCommand.save name
 filed_command filed.Load name = PlainCommand.load name
 
--- what a command takes, with the command that it makes of it
+-- the plain form of what the code says that a command takes, with the command that it makes of it
 abbrev pub plain_argument_rule : ArgumentRule → PlainArgumentRule
 plain_argument_rule (rule.Nothing a) = PlainArgumentRule.nothing (alone_command a)
 plain_argument_rule (rule.Name n) = PlainArgumentRule.name (named_command n)

@@ -28,22 +28,22 @@ use Rattle.synth_top.specs.Keys.{IsFront}
 
 -- ---- an editor
 
--- an editor is ready: the parts of its session keep their conditions
+-- an editor is ready for keys that are pressed: the parts of its session keep their conditions
 abbrev pub IsReady : {W : Type 0} → Editor W → Type 0
 IsReady e = IsSession e.session
 
--- an editor before its first screen
+-- an editor in which no key was pressed, before its first screen
 pub record IsUnshown {W : Type 0} (e : Editor W) : Type 0 where
   pub ready : IsReady e
   pub painted : shown_grid e.session ≡ blank_grid (plain_session e.session).size.rows (plain_session e.session).size.cols
   pub reader : e.reader ≡ []
 
--- an editor with the session of these options and loads, before its first screen
+-- an editor with the session of these options and loads, before its first screen and before keys are pressed
 pub record IsOpened {W : Type 0} (options : PlainOptions) (loads : PlainFirstLoads) (e : Editor W) : Type 0 where
   pub unshown : IsUnshown e
   pub session : plain_session e.session ≡ first_session options loads
 
--- the next byte of keys was read, or nothing is left
+-- the next byte of the keys that are pressed was read, or nothing is left
 abbrev pub ReadsByte : Option ℕ → Option (List ℕ) → Option (List ℕ) → Type 0
 ReadsByte (Some byte) before now = Consumes before now (byte ∷ [])
 ReadsByte None before now = Consumes before now [] × IsAtEnd now
@@ -84,7 +84,7 @@ moment_of e taken wanted files counts = record {
 abbrev pub state_at : Moment → EditorState
 state_at m = record { session = m.session; files = m.files.stored }
 
--- the last of some screens, where the first is painted over this one
+-- the last of the screens of keys that are pressed, where the first is painted over this one
 abbrev pub last_shown : PlainGrid → List PlainGrid → PlainGrid
 last_shown shown [] = shown
 last_shown shown (next ∷ rest) = last_shown next rest

@@ -27,7 +27,7 @@ items_of_list other = []
 abbrev pub list_items : List (Option PlainPhrase) → List Item
 list_items parts = unwrap_or (option_map items_of_list (part_at parts 0)) []
 
--- the number that the phrase of a greatest length says
+-- the number that the phrase of a greatest length says in a declaration
 abbrev pub number_of_length : PlainPhrase → Option ℕ
 number_of_length (PlainPhrase.greatest_length n) = Some n
 number_of_length other = None
@@ -191,7 +191,7 @@ heading_of NodeKind.Main parts = None
 heading_of NodeKind.Assign parts = None
 heading_of (NodeKind.Filled template) parts = template_heading template parts
 
--- whether a procedure of the name may be called: the name is neither reserved nor that of main
+-- whether a procedure may be called by the name in its heading: that is neither reserved nor that of main
 abbrev pub may_be_called : List ℕ → Bool
 may_be_called name = not (is_builtin_name name) && not (bytes_eq name (codes "main"))
 
@@ -201,7 +201,7 @@ kind_of_type ItemType.Fixed = Kind.Fixed
 kind_of_type ItemType.Bit = Kind.Bit
 kind_of_type (ItemType.Text n) = Kind.Text
 
--- the kind of a declared item, if it is a scalar
+-- the kind of a declared item, if that is a scalar
 abbrev pub scalar_kind : Declared → Option Kind
 scalar_kind item = if item.size == 0 then Some (kind_of_type item.ty) else None
 

@@ -16,13 +16,14 @@ use Rattle.template_tree.specs.Checks.Verdict.{Surroundings, verdict}
 
 -- ---- what a phrase is checked against
 
--- what nodes declare before the one in the slot; all that they declare, where none of them has it
+-- what nodes declare before the one in the slot, as the verdicts of its phrases ask; all that they declare, where
+-- none of them has it
 abbrev pub declared_before : Forest → (slot : ℕ) → List Declared
 declared_before Forest.nil slot = []
 declared_before (Forest.cons label inner rest) slot =
     if label.slot == slot then [] else declares label ++ declared_before rest slot
 
--- the type that the declaration in the slot gives to its names, where it is one of these nodes
+-- the type that the declaration in the slot gives to its names, as their verdicts ask, where it is one of these nodes
 abbrev pub type_in : Forest → (slot : ℕ) → Option ItemType
 type_in Forest.nil slot = None
 type_in (Forest.cons label inner rest) slot =

@@ -4,7 +4,7 @@ use Rattle.std.specs.List.{list_any}
 use Rattle.plcs_base.specs.declared.declared.Declared.{Declared}
 use Rattle.template_tree.specs.Checks.Environment.{item_named}
 
--- the declared item, if it is a scalar
+-- the item of a parameter, if it is a scalar
 abbrev pub scalar_item : Declared → Option Declared
 scalar_item item = if item.size == 0 then Some item else None
 

@@ -10,7 +10,7 @@ use Rattle.template_tree.specs.Programs.Part.{with_part}
 use Rattle.template_tree.specs.Edits.Hole.{hole_list, hole_of}
 use Rattle.template_tree.specs.Programs.Slots.{count, times, with_slots_from}
 
--- the item of this number gives way to a list of items
+-- the item of this number gives way to a list of items by an edit
 abbrev pub give_way : (PlainNode → List PlainNode) → ℕ → Forest → Forest
 give_way change k Forest.nil = Forest.nil
 give_way change zero (Forest.cons label inner rest) = join (forest (change record { label = label; inner = inner })) rest

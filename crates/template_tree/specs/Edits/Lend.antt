@@ -4,15 +4,15 @@ use Rattle.std.specs.List.{remove, insert}
 use Rattle.template_tree.specs.Edits.Edit.{edit_at}
 use Rattle.template_tree.specs.Programs.PlainTree.{PlainNode, PlainNodes, PlainTree, nodes, forest}
 
--- a list of nodes of a tree with another node in this place
+-- a list of nodes of a tree with another node in this place, which was lent
 abbrev pub with_node_set : PlainNodes → ℕ → PlainNode → PlainNodes
 with_node_set list k item = record list { items = slice_set list.items k item }
 
--- a list of nodes without the one in this place, whose room is left
+-- a list of nodes of a tree without the one in this place, which was taken out; its room is left
 abbrev pub with_node_removed : PlainNodes → ℕ → PlainNodes
 with_node_removed list k = record { items = remove list.items k; spare = list.spare + 1 }
 
--- a list of nodes with one more before this place, in room that was there
+-- a list of nodes of a tree with one more before this place, put into room that was there
 abbrev pub with_node_inserted : PlainNodes → ℕ → PlainNode → PlainNodes
 with_node_inserted list k item = record { items = insert list.items k item; spare = list.spare - 1 }
 

@@ -18,12 +18,12 @@ pub record Line : Type 0 where
 abbrev pub line_bytes : Line → List ℕ
 line_bytes line = replicate (2 * line.level) 32 ++ line.text
 
--- what is written for a part: its phrase, or the placeholder of its category where it is empty
+-- what is written for a part in a line of a program: its phrase, or the placeholder of its category where it is empty
 abbrev pub part_text : Category → Option PlainPhrase → List ℕ
 part_text category None = placeholder category
 part_text category (Some phrase) = Canon phrase
 
--- what is written for a segment where these parts are left: its words, or the first of the parts
+-- what is written for a segment of a program's line where these parts are left: its words, or the first of the parts
 abbrev pub segment_text : PlainSegment → List (Option PlainPhrase) → List ℕ
 segment_text (PlainSegment.words bytes) parts = bytes
 segment_text (PlainSegment.part category) [] = part_text category None

@@ -20,7 +20,7 @@ abbrev pub place_at : ℕ → ℕ → PlainPlace
 place_at slot point = record { slot = slot; point = point }
 
 -- where a run goes on once what stands inside a template is done, if not where it goes on behind the template itself:
--- a While tests again, a For takes its next turn, and a procedure is left
+-- a While tests again, a For takes its next iteration, and a procedure is left
 abbrev pub template_end : Template → Option ℕ
 template_end Template.Fixed = None
 template_end Template.Bit = None
@@ -134,7 +134,7 @@ Start items slot = option_map site_start (site items slot)
 abbrev pub After : Forest → ℕ → Option PlainPlace
 After items slot = option_map (λ site. site.after) (site items slot)
 
--- how many items the variable list in a GET has: each is a point of it
+-- how many items the variable list in a GET has: a run has a place at each
 abbrev pub item_count : List (Option PlainPhrase) → ℕ
 item_count (Some (PlainPhrase.variable_list targets) ∷ parts) = length targets
 item_count other = 0

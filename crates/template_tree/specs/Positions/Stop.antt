@@ -44,7 +44,7 @@ abbrev pub part_stops : NodeKind → ℕ
 part_stops NodeKind.Assign = 0
 part_stops kind = length (parts_of (row_of kind).line)
 
--- a visible node inside the item of this number, as it is seen from outside of that
+-- a visible node inside the item of this number, whose stops are listed, as it is seen from outside of that
 abbrev pub inside : ℕ → VisibleNode → VisibleNode
 inside k node = record node { path = k ∷ node.path }
 

@@ -9,7 +9,8 @@ use Rattle.template_tree.specs.Programs.Program.{IsSubtree, sort_of}
 use Rattle.template_tree.specs.Edits.Edit.{Put, procedure_of}
 use Rattle.template_tree.specs.Edits.EditAnswer.{IsWithin}
 
--- the item of the program on the way of a path: main, the procedure or the procedure hole in which a change is
+-- the item of the program on the way of a path to a node that another one replaces: main, the procedure or the
+-- procedure hole in which the change is
 abbrev pub first_item : Forest → List ℕ → Option PlainNode
 first_item items [] = None
 first_item items (k ∷ path) = slice_get (nodes items) k

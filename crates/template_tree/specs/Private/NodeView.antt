@@ -4,7 +4,7 @@ use Rattle.template_tree.specs.declared.node.Node.TheInside.{Inside}
 use Rattle.template_tree.specs.Programs.PlainTree.{PlainNode, forest}
 use Rattle.template_tree.specs.Programs.PlainPhrasePlace.{plain_phrase_place}
 
--- a node in memory as plain data: its fields, with the parts in plain form and the list of what stands inside as a
+-- what a node in memory is seen as: its fields, with the parts in plain form and the list of what stands inside as a
 -- forest
 abbrev pub seen : Inside → PlainNode
 seen a =

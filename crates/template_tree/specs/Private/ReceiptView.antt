@@ -4,7 +4,7 @@ use Rattle.template_tree.specs.Programs.PlainPhrasePlace.{plain_phrase_place}
 use Rattle.template_tree.specs.Programs.PlainTree.{roomless_node}
 use Rattle.template_tree.specs.Edits.Receipt.{PlainUndoing}
 
--- the plain form of an undoing, without the room of lists
+-- what the undoing of an edit in memory is seen as, without the room of lists
 abbrev pub plain_undoing : Undoing → PlainUndoing
 plain_undoing (Undoing.Put node) = PlainUndoing.put (roomless_node node)
 plain_undoing Undoing.PutBack = PlainUndoing.put_back

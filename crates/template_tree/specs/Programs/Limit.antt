@@ -2,7 +2,7 @@
 use Rattle.std.specs.Prelude.{ℕ}
 use Rattle.template_tree.specs.declared.limit.TheConstants.{DEEPEST_PATH, MOST_SLOTS, MOST_DRAWN_SLOTS, LONGEST_PHRASE, MOST_CELLS}
 
--- how many numbers a path may have
+-- how many numbers a path in a tree may have
 abbrev pub deepest_path : ℕ
 deepest_path = DEEPEST_PATH
 

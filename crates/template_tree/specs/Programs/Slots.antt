@@ -2,7 +2,7 @@
 use Rattle.std.specs.Prelude.{ℕ, ◌+◌, ◌<◌, max, if◌then◌else◌, ◌==◌, Option, Some, None}
 use Rattle.template_tree.specs.Programs.PlainTree.{Forest}
 
--- how many nodes there are, those inside others too
+-- how many nodes, and so how many slots, there are, those inside others too
 abbrev pub count : Forest → ℕ
 count Forest.nil = 0
 count (Forest.cons label inner rest) = count inner + count rest + 1

@@ -32,28 +32,30 @@ abbrev pub with_all : VerdictList → VerdictMap → VerdictMap
 with_all [] verdicts = verdicts
 with_all (entry ∷ entries) verdicts = insert (with_all entries verdicts) entry.0 entry.1
 
--- the surroundings of a phrase, with the items that a table has
+-- the surroundings of a phrase of which a verdict is noted, with the items that a table has
 abbrev pub known_surroundings : PlainDecls → (program : Forest) (procedure : PlainNode) (slot : ℕ) → Surroundings
 known_surroundings decls program procedure slot =
     record (surroundings program procedure slot) { items = items_in decls.items procedure.label.slot }
 
--- the node is main or a procedure of the program: the one that is found by its slot, a subtree, with each slot but once
+-- the node, of whose phrases verdicts are noted, is main or a procedure of the program: the one that is found by its
+-- slot, a subtree, with each slot but once
 pub record IsProcedureItem (program : Forest) (procedure : PlainNode) : Type 0 where
   pub found : procedure_at program procedure.label.slot ≡ Some procedure
   pub subtree : IsSubtree procedure
   pub few : count procedure.inner < most_slots
   pub once : (slot : ℕ) → times slot (forest (procedure ∷ [])) ≤ 1
 
--- the node stands in the procedure, or is it
+-- the node, of which verdicts are noted, stands in the procedure, or is it
 abbrev pub IsIn : (procedure node : PlainNode) → Type 0
 IsIn procedure node = (path : List ℕ) × (below procedure path ≡ Some node)
 
--- each declared list in the node's parts stands in the declaration in its slot, if that is one of the nodes
+-- where verdicts are noted, each declared list in the node's parts stands in the declaration in its slot, if that is
+-- one of the nodes
 abbrev pub AreListed : (inner : Forest) → Label → Type 0
 AreListed inner label =
     (part : ℕ) (phrase : PlainPhrase) → part_at label.parts part ≡ Some phrase → IsListIn inner label.slot phrase
 
--- main or the procedure to which the path leads, or in which it leads to a node
+-- main or the procedure to which the path of a phrase's node leads, or in which it leads to that node
 abbrev pub procedure_item_on : (program : Forest) → (path : List ℕ) → Option PlainNode
 procedure_item_on program [] = None
 procedure_item_on program (k ∷ path) = slice_get (nodes program) k
