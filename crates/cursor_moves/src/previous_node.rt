@@ -61,7 +61,7 @@ fn push_last_below(node: &Node, path: &mut Path)
     push_last_below(item, path);
 }
 
-/// The number of the last visible item inside the node, if there is one.
+/// The number of the last visible item inside a node, on the way to the node before another, if there is one.
 fn last_shown(node: &Node) -> Option<u32>
     requires few { count node.now.inner ≤ most_slots }
     ensures { result ≡ (if node.now.label.elided then None else last_number (length (nodes node.now.inner))) }

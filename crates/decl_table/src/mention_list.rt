@@ -52,7 +52,7 @@ impl MentionList {
         self.list.dedup();
     }
 
-    /// All places in the list.
+    /// All places of phrases in the list.
     pub(crate) fn as_slice(&self) -> &[PhraseAt]
         ensures { result.now ≡ self.now }
     {

@@ -32,6 +32,7 @@ fn run(alloc: Global, disk: MemDisk, keys: &[u8]) -> Result<(Vec<u8>, MemDisk), 
     match JournalKeys::open(source, disk) {
         Ok(mut journal) => {
             let mut given = Vec::new(alloc);
+            // Whatever ends the reading, the keys and the disk are told.
             let _ = read_all(&mut journal, &mut given);
             let (_, disk) = journal.parts();
             Ok((given, disk))

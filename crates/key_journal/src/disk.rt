@@ -75,7 +75,7 @@ pub trait Disk {
         ensures same { past self.new ≡ past self.old }
         ensures cause { HasCause DiskFault.Failed (faults self.old) (faults self.new) result };
 
-    /// Writes the piece over the bytes from `at` on, and further than the end where it is longer.
+    /// Writes the piece over the bytes of the disk from `at` on, and further than the end where it is longer.
     ///
     /// A write that isn't `Ok` may have been done in part.
     fn write_at(&mut self, at: u64, piece: &[u8]) -> Result<(), DiskFault>
@@ -85,7 +85,7 @@ pub trait Disk {
         ensures outside { DISK_END < at + length piece.now → IsErrOf result DiskFault.Failed }
         ensures cause { HasCause DiskFault.Failed (faults self.old) (faults self.new) result };
 
-    /// Keeps all that was written: a crash then leaves what a read gives.
+    /// Has the disk keep all that was written: a crash then leaves what a read gives.
     ///
     /// A sync that isn't `Ok` changes nothing.
     fn sync(&mut self) -> Result<(), DiskFault>

@@ -17,7 +17,7 @@ pub trait DiskFile {
 
     ghost reads_as_image: { (file : Self) → Newest ReadsAsImage (past file) };
 
-    /// Moves some bytes from `at` on into the front of the buffer, and answers how many. `Ok(0)` is the
+    /// Moves some bytes of the file from `at` on into the front of the buffer, and answers how many. `Ok(0)` is the
     /// end of the file.
     fn read_some(&mut self, at: u64, buf: &mut [u8]) -> io::Result<usize>
         requires { 0 < length buf.old }
@@ -27,7 +27,7 @@ pub trait DiskFile {
         ensures inside { IfOk result (λ count. 0 < count → at + count ≤ DISK_END) }
         ensures same { past self.new ≡ past self.old };
 
-    /// Writes the whole piece over the bytes from `at` on, or a part of it where it isn't `Ok`.
+    /// Writes the whole piece over the bytes of the file from `at` on, or a part of it where it isn't `Ok`.
     fn write_whole(&mut self, at: u64, piece: &[u8]) -> io::Result<()>
         requires { Newest (λ state. at ≤ length state.bytes) (past self.old) }
         ensures whole { OnOk result (WritesToDisk at piece.now (past self.old) (past self.new)) }

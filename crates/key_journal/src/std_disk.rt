@@ -54,7 +54,7 @@ impl<F> FileDisk<F> {
         FileDisk { file, faults: 0 }
     }
 
-    /// The file that the disk stands on.
+    /// The file that this disk is over.
     pub fn file(&self) -> &F
         ensures { result.now ≡ self.now.file }
     {

@@ -9,7 +9,8 @@ abbrev pub expr_count : PlainExprs → ℕ
 expr_count PlainExprs.nil = 0
 expr_count (PlainExprs.cons e es) = expr_count es + 1
 
--- the instruction for a variable: the one of its name, or the other one of its name where it has a subscript
+-- the instruction for a variable in the code of a phrase: the one of its name, or the other one of its name where it
+-- has a subscript
 abbrev pub variable_instr : (simple subscripted : List ℕ → PlainInstr) → PlainVarRef → PlainInstr
 variable_instr simple subscripted (PlainVarRef.simple name) = simple name
 variable_instr simple subscripted (PlainVarRef.subscripted name index) = subscripted name
@@ -91,12 +92,12 @@ listed_exprs other = PlainExprs.nil
 abbrev pub listed_instrs : (make : ℕ → PlainInstr) → PlainExprs → List PlainInstr
 listed_instrs make es = exprs_instrs es ++ (make (expr_count es) ∷ [])
 
--- the variables in the list in a part: none where no list stands there
+-- the variables in the list in a part, as the code of a GET has them: none where no list stands there
 abbrev pub get_targets : Option PlainPhrase → List PlainVarRef
 get_targets (Some (PlainPhrase.variable_list targets)) = targets
 get_targets other = []
 
--- the variable in a part, with which a loop counts, if it is there
+-- the variable in a part, with which a loop counts, as its code has it, if it is there
 abbrev pub counter_name : Option PlainPhrase → Option (List ℕ)
 counter_name (Some (PlainPhrase.variable_name name)) = Some name
 counter_name other = None

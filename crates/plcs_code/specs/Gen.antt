@@ -1,4 +1,4 @@
--- The code of a program, made afresh: its instructions, and where everything stands in it.
+-- The code of a program, made afresh: its instructions, and the maps of its spans, addresses and headings.
 use Rattle.std.specs.Prelude.{ℕ, ◌+◌, Bool, true, false, if◌then◌else◌, List, [], ◌∷◌, ◌++◌, length, map, sum, flat_map, Option, Some, None}
 use Rattle.std.specs.FinMap.{FinMap, from_entries}
 use Rattle.std.specs.Option.{option_to_list}

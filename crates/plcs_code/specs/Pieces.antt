@@ -1,4 +1,4 @@
--- The table of code: what the code of a node has beside that of the nodes inside it.
+-- The table of code: the pieces and jumps of each kind of node, beside the codes of the nodes inside it.
 use Rattle.std.specs.Prelude.{ℕ, ◌+◌, ◌==◌, pos, neg_ℤ, Bool, true, false, not, ◌||◌, if◌then◌else◌, bytes_eq, List, [], ◌∷◌, ◌++◌, length, sum, take, flat_map, Option, Some, None, is_some, option_map, unwrap_or}
 use Rattle.std.specs.FinMap.{get}
 use Rattle.std.specs.List.{list_any}
@@ -72,23 +72,26 @@ get_piece slot (Some stop) phrase = PlainInstr.place (place_at slot 0) ∷ stop 
 
 -- ---- procedures
 
--- the instruction that makes the cell of a parameter: none where no effective item, or an array, has its name
+-- the instruction of a procedure's piece that makes the cell of a parameter: none where no effective item, or an
+-- array, has its name
 abbrev pub parameter_instr : Option Declared → List PlainInstr
 parameter_instr None = []
 parameter_instr (Some item) = if item.size == 0 then PlainInstr.parameter item.name item.ty ∷ [] else []
 
--- the instruction that makes the cell of a parameter behind earlier ones, if none of them has its name
+-- the instruction of a procedure's piece that makes the cell of a parameter behind earlier ones, if none of them has
+-- its name
 abbrev pub new_parameter : List Declared → (earlier : List (List ℕ)) → List ℕ → List PlainInstr
 new_parameter items earlier name =
     if list_any (bytes_eq name) earlier then [] else parameter_instr (item_named name items)
 
--- the instructions that make the cells of parameters behind earlier ones, each at its first place in the list
+-- the instructions of a procedure's piece that make the cells of parameters behind earlier ones, each at its first
+-- place in the list
 abbrev pub parameters_instrs : List Declared → (earlier names : List (List ℕ)) → List PlainInstr
 parameters_instrs items earlier [] = []
 parameters_instrs items earlier (name ∷ names) =
     new_parameter items earlier name ++ parameters_instrs items (earlier ++ (name ∷ [])) names
 
--- the instruction that makes the cells of an effective item, if it is no parameter
+-- the instruction of a procedure's piece that makes the cells of an effective item, if it is no parameter
 abbrev pub cell_instr : (parameters : List (List ℕ)) → Declared → List PlainInstr
 cell_instr parameters item =
     if list_any (bytes_eq item.name) parameters then [] else PlainInstr.cell item.name item.ty item.size ∷ []

@@ -28,7 +28,7 @@ pub fn spans_hold_code()
     ensures { SpansHoldCode }
 {}
 
-/// A place exists exactly where it has an address.
+/// The law that a place of a run exists exactly where code has an address for it.
 pub fn places_have_addresses()
     ensures { PlacesHaveAddresses }
 {}

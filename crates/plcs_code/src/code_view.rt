@@ -15,26 +15,26 @@ pub trait CodeView<W: Work> {
 
     ghost code: { Self → PlainCode };
 
-    /// How many instructions the code has.
+    /// How many instructions the viewed code has.
     fn length(&self) -> u32
         ensures { result ≡ length (code self.now).instrs };
 
-    /// The instruction at the address, which is counted as fetched.
+    /// The instruction of the viewed code at the address, which is counted as fetched.
     fn fetch(&self, address: u32, work: &mut W) -> &Emitted<W>
         requires { address < length (code self.now).instrs }
         ensures fetched { Some result.now ≡ slice_get (code self.now).instrs address }
         ensures counted { FetchesOne (W.counts work.old) (W.counts work.new) };
 
-    /// The address of the place, or `None` where it doesn't exist.
+    /// The address of the place in the viewed code, or `None` where it doesn't exist.
     fn address(&self, place: Place) -> Option<u32>
         ensures { result ≡ get (code self.now).addresses place };
 
-    /// The address of the first instruction of the procedure whose effective heading has the name, or
-    /// `None` where none has it.
+    /// The address in the viewed code of the first instruction of the procedure whose effective heading has the name,
+    /// or `None` where none has it.
     fn entry(&self, name: &Name) -> Option<u32>
         ensures { result ≡ option_map (λ entry. entry.address) (get (code self.now).headings name.now) };
 
-    /// The slot of the effective heading that has the name, or `None` where none has it.
+    /// The slot that the viewed code has of the effective heading that has the name, or `None` where none has it.
     fn procedure(&self, name: &Name) -> Option<Slot>
         ensures { result ≡ option_map (λ entry. entry.slot) (get (code self.now).headings name.now) };
 

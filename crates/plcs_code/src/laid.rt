@@ -101,8 +101,9 @@ impl<W: Work> Laid<W> {
             (forest (node.now ∷ [])) self.old) }
         ensures lengths { OnOk result (lengths.old
             ≡ listed_lengths (M.marks marks.now) (D.items scope.now) (forest (node.now ∷ [])) ++ lengths.new) }
-        ensures counted { OnOk result (Emits (length (codes_around [] (node_codes (M.marks marks.now) (D.items scope.now)
-            (forest (node.now ∷ []))))) (W.counts work.old) (W.counts work.new)) }
+        ensures counted { OnOk result (Emits (length (codes_around []
+            (node_codes (M.marks marks.now) (D.items scope.now) (forest (node.now ∷ [])))))
+            (W.counts work.old) (W.counts work.new)) }
         ensures counts { EmitsAtMost (length (codes_around [] (node_codes (M.marks marks.now) (D.items scope.now)
             (forest (node.now ∷ []))))) (W.counts work.old) (W.counts work.new) }
     {
@@ -138,9 +139,11 @@ impl<W: Work> Laid<W> {
         ensures lengths { OnOk result (lengths.old
             ≡ listed_lengths (M.marks marks.now) (D.items scope.now) node.now.inner ++ lengths.new) }
         ensures counted { OnOk result (Emits (length (codes_around (option_to_list (option_map plain_instr between))
-            (node_codes (M.marks marks.now) (D.items scope.now) node.now.inner))) (W.counts work.old) (W.counts work.new)) }
+            (node_codes (M.marks marks.now) (D.items scope.now) node.now.inner)))
+            (W.counts work.old) (W.counts work.new)) }
         ensures counts { EmitsAtMost (length (codes_around (option_to_list (option_map plain_instr between))
-            (node_codes (M.marks marks.now) (D.items scope.now) node.now.inner))) (W.counts work.old) (W.counts work.new) }
+            (node_codes (M.marks marks.now) (D.items scope.now) node.now.inner)))
+            (W.counts work.old) (W.counts work.new) }
     {
         items_are_nodes();
         let mut jump = between;
@@ -192,7 +195,8 @@ impl<W: Work> Laid<W> {
             ≡ (jumps_by (M.marks marks.now) (D.items scope.now) node.now.label lengths).between) }
         ensures back { IfOk result (λ behind. option_map plain_instr behind.back
             ≡ (jumps_by (M.marks marks.now) (D.items scope.now) node.now.label lengths).back) }
-        ensures counted { OnOk result (Emits (length (front (M.marks marks.now) (D.items scope.now) node.now.label lengths))
+        ensures counted { OnOk result (Emits
+            (length (front (M.marks marks.now) (D.items scope.now) node.now.label lengths))
             (W.counts work.old) (W.counts work.new)) }
         ensures counts { EmitsAtMost (length (front (M.marks marks.now) (D.items scope.now) node.now.label lengths))
             (W.counts work.old) (W.counts work.new) }

@@ -53,7 +53,8 @@ fn lay_template<W: Work, O: InstrOut<W>>(
     work: &mut W,
 )
     ensures { LaysAll O.lays out.old (W.counts work.old)
-        (template_pieces node.now.label.slot (option_map plain_instr stop) None node.now.label.parts items.now template).before
+        (template_pieces node.now.label.slot (option_map plain_instr stop) None node.now.label.parts items.now
+        template).before
         out.new (W.counts work.new) }
 {
     match template {

@@ -41,7 +41,7 @@ pub(crate) fn begin<W: Work, O: InstrOut<W>>(
     false
 }
 
-/// Lays the code of what stands in a part.
+/// Lays the code of what stands in a part, within a piece.
 fn lay_part<W: Work, O: InstrOut<W>>(
     alloc: Global,
     node: &Node,

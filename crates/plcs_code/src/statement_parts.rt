@@ -18,7 +18,7 @@ pub(crate) fn listed_exprs(node: &Node) -> &[Expr]
     exprs_in(phrase)
 }
 
-/// The expressions in a phrase, if it is a list of them, and else none.
+/// The expressions in the phrase of a statement, if it is a list of them, and else none.
 fn exprs_in(phrase: &Phrase) -> &[Expr]
     ensures { plain_exprs result.now ≡ listed_exprs (Some (plain_phrase phrase.now)) }
 {
@@ -38,7 +38,7 @@ pub(crate) fn get_targets(node: &Node) -> &[VarRef]
     targets_in(phrase)
 }
 
-/// The variables in a phrase, if it is a list of them, and else none.
+/// The variables in the phrase of a statement, if it is a list of them, and else none.
 fn targets_in(phrase: &Phrase) -> &[VarRef]
     ensures { map plain_var_ref result.now ≡ get_targets (Some (plain_phrase phrase.now)) }
 {
@@ -58,7 +58,7 @@ pub(crate) fn counter_name(node: &Node) -> Option<&Name>
     counter_in(phrase)
 }
 
-/// The variable of a phrase, if it is one with which a loop counts.
+/// The variable of the phrase of a statement, if it is one with which a loop counts.
 fn counter_in(phrase: &Phrase) -> Option<&Name>
     ensures { option_map (λ name. name.now) result ≡ counter_name (Some (plain_phrase phrase.now)) }
 {

@@ -59,7 +59,7 @@ phrase_nesting (PlainPhrase.greatest_length n) = 0
 phrase_nesting (PlainPhrase.comment bytes) = 0
 
 abbrev mutual
-  -- the numbers in an expression, in order
+  -- the numbers in an expression, in order, each of which has a limit
   pub numbers : PlainExpr → List ℕ
   numbers (PlainExpr.number z) = nat_abs z ∷ []
   numbers (PlainExpr.text value) = []
@@ -70,22 +70,22 @@ abbrev mutual
   numbers (PlainExpr.builtin function arguments) = numbers_of_all arguments
   numbers (PlainExpr.parenthesized a) = numbers a
 
-  -- the numbers in a variable's subscript, in order
+  -- the numbers in a variable's subscript, in order, each of which has a limit
   pub reference_numbers : PlainVarRef → List ℕ
   reference_numbers (PlainVarRef.simple name) = []
   reference_numbers (PlainVarRef.subscripted name index) = numbers index
 
-  -- the numbers in a list of expressions, in order
+  -- the numbers in a list of expressions, in order, each of which has a limit
   pub numbers_of_all : PlainExprs → List ℕ
   numbers_of_all PlainExprs.nil = []
   numbers_of_all (PlainExprs.cons a rest) = numbers a ++ numbers_of_all rest
 
--- the number in a declared item: the size of an array, if the item is one
+-- the number in a declared item, which has a limit: the size of an array, if the item is one
 abbrev pub size_numbers : Option ℕ → List ℕ
 size_numbers None = []
 size_numbers (Some size) = size ∷ []
 
--- the numbers in a phrase, in order
+-- the numbers in a phrase, in order, each of which has a limit
 abbrev pub phrase_numbers : PlainPhrase → List ℕ
 phrase_numbers (PlainPhrase.assignment target value) = reference_numbers target ++ numbers value
 phrase_numbers (PlainPhrase.condition e) = numbers e

@@ -23,8 +23,9 @@ pub record PlainSection : Type 0 where
   pub sort : Sort
   pub amount : Amount
 
--- a row of the table: the sort of the node, the word of the command that fills a hole with it, the segments of its first line, what
--- stands inside it one level deeper, and its last line, if it has one; a lead and a last line stand at the node's level
+-- a row of the table of templates: the sort of the node, the word of the command that fills a hole with it, the
+-- segments of its first line, what stands inside it one level deeper, and its last line, if it has one; a lead and a
+-- last line stand at the node's level
 pub record PlainRow : Type 0 where
   pub sort : Sort
   pub command : Option (List ℕ)
@@ -80,7 +81,7 @@ abbrev pub loop_row : List ℕ → List PlainSegment → PlainRow
 loop_row command line =
     record { sort = Sort.Statement; command = Some command; line = line; sections = list_of Sort.Statement ∷ []; last = closing }
 
--- the rows of the templates
+-- the rows of the table for the templates
 abbrev pub template_row : Template → PlainRow
 template_row Template.Fixed =
     declaration_row (codes "fixed")
@@ -154,7 +155,7 @@ is_command word (Some own) = bytes_eq word own
 unfoldable pub template_of : List ℕ → Option Template
 template_of word = find (λ template. is_command word (template_row template).command) templates
 
--- the table: the row of each kind of node
+-- the table of templates: the row of each kind of node
 abbrev pub row_of : NodeKind → PlainRow
 row_of DeclarationHole = hole_row Sort.Declaration (codes "{declaration}")
 row_of StatementHole = hole_row Sort.Statement (placeholder Category.Assignment)

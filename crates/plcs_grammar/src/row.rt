@@ -78,7 +78,7 @@ fn is_command(word: &[u8], command: Option<&[u8]>) -> bool
     }
 }
 
-/// All templates.
+/// All templates, in the order of the table.
 const TEMPLATES: [Template; 16] = [
     Template::Fixed,
     Template::Bit,

@@ -1,5 +1,5 @@
 //! The templates that a hole can be filled with.
-/// A declaration, a statement or a procedure whose parts are still to be typed.
+/// A template: a declaration, a statement or a procedure whose parts are still to be typed.
 #[derive(Clone, Copy, Debug, PartialEq, Eq)]
 pub enum Template {
     /// A declaration of whole numbers.

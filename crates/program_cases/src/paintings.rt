@@ -139,6 +139,7 @@ fn draw_random(alloc: Global, tree: &Tree, numbers: &mut Numbers, grid: &mut Gri
         prompt: b"statement> ",
         typed: typed.as_slice(),
     };
+    // What was counted isn't told here.
     let _ = draw_marked(alloc, tree, marked, code.as_slice(), &view, grid)?;
     Some(())
 }

@@ -132,6 +132,7 @@ fn draw<M: Marked>(
         typed: view.typed,
         code: if code.is_empty() { None } else { Some(code) },
     };
+    // That a grid is within its bounds is known once it is asked for its rows.
     let _ = grid.rows();
     let mut work = Counts::default();
     compose(grid, &view, &mut work);

@@ -1,4 +1,4 @@
--- Lines of the screen, told by their nodes.
+-- Lines of the screen, told by their nodes, and the one on which a place of a run is shown.
 use Rattle.std.specs.Prelude.{ℕ, Bool, true, false, ◌==◌, ◌&&◌, if◌then◌else◌, Option, Some, None, is_some}
 use Rattle.plcs_grammar.specs.declared.node_kind.NodeKind.{NodeKind}
 use Rattle.plcs_grammar.specs.declared.node_kind.Sort.{Sort}

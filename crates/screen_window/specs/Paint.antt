@@ -4,7 +4,7 @@ use Rattle.std.specs.Cmp.Lexicographic.{pointwise}
 use Rattle.screen_window.specs.ScreenCell.{blank, is_negative}
 use Rattle.screen_window.specs.PlainGrid.{PlainGrid}
 
--- the bytes of a control sequence: ESC, `[` and what it says
+-- the bytes of a control sequence, as it paints: ESC, `[` and what it says
 abbrev pub control : List ℕ → List ℕ
 control what = 27 ∷ 91 ∷ what
 
@@ -24,12 +24,12 @@ abbrev pub spelled : Bool → List ℕ → List ℕ
 spelled image [] = image_change image false
 spelled image (cell ∷ cells) = image_change image (is_negative cell) ++ (cell % 256 ∷ spelled (is_negative cell) cells)
 
--- a cell before the visible ones behind it, where a blank before none falls away
+-- a cell that is painted before the visible ones behind it, where a blank before none falls away
 abbrev pub cut_before : ℕ → List ℕ → List ℕ
 cut_before cell [] = if cell == blank then [] else cell ∷ []
 cut_before cell (next ∷ rest) = cell ∷ next ∷ rest
 
--- the visible cells of a row: those up to the last that isn't a blank in default image
+-- the visible cells of a row, which are painted: those up to the last that isn't a blank in default image
 abbrev pub visible : List ℕ → List ℕ
 visible [] = []
 visible (cell ∷ cells) = cut_before cell (visible cells)

@@ -80,6 +80,7 @@ impl Grid {
         ensures least { FEWEST_COLS ≤ result }
         ensures most { result ≤ MOST_COLS }
     {
+        // What holds of all fields is known once one of them is looked at.
         let _ = &self.lines;
         self.cols
     }

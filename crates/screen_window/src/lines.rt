@@ -7,7 +7,7 @@ ghost use Rattle.screen_window.specs.Private.PlainForm.{plain_lines};
 
 use std::alloc::{AllocError, Global};
 
-/// A blank in default image.
+/// A blank in default image, as rows of cells keep it.
 pub const BLANK: u16 = 32;
 
 /// Rows of blanks, as a new grid or terminal keeps them.

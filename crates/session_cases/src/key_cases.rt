@@ -20,14 +20,14 @@ pub fn feed(words: &[Vec<u8>], told: &mut Told) -> Option<()> {
     Some(())
 }
 
-/// Feeds the bytes, and tells the keys of each.
+/// Feeds the bytes to the reader of keys, and tells the keys of each.
 fn tell_fed(reader: &mut KeyReader, bytes: &[u8], told: &mut Told) {
     for byte in bytes {
         tell_keys(reader.feed(*byte), told);
     }
 }
 
-/// Tells the keys of a byte.
+/// Tells the keys that the reader gives for a byte.
 fn tell_keys(keys: Keys, told: &mut Told) {
     match (keys.first, keys.second) {
         (Some(first), Some(second)) => {

@@ -34,7 +34,7 @@ impl Played {
         }
     }
 
-    /// All bytes that the sink took.
+    /// All bytes that the sink took in a run of the editor.
     pub fn written(&self) -> &[u8] {
         self.screen.bytes()
     }

@@ -119,10 +119,11 @@ fn draw(session: &mut Session<Counts>)
     session.draw(&mut Counts::default());
 }
 
-/// Paints the session's screen.
+/// Paints the screen of a sitting's session.
 fn paint(session: &mut Session<Counts>, screen: &mut MemSink)
     requires { IsSession session.old }
     ensures { IsSession session.new }
 {
+    // Where a write failed, less is painted, which the case shows.
     let _ = session.paint(screen);
 }

@@ -152,6 +152,7 @@ impl Beside {
 
     /// Removes the file of a new content, if that can be done.
     fn remove<R: rt::Files>(self, rt: &R) {
+        // Where it can't be removed it stays until the next content is begun.
         let _ = fs::remove_file(rt, self.path.as_str());
     }
 }

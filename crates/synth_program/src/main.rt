@@ -31,6 +31,7 @@ fn run(rt: &HostRuntime) -> Status {
 fn main(rt: HostRuntime) -> ExitCode {
     let status = run(&rt);
     if status == Status::BadWords {
+        // The status tells it too, where nothing can be written.
         let _ = eprintln!(&rt;
             "usage: synth [--rows N] [--cols N] [--keys N] [--input FILE] [PROGRAM]"
         );

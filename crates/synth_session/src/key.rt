@@ -1,6 +1,6 @@
 //! The keys of a session.
 
-/// A key: what a person presses.
+/// A key of a session: what a person presses.
 #[derive(Clone, Copy, Debug, PartialEq, Eq)]
 pub enum Key {
     /// A printable byte, from 32 to 126.

@@ -195,8 +195,8 @@ impl<W: Work> Program<W> {
         })
     }
 
-    /// Hides the refinement of the comment at the path, or shows it again, in the tree and in what depends on
-    /// it. It takes no memory.
+    /// Hides the refinement of the comment at the path of the program, or shows it again, in its tree and in what
+    /// depends on it. It takes no memory.
     pub(crate) fn toggle_elision(&mut self, path: &Path)
         requires agrees { Agrees self.old }
         ensures agrees { Agrees self.new }
@@ -204,6 +204,7 @@ impl<W: Work> Program<W> {
     {
         room_is_not_shown();
         checks_ignore_room_and_elision();
+        // Whether it is hidden now, no key tells.
         let _ = self.tree.elide(path);
         self.dependents.layout.elided(&self.tree, path);
     }

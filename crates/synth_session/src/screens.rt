@@ -66,6 +66,7 @@ impl Screens {
         ensures shown { self.new.shown ≡ self.old.shown }
         ensures counts { LaysAtMost (window_rows self.old.shown.rows) (W.counts work.old) (W.counts work.new) }
     {
+        // That the screen is within its bounds is known once it is asked for its rows.
         let _ = self.next.rows();
         compose(&mut self.next, view, work);
     }

@@ -114,6 +114,7 @@ impl<W: Work> Session<W> {
             message: None,
             screens,
         };
+        // No key was pressed that this could answer: the window comes to follow the cursor.
         let _ = session.accept();
         Ok(session)
     }

@@ -40,7 +40,8 @@ enum Edit {
 /// An edit that is refused for want of memory, and the numbers of the path at which it is made.
 type Row = (Edit, &'static [u32]);
 
-/// Edits of each kind. The second copy is one of a group with phrases and with a comment in it.
+/// Edits of each kind that are refused for want of memory. The second copy is one of a group with phrases and with a
+/// comment in it.
 static ROWS: [Row; 24] = [
     (Edit::Add(Side::After), &[0, 0]),
     (Edit::Add(Side::Before), &[0, 2]),
@@ -93,7 +94,7 @@ fn new_at_last(alloc: Global) -> Result<Tree, Fail>
     Ok(tree)
 }
 
-/// Whether the edits of the rows are made, one after the other.
+/// Whether the edits of the rows are made, one after the other, once they were refused for want of memory.
 fn all_come_at_last(alloc: Global, tree: &mut Tree, rows: &[Row]) -> Result<bool, Fail>
     requires { IsTree tree.old }
     ensures { IsTree tree.new }
@@ -148,7 +149,7 @@ impl ByteOut for Seen {
     }
 }
 
-/// What is seen of the tree.
+/// What is seen of the tree before and after an edit is refused.
 fn seen_of(tree: &Tree) -> Seen
     requires { IsTree tree.now }
 {
@@ -161,7 +162,7 @@ fn seen_of(tree: &Tree) -> Seen
     seen
 }
 
-/// Whether what is seen of the tree is what was seen before, in each byte.
+/// Whether what is seen of the tree, once an edit was refused, is what was seen before, in each byte.
 fn is_as_before(tree: &Tree, before: &Seen) -> bool
     requires { IsTree tree.now }
 {

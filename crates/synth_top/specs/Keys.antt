@@ -72,10 +72,10 @@ pub record Feeds (held : List ℕ) (byte : ℕ) (given : Keys) (now : List ℕ) 
   pub complete : (rest : List ℕ) →
       completed (held ++ byte ∷ rest) ≡ listed_keys given ++ completed (now ++ rest)
 
--- bytes that a reader may hold back: none, ESC, or ESC and [
+-- bytes that the reader of keys may hold back: none, ESC, or ESC and [
 abbrev pub IsHeld : List ℕ → Type 0
 IsHeld bytes = (bytes ≡ []) ⊎ ((bytes ≡ 27 ∷ []) ⊎ (bytes ≡ 27 ∷ 91 ∷ []))
 
--- some keys are the first ones of others
+-- some keys that bytes stand for are the first ones of others
 abbrev pub IsFront : List Key → List Key → Type 0
 IsFront front whole = (rest : List Key) × (whole ≡ front ++ rest)

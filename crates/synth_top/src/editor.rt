@@ -85,7 +85,7 @@ impl<W: Work> Editor<W> {
         Ok(editor)
     }
 
-    /// Shows the refusal of a first load on the message row, if there was one.
+    /// Shows the refusal of a first load on the message row of the run, if there was one.
     fn tell(&mut self, refusal: Option<FileRefusal>)
         requires { IsReady self.old }
         ensures session { plain_session self.new.session ≡ refusal_told refusal (plain_session self.old.session) }
@@ -105,6 +105,7 @@ impl<W: Work> Editor<W> {
             (F.told files.old) (F.told files.new) }
     {
         if let Status::NoMemory = status {
+            // What came of it the files tell; the status stays want of memory.
             let _ = self.session.rescue(files);
         }
     }
@@ -177,7 +178,7 @@ impl<W: Work> Editor<W> {
             .ended_as(Status::KeyLimit)
     }
 
-    /// Clears the screen and paints the opening screen.
+    /// Starts the run: clears the screen and paints the opening screen.
     #[tactic(auto, unfolding(crate::specs::WholeRun::opening))]
     fn start<K: Sink>(&mut self, screen: &mut K, work: &mut W) -> Result<(), SinkFault>
         requires ready { IsReady self.old }
@@ -291,7 +292,7 @@ impl<W: Work> Editor<W> {
         }
     }
 
-    /// Draws the session and paints its screen over the one that is shown.
+    /// Draws the session of the run and paints its screen over the one that is shown.
     fn show<K: Sink>(&mut self, screen: &mut K, work: &mut W) -> Result<(), SinkFault>
         requires { IsReady self.old }
         ensures wrote { Writes
@@ -311,7 +312,7 @@ impl<W: Work> Editor<W> {
     }
 }
 
-/// Reads one byte of keys; `None` is the end.
+/// Reads the next byte of keys for the run; `None` is the end.
 fn read_byte<S: Source>(keys: &mut S) -> Result<Option<u8>, SourceFault>
     ensures byte { IfOk result (λ byte. ReadsByte byte (S.left keys.old) (S.left keys.new)) }
     ensures one { S.reads keys.new ≡ raised (S.reads keys.old) }

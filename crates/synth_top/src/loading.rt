@@ -24,7 +24,7 @@ pub enum FileLoad<T> {
 }
 
 impl<T: Drop> FileLoad<T> {
-    /// The content of the file that was loaded, if it was.
+    /// The content of the file that was loaded, if one was.
     pub fn loaded(self) -> Option<T>
         ensures { result ≡ load_content self }
     {
@@ -34,7 +34,7 @@ impl<T: Drop> FileLoad<T> {
         }
     }
 
-    /// Why the file was refused, if it was.
+    /// Why the file was not loaded but refused, if it was.
     fn refusal(&self) -> Option<FileRefusal>
         ensures { result ≡ load_refusal self.now }
     {

@@ -29,6 +29,7 @@ fn words_after_first(alloc: Global, mut all: Args) -> Result<Vec<String>, Status
     ensures all { IfOk result (λ words. words.items ≡ drop 1 (into_iter_items all)) }
     ensures wanted { IfErr result (λ status. status ≡ Status.NoMemory) }
 {
+    // The first word is the program's name.
     let _ = all.next();
     let mut words = Vec::new(alloc);
     for word in all {

@@ -43,7 +43,13 @@ impl Model for Receipt {
 
     ghost coded = { receipt_code };
 
-    ghost view = { λ a. record { change = a.change; path = a.path.items; undoing = plain_undoing a.undoing; drawn = a.drawn; live = a.live } };
+    ghost view = { λ a. record {
+      change = a.change;
+      path = a.path.items;
+      undoing = plain_undoing a.undoing;
+      drawn = a.drawn;
+      live = a.live;
+    } };
 }
 
 impl Receipt {

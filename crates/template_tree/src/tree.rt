@@ -30,7 +30,8 @@ impl Model for Tree {
 
     ghost coded = { tree_code };
 
-    ghost view = { λ a. record { items = forest a.items.items; spare = a.items.spare; drawn = a.drawn; live = a.live } };
+    ghost view = { λ a.
+        record { items = forest a.items.items; spare = a.items.spare; drawn = a.drawn; live = a.live } };
 }
 
 impl Tree {

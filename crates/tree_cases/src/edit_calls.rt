@@ -226,7 +226,7 @@ fn lines_of(alloc: Global, text: &[u8]) -> Option<Vec<Vec<Vec<u8>>>> {
     Some(lines)
 }
 
-/// The edits that the lines say.
+/// The edits of a case that its lines say.
 fn steps_of(alloc: Global, lines: &[Vec<Vec<u8>>]) -> Option<Vec<Step<'_>>> {
     let mut steps = Vec::new(alloc);
     for words in lines {

@@ -91,6 +91,7 @@ fn goes_on(tree: &Tree, at: &mut Path) -> bool
         if tree.node(at).is_some() {
             return true;
         }
+        // No node stands inside.
         let _ = at.pop();
     }
     for _ in 0..=64 {
@@ -100,6 +101,7 @@ fn goes_on(tree: &Tree, at: &mut Path) -> bool
         if at.try_push(last.saturating_add(1)).is_ok() && tree.node(at).is_some() {
             return true;
         }
+        // No node stands behind: it goes on from the one around.
         let _ = at.pop();
     }
     false

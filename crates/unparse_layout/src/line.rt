@@ -1,4 +1,4 @@
-//! Lines of the screen.
+//! Lines of the screen as they are laid: their cells, the slots of their nodes and their kinds.
 ghost use Rattle.std.specs.Prelude.{◌≡◌, ◌≤◌, length};
 ghost use Rattle.unparse_layout.specs.LaidLine.{longest_line, screen_cell};
 
@@ -45,7 +45,7 @@ impl<W> Model for Line<W> {
 }
 
 impl<W> Line<W> {
-    /// The line of the screen with these cells, of this kind and slot.
+    /// The laid line of the screen with these cells, of this kind and slot.
     pub(crate) fn laid(slot: Slot, kind: LineKind, cells: ArrayVec<u16, LONGEST_LINE>) -> Line<W>
         ensures { result ≡ record { slot = slot.0; kind = kind; cells = cells.items } }
     {
@@ -57,8 +57,8 @@ impl<W> Line<W> {
         }
     }
 
-    /// The line's cells from the left, at most 158: a byte, plus 256 where it is in negative image. The
-    /// blanks of its level are among them.
+    /// A laid line's cells from the left, at most 158: a byte, plus 256 where it is in negative image. The blanks of
+    /// its level are among them.
     pub fn cells(&self) -> &[u16]
         ensures cells { result.now ≡ self.now.cells }
         ensures short { length result.now ≤ longest_line }
@@ -66,14 +66,14 @@ impl<W> Line<W> {
         self.cells.as_slice()
     }
 
-    /// The slot of the node to which the line belongs.
+    /// The slot of the node to which a laid line belongs.
     pub fn slot(&self) -> Slot
         ensures { result.0 ≡ self.now.slot }
     {
         self.slot
     }
 
-    /// The line's kind: which of its node's lines it is.
+    /// The kind of a laid line: which of its node's lines it is.
     pub fn kind(&self) -> LineKind
         ensures { result ≡ self.now.kind }
     {

@@ -19,7 +19,7 @@ abbrev pub fragment_of : PlainNode ⊎ PlainPhrase → PlainFragment
 fragment_of (inl n) = PlainFragment.node n
 fragment_of (inr p) = PlainFragment.phrase p
 
--- the fragment that is made of its case is that fragment
+-- a fragment of clips that are told apart is given back by its case
 pub fragment_back : (fragment : PlainFragment) → fragment_of (case_of fragment) ≡ fragment
 fragment_back (PlainFragment.node n) = refl
 fragment_back (PlainFragment.phrase p) = refl

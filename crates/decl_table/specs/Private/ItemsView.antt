@@ -14,11 +14,11 @@ use Rattle.decl_table.specs.declared.items.Items.TheInside.{Inside}
 abbrev pub shaped : List ℕ → Shape → Declared
 shaped name shape = record { name = name; ty = shape.ty; size = shape.size }
 
--- the items of the entries of the map
+-- the effective items that the entries of the map are seen as
 abbrev pub items_of : List (List ℕ × Shape) → List Declared
 items_of entries = map (λ entry. shaped entry.0 entry.1) entries
 
--- the items that are seen, in the order of the map
+-- the effective items of a procedure that are seen, in the order of the map
 abbrev pub seen : Inside → List Declared
 seen a = items_of a.shapes.entries
 

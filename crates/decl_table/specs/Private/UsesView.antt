@@ -24,7 +24,7 @@ uses_code = coded_list (coded× (coded_list coded_ℕ) mention_list_code)
 abbrev pub is_among : PhraseAt → List PhraseAt → Bool
 is_among at places = list_any (eq_by_cmp phrase_cmp at) places
 
--- under each name more places are noted: those for which the test of the name and the place holds
+-- under each name more places of its uses are noted: those for which the test of the name and the place holds
 abbrev pub Adds : (List ℕ → PhraseAt → Bool) → PlainUses → PlainUses → Type 0
 Adds test old new =
     (name : List ℕ) (at : PhraseAt) → is_among at (mentions_of name new) ≡ (is_among at (mentions_of name old) || test name at)
@@ -45,11 +45,11 @@ AddsParts slot part parts = Adds (λ name at. is_among at (part_mentions name sl
 abbrev pub AddsNodes : Forest → PlainUses → PlainUses → Type 0
 AddsNodes nodes = Adds (λ name at. is_among at (mentions name nodes))
 
--- the new places are the old ones in order of slot and part, each once
+-- the places of a name's uses are settled: the new ones are the old ones in order of slot and part, each once
 pub record IsSettled (old new : List PhraseAt) : Type 0 where
   pub increasing : IsStrictlySortedBy phrase_cmp new
   pub each : (at : PhraseAt) → Contains new at ↔ Contains old at
 
--- the places under each name are settled
+-- the places of the uses of each name are settled
 abbrev pub AreSettled : PlainUses → PlainUses → Type 0
 AreSettled old new = (name : List ℕ) → IsSettled (mentions_of name old) (mentions_of name new)

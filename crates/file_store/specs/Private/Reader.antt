@@ -51,21 +51,23 @@ pub record Said : Type 0 where
 
 -- ---- how far a list has come
 
--- how far a list has come: the sort of the list that goes on, if one does, and the sections that are left behind it
+-- how far the reader's list has come: the sort of the list that goes on, if one does, and the sections that are left
+-- behind it
 pub record Filling : Type 0 where
   pub going : Option Sort
   pub left : List PlainSection
 
--- how far a list has come into which no item came yet
+-- how far the reader's list has come into which no item came yet
 abbrev pub unfilled : List PlainSection → Filling
 unfilled sections = record { going = None; left = sections }
 
--- how far a list has come behind an item of the section
+-- how far the reader's list has come behind an item of the section
 abbrev pub filling_after : Amount → Sort → List PlainSection → Filling
 filling_after Amount.One sort left = record { going = None; left = left }
 filling_after Amount.Many sort left = record { going = Some sort; left = left }
 
--- how an item comes into a list: the line before it, if there is one, and how far the list has come behind it
+-- how an item comes into the reader's list: the line before it, if there is one, and how far the list has come behind
+-- it
 pub record Entry : Type 0 where
   pub before : Option (List ℕ)
   pub next : Filling
@@ -88,11 +90,11 @@ abbrev pub item_entry : Sort → Filling → Option Entry
 item_entry sort filling =
     if goes_on filling.going sort then Some (record { before = None; next = filling }) else first_entry sort filling.left
 
--- how far a list has come behind an item, if no line is wanted before that
+-- how far the reader's list has come behind an item, if no line is wanted before that
 abbrev pub unled : Entry → Option Filling
 unled item = if is_none item.before then Some item.next else None
 
--- how far the list has come behind an item of the sort, if one may come without a line before it
+-- how far the reader's list has come behind an item of the sort, if one may come without a line before it
 abbrev pub advanced : Sort → Filling → Option Filling
 advanced sort filling = option_and_then unled (item_entry sort filling)
 
@@ -101,7 +103,7 @@ abbrev pub is_text : List ℕ → Option (List ℕ) → Bool
 is_text text None = false
 is_text text (Some own) = bytes_eq text own
 
--- how far a list has come behind the line before the first of these sections, if the text is that line
+-- how far the reader's list has come behind the line before the first of these sections, if the text is that line
 abbrev pub led_sections : List ℕ → List PlainSection → Option Filling
 led_sections text [] = None
 led_sections text (section ∷ left) =

@@ -29,7 +29,7 @@ pub(crate) fn read_line(alloc: Global, line: &[u8]) -> Result<Said, NotRead>
     Ok(Said { level, saying })
 }
 
-/// The level that the blanks at the front of a line tell, and what stands behind them.
+/// The level that the blanks at the front of a listing's line tell, and what stands behind them.
 #[tactic(auto, using(crate::proofs::LineTexts::next_level))]
 fn unblanked(line: &[u8]) -> (usize, &[u8])
     ensures whole { line.now ≡ blank_bytes result.0 ++ result.1.now }

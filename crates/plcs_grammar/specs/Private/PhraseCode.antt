@@ -162,7 +162,7 @@ reference_code = code_by Bush bush_code reference_bush (λ b. (built b).referenc
 abbrev pub exprs_code : Coded PlainExprs
 exprs_code = code_by Bush bush_code exprs_bush (λ b. (built b).exprs) exprs_back
 
--- what a phrase of any category is made of
+-- what a phrase of any category is made of, by which it is told apart
 pub record Made : Type 0 where
   pub category : Category
   pub references : List PlainVarRef

@@ -211,7 +211,7 @@ abbrev pub parameter_kind : (items : List Declared) (earlier : List (List ℕ)) 
 parameter_kind items earlier name =
     if list_any (bytes_eq name) earlier then None else option_and_then scalar_kind (item_named name items)
 
--- the kinds of the parameters behind earlier ones
+-- the kinds of the parameters of a heading behind earlier ones
 abbrev pub parameter_kinds : (items : List Declared) (earlier names : List (List ℕ)) → List (Option Kind)
 parameter_kinds items earlier [] = []
 parameter_kinds items earlier (name ∷ rest) =

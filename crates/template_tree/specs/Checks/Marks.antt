@@ -29,13 +29,14 @@ type_in Forest.nil slot = None
 type_in (Forest.cons label inner rest) slot =
     if label.slot == slot then type_given label.kind label.parts else type_in rest slot
 
--- main and the procedures before the one in the slot
+-- main and the procedures before the one in the slot, as the verdicts of its phrases ask
 abbrev pub procedures_before : (program : Forest) → (slot : ℕ) → Forest
 procedures_before Forest.nil slot = Forest.nil
 procedures_before (Forest.cons label inner rest) slot =
     if label.slot == slot then Forest.nil else Forest.cons label inner (procedures_before rest slot)
 
--- the surroundings of the phrases of the node in the slot, which stands in main or the procedure, or is it
+-- the surroundings by which the phrases of the node in the slot have their verdicts; it stands in main or the
+-- procedure, or is it
 abbrev pub surroundings : (program : Forest) (procedure : PlainNode) (slot : ℕ) → Surroundings
 surroundings program procedure slot =
     record {

@@ -16,7 +16,7 @@ use Rattle.plcs_grammar.specs.Private.PhraseCode.{phrase_code}
 abbrev pub Pieces : Type 0
 Pieces = Option PlainNode × (Option Side × (Option (ℕ × Option PlainPhrase) × Bool))
 
--- the pieces of an undoing
+-- the pieces by which the undoing of a receipt is told apart
 abbrev pub pieces_of : PlainUndoing → Pieces
 pieces_of (PlainUndoing.put node) = (Some node, (None, (None, false)))
 pieces_of PlainUndoing.put_back = (None, (None, (None, false)))
@@ -24,23 +24,23 @@ pieces_of (PlainUndoing.set_part part place) = (None, (None, (Some (part, place)
 pieces_of PlainUndoing.take_out = (None, (None, (None, true)))
 pieces_of (PlainUndoing.put_in side hole) = (Some hole, (Some side, (None, false)))
 
--- the undoing of which the pieces are a node and perhaps its side
+-- the undoing of a receipt of which the pieces are a node and perhaps its side
 abbrev pub with_node_code : PlainNode → Option Side → PlainUndoing
 with_node_code node None = PlainUndoing.put node
 with_node_code node (Some side) = PlainUndoing.put_in side node
 
--- the undoing of which no piece is a node
+-- the undoing of a receipt of which no piece is a node
 abbrev pub without_node : Option (ℕ × Option PlainPhrase) → Bool → PlainUndoing
 without_node (Some p) taken = PlainUndoing.set_part p.0 p.1
 without_node None true = PlainUndoing.take_out
 without_node None false = PlainUndoing.put_back
 
--- the undoing that has these pieces
+-- the undoing of a receipt that has these pieces
 abbrev pub undoing_from : Option PlainNode → Option Side → Option (ℕ × Option PlainPhrase) → Bool → PlainUndoing
 undoing_from (Some node) side part taken = with_node_code node side
 undoing_from None side part taken = without_node part taken
 
--- an undoing is made again of its pieces
+-- the undoing of a receipt is made again of its pieces
 pub undoing_back : (u : PlainUndoing) → undoing_from (pieces_of u).0 (pieces_of u).1.0 (pieces_of u).1.1.0 (pieces_of u).1.1.1 ≡ u
 undoing_back (PlainUndoing.put node) = refl
 undoing_back PlainUndoing.put_back = refl
@@ -48,7 +48,7 @@ undoing_back (PlainUndoing.set_part part place) = refl
 undoing_back PlainUndoing.take_out = refl
 undoing_back (PlainUndoing.put_in side hole) = refl
 
--- an undoing is told apart by its pieces
+-- the undoing of a receipt is told apart by its pieces
 abbrev pub undoing_code : Coded PlainUndoing
 undoing_code =
     code_by Pieces

@@ -12,11 +12,11 @@ use Rattle.template_tree.specs.Programs.PlainTree.{Forest, PlainNode}
 use Rattle.template_tree.specs.Checks.ProgramMaps.{items_in}
 use Rattle.decl_table.specs.PlainDecls.{PlainDecls}
 
--- whether the item has the name and takes so many cells
+-- whether the declared item has the name and takes so many cells
 abbrev pub is_such : (name : List ℕ) (cells : ℕ) → Declared → Bool
 is_such name cells item = bytes_eq name item.name && (cells_of item == cells)
 
--- whether one of the items has the name and takes so many cells
+-- whether one of the declared items has the name and takes so many cells
 abbrev pub has_such : (name : List ℕ) (cells : ℕ) → List Declared → Bool
 has_such name cells items = list_any (is_such name cells) items
 

@@ -9,7 +9,7 @@ use Rattle.plcs_grammar.specs.Private.PhraseCode.{head, tail, IsCons}
 use Rattle.unparse_layout.specs.Bones.{Bone, PlainLayout}
 use Rattle.unparse_layout.specs.Private.PlainNodeLayout.{PlainNodeLayout, PlainNodeLayouts}
 
--- what a layout keeps of a node is told by its fields
+-- what a layout keeps of a node is told apart by its fields
 abbrev pub bone_code : Coded Bone
 bone_code =
     code_by (ℕ × (NodeKind × (Bool × Bool)))
@@ -32,17 +32,17 @@ bones_code_of_inj (PlainLayout.cons l a b) (PlainLayout.cons m c d) p =
 bones_code_of_inj PlainLayout.nil (PlainLayout.cons m c d) p = absurd (subst IsCons (sym p) tt)
 bones_code_of_inj (PlainLayout.cons l a b) PlainLayout.nil p = absurd (subst IsCons p tt)
 
--- a layout's nodes in order are told by their tree of labels
+-- a layout's nodes in order are told apart by their tree of labels
 abbrev pub bones_code : Coded PlainLayout
 bones_code = record { code = bones_code_of; inj = bones_code_of_inj }
 
--- a node of a layout is told by its fields
+-- a node of a layout is told apart by its fields
 abbrev pub node_layout_code : Coded PlainNodeLayout
 node_layout_code =
     code_by (Bone × PlainLayout) (coded× bone_code bones_code) (λ o. (o.bone, o.inner))
     (λ t. record { bone = t.0; inner = t.1 }) (λ _. refl)
 
--- a list of nodes of a layout is told by its items and its room
+-- a list of nodes of a layout is told apart by its items and its room
 abbrev pub node_layouts_code : Coded PlainNodeLayouts
 node_layouts_code =
     code_by (List PlainNodeLayout × ℕ) (coded× (coded_list node_layout_code) coded_ℕ) (λ l. (l.items, l.spare))
