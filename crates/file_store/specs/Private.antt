@@ -5,6 +5,5 @@ pub mod Finds
 pub mod Views
 pub mod NextSegment
 pub mod Reading
-pub mod Come
 pub mod FilePart
 pub mod Desk

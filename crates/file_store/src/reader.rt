@@ -10,10 +10,9 @@ ghost use Rattle.template_tree.specs.Programs.Tree.{IsTree};
 ghost use Rattle.file_store.specs.Limit.{longest_listing};
 ghost use Rattle.file_store.specs.Loaded.{HasNoEnd, Loaded, ReadsOnly, Refused, RefusesOnly};
 ghost use Rattle.file_store.specs.declared.refusal.FileRefusal.{FileRefusal};
-ghost use Rattle.file_store.specs.Private.Come.{come_of};
 ghost use Rattle.file_store.specs.Private.Reader.{opens};
 ghost use Rattle.file_store.specs.Private.Reading.{IsLineRefused, IsPast, IsTaken, refused_in};
-ghost use Rattle.file_store.specs.Private.Views.{saying_of};
+ghost use Rattle.file_store.specs.Private.Views.{come_of, saying_of};
 
 mod filling;
 mod lines;
@@ -91,7 +90,7 @@ struct Reader {
 
 impl Reader {
     /// The reader once it has taken the line.
-    fn taken(self, alloc: Global, line: &[u8]) -> Result<Reader, FileRefusal>
+    fn taken(mut self, alloc: Global, line: &[u8]) -> Result<Reader, FileRefusal>
         requires few { (come_of self).lines < longest_listing }
         requires opened { (come_of self).opened ≤ most_slots }
         requires short { length line.now ≤ longest_listing }
@@ -99,29 +98,23 @@ impl Reader {
         ensures refused { IfErr result (IsLineRefused line.now (come_of self)) }
     {
         line_laws();
-        let Reader {
-            stack,
-            lines,
-            opened,
-        } = self;
-        let number = lines + 1;
+        self.lines += 1;
         let said = match read_line(alloc, line) {
             Ok(said) => said,
-            Err(fault) => return Err(refused_in(number, fault)),
+            Err(fault) => return Err(refused_in(self.lines, fault)),
         };
         let level = said.level;
         let opens = opens(&said.saying);
-        let stack = match line_taken(alloc, stack, said) {
+        self.stack = match line_taken(alloc, self.stack, said) {
             Ok(stack) => stack,
-            Err(fault) => return Err(refused_in(number, fault)),
+            Err(fault) => return Err(refused_in(self.lines, fault)),
         };
-        match past_limit(opens, level, opened) {
+        match past_limit(opens, level, self.opened) {
             Some(refusal) => Err(refusal),
-            None => Ok(Reader {
-                stack,
-                lines: number,
-                opened: counted(opens, opened),
-            }),
+            None => {
+                self.opened = counted(opens, self.opened);
+                Ok(self)
+            }
         }
     }
 }

@@ -60,5 +60,7 @@ fn put(text: &mut ArrayVec<u8, LONGEST_MESSAGE>, bytes: &[u8])
     requires { array_vec_len text.old + length bytes.now ≤ LONGEST_MESSAGE }
     ensures { text.new.items ≡ text.old.items ++ bytes.now }
 {
-    let _ = text.try_extend_from_slice(bytes);
+    if text.try_extend_from_slice(bytes).is_err() {
+        unreachable!()
+    }
 }

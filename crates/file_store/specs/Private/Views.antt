@@ -4,6 +4,8 @@ use Rattle.plcs_grammar.specs.Template.{PlainSection, plain_section}
 use Rattle.template_tree.specs.Programs.PlainPhrasePlace.{plain_phrase_place}
 use Rattle.template_tree.specs.Programs.PlainTree.{forest, roomless}
 use Rattle.file_store.specs.Private.Reader as machine
+use Rattle.file_store.specs.Private.Reading.{Come}
+use Rattle.file_store.specs.declared.reader.Reader.{Reader}
 use Rattle.file_store.specs.declared.reader.filling.Filling.{Filling}
 use Rattle.file_store.specs.declared.reader.said.Said.{Said}
 use Rattle.file_store.specs.declared.reader.said.Saying.{Saying}
@@ -49,3 +51,7 @@ open_nodes_on outer (frame ∷ frames) = open_nodes_on (open_node_of frame ∷ o
 -- what the reader's open lists and nodes stand for
 abbrev pub open_nodes_of : OpenNodes → machine.OpenNodes
 open_nodes_of stack = record { own = open_list_of stack.own; outer = open_nodes_on [] stack.frames.items }
+
+-- how far this reader has come, as the model has it: its open lists, and what it counted
+abbrev pub come_of : Reader → Come
+come_of reader = record { stack = open_nodes_of reader.stack; lines = reader.lines; opened = reader.opened }

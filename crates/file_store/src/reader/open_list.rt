@@ -1,11 +1,11 @@
-//! The lists and nodes that are open.
+//! What open lists and open nodes are.
 ghost use Rattle.std.specs.Prelude.{◌≡◌, ◌^◌, ◌-◌, length, min};
 
 use crate::reader::filling::Filling;
 use plcs_grammar::NodeKind;
 use template_tree::{Nodes, PhrasePlace};
 
-/// A list that is open.
+/// An open list: its items so far, and how far it has come.
 #[derive(Drop)]
 pub(crate) struct OpenList {
     /// Its items so far.
@@ -17,7 +17,7 @@ pub(crate) struct OpenList {
     ghost counted: { count ≡ min (length items.items) (2 ^ 64 - 1) },
 }
 
-/// A node that is open, and the list in which it stands, which has come behind it already.
+/// An open node, and the list in which it stands, which has come behind it already.
 #[derive(Drop)]
 pub(crate) struct OpenNode {
     pub(crate) kind: NodeKind,
@@ -25,7 +25,7 @@ pub(crate) struct OpenNode {
     pub(crate) around: OpenList,
 }
 
-/// The innermost open list, and the open nodes, the innermost last.
+/// The open nodes, the innermost last, and the innermost open list.
 #[derive(Drop)]
 pub(crate) struct OpenNodes {
     pub(crate) own: OpenList,

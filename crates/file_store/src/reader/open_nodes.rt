@@ -1,4 +1,4 @@
-//! The open lists and nodes, and what each line does to them.
+//! What each line does to the open lists and nodes.
 ghost use Rattle.std.specs.Prelude.{◌≡◌, ◌<◌, ◌^◌, ◌-◌, [], Some, map, codes, length, min};
 ghost use Rattle.phrase_parser.specs.NotRead.{Gives};
 ghost use Rattle.plcs_grammar.specs.Template.{row_of};
@@ -16,7 +16,7 @@ use std::alloc::Global;
 use template_tree::{Node, Nodes, PhrasePlace};
 
 impl OpenList {
-    /// An open list without items, which has come so far.
+    /// An open list without items, which has come so far, as a line that opens a node makes it.
     fn new(alloc: Global, filling: Filling) -> OpenList
         ensures { open_list_of result ≡ record { items = forest []; filling = filling_of filling } }
     {
@@ -29,7 +29,7 @@ impl OpenList {
 }
 
 impl OpenNodes {
-    /// The open lists where no line was read yet.
+    /// The open lists where no line was read yet, before any does something to them.
     pub(crate) fn new(alloc: Global) -> OpenNodes
         ensures { open_nodes_of result ≡ unread }
     {

@@ -1,8 +1,9 @@
 -- Items stay those of their sections where an item of a list stands twice, or is taken out of a list of two or more.
-use Rattle.std.specs.Prelude.{◌≡◌, refl, ℕ, zero, suc, ◌+◌, ◌≤◌, Bool, true, false, ◌||◌, is_some, if◌then◌else◌, List, [], ◌∷◌, ◌++◌, length, All, Option, Some, None, slice_get}
+use Rattle.std.specs.Prelude.{◌≡◌, refl, ℕ, zero, suc, ◌+◌, ◌≤◌, Bool, true, false, is_some, if◌then◌else◌, List, [], ◌∷◌, ◌++◌, length, All, Option, Some, None, slice_get}
 use Rattle.std.proofs.Common.{ap, sym, ◌∙◌, subst, arith, ◌⊎◌, inl, inr}
 use Rattle.std.proofs.Math.Bool.{false≢true}
 use Rattle.std.proofs.lemmas.Option.{none-some}
+use Rattle.std.proofs.lemmas.Bool.{or_parts}
 use Rattle.plcs_grammar.specs.declared.node_kind.Sort.{Sort}
 use Rattle.plcs_grammar.specs.declared.row.Amount.{Amount}
 use Rattle.plcs_grammar.specs.Template.{PlainSection}
@@ -160,16 +161,12 @@ pub own_of : (amount : Amount) (sort : Sort) (own : List Sort) → AreItems amou
 own_of Amount.One sort own are = (rw are (omega arith), subst (AreOf sort) (sym are) (refl, tt))
 own_of Amount.Many sort own are = (are.0, are_of sort own are.1)
 
-or_false : (a b : Bool) → (a || b) ≡ false → (a ≡ false) × (b ≡ false)
-or_false true b e = absurd (false≢true (sym e))
-or_false false b e = (refl, e)
-
 -- where no section holds items of the sort, there are none
 pub absent : (sort : Sort) (sections : List PlainSection) (items : List Sort) → sections_have_sort sort sections ≡ false → Fill sections items
     → how_many sort items ≡ 0
 absent sort [] items none fill = ap (how_many sort) fill
 absent sort (section ∷ sections) items none fill =
-    let apart = or_false (same_sort section.sort sort) (sections_have_sort sort sections) none in
+    let apart = or_parts (same_sort section.sort sort) (sections_have_sort sort sections) none in
     let own = own_of section.amount section.sort fill.0 fill.3 in
     omega (
       arith,

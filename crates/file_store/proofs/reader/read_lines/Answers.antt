@@ -2,7 +2,7 @@
 -- what is left is no whole line, so the answer is that of the lines taken: their program, or the line after them.
 use Rattle.std.proofs.Common.{arith, refl, subst, sym}
 use Rattle.std.proofs.lemmas.Result.{err_from_is_err_and}
-use Rattle.file_store.specs.Private.Come.{come_of}
+use Rattle.file_store.specs.Private.Views.{come_of}
 use Rattle.file_store.specs.Loaded.{RefusalSays}
 use Rattle.file_store.proofs.LoadedTrees.{fits, loaded}
 use Rattle.file_store.proofs.ReadListings.{few_lines, line_left, line_refused, one_more, unended}

@@ -1,5 +1,5 @@
 use Rattle.std.proofs.Common.{length}
-use Rattle.file_store.specs.Private.Come.{come_of}
+use Rattle.file_store.specs.Private.Views.{come_of}
 use Rattle.file_store.proofs.ReadListings.{SoFar}
 use Rattle.file_store.proofs.reader.read_lines.Given as goal
 

@@ -1,7 +1,6 @@
 use Rattle.std.proofs.Common.{◌∙◌, ◌+◌, if◌then◌else◌, ap, sym, subst, refl, Some, None}
-use Rattle.file_store.specs.Private.Come.{come_of}
 use Rattle.file_store.specs.Private.Reading.{IsLineRefused, IsPast}
-use Rattle.file_store.specs.Private.Views.{said_of, open_nodes_of}
+use Rattle.file_store.specs.Private.Views.{come_of, said_of, open_nodes_of}
 use Rattle.file_store.proofs.ReadListings.{past_refused}
 use Rattle.file_store.proofs.RefusedLines.{unread_refused, untaken_refused}
 use Rattle.file_store.proofs.reader.Reader.taken.Goals as goal
