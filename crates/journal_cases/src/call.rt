@@ -43,7 +43,7 @@ pub(crate) enum FileCall {
 }
 
 /// Each word that a case of the journal begins with, with its call.
-static CALLS: [(&[u8], Call); 21] = [
+pub(crate) static CALLS: [(&[u8], Call); 21] = [
     (b"disk", Call::Held(HeldCall::Disk)),
     (b"write_at", Call::Held(HeldCall::WriteAt)),
     (b"read_at", Call::Held(HeldCall::ReadAt)),
@@ -66,13 +66,3 @@ static CALLS: [(&[u8], Call); 21] = [
     (b"make_folder", Call::File(FileCall::MakeFolder)),
     (b"remove_folder", Call::File(FileCall::RemoveFolder)),
 ];
-
-/// The call that the first word of a case of the journal names.
-pub(crate) fn call_of(word: &[u8]) -> Option<Call> {
-    for (name, call) in &CALLS {
-        if *name == word {
-            return Some(*call);
-        }
-    }
-    None
-}

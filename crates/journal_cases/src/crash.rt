@@ -1,147 +1,167 @@
 //! The keys that are recovered after a crash.
 
-use crate::images::images;
-use case_script::quoted;
-use key_journal::{Disk, DiskCall, DiskFault, JournalKeys, MemDisk};
-use std::alloc::{AllocError, Global};
-use synth_outside::{MemSource, Source, SourceFault};
+use crate::images::Images;
+use crate::sessions::{empty_disk, session, source_of};
+use case_script::Told;
+use key_journal::{Disk, DiskCall, MemDisk};
+use std::alloc::Global;
+use synth_outside::MemSource;
 
-/// The most keys that are read in one go, before a crash or after it.
-const MOST_KEYS: usize = 1000;
-
-/// Reads the keys of a session that may crash, up to an answer that isn't one.
-pub(crate) fn read_all<S: Source, D: Disk>(
-    journal: &mut JournalKeys<S, D>,
-    given: &mut Vec<u8>,
-) -> Result<usize, SourceFault> {
-    for _ in 0..MOST_KEYS {
-        let mut buf = [b' '; 3];
-        if journal.read(&mut buf)? == 0 {
-            break;
-        }
-        if given.push(buf[0]).is_err() {
-            return Err(SourceFault::OutOfMemory);
-        }
-    }
-    Ok(0)
+/// What is found of crashes.
+#[derive(Drop)]
+pub(crate) struct Crash {
+    alloc: Global,
+    images: Images,
+    /// The disk of the session whose calls are cut off.
+    whole: MemDisk,
+    /// The keys that the last session gave.
+    given: Vec<u8>,
+    /// The keys that were recovered, each once.
+    recovered: Vec<Vec<u8>>,
 }
 
-/// A session that may crash, over the disk with these new keys, up to their end: the keys that it gave, and the disk.
-fn run(alloc: Global, disk: MemDisk, keys: &[u8]) -> Result<(Vec<u8>, MemDisk), DiskFault> {
-    let source = MemSource::new(keys.to_vec(alloc)?, Vec::new(alloc));
-    match JournalKeys::open(source, disk) {
-        Ok(mut journal) => {
-            let mut given = Vec::new(alloc);
-            // Whatever ends the reading, the keys and the disk are told.
-            let _ = read_all(&mut journal, &mut given);
-            let (_, disk) = journal.parts();
-            Ok((given, disk))
-        }
-        Err((fault, _, _)) => Err(fault),
-    }
-}
-
-/// The calls on an empty disk that a session with these keys makes, at each of which a crash may come.
-fn session(alloc: Global, keys: &[u8]) -> Result<MemDisk, DiskFault> {
-    let (_, disk) = run(alloc, MemDisk::new(alloc, Vec::new(alloc)), keys)?;
-    Ok(disk)
-}
-
-/// The keys that are recovered after a crash from an image.
-fn recovered(alloc: Global, image: &[u8]) -> Result<Vec<u8>, DiskFault> {
-    let mut disk = MemDisk::new(alloc, Vec::new(alloc));
-    disk.write_at(0, image)?;
-    let (given, _) = run(alloc, disk, b"")?;
-    Ok(given)
-}
-
-/// The keys that are recovered from the images that a crash may leave after these calls, each once, in
-/// lines.
-pub(crate) fn recoveries(alloc: Global, calls: &[DiskCall]) -> Result<String, DiskFault> {
-    let mut all = Vec::new(alloc);
-    for image in &images(alloc, calls)? {
-        let found = recovered(alloc, image.as_slice())?;
-        if !all.contains(&found) {
-            all.push(found).map_err(AllocError::from)?;
+impl Crash {
+    /// Nothing found yet of crashes.
+    pub(crate) fn new(alloc: Global) -> Self {
+        Crash {
+            alloc,
+            images: Images::new(alloc),
+            whole: empty_disk(alloc),
+            given: Vec::new(alloc),
+            recovered: Vec::new(alloc),
         }
     }
-    all.sort().map_err(AllocError::from)?;
-    Ok(lines_of(alloc, all.as_slice())?)
-}
 
-/// The keys that are recovered after a crash, quoted, in lines.
-fn lines_of(alloc: Global, all: &[Vec<u8>]) -> Result<String, AllocError> {
-    let mut text = String::new(alloc);
-    for keys in all {
-        text.push_str(quoted(alloc, keys.as_slice())?.as_str())?;
-        text.push('\n')?;
+    /// Tells the keys that are recovered from the images that a crash may leave after these calls, each once.
+    pub(crate) fn tell_recovered(&mut self, calls: &[DiskCall], told: &mut Told) -> Option<()> {
+        self.recovered.clear();
+        self.images.find(calls)?;
+        for image in self.images.all() {
+            recover(self.alloc, image.as_slice(), &mut self.given)?;
+            note(self.alloc, &self.given, &mut self.recovered)?;
+        }
+        self.recovered.sort().ok()?;
+        for keys in &self.recovered {
+            told.word_line(keys.as_slice());
+        }
+        Some(())
     }
-    Ok(text)
-}
 
-/// Says what a crash leaves at each moment of a session with the keys of the case over an empty disk.
-pub(crate) fn walk(alloc: Global, words: &[Vec<u8>]) -> Result<Option<String>, DiskFault> {
-    let [keys] = words else {
-        return Ok(None);
-    };
-    let keys = keys.as_slice();
-    let whole = session(alloc, keys)?;
-    let mut start = 0;
-    let mut seen = 0u64;
-    for given in 0..=keys.len() {
-        let end = end_of(alloc, keys, given, whole.done().len())?;
+    /// Tells what a crash leaves at each moment of a session with these keys over an empty disk.
+    pub(crate) fn walk(&mut self, keys: &[u8], told: &mut Told) -> Option<()> {
+        self.whole = self.disk_behind(keys)?;
+        let mut start = 0;
+        let mut seen = 0u64;
+        for given in 0..=keys.len() {
+            let end = self.end_of(keys, given)?;
+            match self.images_between(start, end, keys, given)? {
+                Ok(more) => seen = seen.saturating_add(more),
+                Err(moment) => return tell_other(moment, told),
+            }
+            start = end;
+        }
+        tell_seen(seen, told)
+    }
+
+    /// The disk of a session with these keys over an empty one.
+    fn disk_behind(&mut self, keys: &[u8]) -> Option<MemDisk> {
+        let source = source_of(self.alloc, keys)?;
+        session(source, empty_disk(self.alloc), &mut self.given)
+    }
+
+    /// After how many calls of the session that may crash so many keys were given, and no more. A session with one key
+    /// more goes on behind one with fewer, so while it has done fewer calls than one with all the keys up to the next,
+    /// so many were given.
+    fn end_of(&mut self, keys: &[u8], given: usize) -> Option<usize> {
+        let calls = self.whole.done().len();
+        if given >= keys.len() {
+            return Some(calls.saturating_add(1));
+        }
+        let behind = self.disk_behind(&keys[..given + 1])?;
+        Some(behind.done().len().min(calls))
+    }
+
+    /// How many images a crash may leave at these moments, where so many of the keys or one more are recovered from
+    /// each; or the first moment at which that isn't so.
+    fn images_between(
+        &mut self,
+        start: usize,
+        end: usize,
+        keys: &[u8],
+        given: usize,
+    ) -> Option<Result<u64, usize>> {
+        let mut seen = 0u64;
         for moment in start..end {
-            match images_with(alloc, first_of(whole.done(), moment), keys, given)? {
+            match self.images_at(moment, keys, given)? {
                 Some(more) => seen = seen.saturating_add(more),
-                None => return Ok(Some(format!(in alloc; "otherwise behind {moment} calls")?)),
+                None => return Some(Err(moment)),
             }
         }
-        start = end;
+        Some(Ok(seen))
     }
-    Ok(Some(said(alloc, seen)?))
+
+    /// How many images a crash may leave after so many calls of the whole session, where that is so.
+    fn images_at(&mut self, moment: usize, keys: &[u8], given: usize) -> Option<Option<u64>> {
+        let calls = self.whole.done();
+        self.images.find(&calls[..moment.min(calls.len())])?;
+        let mut seen = 0u64;
+        for image in self.images.all() {
+            recover(self.alloc, image.as_slice(), &mut self.given)?;
+            if !is_given(self.given.as_slice(), keys, given) {
+                return Some(None);
+            }
+            seen = seen.saturating_add(1);
+        }
+        Some(Some(seen))
+    }
 }
 
-/// The first ones of the calls, so many, which were made before a crash.
-fn first_of(calls: &[DiskCall], count: usize) -> &[DiskCall] {
-    &calls[..count.min(calls.len())]
+/// Finds the keys that are recovered after a crash from an image.
+fn recover(alloc: Global, image: &[u8], given: &mut Vec<u8>) -> Option<()> {
+    let disk = disk_of(alloc, image)?;
+    session(
+        MemSource::new(Vec::new(alloc), Vec::new(alloc)),
+        disk,
+        given,
+    )?;
+    Some(())
 }
 
-/// What is said of a session whose images after a crash all hold the keys.
-fn said(alloc: Global, seen: u64) -> Result<String, AllocError> {
-    let images = if seen > 600 {
+/// The disk for a session of a case that goes on with what a crash left.
+fn disk_of(alloc: Global, image: &[u8]) -> Option<MemDisk> {
+    let mut disk = MemDisk::new(alloc, Vec::new(alloc));
+    disk.write_at(0, image).ok()?;
+    Some(disk)
+}
+
+/// Puts the keys behind those that were recovered, unless they are among them.
+fn note(alloc: Global, keys: &Vec<u8>, recovered: &mut Vec<Vec<u8>>) -> Option<()> {
+    if recovered.contains(keys) {
+        return Some(());
+    }
+    recovered.push(keys.as_slice().to_vec(alloc).ok()?).ok()
+}
+
+/// Whether the keys that were recovered are the first ones, so many or one more.
+fn is_given(recovered: &[u8], keys: &[u8], given: usize) -> bool {
+    keys.starts_with(recovered) && recovered.len() >= given && recovered.len() - given <= 1
+}
+
+/// Tells that other keys are recovered behind so many calls.
+fn tell_other(moment: usize, told: &mut Told) -> Option<()> {
+    told.text("otherwise behind ");
+    told.value(&moment);
+    told.line(" calls");
+    Some(())
+}
+
+/// Tells that so many images all hold the keys.
+fn tell_seen(seen: u64, told: &mut Told) -> Option<()> {
+    told.text(if seen > 600 {
         "each of more than 600 images"
     } else {
         "each image"
-    };
-    format!(in alloc; "{images} holds the keys that were given, or these and the next one")
-}
-
-/// After how many calls of the session that may crash so many keys were given, and no more. A session with one key
-/// more goes on behind one with fewer, so while it has done fewer calls than one with all the keys up to the next, so
-/// many were given.
-fn end_of(alloc: Global, keys: &[u8], given: usize, calls: usize) -> Result<usize, DiskFault> {
-    if given >= keys.len() {
-        return Ok(calls.saturating_add(1));
-    }
-    let behind = session(alloc, &keys[..given + 1])?;
-    Ok(behind.done().len().min(calls))
-}
-
-/// How many images a crash may leave after these calls, where so many keys or one more are recovered
-/// from each.
-fn images_with(
-    alloc: Global,
-    calls: &[DiskCall],
-    keys: &[u8],
-    given: usize,
-) -> Result<Option<u64>, DiskFault> {
-    let mut seen = 0u64;
-    for image in &images(alloc, calls)? {
-        let found = recovered(alloc, image.as_slice())?;
-        if !keys.starts_with(found.as_slice()) || found.len() < given || found.len() - given > 1 {
-            return Ok(None);
-        }
-        seen = seen.saturating_add(1);
-    }
-    Ok(Some(seen))
+    });
+    told.line(" holds the keys that were given, or these and the next one");
+    Some(())
 }

@@ -1,10 +1,11 @@
 //! The disk or the journal that a script holds from line to line.
 
 use crate::call::HeldCall;
-use crate::crash::{read_all, recoveries};
-use case_script::{number_of, quoted};
+use crate::crash::Crash;
+use crate::sessions::{empty_disk, tell_all};
+use case_script::{Told, number_of, numbers_of};
 use key_journal::{Disk, DiskFault, JournalKeys, MemDisk};
-use std::alloc::{AllocError, Global};
+use std::alloc::Global;
 use std::mem;
 use synth_outside::{MemSource, Source};
 
@@ -21,183 +22,189 @@ pub(crate) enum Held {
 impl Held {
     /// An empty disk of which no call fails, to be held.
     pub(crate) fn new(alloc: Global) -> Self {
-        Held::Disk(MemDisk::new(alloc, Vec::new(alloc)))
+        Held::Disk(empty_disk(alloc))
     }
 
     /// Makes the call with these words behind its name, if it is one of the disk or the journal that is held.
-    pub(crate) fn make(
+    pub(crate) fn play(
         &mut self,
-        alloc: Global,
         call: HeldCall,
         words: &[Vec<u8>],
-    ) -> Result<Option<String>, DiskFault> {
-        match call {
-            HeldCall::Disk => {
-                let fails = numbers(alloc, words)?;
-                *self = Held::Disk(MemDisk::new(alloc, fails));
-                Ok(Some(String::from_str(alloc, "Ok")?))
-            }
-            HeldCall::Open => self.open(alloc, words),
-            HeldCall::Parts => self.part(alloc),
-            HeldCall::Clear => self.clear(alloc),
-            _ => self.ask(alloc, call, words),
+        crash: &mut Crash,
+        told: &mut Told,
+    ) -> Option<()> {
+        match (call, words) {
+            (HeldCall::Disk, fails) => self.take_disk(fails, told),
+            (HeldCall::Open, [keys, fails @ ..]) => self.open(keys, fails, told),
+            (HeldCall::Parts, []) => self.part(told),
+            (HeldCall::Clear, []) => self.clear(told),
+            _ => self.ask(call, words, crash, told),
         }
     }
 
     /// Makes a call that leaves what is held a disk or a journal.
     fn ask(
         &mut self,
-        alloc: Global,
         call: HeldCall,
         words: &[Vec<u8>],
-    ) -> Result<Option<String>, DiskFault> {
+        crash: &mut Crash,
+        told: &mut Told,
+    ) -> Option<()> {
         match self {
-            Held::Disk(disk) => ask_disk(alloc, disk, call, words),
-            Held::Journal(journal) => Ok(ask_journal(alloc, journal, call)?),
+            Held::Disk(disk) => ask_disk(disk, call, words, crash, told),
+            Held::Journal(journal) => ask_journal(journal, call, words, told),
         }
     }
 
+    /// Takes an empty disk, of which these calls fail.
+    fn take_disk(&mut self, fails: &[Vec<u8>], told: &mut Told) -> Option<()> {
+        let alloc = told.alloc();
+        *self = Held::Disk(MemDisk::new(alloc, numbers_of(alloc, fails)?));
+        told.line("Ok");
+        Some(())
+    }
+
     /// Opens a journal over the disk that is held, with these new keys, of whose source these calls fail.
-    fn open(&mut self, alloc: Global, words: &[Vec<u8>]) -> Result<Option<String>, DiskFault> {
-        let [keys, fails @ ..] = words else {
-            return Ok(None);
-        };
-        let fails = numbers(alloc, fails)?;
-        let source = MemSource::new(keys.as_slice().to_vec(alloc)?, fails);
-        match mem::replace(self, Held::new(alloc)) {
-            Held::Disk(disk) => match JournalKeys::open(source, disk) {
-                Ok(journal) => {
-                    *self = Held::Journal(journal);
-                    Ok(Some(String::from_str(alloc, "Ok")?))
-                }
-                Err((fault, _, disk)) => {
-                    *self = Held::Disk(disk);
-                    Ok(Some(format!(in alloc; "Err({fault:?})")?))
-                }
-            },
-            Held::Journal(_) => Ok(None),
+    fn open(&mut self, keys: &[u8], fails: &[Vec<u8>], told: &mut Told) -> Option<()> {
+        let source = source_failing(told.alloc(), keys, fails)?;
+        match mem::replace(self, Held::new(told.alloc())) {
+            Held::Disk(disk) => {
+                let (held, opened) = opened(source, disk);
+                *self = held;
+                tell_done(opened, told)
+            }
+            Held::Journal(_) => None,
         }
     }
 
     /// Takes the journal apart into its source and its disk, which is held then.
-    fn part(&mut self, alloc: Global) -> Result<Option<String>, DiskFault> {
-        let Held::Journal(journal) = mem::replace(self, Held::new(alloc)) else {
-            return Ok(None);
-        };
-        let (_, disk) = journal.parts();
-        *self = Held::Disk(disk);
-        Ok(Some(String::from_str(alloc, "Ok")?))
+    fn part(&mut self, told: &mut Told) -> Option<()> {
+        match mem::replace(self, Held::new(told.alloc())) {
+            Held::Journal(journal) => {
+                let (_, disk) = journal.parts();
+                *self = Held::Disk(disk);
+                tell_done(Ok(()), told)
+            }
+            Held::Disk(_) => None,
+        }
     }
 
     /// Clears the journal, if it gave a key; its disk is held then.
-    fn clear(&mut self, alloc: Global) -> Result<Option<String>, DiskFault> {
-        let Held::Journal(journal) = mem::replace(self, Held::new(alloc)) else {
-            return Ok(None);
-        };
-        if journal.given() == 0 {
-            return Ok(None);
-        }
-        match journal.clear() {
-            Ok((_, disk)) => {
+    fn clear(&mut self, told: &mut Told) -> Option<()> {
+        match mem::replace(self, Held::new(told.alloc())) {
+            Held::Journal(journal) => {
+                let (disk, done) = cleared(journal)?;
                 *self = Held::Disk(disk);
-                Ok(Some(String::from_str(alloc, "Ok")?))
+                tell_done(done, told)
             }
-            Err((fault, _, disk)) => {
-                *self = Held::Disk(disk);
-                Ok(Some(format!(in alloc; "Err({fault:?})")?))
-            }
+            Held::Disk(_) => None,
         }
     }
 }
 
-/// The numbers among the words of a call on what is held.
-fn numbers(alloc: Global, words: &[Vec<u8>]) -> Result<Vec<u64>, AllocError> {
-    let mut numbers = Vec::new(alloc);
-    for word in words {
-        if let Some(number) = number_of(word.as_slice()) {
-            numbers.push(number as u64)?;
-        }
+/// A source of these keys for a journal that is to be held, of which these calls fail.
+fn source_failing(alloc: Global, keys: &[u8], fails: &[Vec<u8>]) -> Option<MemSource> {
+    let keys = keys.to_vec(alloc).ok()?;
+    Some(MemSource::new(keys, numbers_of(alloc, fails)?))
+}
+
+/// What is held once a journal was to be opened over the disk.
+fn opened(source: MemSource, disk: MemDisk) -> (Held, Result<(), DiskFault>) {
+    match JournalKeys::open(source, disk) {
+        Ok(journal) => (Held::Journal(journal), Ok(())),
+        Err((fault, _, disk)) => (Held::Disk(disk), Err(fault)),
     }
-    Ok(numbers)
+}
+
+/// The disk of the journal once it was to be cleared, if it gave a key.
+fn cleared(journal: Journal) -> Option<(MemDisk, Result<(), DiskFault>)> {
+    if journal.given() == 0 {
+        return None;
+    }
+    match journal.clear() {
+        Ok((_, disk)) => Some((disk, Ok(()))),
+        Err((fault, _, disk)) => Some((disk, Err(fault))),
+    }
+}
+
+/// Tells whether a call on what is held was done.
+fn tell_done(done: Result<(), DiskFault>, told: &mut Told) -> Option<()> {
+    match done {
+        Ok(()) => told.line("Ok"),
+        Err(_) => told.value_line(&done),
+    }
+    Some(())
 }
 
 /// Makes the call on the disk that is held.
 fn ask_disk(
-    alloc: Global,
     disk: &mut MemDisk,
     call: HeldCall,
     words: &[Vec<u8>],
-) -> Result<Option<String>, DiskFault> {
+    crash: &mut Crash,
+    told: &mut Told,
+) -> Option<()> {
     match (call, words) {
-        (HeldCall::WriteAt, [at, piece]) => Ok(write_at(
-            alloc,
-            disk,
-            at.as_slice(),
-            piece.as_slice(),
-        )?),
-        (HeldCall::ReadAt, [at, size]) => Ok(read_at(alloc, disk, at.as_slice(), size.as_slice())?),
+        (HeldCall::WriteAt, [at, piece]) => write_at(disk, at, piece, told),
+        (HeldCall::ReadAt, [at, size]) => read_at(disk, at, size, told),
         (HeldCall::Sync, []) => {
-            let answer = disk.sync();
-            Ok(Some(format!(in alloc; "{answer:?}")?))
+            told.value_line(&disk.sync());
+            Some(())
         }
-        (HeldCall::Bytes, []) => Ok(Some(quoted(alloc, disk.bytes())?)),
-        (HeldCall::Crash, []) => Ok(Some(recoveries(alloc, disk.done())?)),
-        _ => Ok(None),
+        (HeldCall::Bytes, []) => {
+            told.word_line(disk.bytes());
+            Some(())
+        }
+        (HeldCall::Crash, []) => crash.tell_recovered(disk.done(), told),
+        _ => None,
     }
 }
 
 /// Writes to the disk that is held, at a place within it or at its end.
-fn write_at(
-    alloc: Global,
-    disk: &mut MemDisk,
-    at: &[u8],
-    piece: &[u8],
-) -> Result<Option<String>, AllocError> {
-    let Some(at) = number_of(at) else {
-        return Ok(None);
-    };
+fn write_at(disk: &mut MemDisk, at: &[u8], piece: &[u8], told: &mut Told) -> Option<()> {
+    let at = number_of(at)?;
     if at as usize > disk.bytes().len() {
-        return Ok(None);
+        return None;
     }
-    let answer = disk.write_at(at as u64, piece);
-    Ok(Some(format!(in alloc; "{answer:?}")?))
+    told.value_line(&disk.write_at(at as u64, piece));
+    Some(())
 }
 
 /// Reads from the disk that is held into a buffer of the size, of blanks.
-fn read_at(
-    alloc: Global,
-    disk: &mut MemDisk,
-    at: &[u8],
-    size: &[u8],
-) -> Result<Option<String>, AllocError> {
-    let (Some(at), Some(size)) = (number_of(at), number_of(size)) else {
-        return Ok(None);
-    };
-    let mut buf = vec![in alloc; b' '; size as usize]?;
-    let answer = disk.read_at(at as u64, buf.as_mut_slice());
-    let shown = quoted(alloc, buf.as_slice())?;
-    Ok(Some(format!(in alloc; "{answer:?} {shown}")?))
+fn read_at(disk: &mut MemDisk, at: &[u8], size: &[u8], told: &mut Told) -> Option<()> {
+    let at = number_of(at)?;
+    let size = number_of(size)?;
+    let mut buf = vec![in told.alloc(); b' '; size as usize].ok()?;
+    told.value(&disk.read_at(at as u64, buf.as_mut_slice()));
+    told.text(" ");
+    told.word_line(buf.as_slice());
+    Some(())
 }
 
 /// Makes the call on the journal that is held.
 fn ask_journal(
-    alloc: Global,
     journal: &mut Journal,
     call: HeldCall,
-) -> Result<Option<String>, AllocError> {
-    match call {
-        HeldCall::Read => {
-            let mut buf = [b' '; 3];
-            let answer = journal.read(&mut buf);
-            Ok(Some(format!(in alloc; "{answer:?} {}", quoted(alloc, &buf)?)?))
+    words: &[Vec<u8>],
+    told: &mut Told,
+) -> Option<()> {
+    match (call, words) {
+        (HeldCall::Read, []) => read(journal, told),
+        (HeldCall::ReadAll, []) => {
+            tell_all(journal, told);
+            told.line("");
         }
-        HeldCall::ReadAll => {
-            let mut given = Vec::new(alloc);
-            let answer = read_all(journal, &mut given);
-            Ok(Some(format!(in alloc; "{answer:?} {}", quoted(alloc, given.as_slice())?)?))
-        }
-        HeldCall::Given => Ok(Some(format!(in alloc; "{}", journal.given())?)),
-        HeldCall::Ended => Ok(Some(format!(in alloc; "{}", journal.ended())?)),
-        _ => Ok(None),
+        (HeldCall::Given, []) => told.value_line(&journal.given()),
+        (HeldCall::Ended, []) => told.value_line(&journal.ended()),
+        _ => return None,
     }
+    Some(())
+}
+
+/// Reads from the journal that is held into a buffer of three blanks.
+fn read(journal: &mut Journal, told: &mut Told) {
+    let mut buf = [b' '; 3];
+    told.value(&journal.read(&mut buf));
+    told.text(" ");
+    told.word_line(&buf);
 }

@@ -1,71 +1,112 @@
 //! The images of a disk that a crash may leave.
 
-use key_journal::{Disk, DiskCall, DiskFault, MemDisk};
+use crate::sessions::empty_disk;
+use key_journal::{Disk, DiskCall, MemDisk};
 use std::alloc::{AllocError, Global};
+use std::mem;
 
-/// Each image that a crash may leave after these calls on an empty disk, which a case makes.
-pub(crate) fn images(alloc: Global, calls: &[DiskCall]) -> Result<Vec<Vec<u8>>, DiskFault> {
-    let mut disk = MemDisk::new(alloc, Vec::new(alloc));
-    let mut images = only(alloc, b"")?;
-    for call in calls {
+/// The images that a case of the journal finds, which a crash may leave, with what they are made of.
+#[derive(Drop)]
+pub(crate) struct Images {
+    alloc: Global,
+    all: Vec<Vec<u8>>,
+    /// The images of the case with one more byte torn, while they are made.
+    torn: Vec<Vec<u8>>,
+    /// The disk of the case after the calls.
+    disk: MemDisk,
+}
+
+impl Images {
+    /// No images yet of a case of the journal.
+    pub(crate) fn new(alloc: Global) -> Self {
+        Images {
+            alloc,
+            all: Vec::new(alloc),
+            torn: Vec::new(alloc),
+            disk: empty_disk(alloc),
+        }
+    }
+
+    /// The images that were found last.
+    pub(crate) fn all(&self) -> &[Vec<u8>] {
+        self.all.as_slice()
+    }
+
+    /// Finds for a case each image that a crash may leave after these calls on an empty disk.
+    pub(crate) fn find(&mut self, calls: &[DiskCall]) -> Option<()> {
+        self.disk = empty_disk(self.alloc);
+        self.leave_disk()?;
+        for call in calls {
+            self.pass(call)?;
+        }
+        Some(())
+    }
+
+    /// Finds the images of the case after one call more.
+    fn pass(&mut self, call: &DiskCall) -> Option<()> {
         match call {
             DiskCall::Write(at, piece) => {
-                images = torn(alloc, images.as_slice(), *at as usize, piece.bytes())?;
-                if *at <= disk.bytes().len() as u64 {
-                    disk.write_at(*at, piece.bytes())?;
-                }
+                self.tear_each(*at as usize, piece.bytes())?;
+                self.write(*at, piece.bytes())
             }
-            DiskCall::Sync => images = only(alloc, disk.bytes())?,
+            DiskCall::Sync => self.leave_disk(),
         }
     }
-    Ok(images)
-}
 
-/// The image of a case's disk alone.
-fn only(alloc: Global, image: &[u8]) -> Result<Vec<Vec<u8>>, AllocError> {
-    let mut images = Vec::new(alloc);
-    images.push(image.to_vec(alloc)?)?;
-    Ok(images)
-}
-
-/// The images of a case's disk with the range of a piece torn in each way: each byte of it as it was, as it is
-/// written, or another one, and each length.
-fn torn(
-    alloc: Global,
-    images: &[Vec<u8>],
-    at: usize,
-    piece: &[u8],
-) -> Result<Vec<Vec<u8>>, AllocError> {
-    let mut torn = Vec::new(alloc);
-    for image in images {
-        torn.push(image.as_slice().to_vec(alloc)?)?;
+    /// Leaves the disk of the case, as it reads, for the only image.
+    fn leave_disk(&mut self) -> Option<()> {
+        self.all.clear();
+        let image = self.disk.bytes().to_vec(self.alloc).ok()?;
+        self.all.push(image).ok()
     }
-    let mut place = at;
-    for byte in piece {
-        torn = torn_at(alloc, torn.as_slice(), place, *byte)?;
-        place = place.saturating_add(1);
+
+    /// Writes to the disk of the images, at a place within it or at its end.
+    fn write(&mut self, at: u64, piece: &[u8]) -> Option<()> {
+        if at <= self.disk.bytes().len() as u64 {
+            self.disk.write_at(at, piece).ok()?;
+        }
+        Some(())
     }
-    Ok(torn)
+
+    /// Tears the range of a piece in each way for a case: each byte of it as it was, as it is written, or another one,
+    /// and each length.
+    fn tear_each(&mut self, at: usize, piece: &[u8]) -> Option<()> {
+        let mut place = at;
+        for byte in piece {
+            self.tear(place, *byte)?;
+            place = place.saturating_add(1);
+        }
+        Some(())
+    }
+
+    /// Tears the byte at this place for a case: each image stays, and comes with that byte as it is written, or as
+    /// another one.
+    fn tear(&mut self, place: usize, byte: u8) -> Option<()> {
+        for image in &self.all {
+            push_torn(self.alloc, image.as_slice(), place, byte, &mut self.torn).ok()?;
+        }
+        self.all = mem::replace(&mut self.torn, Vec::new(self.alloc));
+        Some(())
+    }
 }
 
-/// The images of a case's disk with the byte at the place as it was, as it is written, or another one.
-fn torn_at(
+/// Puts the image behind the torn ones of a case, and then it with the byte at this place as it is written, or as
+/// another one.
+fn push_torn(
     alloc: Global,
-    images: &[Vec<u8>],
+    image: &[u8],
     place: usize,
     byte: u8,
-) -> Result<Vec<Vec<u8>>, AllocError> {
-    let mut torn = Vec::new(alloc);
-    for image in images {
-        torn.push(image.as_slice().to_vec(alloc)?)?;
-        for value in [byte, 0, 1, 255] {
-            torn.push(with_byte(alloc, image.as_slice(), place, value)?)?;
-        }
+    torn: &mut Vec<Vec<u8>>,
+) -> Result<(), AllocError> {
+    torn.push(image.to_vec(alloc)?)?;
+    for value in [byte, 0, 1, 255] {
+        torn.push(with_byte(alloc, image, place, value)?)?;
     }
-    Ok(torn)
+    Ok(())
 }
 
-/// The image of a case's disk with another byte at a place within it or at its end.
+/// The image of a case with another byte at a place within it or at its end.
 fn with_byte(alloc: Global, image: &[u8], place: usize, value: u8) -> Result<Vec<u8>, AllocError> {
     let mut bytes = image.to_vec(alloc)?;
     if place < bytes.len() {

@@ -7,78 +7,93 @@ mod crash;
 mod disk_file;
 mod held;
 mod images;
+mod sessions;
 mod stumbling;
 
-use call::{Call, call_of};
-use case_script::words_of;
+use call::{CALLS, Call};
+use case_script::{Told, meaning, print_told, words_of};
+use crash::Crash;
 use held::Held;
-use key_journal::DiskFault;
 use std::alloc::Global;
 use std::io;
 use std::io::{BufRead, BufReader};
 
 fn main(rt: HostRuntime) -> io::Result<()> {
-    let alloc = rt.alloc();
-    let mut held = Held::new(alloc);
-    for line in BufReader::new(alloc, rt.reader())?.lines(alloc) {
-        let line = line?;
-        println!(&rt; "{line}")?;
-        if is_case(line.as_str()) {
-            print_answer(&rt, answer_to(&rt, &mut held, line.as_bytes()))?;
+    let mut scene = Scene::new(rt.alloc());
+    play_script(&rt, &mut scene)
+}
+
+/// What a script holds from line to line: the disk or the journal, what is found of crashes, and the answer to the
+/// case at hand.
+#[derive(Drop)]
+struct Scene {
+    held: Held,
+    crash: Crash,
+    told: Told,
+}
+
+impl Scene {
+    /// The scene at the beginning of a script of the journal: an empty disk.
+    fn new(alloc: Global) -> Self {
+        Scene {
+            held: Held::new(alloc),
+            crash: Crash::new(alloc),
+            told: Told::new(alloc),
         }
     }
-    Ok(())
 }
 
-/// Whether a line of the script of the journal is a case: all are but empty ones, and headings, which begin with `#`.
-fn is_case(line: &str) -> bool {
-    !line.is_empty() && !line.starts_with("#")
-}
-
-/// Prints the lines of an answer to a case of the journal.
-fn print_answer(rt: &HostRuntime, answer: Result<Option<String>, DiskFault>) -> io::Result<()> {
-    match answer {
-        Ok(Some(text)) => print_lines(rt, text.as_str()),
-        Ok(None) => println!(rt; "= NOT A CASE"),
-        Err(fault) => println!(rt; "= {fault}"),
-    }
-}
-
-/// Prints each line of the text as one of an answer to a case of the journal.
-fn print_lines(rt: &HostRuntime, text: &str) -> io::Result<()> {
-    for line in text.lines() {
-        println!(rt; "= {line}")?;
-    }
-    Ok(())
-}
-
-/// The answer to a case of the journal, if it is one.
-fn answer_to(rt: &HostRuntime, held: &mut Held, line: &[u8]) -> Result<Option<String>, DiskFault> {
+/// Plays the script of cases of the journal that standard input has.
+fn play_script(rt: &HostRuntime, scene: &mut Scene) -> io::Result<()> {
     let alloc = rt.alloc();
-    let Some(words) = words_of(alloc, line)? else {
-        return Ok(None);
-    };
-    match words.as_slice() {
-        [name, rest @ ..] => match call_of(name.as_slice()) {
-            Some(call) => made(rt, alloc, held, call, rest),
-            None => Ok(None),
-        },
-        [] => Ok(None),
+    for line in BufReader::new(alloc, rt.reader())?.lines(alloc) {
+        let line = line?;
+        println!(rt; "{line}")?;
+        play_line(rt, scene, line.as_bytes());
+        print_told(rt, &scene.told)?;
+    }
+    Ok(())
+}
+
+/// Plays a line of the script of the journal, which is a case unless it is empty or a heading, and tells its answer.
+fn play_line(rt: &HostRuntime, scene: &mut Scene, line: &[u8]) {
+    scene.told.clear();
+    if matches!(line, [] | [b'#', ..]) {
+        return;
+    }
+    if play_case(rt, scene, line).is_none() {
+        scene.told.clear();
+        scene.told.line("NOT A CASE");
     }
 }
 
-/// Makes the call of a case of the journal with these words behind its name.
-fn made(
-    rt: &HostRuntime,
-    alloc: Global,
-    held: &mut Held,
-    call: Call,
-    words: &[Vec<u8>],
-) -> Result<Option<String>, DiskFault> {
-    match call {
-        Call::Held(call) => held.make(alloc, call, words),
-        Call::Walk => crash::walk(alloc, words),
-        Call::Stumble => stumbling::stumble(alloc, words),
-        Call::File(call) => disk_file::make(rt, alloc, call, words),
+/// Plays a case of the journal, if it is one.
+fn play_case(rt: &HostRuntime, scene: &mut Scene, case: &[u8]) -> Option<()> {
+    match words_of(rt.alloc(), case) {
+        Ok(Some(words)) => play_words(rt, scene, words.as_slice()),
+        _ => None,
+    }
+}
+
+/// Makes the call of a case of the journal that the words are, if they are one.
+fn play_words(rt: &HostRuntime, scene: &mut Scene, words: &[Vec<u8>]) -> Option<()> {
+    let (word, arguments) = words.split_first()?;
+    play(rt, scene, meaning(&CALLS, word.as_slice())?, arguments)
+}
+
+/// Makes the call of a case of the journal with these words behind its name, if it takes them.
+fn play(rt: &HostRuntime, scene: &mut Scene, call: Call, words: &[Vec<u8>]) -> Option<()> {
+    match (call, words) {
+        (Call::Held(call), words) => {
+            scene
+                .held
+                .play(call, words, &mut scene.crash, &mut scene.told)
+        }
+        (Call::Walk, [keys]) => scene.crash.walk(keys, &mut scene.told),
+        (Call::Stumble, [bytes, most, keys]) => {
+            stumbling::play(bytes, most, keys, &mut scene.told)
+        }
+        (Call::File(call), words) => disk_file::play(rt, call, words, &mut scene.told),
+        _ => None,
     }
 }

@@ -1,9 +1,9 @@
 //! A journal over a file of which each call fails in turn.
 
-use crate::crash::read_all;
-use case_script::{number_of, quoted};
+use crate::sessions::{source_of, tell_all};
+use case_script::{Told, number_of};
 use key_journal::{DISK_END, Disk, DiskFault, DiskFile, FileDisk, JournalKeys, MemDisk};
-use std::alloc::{AllocError, Global};
+use std::alloc::Global;
 use std::io;
 use std::io::{Error, ErrorKind};
 use synth_outside::MemSource;
@@ -11,46 +11,54 @@ use synth_outside::MemSource;
 /// The most calls of a session that fail in turn.
 const MOST_CALLS: u32 = 100;
 
-/// Says how a session over a file with these bytes ends, which gives so many bytes a read: where its first
+/// Tells how a session over a file with these bytes ends, which gives so many bytes a read: where its first
 /// call alone fails, and so on, up to the number at which none does.
-pub(crate) fn stumble(alloc: Global, words: &[Vec<u8>]) -> Result<Option<String>, DiskFault> {
-    let [bytes, most, keys] = words else {
-        return Ok(None);
+pub(crate) fn play(bytes: &[u8], most: &[u8], keys: &[u8], told: &mut Told) -> Option<()> {
+    let Some(most @ 1..) = number_of(most) else {
+        return None;
     };
-    let Some(most @ 1..) = number_of(most.as_slice()) else {
-        return Ok(None);
-    };
-    let mut text = String::new(alloc);
     for failing in 1..=MOST_CALLS {
-        let file = Stumbling::new(alloc, bytes.as_slice(), most as usize, failing)?;
-        let (answer, disk) = session(alloc, file, keys.as_slice())?;
-        let left = quoted(alloc, disk.file().bytes())?;
-        write!(text, "{failing}: {answer} leaves {left}\n")?;
-        if !disk.file().has_failed() {
+        told.value(&failing);
+        told.text(": ");
+        if !is_cut(bytes, most as usize, failing, keys, told)? {
             break;
         }
     }
-    Ok(Some(text))
+    Some(())
 }
 
-/// A session over the journal's file of which one call fails, with these new keys, up to an answer that isn't one:
-/// that answer and the keys that it gave, and the disk as it stands.
-fn session(
-    alloc: Global,
-    file: Stumbling,
-    keys: &[u8],
-) -> Result<(String, FileDisk<Stumbling>), DiskFault> {
-    let source = MemSource::new(keys.to_vec(alloc)?, Vec::new(alloc));
+/// Tells how a session ends over a file whose call of this number alone fails, and what it leaves. Whether that call
+/// was made.
+fn is_cut(bytes: &[u8], most: usize, failing: u32, keys: &[u8], told: &mut Told) -> Option<bool> {
+    let source = source_of(told.alloc(), keys)?;
+    let file = Stumbling::new(told.alloc(), bytes, most, failing)?;
+    let disk = tell_session(source, file, told);
+    told.text(" leaves ");
+    told.word_line(disk.file().bytes());
+    Some(disk.file().has_failed())
+}
+
+/// Plays a session over the file with the new keys of this source, up to an answer that isn't one: tells that answer
+/// and the keys that it gave, and hands back the disk as it stands.
+fn tell_session(source: MemSource, file: Stumbling, told: &mut Told) -> FileDisk<Stumbling> {
     match JournalKeys::open(source, FileDisk::new(file)) {
         Ok(mut journal) => {
-            let mut given = Vec::new(alloc);
-            let answer = read_all(&mut journal, &mut given);
+            tell_all(&mut journal, told);
             let (_, disk) = journal.parts();
-            let text = format!(in alloc; "{answer:?} {}", quoted(alloc, given.as_slice())?)?;
-            Ok((text, disk))
+            disk
         }
-        Err((fault, _, disk)) => Ok((format!(in alloc; "Err({fault:?})")?, disk)),
+        Err((fault, _, disk)) => {
+            tell_fault(fault, told);
+            disk
+        }
     }
+}
+
+/// Tells that a journal wasn't opened for this fault.
+fn tell_fault(fault: DiskFault, told: &mut Told) {
+    told.text("Err(");
+    told.value(&fault);
+    told.text(")");
 }
 
 /// A file in memory of which one call alone fails, so that whoever tries again succeeds.
@@ -65,10 +73,10 @@ struct Stumbling {
 
 impl Stumbling {
     /// A file with these bytes, which gives so many a read, and whose call of this number, from 1, fails.
-    fn new(alloc: Global, bytes: &[u8], most: usize, failing: u32) -> Result<Self, DiskFault> {
+    fn new(alloc: Global, bytes: &[u8], most: usize, failing: u32) -> Option<Self> {
         let mut disk = MemDisk::new(alloc, Vec::new(alloc));
-        disk.write_at(0, bytes)?;
-        Ok(Stumbling {
+        disk.write_at(0, bytes).ok()?;
+        Some(Stumbling {
             disk,
             most,
             calls: 0,
