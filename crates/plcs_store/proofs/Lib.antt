@@ -14,9 +14,17 @@ pub mod WrittenItems
 pub mod Unedited
 -- `steps_taken_back`
 pub mod TakenBack
+-- `what_fits_has_a_step`, `steps_keep_fit`, `Loops::of`: the loop of a slot
+pub mod LoopsOfSlots
 -- `Loops::pop`, `Frames::pop`
 pub mod PoppedItems
+-- `OperandValues`
+pub mod NewestFirst
 -- `what_fits_has_a_step`, `steps_do_allowed_acts`
 pub mod FittingSteps
 -- `steps_keep_fit`
 pub mod KeptFit
+-- `callers_wait`: the loops of a frame
+pub mod LoopRoom
+-- `items_keep_limits`
+pub mod ItemLimits

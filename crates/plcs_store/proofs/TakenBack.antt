@@ -1,6 +1,7 @@
 -- `steps_taken_back`: what an act changes in the frames is changed back. The newest frame and a cell are changed independently
 -- of each other, in whichever frame the cell is.
 use Rattle.std.specs.Prelude.{◌≡◌, refl, ℕ, zero, suc, ◌+◌, ◌-◌, Bool, true, false, cond, bytes_eq, List, [], ◌∷◌, ◌++◌, length, take, slice_get, slice_set, Option, Some, None, IsSome, option_and_then}
+use Rattle.std.specs.List.{insert, remove}
 use Rattle.std.specs.Map.{lookup, set_value}
 use Rattle.std.specs.Option.{option_map_or}
 use Rattle.std.proofs.Common.{ap, sym, ◌∙◌, arith}
@@ -17,10 +18,10 @@ use Rattle.plcs_store.specs.declared.kept_loop.KeptLoop.{KeptLoop}
 use Rattle.plcs_store.specs.declared.undo.Undo.{Undo}
 use Rattle.plcs_store.specs.declared.variable.Variable.{Variable}
 use Rattle.plcs_base.specs.declared.value.Value.{Value}
-use Rattle.plcs_store.specs.Act.{Act, done, frame_waiting, newest_at, with_loop, with_newest, without_loop, without_newest}
+use Rattle.plcs_store.specs.Act.{Act, done, frame_waiting, newest_at, with_loop, with_newest, without_loop, without_loop_at, without_newest}
 use Rattle.plcs_store.specs.CellAt.{Variables, cell_at, changed_at, newest, variable_named, with_cell, with_element, with_element_named}
 use Rattle.plcs_store.specs.Configuration.{PlainConfiguration, frame_at, plain_place}
-use Rattle.plcs_store.specs.Undone.{HasPartsFor, StepsTakenBack, caller_of, last_loop, step_undone, undo_in_frame}
+use Rattle.plcs_store.specs.Undone.{HasPartsFor, StepsTakenBack, caller_of, step_undone, undo_in_frame, with_loop_at}
 
 known : {A : Type 0} (found : Option A) → IsSome found → (a : A) × (found ≡ Some a)
 known None h = absurd (false≢true h)
@@ -220,26 +221,26 @@ enter_back frame next location cell value kept frames top held =
     ∙ stands_back frame one next (sym top ∙ found))
     held
 
--- the loops of a frame without the last, which comes again
-loop_again : (kept : KeptLoop) (frame : Frame) → last_loop frame ≡ Some kept → take (length frame.loops - 1) frame.loops ++ kept ∷ [] ≡ frame.loops
-loop_again kept frame last =
-    let some = slice_get_within frame.loops (length frame.loops - 1) kept last in
-    with_last frame.loops (length frame.loops - 1) kept last (omega (arith, some))
+-- the loops of a frame without one, which comes again
+loop_again : (kept : KeptLoop) (loops : List KeptLoop) (number : ℕ) → slice_get loops number ≡ Some kept → insert (remove loops number) number kept ≡ loops
+loop_again kept [] number there = absurd (none-some kept there)
+loop_again kept (x ∷ loops) zero there = ap (λ (one : KeptLoop). one ∷ loops) (sym (same_Some x kept there))
+loop_again kept (x ∷ loops) (suc number) there = ap (λ (rest : List KeptLoop). x ∷ rest) (loop_again kept loops number there)
 
-finish_back : (frame : Frame) (next : PlainPlace) (location : Location) (cell : Cell) (value : Value) (kept : KeptLoop) (frames : List Frame)
-    → slice_get frames (newest frames) ≡ Some frame → cell_at frames location ≡ Some cell → last_loop frame ≡ Some kept
-    → with_newest (with_loop kept) (newest_at (plain_place frame.place) (with_cell location cell
-    (newest_at next (with_newest without_loop (with_cell location (Cell.Held value) frames))))) ≡ frames
-finish_back frame next location cell value kept frames top held last =
-    let back : Frame → Frame = λ one. with_loop kept (frame_at (plain_place frame.place) one) in
-    let on : Frame → Frame = λ one. frame_at next (without_loop one) in
+finish_back : (frame : Frame) (next : PlainPlace) (location : Location) (cell : Cell) (value : Value) (number : ℕ) (kept : KeptLoop) (frames : List Frame)
+    → slice_get frames (newest frames) ≡ Some frame → cell_at frames location ≡ Some cell → slice_get frame.loops number ≡ Some kept
+    → with_newest (with_loop_at number kept) (newest_at (plain_place frame.place) (with_cell location cell
+    (newest_at next (with_newest (without_loop_at number) (with_cell location (Cell.Held value) frames))))) ≡ frames
+finish_back frame next location cell value number kept frames top held there =
+    let back : Frame → Frame = λ one. with_loop_at number kept (frame_at (plain_place frame.place) one) in
+    let on : Frame → Frame = λ one. frame_at next (without_loop_at number one) in
     let set : List Frame = with_cell location (Cell.Held value) frames in
-    newest_twice (with_loop kept) (frame_at (plain_place frame.place)) (with_cell location cell (newest_at next (with_newest without_loop set)))
-    ∙ ap (λ (ys : List Frame). with_newest back (with_cell location cell ys)) (newest_twice (frame_at next) without_loop set)
+    newest_twice (with_loop_at number kept) (frame_at (plain_place frame.place)) (with_cell location cell (newest_at next (with_newest (without_loop_at number) set)))
+    ∙ ap (λ (ys : List Frame). with_newest back (with_cell location cell ys)) (newest_twice (frame_at next) (without_loop_at number) set)
     ∙ both_back back on location cell (Cell.Held value) frames (λ one. refl)
     (λ one found.
     ap (λ (loops : List KeptLoop). record (frame_at (plain_place frame.place) one) { loops = loops })
-    (loop_again kept one (ap last_loop (same_Some one frame (sym found ∙ top)) ∙ last))
+    (loop_again kept one.loops number (ap (λ (other : Frame). slice_get other.loops number) (same_Some one frame (sym found ∙ top)) ∙ there))
     ∙ stands_back frame one next (sym top ∙ found))
     held
 
@@ -277,14 +278,16 @@ in_frame (Act.enter location value kept) next frame c top parts =
     let held = known (cell_at c.frames location) parts in
     ap (λ (got : Option Cell). step_undone (option_map_or (Undo.Entered frame.place location) got Undo.Empty) (done (Act.enter location value kept) next c)) held.1
     ∙ ap (λ (frames : List Frame). record c { frames = frames }) (enter_back frame next location held.0 value kept c.frames top held.1)
-in_frame (Act.finish location value) next frame c top parts =
+in_frame (Act.finish location value number) next frame c top parts =
     let held = known (cell_at c.frames location) parts.0 in
-    let last = known (last_loop frame) parts.1 in
+    let left = known (slice_get frame.loops number) parts.1 in
     ap (λ (got : Option Cell).
-    step_undone (option_map_or (λ cell. option_map_or (Undo.Finished frame.place location cell) (last_loop frame) Undo.Empty) got Undo.Empty)
-    (done (Act.finish location value) next c)) held.1
-    ∙ ap (λ (got : Option KeptLoop). step_undone (option_map_or (Undo.Finished frame.place location held.0) got Undo.Empty) (done (Act.finish location value) next c)) last.1
-    ∙ ap (λ (frames : List Frame). record c { frames = frames }) (finish_back frame next location held.0 value last.0 c.frames top held.1 last.1)
+    step_undone
+    (option_map_or (λ cell. option_map_or (λ kept. Undo.Finished frame.place location cell kept number) (slice_get frame.loops number) Undo.Empty) got Undo.Empty)
+    (done (Act.finish location value number) next c)) held.1
+    ∙ ap (λ (got : Option KeptLoop).
+    step_undone (option_map_or (λ kept. Undo.Finished frame.place location held.0 kept number) got Undo.Empty) (done (Act.finish location value number) next c)) left.1
+    ∙ ap (λ (frames : List Frame). record c { frames = frames }) (finish_back frame next location held.0 value number left.0 c.frames top held.1 left.1)
 in_frame (Act.read location value count) next frame c top parts =
     let held = known (cell_at c.frames location) parts in
     ap (λ (got : Option Cell). step_undone (option_map_or (λ cell. Undo.Read frame.place location cell c.taken) got Undo.Empty) (done (Act.read location value count) next c)) held.1

@@ -1,5 +1,6 @@
 -- What a step does to a configuration: one act.
 use Rattle.std.specs.Prelude.{◌≡◌, ℕ, ◌-◌, ◌+◌, ◌<◌, List, [], ◌∷◌, ◌++◌, length, slice_get, take, Some}
+use Rattle.std.specs.List.{remove}
 use Rattle.plcs_base.specs.declared.value.Value.{Value}
 use Rattle.template_tree.specs.Positions.Place.{PlainPlace, place_at}
 use Rattle.plcs_store.specs.declared.cell.Cell.{Cell}
@@ -18,8 +19,8 @@ pub data Act : Type 0 where
   store : Location → Value → Act
   -- a value is stored, and the body of a loop entered
   enter : Location → Value → KeptLoop → Act
-  -- a value is stored, and the innermost loop left
-  finish : Location → Value → Act
+  -- a value is stored, and the loop of this number left, counted from 0 at the outermost
+  finish : Location → Value → (number : ℕ) → Act
   -- a value is stored that took so many bytes of the input
   read : Location → Value → ℕ → Act
   -- the output becomes this
@@ -49,6 +50,10 @@ with_loop kept frame = record frame { loops = frame.loops ++ (kept ∷ []) }
 abbrev pub without_loop : Frame → Frame
 without_loop frame = record frame { loops = take (length frame.loops - 1) frame.loops }
 
+-- a frame without the loop of this number, counted from 0 at the outermost
+abbrev pub without_loop_at : (number : ℕ) → Frame → Frame
+without_loop_at number frame = record frame { loops = remove frame.loops number }
+
 -- a frame that waits for the procedure that it calls
 abbrev pub frame_waiting : Frame → Frame
 frame_waiting frame = frame_at (place_at frame.place.slot.0 1) frame
@@ -62,7 +67,7 @@ abbrev pub frames_after : Act → (next : PlainPlace) → List Frame → List Fr
 frames_after Act.pass next frames = newest_at next frames
 frames_after (Act.store location value) next frames = newest_at next (with_value_stored location value frames)
 frames_after (Act.enter location value kept) next frames = newest_at next (with_newest (with_loop kept) (with_value_stored location value frames))
-frames_after (Act.finish location value) next frames = newest_at next (with_newest without_loop (with_value_stored location value frames))
+frames_after (Act.finish location value number) next frames = newest_at next (with_newest (without_loop_at number) (with_value_stored location value frames))
 frames_after (Act.read location value count) next frames = newest_at next (with_value_stored location value frames)
 frames_after (Act.write output) next frames = newest_at next frames
 frames_after (Act.call frame) next frames = with_newest frame_waiting frames ++ (frame_at next frame ∷ [])
@@ -73,7 +78,7 @@ abbrev pub taken_after : Act → ℕ → ℕ
 taken_after Act.pass taken = taken
 taken_after (Act.store location value) taken = taken
 taken_after (Act.enter location value kept) taken = taken
-taken_after (Act.finish location value) taken = taken
+taken_after (Act.finish location value number) taken = taken
 taken_after (Act.read location value count) taken = taken + count
 taken_after (Act.write output) taken = taken
 taken_after (Act.call frame) taken = taken
@@ -84,7 +89,7 @@ abbrev pub output_after : Act → List ℕ → List ℕ
 output_after Act.pass output = output
 output_after (Act.store location value) output = output
 output_after (Act.enter location value kept) output = output
-output_after (Act.finish location value) output = output
+output_after (Act.finish location value number) output = output
 output_after (Act.read location value count) output = output
 output_after (Act.write becomes) output = becomes
 output_after (Act.call frame) output = output

@@ -1,5 +1,5 @@
 -- The cells of frames: where they are, what is read from them, and what is stored.
-use Rattle.std.specs.Prelude.{◌≡◌, ℕ, ◌-◌, ◌<◌, ℤ, pos, nat_abs, int_le, ◌&&◌, if◌then◌else◌, bytes_eq, List, length, replicate, take, slice_get, slice_set, Option, Some, None, option_and_then, option_map}
+use Rattle.std.specs.Prelude.{◌≡◌, ℕ, ◌-◌, ◌<◌, ℤ, pos, nat_abs, int_le, ◌&&◌, if◌then◌else◌, bytes_eq, List, [], ◌∷◌, length, replicate, take, slice_get, slice_set, Option, Some, None, option_and_then, option_map}
 use Rattle.std.specs.Map.{lookup, set_value}
 use Rattle.std.specs.Option.{option_map_or}
 use Rattle.plcs_base.specs.declared.declared.Declared.{Declared}
@@ -10,7 +10,7 @@ use Rattle.plcs_store.specs.declared.cell.Location.{Location}
 use Rattle.plcs_store.specs.declared.frame.Frame.{Frame}
 use Rattle.plcs_store.specs.declared.fault_kind.FaultKind.{FaultKind}
 use Rattle.plcs_store.specs.declared.variable.Variable.{Variable}
-use Rattle.template_tree.specs.Checks.Environment.{cells_of}
+use Rattle.template_tree.specs.Checks.Environment.{cells_in}
 use Rattle.plcs_store.specs.Outcome.{Outcome, faults, if_there, then_gives}
 
 -- ---- where cells are
@@ -30,6 +30,10 @@ variable_named name variables = lookup (bytes_eq name) variables
 -- the variable of the name in the frame of this number, if there is one
 abbrev pub variable_at : List Frame → (frame : ℕ) → (name : List ℕ) → Option Variable
 variable_at frames frame name = option_and_then (λ one. variable_named name one.cells) (slice_get frames frame)
+
+-- the cell of this number, counted from 0, of the variable of the name, if there is one
+abbrev pub element_named : List ℕ → (element : ℕ) → Variables → Option Cell
+element_named name element variables = option_and_then (λ variable. slice_get variable.cells element) (variable_named name variables)
 
 -- the cell at a location, if there is one
 abbrev pub cell_at : List Frame → Location → Option Cell
@@ -115,9 +119,21 @@ with_cell location cell frames =
 
 -- ---- new cells
 
+-- the cells of a variable of this size, not set: one of a scalar, whose size is 0
+abbrev pub unset_cells : (size : ℕ) → List Cell
+unset_cells size = replicate (cells_in size) Cell.Unset
+
+-- a variable of the type and the size, whose cells aren't set
+abbrev pub new_variable : ItemType → (size : ℕ) → Variable
+new_variable ty size = record { ty = ty; size = size; cells = unset_cells size }
+
 -- a declared variable whose cells aren't set
 abbrev pub unset_variable : Declared → Variable
-unset_variable item = record { ty = item.ty; size = item.size; cells = replicate (cells_of item) Cell.Unset }
+unset_variable item = new_variable item.ty item.size
+
+-- a scalar of the type with this in its cell
+abbrev pub scalar_variable : ItemType → Cell → Variable
+scalar_variable ty cell = record { ty = ty; size = 0; cells = cell ∷ [] }
 
 -- the cell of a variable under its name, not set
 abbrev pub unset_named : Declared → List ℕ × Variable

@@ -13,6 +13,7 @@ pub mod OutputItem
 -- ---- a step: what stands at a place, and what that does
 pub mod Spot
 pub mod NewFrame
+pub mod LoopOfSlot
 pub mod Act
 pub mod Step
 pub mod Undone

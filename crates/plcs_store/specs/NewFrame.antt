@@ -1,19 +1,21 @@
 -- New frames: that of a new run, and those that calls make.
-use Rattle.std.specs.Prelude.{ℕ, not, if◌then◌else◌, bytes_eq, List, [], ◌∷◌, map, Option, Some, None, option_and_then, option_map}
-use Rattle.std.specs.List.{filter, list_any}
+use Rattle.std.specs.Prelude.{ℕ, ◌≤◌, not, if◌then◌else◌, bytes_eq, List, [], ◌∷◌, map, Option, Some, None, option_and_then, option_map}
+use Rattle.std.specs.List.{IsDistinct, filter, list_any}
+use Rattle.std.specs.Map.{keys_of}
 use Rattle.plcs_base.specs.declared.declared.Declared.{Declared}
 use Rattle.plcs_base.specs.declared.declared.ItemType.{ItemType}
-use Rattle.template_tree.specs.Checks.Environment.{item_named, items_inside, kind_of_type}
+use Rattle.template_tree.specs.Checks.Environment.{cells, item_named, items_inside, kind_of_type}
 use Rattle.template_tree.specs.Checks.KindTable.{same_kind}
 use Rattle.template_tree.specs.Checks.ParameterItem.{scalar_item}
 use Rattle.template_tree.specs.Positions.Place.{PlainPlace}
+use Rattle.template_tree.specs.Programs.Limit.{most_cells}
 use Rattle.template_tree.specs.Programs.PlainTree.{Forest}
 use Rattle.plcs_store.specs.declared.argument.Argument.{Argument}
 use Rattle.plcs_store.specs.declared.cell.Cell.{Cell}
 use Rattle.plcs_store.specs.declared.cell.Location.{Location}
 use Rattle.plcs_store.specs.declared.frame.Frame.{Frame}
 use Rattle.plcs_store.specs.declared.variable.Variable.{Variable}
-use Rattle.plcs_store.specs.CellAt.{Variables, kept_value, unset_named, variable_at}
+use Rattle.plcs_store.specs.CellAt.{Variables, kept_value, scalar_variable, unset_named, variable_at}
 use Rattle.plcs_store.specs.Configuration.{PlainConfiguration, place_of_plain}
 use Rattle.plcs_store.specs.Spot.{procedure_start}
 
@@ -35,10 +37,6 @@ abbrev pub First : (program : Forest) → PlainConfiguration
 First program = record { frames = first_frames program; taken = 0; output = [] }
 
 -- ---- a call
-
--- the scalar variable with this in its cell
-abbrev pub scalar_variable : ItemType → Cell → Variable
-scalar_variable ty cell = record { ty = ty; size = 0; cells = cell ∷ [] }
 
 -- the parameter of the type that stands for the cell at a location, which is one of a variable of the kind
 abbrev pub reference_parameter : ItemType → Location → Variable → Option Variable
@@ -72,3 +70,14 @@ parameter_variables frames items (name ∷ names) (argument ∷ arguments) =
 -- the variables of a procedure that are no parameters, in the order in which they are declared; no cell is set
 abbrev pub other_variables : List (List ℕ) → List Declared → Variables
 other_variables names items = map unset_named (filter (λ item. not (list_any (bytes_eq item.name) names)) items)
+
+-- ---- limits
+
+-- the variables of declared items have different names, and together as many cells as a frame may have
+pub record AreWithinLimits (items : List Declared) : Type 0 where
+  pub few : cells items ≤ most_cells
+  pub once : IsDistinct bytes_eq (keys_of (map unset_named items))
+
+-- the effective items of a procedure keep these limits
+abbrev pub ItemsKeepLimits : Type 0
+ItemsKeepLimits = (inner : Forest) → AreWithinLimits (items_inside inner)

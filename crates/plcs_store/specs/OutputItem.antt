@@ -1,5 +1,5 @@
 -- How values are written.
-use Rattle.std.specs.Prelude.{ℕ, ◌==◌, Bool, true, false, if◌then◌else◌, List, [], ◌∷◌, ◌++◌}
+use Rattle.std.specs.Prelude.{◌≡◌, ℕ, ◌==◌, Bool, true, false, if◌then◌else◌, List, [], ◌∷◌, ◌++◌, length, take}
 use Rattle.std.specs.Fmt.{signed_decimal}
 use Rattle.plcs_base.specs.declared.value.Value.{Value}
 use Rattle.plcs_grammar.specs.Token.{bit_bytes}
@@ -38,3 +38,7 @@ with_line_ended (byte ∷ rest) = (byte ∷ rest) ++ (10 ∷ [])
 abbrev pub output_with : (skip : Bool) → (output : List ℕ) → List Value → List ℕ
 output_with false output values = with_items_written output values
 output_with true output values = with_items_written (with_line_ended output) values
+
+-- what is written stands behind what was written before
+abbrev pub WrittenStands : Type 0
+WrittenStands = (skip : Bool) (output : List ℕ) (values : List Value) → take (length output) (output_with skip output values) ≡ output

@@ -1,5 +1,5 @@
 -- One step of a run: what stands at the place of the newest frame, done to the configuration. Code plays no part in it.
-use Rattle.std.specs.Prelude.{ℕ, ◌-◌, ◌==◌, nat_le, ℤ, pos, ◌+ℤ◌, int_le, int_lt, Bool, if◌then◌else◌, List, ◌++◌, drop, length, slice_get, Option, Some, None, option_and_then, option_map, Result, Ok, Err}
+use Rattle.std.specs.Prelude.{ℕ, ◌-◌, nat_le, ℤ, pos, ◌+ℤ◌, int_le, int_lt, Bool, if◌then◌else◌, List, ◌++◌, drop, length, slice_get, Option, Some, None, option_and_then, option_map, Result, Ok, Err}
 use Rattle.plcs_base.specs.declared.value.Value.{Value}
 use Rattle.plcs_grammar.specs.PlainPhrase.{PlainExpr, PlainExprs, PlainVarRef}
 use Rattle.template_tree.specs.Positions.Place.{PlainPlace}
@@ -17,6 +17,7 @@ use Rattle.plcs_store.specs.Configuration.{PlainConfiguration, frame_place, top_
 use Rattle.plcs_store.specs.ExpressionValue.{argument_values, expression_value, expression_values, name_of_reference, reference_location, subscript_value}
 use Rattle.plcs_store.specs.InputItem.{next_item}
 use Rattle.plcs_store.specs.Limit.{most_frames, most_output}
+use Rattle.plcs_store.specs.LoopOfSlot.{newest_loop}
 use Rattle.plcs_store.specs.NewFrame.{new_frame, other_variables, parameter_variables}
 use Rattle.plcs_store.specs.Operator.{fixed_value, on_bit, on_number}
 use Rattle.plcs_store.specs.Outcome.{Outcome, faults, if_there, then_gives}
@@ -56,12 +57,11 @@ test_going frames condition inside other =
 abbrev pub is_over : (limit step value : ℤ) → Bool
 is_over limit step value = if int_le (pos 0) step then int_lt limit value else int_lt value limit
 
--- a For is entered, or is over at once: its variable has the first value
-abbrev pub entry_going : List Frame → KeptLoop → (name : List ℕ) → (first : ℤ) → (inside after : PlainPlace) → Outcome Going
-entry_going frames kept name first inside after =
-    then_gives (located frames name None) (λ location.
+-- a For is entered, or is over at once, where its variable has the first value; it is told where both go on
+abbrev pub entry_going : {A : Type 0} → List Frame → KeptLoop → Location → (first : ℤ) → (inside after : A) → Outcome (Act × A)
+entry_going frames kept location first inside after =
     storing frames location (Value.Fixed first) (λ value.
-    if is_over kept.limit kept.step first then (Act.store location value, after) else (Act.enter location value kept, inside)))
+    if is_over kept.limit kept.step first then (Act.store location value, after) else (Act.enter location value kept, inside))
 
 -- a For whose three expressions are evaluated, one after the other
 abbrev pub begin_going : List Frame → (slot : ℕ) → (name : List ℕ) → (first limit step : PlainExpr) → (inside after : PlainPlace) → Outcome Going
@@ -69,31 +69,23 @@ begin_going frames slot name first limit step inside after =
     then_gives (expression_value frames first) (on_number (λ a.
     then_gives (expression_value frames limit) (on_number (λ b.
     then_gives (expression_value frames step) (on_number (λ s.
-    entry_going frames record { slot = record { 0 = slot }; limit = b; step = s } name a inside after))))))
+    then_gives (located frames name None) (λ location.
+    entry_going frames record { slot = record { 0 = slot }; limit = b; step = s } location a inside after)))))))
 
--- the innermost of a frame's loops, if it is that of the slot
-abbrev pub innermost_loop : (slot : ℕ) → List KeptLoop → Option KeptLoop
-innermost_loop slot loops =
-    option_and_then (λ kept. if kept.slot.0 == slot then Some kept else None) (slice_get loops (length loops - 1))
-
--- the innermost loop of the newest frame, if it is that of the slot
-abbrev pub newest_loop : (slot : ℕ) → List Frame → Option KeptLoop
-newest_loop slot frames = option_and_then (λ frame. innermost_loop slot frame.loops) (slice_get frames (newest frames))
-
--- a loop goes on, or is left, where its variable becomes this
-abbrev pub loop_going : List Frame → KeptLoop → Location → (value : ℤ) → (inside after : PlainPlace) → Outcome Going
-loop_going frames kept location z inside after =
+-- a loop of this number goes on, or is left, where its variable becomes this; it is told where both go on
+abbrev pub loop_going : {A : Type 0} → List Frame → (number : ℕ) → KeptLoop → Location → (value : ℤ) → (inside after : A) → Outcome (Act × A)
+loop_going frames number kept location z inside after =
     storing frames location (Value.Fixed z) (λ value.
-    if is_over kept.limit kept.step z then (Act.finish location value, after) else (Act.store location value, inside))
+    if is_over kept.limit kept.step z then (Act.finish location value number, after) else (Act.store location value, inside))
 
 -- a For takes its next iteration: the kept step is added to its variable
 abbrev pub iteration_going : List Frame → (slot : ℕ) → (name : List ℕ) → (inside after : PlainPlace) → Outcome Going
 iteration_going frames slot name inside after =
-    then_gives (if_there (newest_loop slot frames)) (λ kept.
+    then_gives (if_there (newest_loop slot frames)) (λ found.
     then_gives (located frames name None) (λ location.
     then_gives (value_at frames location) (on_number (λ z.
-    then_gives (fixed_value (z +ℤ kept.step)) (on_number (λ sum.
-    loop_going frames kept location sum inside after))))))
+    then_gives (fixed_value (z +ℤ found.1.step)) (on_number (λ sum.
+    loop_going frames found.0 found.1 location sum inside after))))))
 
 -- ---- input and output
 
@@ -103,13 +95,16 @@ item_outcome (Ok found) = Outcome.gives found
 item_outcome (Err ItemFault.Wanted) = Outcome.stops Reason.InputWanted
 item_outcome (Err ItemFault.Conversion) = faults FaultKind.Conversion
 
--- an item of the input is read into a variable, whose subscript is tested first
-abbrev pub read_act : List Frame → (rest : List ℕ) → PlainVarRef → Outcome Act
-read_act frames rest target =
-    then_gives (reference_location frames target) (λ location.
+-- an item of the input is read into the cell at a location
+abbrev pub item_act : List Frame → (rest : List ℕ) → Location → Outcome Act
+item_act frames rest location =
     then_gives (if_there (variable_at frames location.frame location.name)) (λ variable.
     then_gives (item_outcome (next_item variable.ty rest)) (λ found.
-    storing frames location found.0 (λ value. Act.read location value found.1))))
+    storing frames location found.0 (λ value. Act.read location value found.1)))
+
+-- an item of the input is read into a variable, whose subscript is tested first
+abbrev pub read_act : List Frame → (rest : List ℕ) → PlainVarRef → Outcome Act
+read_act frames rest target = then_gives (reference_location frames target) (item_act frames rest)
 
 -- the output becomes this, if it isn't too long
 abbrev pub output_act : (output : List ℕ) → Outcome Act

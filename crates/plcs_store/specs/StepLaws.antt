@@ -1,12 +1,15 @@
 -- The laws of steps: a new run fits, what fits has a step, and what that leads to fits again.
-use Rattle.std.specs.Prelude.{◌≡◌, ℕ, List, Some, IsSome}
+use Rattle.std.specs.Prelude.{◌≡◌, ℕ, ◌+◌, ◌<◌, List, length, slice_get, Some, IsSome}
 use Rattle.template_tree.specs.Positions.Place.{PlainPlace}
-use Rattle.template_tree.specs.Programs.PlainTree.{PlainTree}
+use Rattle.template_tree.specs.Programs.PlainTree.{Forest, PlainTree}
 use Rattle.template_tree.specs.Programs.Tree.{IsTree}
+use Rattle.plcs_store.specs.declared.frame.Frame.{Frame}
 use Rattle.plcs_store.specs.Act.{Act, done}
-use Rattle.plcs_store.specs.Configuration.{PlainConfiguration}
+use Rattle.plcs_store.specs.Configuration.{PlainConfiguration, frame_place}
 use Rattle.plcs_store.specs.Fits.{Fits}
+use Rattle.plcs_store.specs.Limit.{most_loops}
 use Rattle.plcs_store.specs.NewFrame.{First}
+use Rattle.plcs_store.specs.Spot.{Spot, spot_at}
 use Rattle.plcs_store.specs.Step.{PlainStepAnswer, Step}
 use Rattle.plcs_store.specs.Undone.{Allows, step_undone, undo_of}
 
@@ -24,6 +27,23 @@ abbrev pub StepsKeepFit : Type 0
 StepsKeepFit =
     (tree : PlainTree) (input : List ℕ) (c d : PlainConfiguration) → IsTree tree → Fits tree.items c
     → Step tree.items input c ≡ Some (PlainStepAnswer.stepped d) → Fits tree.items d
+
+-- a frame waits at point 1 of its CALL for what it called
+abbrev pub WaitsAtCall : (program : Forest) → Frame → Type 0
+WaitsAtCall program frame =
+    (frame.place.point.0 ≡ 1) × ((next : PlainPlace) × (spot_at program (frame_place frame) ≡ Some (Spot.waits next)))
+
+-- of the frames of a run that fits a tree, each but the newest waits at its CALL
+abbrev pub FittingCallersWait : Type 0
+FittingCallersWait =
+    (tree : PlainTree) (c : PlainConfiguration) (number : ℕ) (frame : Frame) → IsTree tree → Fits tree.items c
+    → slice_get c.frames number ≡ Some frame → number + 1 < length c.frames → WaitsAtCall tree.items frame
+
+-- a frame of a run that fits a tree has room for one more loop
+abbrev pub FittingLoopsHaveRoom : Type 0
+FittingLoopsHaveRoom =
+    (tree : PlainTree) (c : PlainConfiguration) (number : ℕ) (frame : Frame) → IsTree tree → Fits tree.items c
+    → slice_get c.frames number ≡ Some frame → length frame.loops < most_loops
 
 -- a step of a run that fits a tree does an act that its configuration allows, and goes on somewhere
 abbrev pub StepsDoAllowedActs : Type 0

@@ -1,8 +1,12 @@
 //! The cells of one variable.
-ghost use Rattle.std.specs.Prelude.{◌≡◌, ◌<◌, length, slice_set};
+ghost use Rattle.std.specs.Prelude.{◌≡◌, ◌<◌, [], ◌∷◌, IfOk, length, replicate, slice_get, slice_set};
+ghost use Rattle.plcs_store.specs.declared.cell.Cell.{Cell};
 
 use crate::cell::Cell;
+use plcs_base::OutOfMemory;
+use std::alloc::Global;
 use std::marker::Model;
+use std::mem;
 
 /// The cells of one variable in order, which contracts see as a list.
 #[derive(Drop)]
@@ -27,6 +31,26 @@ impl CellList {
         CellList { cells }
     }
 
+    /// So many cells that aren't set.
+    pub fn unset(alloc: Global, count: usize) -> Result<CellList, OutOfMemory>
+        ensures { IfOk result (λ cells. cells ≡ replicate count Cell.Unset) }
+    {
+        let mut cells = Vec::with_capacity(alloc, count)?;
+        for _ in 0..count {
+            cells.push(Cell::Unset)?;
+        }
+        Ok(CellList { cells })
+    }
+
+    /// This cell alone.
+    pub fn single(alloc: Global, cell: Cell) -> Result<CellList, OutOfMemory>
+        ensures { IfOk result (λ cells. cells ≡ cell ∷ []) }
+    {
+        let mut cells = Vec::new(alloc);
+        cells.push(cell)?;
+        Ok(CellList { cells })
+    }
+
     /// The cells, without taking memory.
     pub fn into_vec(self) -> Vec<Cell>
         ensures { result.items ≡ self }
@@ -47,5 +71,17 @@ impl CellList {
         ensures { self.new ≡ slice_set self.old element cell }
     {
         self.cells[element] = cell;
+    }
+
+    /// Puts this into the cell of this number, counted from 0, and gives what was in it; where there is no such
+    /// cell, nowhere. It takes no memory.
+    pub fn replace(&mut self, element: usize, cell: Cell) -> Option<Cell>
+        ensures before { result ≡ slice_get self.old element }
+        ensures set { self.new ≡ slice_set self.old element cell }
+    {
+        match self.cells.get_mut(element) {
+            None => None,
+            Some(old) => Some(mem::replace(old, cell)),
+        }
     }
 }

@@ -1,11 +1,11 @@
 //! The cells of a frame, by the names of its variables.
-ghost use Rattle.std.specs.Prelude.{◌≡◌, [], option_map};
-ghost use Rattle.plcs_store.specs.CellAt.{HasElement, variable_named, with_element_named};
+ghost use Rattle.std.specs.Prelude.{◌≡◌, [], ◌∷◌, ◌++◌, None, OnErr, OnOk, is_some, option_map};
+ghost use Rattle.plcs_store.specs.CellAt.{HasElement, element_named, variable_named, with_element_named};
 
 use crate::cell::Cell;
 use crate::variable::Variable;
 use indexmap::IndexMap;
-use plcs_base::Name;
+use plcs_base::{Name, OutOfMemory};
 use std::alloc::Global;
 use std::marker::Model;
 
@@ -42,6 +42,13 @@ impl Cells {
         self.variables.get(name)
     }
 
+    /// Whether there is a variable of the name.
+    pub fn contains(&self, name: &Name) -> bool
+        ensures { result ≡ is_some (variable_named name.now self.now) }
+    {
+        self.get(name).is_some()
+    }
+
     /// Puts this into a cell of a variable, counted from 0; where there is no variable of the name, nowhere.
     /// It takes no memory.
     pub fn set(&mut self, name: &Name, element: usize, cell: Cell)
@@ -51,5 +58,28 @@ impl Cells {
         if let Some(variable) = self.variables.get_mut(name) {
             variable.cells.set(element, cell);
         }
+    }
+
+    /// Puts this into a cell of a variable, counted from 0, and gives what was in it; where there is no such
+    /// cell, nowhere. It takes no memory.
+    pub fn replace(&mut self, name: &Name, element: usize, cell: Cell) -> Option<Cell>
+        ensures before { result ≡ element_named name.now element self.old }
+        ensures set { self.new ≡ with_element_named name.now element cell self.old }
+    {
+        match self.variables.get_mut(name) {
+            None => None,
+            Some(variable) => variable.cells.replace(element, cell),
+        }
+    }
+
+    /// Adds a variable behind the others, under a name that none of them has. Where memory runs out nothing is
+    /// changed.
+    pub fn add(&mut self, name: Name, variable: Variable) -> Result<(), OutOfMemory>
+        requires new { variable_named name self.old ≡ None }
+        ensures added { OnOk result (self.new ≡ self.old ++ (name, variable) ∷ []) }
+        ensures refused { OnErr result (self.new ≡ self.old) }
+    {
+        self.variables.insert(name, variable)?;
+        Ok(())
     }
 }

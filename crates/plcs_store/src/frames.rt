@@ -1,17 +1,19 @@
 //! The frames of a run.
-ghost use Rattle.std.specs.Prelude.{◌≡◌, ◌+◌, ◌<◌, ◌≤◌, length, vec_capacity, vec_len, slice_get, ◌++◌, [], ◌∷◌, IfNone, IfOk, IfSome, option_map};
-ghost use Rattle.plcs_store.specs.Act.{HasLoopRoom, newest_at, with_loop, with_newest, without_loop, without_newest};
+ghost use Rattle.std.specs.Prelude.{◌≡◌, ◌+◌, ◌<◌, ◌≤◌, length, vec_capacity, vec_len, slice_get, ◌++◌, [], ◌∷◌, IfNone, IfOk, IfSome, IsSome, Some, option_map};
+ghost use Rattle.plcs_store.specs.Act.{HasLoopRoom, newest_at, with_loop, with_newest, without_loop, without_loop_at, without_newest};
 ghost use Rattle.plcs_store.specs.CellAt.{HasCell, cell_at, variable_at, with_cell};
 ghost use Rattle.plcs_store.specs.Configuration.{plain_place, top_place};
 ghost use Rattle.plcs_store.specs.Limit.{most_frames};
-ghost use Rattle.plcs_store.specs.Undone.{newest_frame};
+ghost use Rattle.plcs_store.specs.LoopOfSlot.{newest_loop};
+ghost use Rattle.plcs_store.specs.Step.{caller_place};
+ghost use Rattle.plcs_store.specs.Undone.{HasLoopsBefore, loop_at, newest_frame, with_loop_at};
 
 use crate::cell::{Cell, Location};
 use crate::frame::Frame;
 use crate::kept_loop::KeptLoop;
 use crate::limit::MOST_FRAMES;
 use crate::variable::Variable;
-use plcs_base::{Name, OutOfMemory, Place};
+use plcs_base::{Name, OutOfMemory, Place, Slot};
 use std::alloc::Global;
 use std::marker::Model;
 
@@ -55,7 +57,9 @@ impl Frames {
         requires room { length self.old < most_frames }
         ensures { self.new ≡ self.old ++ frame ∷ [] }
     {
-        let _ = self.frames.push(frame);
+        if self.frames.push(frame).is_err() {
+            unreachable!()
+        }
     }
 
     /// Takes the last one off, or `None` where there is none.
@@ -88,6 +92,17 @@ impl Frames {
         ensures { option_map plain_place result ≡ top_place self.now }
     {
         match self.frames.last() {
+            None => None,
+            Some(frame) => Some(frame.place),
+        }
+    }
+
+    /// Where the frame below the newest stands, or `None` where there is no frame; the place of the newest where
+    /// that is the only one.
+    pub fn caller_place(&self) -> Option<Place>
+        ensures { option_map plain_place result ≡ caller_place self.now }
+    {
+        match self.frames.get(self.frames.len().saturating_sub(2)) {
             None => None,
             Some(frame) => Some(frame.place),
         }
@@ -136,6 +151,33 @@ impl Frames {
             .set(&location.name, location.element as usize, cell);
     }
 
+    /// Puts this into the cell at a location, and gives what was in it; where there is no such cell, nowhere. It
+    /// takes no memory.
+    pub fn replace_cell(&mut self, location: &Location, cell: Cell) -> Option<Cell>
+        ensures before { result ≡ cell_at self.old location.now }
+        ensures set { self.new ≡ with_cell location.now cell self.old }
+    {
+        match self.frames.get_mut(usize::from(location.frame)) {
+            None => None,
+            Some(frame) => {
+                frame
+                    .cells
+                    .replace(&location.name, location.element as usize, cell)
+            }
+        }
+    }
+
+    /// The loop of the slot that the newest frame keeps, the innermost where there are more, with its number,
+    /// counted from 0 at the outermost; `None` where it keeps none.
+    pub fn newest_loop(&self, slot: Slot) -> Option<(usize, KeptLoop)>
+        ensures { result ≡ newest_loop slot.0 self.now }
+    {
+        match self.newest() {
+            None => None,
+            Some(frame) => frame.loops.of(slot),
+        }
+    }
+
     /// Adds a loop inside those of the newest frame. It takes no memory.
     pub fn push_loop(&mut self, kept: KeptLoop)
         requires some { 0 < length self.old }
@@ -153,5 +195,27 @@ impl Frames {
     {
         let newest = self.frames.len() - 1;
         let _ = self.frames[newest].loops.pop();
+    }
+
+    /// Takes the loop of this number of the newest frame off, counted from 0 at the outermost.
+    pub fn take_loop(&mut self, number: usize) -> KeptLoop
+        requires there { IsSome (loop_at number self.old) }
+        ensures taken { loop_at number self.old ≡ Some result }
+        ensures left { self.new ≡ with_newest (without_loop_at number) self.old }
+    {
+        let newest = self.frames.len() - 1;
+        self.frames[newest].loops.take(number)
+    }
+
+    /// Puts a loop between those of the newest frame, so that it has this number, counted from 0 at the
+    /// outermost. It takes no memory.
+    pub fn put_loop_back(&mut self, number: usize, kept: KeptLoop)
+        requires some { 0 < length self.old }
+        requires room { HasLoopRoom self.old }
+        requires before { HasLoopsBefore number self.old }
+        ensures { self.new ≡ with_newest (with_loop_at number kept) self.old }
+    {
+        let newest = self.frames.len() - 1;
+        self.frames[newest].loops.put_back(number, kept);
     }
 }

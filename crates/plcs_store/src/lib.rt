@@ -50,8 +50,8 @@ pub use reason::{Reason, RunReason};
 pub use refusal::ResumeRefusal;
 pub use run_state::{Run, RunState};
 pub use step_laws::{
-    new_runs_fit, steps_do_allowed_acts, steps_keep_fit, steps_taken_back, unedited_may_resume,
-    what_fits_has_a_step,
+    callers_wait, items_keep_limits, new_runs_fit, steps_do_allowed_acts, steps_keep_fit,
+    steps_taken_back, unedited_may_resume, what_fits_has_a_step, written_stands,
 };
 pub use undo::Undo;
 pub use variable::Variable;

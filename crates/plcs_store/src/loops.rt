@@ -1,10 +1,12 @@
 //! The loops that a frame keeps.
-ghost use Rattle.std.specs.Prelude.{◌≡◌, ◌+◌, ◌-◌, ◌<◌, ◌≤◌, length, take, vec_capacity, vec_len, slice_get, ◌++◌, [], ◌∷◌, IfNone, IfOk, IfSome};
+ghost use Rattle.std.specs.Prelude.{◌≡◌, ◌+◌, ◌-◌, ◌<◌, ◌≤◌, length, take, vec_capacity, vec_len, slice_get, ◌++◌, [], ◌∷◌, IfNone, IfOk, IfSome, Some};
+ghost use Rattle.std.specs.List.{insert, remove};
 ghost use Rattle.plcs_store.specs.Limit.{most_loops};
+ghost use Rattle.plcs_store.specs.LoopOfSlot.{loop_of_slot};
 
 use crate::kept_loop::KeptLoop;
 use crate::limit::MOST_LOOPS;
-use plcs_base::OutOfMemory;
+use plcs_base::{OutOfMemory, Slot};
 use std::alloc::Global;
 use std::marker::Model;
 
@@ -49,7 +51,9 @@ impl Loops {
         requires room { length self.old < most_loops }
         ensures { self.new ≡ self.old ++ kept ∷ [] }
     {
-        let _ = self.loops.push(kept);
+        if self.loops.push(kept).is_err() {
+            unreachable!()
+        }
     }
 
     /// Takes the last one off, or `None` where there is none.
@@ -62,6 +66,35 @@ impl Loops {
         self.loops.pop()
     }
 
+    /// The loop of the slot, the innermost where there are more, with its number, counted from 0 at the
+    /// outermost; `None` where no loop is of the slot. It looks from the innermost outward.
+    pub fn of(&self, slot: Slot) -> Option<(usize, KeptLoop)>
+        ensures { result ≡ loop_of_slot slot.0 self.now }
+    {
+        innermost_of(self.loops.as_slice(), slot)
+    }
+
+    /// Takes the loop of this number off, counted from 0 at the outermost.
+    pub fn take(&mut self, number: usize) -> KeptLoop
+        requires there { number < length self.old }
+        ensures taken { slice_get self.old number ≡ Some result }
+        ensures left { self.new ≡ remove self.old number }
+    {
+        self.loops.remove(number)
+    }
+
+    /// Puts a loop between the others, so that it has this number, counted from 0 at the outermost. It takes no
+    /// memory.
+    pub fn put_back(&mut self, number: usize, kept: KeptLoop)
+        requires room { length self.old < most_loops }
+        requires before { number ≤ length self.old }
+        ensures { self.new ≡ insert self.old number kept }
+    {
+        if self.loops.insert(number, kept).is_err() {
+            unreachable!()
+        }
+    }
+
     /// Them in order.
     pub fn as_slice(&self) -> &[KeptLoop]
         ensures all { result.now ≡ self.now }
@@ -69,4 +102,19 @@ impl Loops {
     {
         self.loops.as_slice()
     }
+}
+
+/// The loop of the slot, the innermost where there are more, with its number.
+fn innermost_of(loops: &[KeptLoop], slot: Slot) -> Option<(usize, KeptLoop)>
+    ensures { result ≡ loop_of_slot slot.0 loops.now }
+{
+    let mut outside = loops.len();
+    while outside > 0 {
+        outside -= 1;
+        let kept = loops[outside];
+        if kept.slot == slot {
+            return Some((outside, kept));
+        }
+    }
+    None
 }

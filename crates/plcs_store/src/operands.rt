@@ -1,5 +1,5 @@
 //! The room for what one step works on.
-ghost use Rattle.std.specs.Prelude.{◌≡◌, ◌+◌, ◌<◌, ◌≤◌, length, vec_capacity, ◌++◌, [], ◌∷◌, IfNone, IfOk, IfSome};
+ghost use Rattle.std.specs.Prelude.{◌≡◌, ◌+◌, ◌<◌, ◌≤◌, drop, length, reverse, slice_get, take, vec_capacity, ◌++◌, [], ◌∷◌, IfNone, IfOk, IfSome, option_map};
 ghost use Rattle.plcs_store.specs.Limit.{most_operands};
 
 use crate::argument::Argument;
@@ -8,21 +8,21 @@ use plcs_base::{OutOfMemory, Value};
 use std::alloc::Global;
 use std::marker::Model;
 
-/// The values on which the operators of a step work, the first one first, which contracts see as a list. There
-/// is always room for 400.
+/// The values on which the operators of a step work, the newest first, which contracts see as a list. There is
+/// always room for 400.
 #[derive(Drop)]
 pub struct OperandValues {
     values: Vec<Value>,
 }
 
 impl Model for OperandValues {
-    ghost use Rattle.std.specs.Prelude.{List, ◌≤◌, length, vec_capacity};
+    ghost use Rattle.std.specs.Prelude.{List, ◌≤◌, length, reverse, vec_capacity};
     ghost use Rattle.plcs_base.specs.declared.value.Value.{Value as OperandValue};
     ghost use Rattle.plcs_store.specs.Limit.{most_operands};
 
     ghost Value = { List OperandValue };
 
-    ghost view = { λ a. a.values.items };
+    ghost view = { λ a. reverse a.values.items };
 
     ghost invariant = { λ a. (most_operands ≤ vec_capacity a.values) × (length a.values.items ≤ most_operands) };
 }
@@ -37,20 +37,44 @@ impl OperandValues {
         })
     }
 
-    /// Puts one more behind them. It takes no memory.
-    pub fn push(&mut self, value: Value)
-        requires room { length self.old < most_operands }
-        ensures { self.new ≡ self.old ++ value ∷ [] }
+    /// How many there are.
+    pub fn count(&self) -> usize
+        ensures { result ≡ length self.now }
     {
-        let _ = self.values.push(value);
+        self.values.len()
     }
 
-    /// Takes the last one off, or `None` where there is none.
+    /// Puts one more before them. It takes no memory.
+    pub fn push(&mut self, value: Value)
+        requires room { length self.old < most_operands }
+        ensures { self.new ≡ value ∷ self.old }
+    {
+        if self.values.push(value).is_err() {
+            unreachable!()
+        }
+    }
+
+    /// Takes the newest off, or `None` where there is none.
     pub fn pop(&mut self) -> Option<Value>
-        ensures some { IfSome result (λ value. self.old ≡ self.new ++ value ∷ []) }
+        ensures some { IfSome result (λ value. self.old ≡ value ∷ self.new) }
         ensures none { IfNone result ((self.old ≡ []) × (self.new ≡ self.old)) }
     {
         self.values.pop()
+    }
+
+    /// The newest ones, so many of them or all, in the order in which they were put: the newest last.
+    pub fn newest(&self, count: usize) -> &[Value]
+        ensures { result.now ≡ reverse (take count self.now) }
+    {
+        &self.values.as_slice()[self.values.len().saturating_sub(count)..]
+    }
+
+    /// Takes the newest ones off, so many of them or all.
+    pub fn drop_newest(&mut self, count: usize)
+        ensures { self.new ≡ drop count self.old }
+    {
+        self.values
+            .truncate(self.values.len().saturating_sub(count));
     }
 
     /// Takes all off.
@@ -58,13 +82,6 @@ impl OperandValues {
         ensures { self.new ≡ [] }
     {
         self.values.clear();
-    }
-
-    /// Them in order.
-    pub fn as_slice(&self) -> &[Value]
-        ensures { result.now ≡ self.now }
-    {
-        self.values.as_slice()
     }
 }
 
@@ -97,12 +114,21 @@ impl Arguments {
         })
     }
 
+    /// How many there are.
+    pub fn count(&self) -> usize
+        ensures { result ≡ length self.now }
+    {
+        self.arguments.len()
+    }
+
     /// Puts one more behind them. It takes no memory.
     pub fn push(&mut self, argument: Argument)
         requires room { length self.old < most_operands }
         ensures { self.new ≡ self.old ++ argument ∷ [] }
     {
-        let _ = self.arguments.push(argument);
+        if self.arguments.push(argument).is_err() {
+            unreachable!()
+        }
     }
 
     /// Takes the last one off, or `None` where there is none.
@@ -111,6 +137,13 @@ impl Arguments {
         ensures none { IfNone result ((self.old ≡ []) × (self.new ≡ self.old)) }
     {
         self.arguments.pop()
+    }
+
+    /// The argument of this number, counted from 0 at the first, or `None` where there is none.
+    pub fn get(&self, number: usize) -> Option<&Argument>
+        ensures { option_map (λ argument. argument.now) result ≡ slice_get self.now number }
+    {
+        self.arguments.get(number)
     }
 
     /// Takes all off.

@@ -26,9 +26,9 @@ impl Model for Output {
 
     ghost Value = { List ℕ };
 
-    ghost view = { λ output. output.bytes.items };
+    ghost view = { λ a. a.bytes.items };
 
-    ghost invariant = { λ output. (most_output ≤ vec_capacity output.bytes) × (length output.bytes.items ≤ most_output) };
+    ghost invariant = { λ a. (most_output ≤ vec_capacity a.bytes) × (length a.bytes.items ≤ most_output) };
 }
 
 impl Output {
@@ -49,8 +49,11 @@ impl Output {
         self.bytes.as_slice()
     }
 
-    /// Writes the values, on a new line or not; where not all fit, nothing.
-    pub(crate) fn write(&mut self, skip: bool, items: &[Value]) -> Result<(), OutputFull>
+    /// Writes the values, on a new line or not, each behind what separates it from what stands before. It takes
+    /// no memory.
+    ///
+    /// `OutputFull` where the output would have over 100,000 bytes; then nothing is changed.
+    pub fn write(&mut self, skip: bool, items: &[Value]) -> Result<(), OutputFull>
         ensures fits { IsOk result ↔ (length (output_with skip self.old items.now) ≤ most_output) }
         ensures written { OnOk result (self.new ≡ output_with skip self.old items.now) }
         ensures refused { OnErr result (self.new ≡ self.old) }
@@ -160,7 +163,9 @@ impl Output {
         if bytes.len() > MOST_OUTPUT - self.bytes.len() {
             return Err(OutputFull);
         }
-        let _ = self.bytes.extend_from_slice(bytes);
+        if self.bytes.extend_from_slice(bytes).is_err() {
+            unreachable!()
+        }
         Ok(())
     }
 }

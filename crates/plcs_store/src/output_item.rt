@@ -13,7 +13,8 @@ use plcs_base::Value;
 /// `OutputFull` where the output would have over 100,000 bytes; then nothing is changed.
 pub fn write_items(state: &mut RunState, skip: bool, items: &[Value]) -> Result<(), OutputFull>
     ensures fits { IsOk result ↔ (length (output_with skip state.old.output items.now) ≤ most_output) }
-    ensures written { OnOk result (state.new ≡ record state.old { output = output_with skip state.old.output items.now }) }
+    ensures written { OnOk result
+        (state.new ≡ record state.old { output = output_with skip state.old.output items.now }) }
     ensures refused { OnErr result (state.new ≡ state.old) }
 {
     state.output.write(skip, items)

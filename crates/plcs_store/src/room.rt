@@ -40,7 +40,7 @@ impl OperandValues {
     pub fn room(&self) -> usize
         ensures { result ≡ room_beside most_operands self.now }
     {
-        MOST_OPERANDS.saturating_sub(self.as_slice().len())
+        MOST_OPERANDS.saturating_sub(self.count())
     }
 }
 
@@ -49,6 +49,6 @@ impl Arguments {
     pub fn room(&self) -> usize
         ensures { result ≡ room_beside most_operands self.now }
     {
-        MOST_OPERANDS.saturating_sub(self.as_slice().len())
+        MOST_OPERANDS.saturating_sub(self.count())
     }
 }

@@ -1,6 +1,8 @@
 //! The laws of steps and of resumption, each a function that does nothing and whose contract states it.
+ghost use Rattle.plcs_store.specs.NewFrame.{ItemsKeepLimits};
+ghost use Rattle.plcs_store.specs.OutputItem.{WrittenStands};
 ghost use Rattle.plcs_store.specs.Resume.{UneditedResumes};
-ghost use Rattle.plcs_store.specs.StepLaws.{FittingRunsStep, NewRunsFit, StepsDoAllowedActs, StepsKeepFit, StepsOfRunsTakenBack};
+ghost use Rattle.plcs_store.specs.StepLaws.{FittingCallersWait, FittingLoopsHaveRoom, FittingRunsStep, NewRunsFit, StepsDoAllowedActs, StepsKeepFit, StepsOfRunsTakenBack};
 ghost use Rattle.plcs_store.specs.Undone.{StepsTakenBack};
 
 use tree_steps::{sites_stand, slots_stand};
@@ -21,6 +23,26 @@ pub fn what_fits_has_a_step()
     sites_stand();
     slots_stand();
 }
+
+/// Of the frames of a run that fits a tree each but the newest waits at point 1 of its CALL, and each has room for
+/// one more loop.
+pub fn callers_wait()
+    ensures wait { FittingCallersWait }
+    ensures loops { FittingLoopsHaveRoom }
+{
+    sites_stand();
+    slots_stand();
+}
+
+/// The effective items of a procedure have different names, and together at most as many cells as a frame may have.
+pub fn items_keep_limits()
+    ensures { ItemsKeepLimits }
+{}
+
+/// What is written stands behind what was written before, so a write is taken back by the count of bytes alone.
+pub fn written_stands()
+    ensures { WrittenStands }
+{}
 
 /// What a run that fits a tree steps to fits it again: its frames stand at places of the tree, with their
 /// cells and loops, and each cell holds a value or a reference of its kind.

@@ -20,8 +20,9 @@ pub enum Undo {
     Stored(Place, Location, Cell),
     /// A cell was set, and the body of a loop entered.
     Entered(Place, Location, Cell),
-    /// A cell was set, and this loop left.
-    Finished(Place, Location, Cell, KeptLoop),
+    /// A cell was set, and this loop left, which had this number among those of its frame, counted from 0 at the
+    /// outermost.
+    Finished(Place, Location, Cell, KeptLoop, usize),
     /// A cell was set from the input, of which so many bytes were taken before.
     Read(Place, Location, Cell, u32),
     /// Something was written behind so many bytes.

@@ -1,11 +1,14 @@
 //! A variable of a frame.
-ghost use Rattle.std.specs.Prelude.{◌≡◌, Some};
-ghost use Rattle.plcs_store.specs.CellAt.{element_of};
+ghost use Rattle.std.specs.Prelude.{◌≡◌, IfOk, Some};
+ghost use Rattle.template_tree.specs.Checks.Environment.{cells_in};
+ghost use Rattle.plcs_store.specs.CellAt.{element_of, new_variable, scalar_variable};
 ghost use Rattle.plcs_store.specs.Outcome.{found_or_fault};
 
+use crate::cell::Cell;
 use crate::cell_list::CellList;
 use crate::fault_kind::FaultKind;
-use plcs_base::ItemType;
+use plcs_base::{ItemType, OutOfMemory};
+use std::alloc::Global;
 
 /// A variable of a frame: the cells of one name.
 #[derive(Drop)]
@@ -19,6 +22,28 @@ pub struct Variable {
 }
 
 impl Variable {
+    /// A variable of the type and the size, whose cells aren't set. A scalar has size 0 and one cell.
+    pub fn unset(alloc: Global, ty: ItemType, size: u32) -> Result<Variable, OutOfMemory>
+        ensures { IfOk result (λ variable. variable ≡ new_variable ty size) }
+    {
+        Ok(Variable {
+            ty,
+            size,
+            cells: CellList::unset(alloc, cell_count(size))?,
+        })
+    }
+
+    /// A scalar of the type with this in its cell.
+    pub fn scalar(alloc: Global, ty: ItemType, cell: Cell) -> Result<Variable, OutOfMemory>
+        ensures { IfOk result (λ variable. variable ≡ scalar_variable ty cell) }
+    {
+        Ok(Variable {
+            ty,
+            size: 0,
+            cells: CellList::single(alloc, cell)?,
+        })
+    }
+
     /// Which of the cells is meant, counted from 0: without a subscript the first, and else by the subscript,
     /// from 1 to the size.
     pub fn element(&self, subscript: Option<i32>) -> Result<u32, FaultKind>
@@ -39,4 +64,11 @@ impl Variable {
             _ => Err(FaultKind::SubscriptRange),
         }
     }
+}
+
+/// How many cells a variable of this size has.
+fn cell_count(size: u32) -> usize
+    ensures { result ≡ cells_in size }
+{
+    if size == 0 { 1 } else { size as usize }
 }

@@ -1,5 +1,5 @@
 -- What stands at a place without an offence does an act that its configuration allows, or stops.
-use Rattle.std.specs.Prelude.{◌≡◌, refl, ℕ, nat_le, ℤ, ◌+ℤ◌, Bool, if◌then◌else◌, List, [], ◌++◌, length, Some, None, is_some, option_map, Ok}
+use Rattle.std.specs.Prelude.{◌≡◌, refl, ℕ, nat_le, ℤ, ◌+ℤ◌, Bool, if◌then◌else◌, List, [], ◌++◌, length, slice_get, Some, None, is_some, option_map, Ok}
 use Rattle.std.proofs.Common.{ap, ◌∙◌, subst}
 use Rattle.plcs_base.specs.declared.declared.Declared.{Declared}
 use Rattle.plcs_base.specs.declared.value.Kind.{Kind}
@@ -20,13 +20,14 @@ use Rattle.plcs_store.specs.ExpressionValue.{argument_values, expression_value, 
 use Rattle.plcs_store.specs.Fits.{IsTarget}
 use Rattle.plcs_store.specs.InputItem.{next_item}
 use Rattle.plcs_store.specs.Limit.{most_frames, most_output}
+use Rattle.plcs_store.specs.LoopOfSlot.{NumberedLoop, newest_loop}
 use Rattle.plcs_store.specs.NewFrame.{new_frame, other_variables}
 use Rattle.plcs_store.specs.Operator.{fixed_value, on_bit, on_number}
 use Rattle.plcs_store.specs.Outcome.{Outcome, faults, if_there, then_gives}
 use Rattle.plcs_store.specs.OutputItem.{output_with}
 use Rattle.plcs_store.specs.Spot.{Callee}
-use Rattle.plcs_store.specs.Step.{Going, PlainStepAnswer, assignment_act, begin_going, call_going, called_frame, enter_going, entry_going, going_on, is_over, item_outcome, iteration_going, loop_going, newest_loop, output_act, read_act, step_answer, storing, test_going, write_act}
-use Rattle.plcs_store.specs.Undone.{Allows, last_loop}
+use Rattle.plcs_store.specs.Step.{Going, PlainStepAnswer, assignment_act, begin_going, call_going, called_frame, enter_going, entry_going, going_on, is_over, item_outcome, iteration_going, loop_going, output_act, read_act, step_answer, storing, test_going, write_act}
+use Rattle.plcs_store.specs.Undone.{Allows}
 use Rattle.plcs_store.proofs.FittingSteps.Callees.{Takes, parameters_there}
 use Rattle.plcs_store.proofs.FittingSteps.Expressions.{AreArguments, arguments_so, expression_so, expressions_so, located_kind, reference_so, subscript_so}
 use Rattle.plcs_store.proofs.FittingSteps.Found.{name_item}
@@ -69,9 +70,9 @@ module _ (c : PlainConfiguration) (items : List Declared) (has : HasItems c.fram
       → Allows (Act.read location value count) c
   may_read kind location value count target = (has.frame, has.top, target_some c.frames kind location target)
 
-  may_finish : (kind : Kind) (location : Location) (value : Value) (kept : KeptLoop) → IsTarget c.frames kind location
-      → last_loop has.frame ≡ Some kept → Allows (Act.finish location value) c
-  may_finish kind location value kept target e = (has.frame, has.top, (target_some c.frames kind location target, ap is_some e))
+  may_finish : (kind : Kind) (location : Location) (value : Value) (found : NumberedLoop) → IsTarget c.frames kind location
+      → slice_get has.frame.loops found.0 ≡ Some found.1 → Allows (Act.finish location value found.0) c
+  may_finish kind location value found target e = (has.frame, has.top, (target_some c.frames kind location target, ap is_some e))
 
   -- ---- assignments and tests
 
@@ -111,7 +112,7 @@ module _ (c : PlainConfiguration) (items : List Declared) (has : HasItems c.fram
       subst (λ (one : Kind). Gives (IsTarget c.frames one) (located c.frames name None)) kind (located_so c.frames items has name None item there)
 
   entry_so : (kept : KeptLoop) (name : List ℕ) (first : ℤ) (inside after : PlainPlace) → name_kind items name ≡ Ok Kind.Fixed
-      → Gives (MayGo c) (entry_going c.frames kept name first inside after)
+      → Gives (MayGo c) (then_gives (located c.frames name None) (λ location. entry_going c.frames kept location first inside after))
   entry_so kept name first inside after is =
       then_so (IsTarget c.frames Kind.Fixed) (MayGo c) (located c.frames name None)
       (λ location.
@@ -141,61 +142,63 @@ module _ (c : PlainConfiguration) (items : List Declared) (has : HasItems c.fram
       (λ a.
       then_gives (expression_value c.frames limit) (on_number (λ b.
       then_gives (expression_value c.frames step) (on_number (λ s.
-      entry_going c.frames record { slot = record { 0 = slot }; limit = b; step = s } name a inside after)))))
+      then_gives (located c.frames name None) (λ location. entry_going c.frames record { slot = record { 0 = slot }; limit = b; step = s } location a inside after))))))
       first_is
       (λ a.
       whole_so (MayGo c) limit
       (λ b.
       then_gives (expression_value c.frames step) (on_number (λ s.
-      entry_going c.frames record { slot = record { 0 = slot }; limit = b; step = s } name a inside after)))
+      then_gives (located c.frames name None) (λ location. entry_going c.frames record { slot = record { 0 = slot }; limit = b; step = s } location a inside after))))
       limit_is
       (λ b.
-      whole_so (MayGo c) step (λ s. entry_going c.frames record { slot = record { 0 = slot }; limit = b; step = s } name a inside after) step_is
+      whole_so (MayGo c) step
+      (λ s. then_gives (located c.frames name None) (λ location. entry_going c.frames record { slot = record { 0 = slot }; limit = b; step = s } location a inside after)) step_is
       (λ s. entry_so record { slot = record { 0 = slot }; limit = b; step = s } name a inside after is)))
 
-  loop_so : (kept own : KeptLoop) (location : Location) (z : ℤ) (inside after : PlainPlace) → IsTarget c.frames Kind.Fixed location
-      → last_loop has.frame ≡ Some own → Gives (MayGo c) (loop_going c.frames kept location z inside after)
-  loop_so kept own location z inside after target e =
+  loop_so : (found : NumberedLoop) (location : Location) (z : ℤ) (inside after : PlainPlace) → IsTarget c.frames Kind.Fixed location
+      → slice_get has.frame.loops found.0 ≡ Some found.1 → Gives (MayGo c) (loop_going c.frames found.0 found.1 location z inside after)
+  loop_so found location z inside after target e =
       stored_so (MayGo c) c.frames Kind.Fixed location (Value.Fixed z)
-      (λ value. if is_over kept.limit kept.step z then (Act.finish location value, after) else (Act.store location value, inside)) target refl
+      (λ value. if is_over found.1.limit found.1.step z then (Act.finish location value found.0, after) else (Act.store location value, inside))
+      target refl
       (λ value.
-      chosen_so (MayGo c) (is_over kept.limit kept.step z) (Act.finish location value, after) (Act.store location value, inside)
-      (may_finish Kind.Fixed location value own target e) (may_store Kind.Fixed location value target))
+      chosen_so (MayGo c) (is_over found.1.limit found.1.step z) (Act.finish location value found.0, after) (Act.store location value, inside)
+      (may_finish Kind.Fixed location value found target e) (may_store Kind.Fixed location value target))
 
-  -- the loop of the slot is the innermost one that the newest frame keeps
+  -- the newest frame keeps a loop of the slot
   pub record KeepsLoop (slot : ℕ) : Type 0 where
-    pub kept : KeptLoop
-    pub last : last_loop has.frame ≡ Some kept
-    pub newest : newest_loop slot c.frames ≡ Some kept
+    pub found : NumberedLoop
+    pub there : slice_get has.frame.loops found.0 ≡ Some found.1
+    pub newest : newest_loop slot c.frames ≡ Some found
 
   pub iterates_so : (slot : ℕ) (name : List ℕ) (inside after : PlainPlace) → name_kind items name ≡ Ok Kind.Fixed → KeepsLoop slot
       → Gives (MayGo c) (iteration_going c.frames slot name inside after)
   iterates_so slot name inside after is keeps =
-      there_so (MayGo c) (newest_loop slot c.frames) keeps.kept
-      (λ kept.
+      there_so (MayGo c) (newest_loop slot c.frames) keeps.found
+      (λ found.
       then_gives (located c.frames name None) (λ location.
       then_gives (value_at c.frames location) (on_number (λ z.
-      then_gives (fixed_value (z +ℤ kept.step)) (on_number (λ sum. loop_going c.frames kept location sum inside after))))))
+      then_gives (fixed_value (z +ℤ found.1.step)) (on_number (λ sum. loop_going c.frames found.0 found.1 location sum inside after))))))
       keeps.newest
       (then_so (IsTarget c.frames Kind.Fixed) (MayGo c) (located c.frames name None)
       (λ location.
       then_gives (value_at c.frames location) (on_number (λ z.
-      then_gives (fixed_value (z +ℤ keeps.kept.step)) (on_number (λ sum. loop_going c.frames keeps.kept location sum inside after)))))
+      then_gives (fixed_value (z +ℤ keeps.found.1.step)) (on_number (λ sum. loop_going c.frames keeps.found.0 keeps.found.1 location sum inside after)))))
       (named_so name is)
       (λ location target.
       then_so (IsOf Kind.Fixed) (MayGo c) (value_at c.frames location)
       (on_number (λ z.
-      then_gives (fixed_value (z +ℤ keeps.kept.step)) (on_number (λ sum. loop_going c.frames keeps.kept location sum inside after))))
+      then_gives (fixed_value (z +ℤ keeps.found.1.step)) (on_number (λ sum. loop_going c.frames keeps.found.0 keeps.found.1 location sum inside after))))
       (read_so c.frames Kind.Fixed location has.values target)
       (λ value of.
       number_so (MayGo c)
-      (λ z. then_gives (fixed_value (z +ℤ keeps.kept.step)) (on_number (λ sum. loop_going c.frames keeps.kept location sum inside after))) value of
+      (λ z. then_gives (fixed_value (z +ℤ keeps.found.1.step)) (on_number (λ sum. loop_going c.frames keeps.found.0 keeps.found.1 location sum inside after))) value of
       (λ z.
-      then_so (IsOf Kind.Fixed) (MayGo c) (fixed_value (z +ℤ keeps.kept.step))
-      (on_number (λ sum. loop_going c.frames keeps.kept location sum inside after)) (fixed_so (z +ℤ keeps.kept.step))
+      then_so (IsOf Kind.Fixed) (MayGo c) (fixed_value (z +ℤ keeps.found.1.step))
+      (on_number (λ sum. loop_going c.frames keeps.found.0 keeps.found.1 location sum inside after)) (fixed_so (z +ℤ keeps.found.1.step))
       (λ sum sum_of.
-      number_so (MayGo c) (λ s. loop_going c.frames keeps.kept location s inside after) sum sum_of
-      (λ s. loop_so keeps.kept keeps.kept location s inside after target keeps.last))))))
+      number_so (MayGo c) (λ s. loop_going c.frames keeps.found.0 keeps.found.1 location s inside after) sum sum_of
+      (λ s. loop_so keeps.found location s inside after target keeps.there))))))
 
   -- ---- input and output
 

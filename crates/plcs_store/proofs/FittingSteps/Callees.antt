@@ -20,8 +20,8 @@ use Rattle.plcs_store.specs.declared.argument.Argument.{Argument}
 use Rattle.plcs_store.specs.declared.cell.Cell.{Cell}
 use Rattle.plcs_store.specs.declared.frame.Frame.{Frame}
 use Rattle.plcs_store.specs.declared.variable.Variable.{Variable}
-use Rattle.plcs_store.specs.CellAt.{Variables}
-use Rattle.plcs_store.specs.NewFrame.{option_before, parameter_named, parameter_of, parameter_variables, reference_parameter, scalar_variable}
+use Rattle.plcs_store.specs.CellAt.{Variables, scalar_variable}
+use Rattle.plcs_store.specs.NewFrame.{option_before, parameter_named, parameter_of, parameter_variables, reference_parameter}
 use Rattle.plcs_store.specs.Spot.{callee_named, callee_of, callee_with}
 use Rattle.plcs_store.proofs.FittingSteps.Expressions.{AreArguments, IsArgument}
 use Rattle.plcs_store.proofs.FittingSteps.Found.{kind_itself, kinds_same}

@@ -1,12 +1,12 @@
 -- `what_fits_has_a_step`, `steps_do_allowed_acts`: what fits a tree stands at a place where something goes.
 -- The newest frame's place exists, and is no place where it waits; a phrase there that isn't marked has no offence by the items of
 -- the frame's procedure, whose cells the frame has, so that each part of the step comes to a value of its kind, or to a fault.
-use Rattle.std.specs.Prelude.{◌≡◌, refl, ℕ, zero, suc, ◌-◌, ◌<◌, ◌≤◌, ◌==◌, nat_le, ◌&&◌, ◌||◌, Bool, true, false, if◌then◌else◌, List, [], ◌∷◌, ◌++◌, All, length, map, take, slice_get, IsSome, Option, Some, None, is_some, option_and_then, option_map, unwrap_or}
+use Rattle.std.specs.Prelude.{◌≡◌, refl, ℕ, zero, suc, ◌-◌, ◌<◌, ◌≤◌, ◌==◌, nat_le, ◌&&◌, ◌||◌, Bool, true, false, if◌then◌else◌, List, [], ◌∷◌, ◌++◌, All, length, take, slice_get, IsSome, Option, Some, None, is_some, option_and_then, option_map, unwrap_or}
 use Rattle.std.specs.FinMap.{get}
 use Rattle.std.proofs.Common.{ap, sym, ◌∙◌, subst, arith}
 use Rattle.std.proofs.Math.Bool.{false≢true}
-use Rattle.std.proofs.lemmas.Bool.{eq-eqb, eqb-true, leb-false}
-use Rattle.std.proofs.lemmas.List.{length-append, length-take-le}
+use Rattle.std.proofs.lemmas.Bool.{eqb-true, leb-false}
+use Rattle.std.proofs.lemmas.List.{length-take-le}
 use Rattle.std.proofs.lemmas.Option.{get_or_from_slice_get, same_Some, slice_get_within}
 use Rattle.plcs_base.specs.declared.declared.Declared.{Declared}
 use Rattle.plcs_base.specs.declared.mark.MarkKind.{MarkKind}
@@ -28,21 +28,23 @@ use Rattle.tree_steps.specs.AgreementLaws.{SlotsStandOnce}
 use Rattle.tree_steps.specs.PlaceLaws.{SitesStand, StandingSlotsHaveSites, StatementsBegin}
 use Rattle.tree_steps.specs.StandingSlot.{Around, StandsInside, loop_by_kind, loops_around, outermost_slot}
 use Rattle.plcs_store.specs.declared.frame.Frame.{Frame}
-use Rattle.plcs_store.specs.declared.kept_loop.KeptLoop.{KeptLoop}
 use Rattle.plcs_store.specs.Act.{Act, done}
 use Rattle.plcs_store.specs.CellAt.{newest}
 use Rattle.plcs_store.specs.Configuration.{PlainConfiguration, frame_place, top_place}
 use Rattle.plcs_store.specs.Fits.{AllStand, AreVariables, Fits, HasLoops, StandsAround, StandsAt, StandsAtStart, is_waiting_place}
+use Rattle.plcs_store.specs.LoopOfSlot.{newest_loop}
 use Rattle.plcs_store.specs.Spot.{Spot, callee_named, point_spot, site_spot, spot_at}
-use Rattle.plcs_store.specs.Step.{PlainStepAnswer, Step, caller_place, innermost_loop, leave_answer, spot_answer, waits_for}
-use Rattle.plcs_store.specs.StepLaws.{FittingRunsStep, StepsDoAllowedActs, StepsOfRunsTakenBack}
-use Rattle.plcs_store.specs.Undone.{last_loop, step_undone, undo_of}
+use Rattle.plcs_store.specs.Step.{PlainStepAnswer, Step, caller_place, leave_answer, spot_answer, waits_for}
+use Rattle.plcs_store.specs.StepLaws.{FittingCallersWait, FittingRunsStep, StepsDoAllowedActs, StepsOfRunsTakenBack}
+use Rattle.plcs_store.specs.Undone.{step_undone, undo_of}
 use Rattle.plcs_store.proofs.FirstPlace.{statement_sort}
 use Rattle.plcs_store.proofs.FittingSteps.Acts.{IsAnswerOf, KeepsLoop}
 use Rattle.plcs_store.proofs.FittingSteps.Locations.{HasItems}
 use Rattle.plcs_store.proofs.FittingSteps.Outcomes.{Has}
 use Rattle.plcs_store.proofs.FittingSteps.PhraseMarks.{HasNode, InProcedure, in_procedure, mark_is, node_sound, site_node}
 use Rattle.plcs_store.proofs.FittingSteps.Spots.{site_goes}
+use Rattle.plcs_store.proofs.KeptFit.FittingFrames.{fitting_frames}
+use Rattle.plcs_store.proofs.LoopsOfSlots.{newest_kept}
 use Rattle.plcs_store.proofs.TakenBack.{steps_taken_back}
 
 -- ---- lists
@@ -122,35 +124,6 @@ kind_start marked label NodeKind.ProcedureHole e = absurd (false≢true e)
 kind_start marked label NodeKind.Main e = absurd (false≢true e)
 kind_start marked label NodeKind.Assign e = refl
 kind_start marked label (NodeKind.Filled template) e = template_start marked label template e
-
--- ---- loops
-
-abbrev head_or : ℕ → List ℕ → ℕ
-head_or other [] = other
-head_or other (n ∷ rest) = n
-
-abbrev tail : List ℕ → List ℕ
-tail [] = []
-tail (n ∷ rest) = rest
-
--- the last of the loops that a frame keeps
-last_loop_is : (loops : List KeptLoop) (outer : List ℕ) (slot : ℕ) → map (λ kept. kept.slot.0) loops ≡ outer ++ (slot ∷ [])
-    → (kept : KeptLoop) × (slice_get loops (length loops - 1) ≡ Some kept) × (kept.slot.0 ≡ slot)
-last_loop_is [] outer slot e = let n = ap length e in let m = length-append outer (slot ∷ []) in absurd (omega (arith, n, m))
-last_loop_is (kept ∷ []) [] slot e = (kept, refl, ap (head_or slot) e)
-last_loop_is (kept ∷ []) (first ∷ outer) slot e =
-    let n = ap length (ap tail e) in let m = length-append outer (slot ∷ []) in absurd (omega (arith, n, m))
-last_loop_is (kept ∷ (next ∷ loops)) [] slot e = let n = ap length (ap tail e) in absurd (omega (arith, n))
-last_loop_is (kept ∷ (next ∷ loops)) (first ∷ outer) slot e =
-    let (one, there, is) = last_loop_is (next ∷ loops) outer slot (ap tail e) in
-    let last : length (kept ∷ (next ∷ loops)) - 1 ≡ suc (length (next ∷ loops) - 1) = omega arith in
-    (one, ap (slice_get (kept ∷ (next ∷ loops))) last ∙ there, is)
-
-innermost : (slot : ℕ) (loops : List KeptLoop) (kept : KeptLoop) → slice_get loops (length loops - 1) ≡ Some kept → kept.slot.0 ≡ slot
-    → innermost_loop slot loops ≡ Some kept
-innermost slot loops kept e same =
-    ap (option_and_then (λ (one : KeptLoop). if one.slot.0 == slot then Some one else None)) e
-    ∙ ap (λ (b : Bool). if b then Some kept else None) (eq-eqb kept.slot.0 slot same)
 
 -- ---- a frame of a tree
 
@@ -286,17 +259,16 @@ module _ (sited : SitesStand) (standing : StandingSlotsHaveSites) (begins : Stat
     keeps_loop frame items has kind around stands for_is one_is slot slot_is top =
         let own : ℕ = frame.place.slot.0 in
         let loops : HasLoops program frame = all_at (HasLoops program) c.frames (newest c.frames) frame fits.loops top in
-        let (kept, last, same) =
-        last_loop_is frame.loops (loops_around around) own
+        let (kept, there, found) =
+        newest_kept c.frames frame (loops_around around) own top
         (loops kind around stands
         ∙ (ap (λ (n : ℕ). loops_around around ++ (if n == 1 then loop_by_kind kind own else [])) one_is
         ∙ ap (λ (k : NodeKind). loops_around around ++ loop_by_kind k own) for_is)) in
         record {
-          kept = kept;
-          last = ap last_loop (same_Some has.frame frame (sym has.top ∙ top)) ∙ last;
-          newest =
-              ap (option_and_then (λ (one : Frame). innermost_loop slot one.loops)) top
-              ∙ innermost slot frame.loops kept last (same ∙ sym slot_is);
+          found = (length frame.loops - 1, kept);
+          there =
+              ap (λ (one : Frame). slice_get one.loops (length frame.loops - 1)) (same_Some has.frame frame (sym has.top ∙ top)) ∙ there;
+          newest = ap (λ (s : ℕ). newest_loop s c.frames) slot_is ∙ found;
         }
 
     -- ---- the newest frame
@@ -343,6 +315,12 @@ module _ (sited : SitesStand) (standing : StandingSlotsHaveSites) (begins : Stat
         in_frame newest_one.0 newest_one.1 place.0 place.1 place.2 newest_one.3
 
   -- ---- the laws
+
+  pub callers_wait : FittingCallersWait
+  callers_wait tree c number frame is fits there below =
+      let stands = (fitting_frames tree.items c fits).lower number frame there (omega (arith, below)) in
+      let (kind, around, at) = stands.stands in
+      ((kind_waits kind frame.place.point.0 at.waiting).1, caller_spot tree [] c is fits frame stands.stands)
 
   pub what_fits_has_a_step : FittingRunsStep
   what_fits_has_a_step tree input c is fits = some_answer (IsAnswerOf c) (Step tree.items input c) (answer tree input c is fits)

@@ -1,10 +1,11 @@
 -- What acts make of frames that fit: each act with a place where the run may go on, in the loops that the act leaves.
 -- A cell that is set and the newest frame that moves are changed independently of each other; so the frame is moved first, and then
 -- the value is stored in frames that fit.
-use Rattle.std.specs.Prelude.{◌≡◌, refl, ℕ, ◌+◌, ◌-◌, ◌≤◌, List, [], ◌∷◌, ◌++◌, length, map, take, slice_get, Some, option_and_then}
+use Rattle.std.specs.Prelude.{◌≡◌, refl, ℕ, suc, ◌+◌, ◌-◌, ◌≤◌, List, [], ◌∷◌, ◌++◌, drop, length, map, take, slice_get, Some, option_and_then}
+use Rattle.std.specs.List.{remove}
 use Rattle.std.proofs.Common.{ap, sym, ◌∙◌, subst, arith}
 use Rattle.std.proofs.Math.Seq.{take-append_seam}
-use Rattle.std.proofs.lemmas.List.{length-append, length-map, map-append, take-map}
+use Rattle.std.proofs.lemmas.List.{append-nil, drop_all, length-append, length-map, map-append, take-map}
 use Rattle.plcs_base.specs.declared.value.Value.{Value}
 use Rattle.template_tree.specs.Checks.Environment.{kind_of_type}
 use Rattle.template_tree.specs.Positions.Place.{PlainPlace}
@@ -14,7 +15,7 @@ use Rattle.plcs_store.specs.declared.cell.Cell.{Cell}
 use Rattle.plcs_store.specs.declared.cell.Location.{Location}
 use Rattle.plcs_store.specs.declared.frame.Frame.{Frame}
 use Rattle.plcs_store.specs.declared.kept_loop.KeptLoop.{KeptLoop}
-use Rattle.plcs_store.specs.Act.{newest_at, with_loop, with_newest, with_value_stored, without_loop}
+use Rattle.plcs_store.specs.Act.{newest_at, with_loop, with_newest, with_value_stored, without_loop_at}
 use Rattle.plcs_store.specs.CellAt.{kept_at, kept_value, newest, variable_at, with_cell}
 use Rattle.plcs_store.specs.Configuration.{frame_at, frame_place}
 use Rattle.plcs_store.specs.Fits.{kind_of_value}
@@ -68,6 +69,16 @@ loops_without loops outer slot same =
     ∙ ap (λ (n : ℕ). take n slots) count
     ∙ take-append_seam outer (slot ∷ [])
 
+-- loops without the last, by its number
+last_removed : (loops : List KeptLoop) (number : ℕ) (outer : List ℕ) (slot : ℕ) → number ≡ length loops - 1 → slots_of loops ≡ outer ++ slot ∷ []
+    → slots_of (remove loops number) ≡ outer
+last_removed loops number outer slot last same =
+    let none : drop (suc number) loops ≡ [] = drop_all (suc number) loops (omega (arith, last)) in
+    ap (λ (inner : List KeptLoop). slots_of (take number loops ++ inner)) none
+    ∙ ap slots_of (append-nil (take number loops))
+    ∙ ap (λ (n : ℕ). slots_of (take n loops)) last
+    ∙ loops_without loops outer slot same
+
 module _ (laws : SiteLaws) (program : Forest) (once : (slot : ℕ) → times slot program ≤ 1) (frames : List Frame) (frame : Frame)
     (fit : FramesFit program frames) (newest_there : slice_get frames (newest frames) ≡ Some frame) where
   -- nothing is done
@@ -111,10 +122,10 @@ module _ (laws : SiteLaws) (program : Forest) (once : (slot : ℕ) → times slo
       (subst (λ (loops : List ℕ). GoesOn program frame.procedure.0 loops next) (sym (loops_with frame.loops kept)) goes))
 
   -- a value is stored, and the innermost loop left
-  pub finished : (next : PlainPlace) (location : Location) (value : Value) (outer : List ℕ) (slot : ℕ) → MayKeep frames location value
-      → slots_of frame.loops ≡ outer ++ slot ∷ [] → GoesOn program frame.procedure.0 outer next
-      → FramesFit program (newest_at next (with_newest without_loop (with_value_stored location value frames)))
-  finished next location value outer slot may same goes =
-      subst (FramesFit program) (sym (newest_twice (frame_at next) without_loop (with_value_stored location value frames)))
-      (stored_with (λ one. frame_at next (without_loop one)) location value (λ one. refl) (λ one. refl) (λ one. refl) may
-      (subst (λ (loops : List ℕ). GoesOn program frame.procedure.0 loops next) (sym (loops_without frame.loops outer slot same)) goes))
+  pub finished : (next : PlainPlace) (location : Location) (value : Value) (number : ℕ) (outer : List ℕ) (slot : ℕ) → MayKeep frames location value
+      → number ≡ length frame.loops - 1 → slots_of frame.loops ≡ outer ++ slot ∷ [] → GoesOn program frame.procedure.0 outer next
+      → FramesFit program (newest_at next (with_newest (without_loop_at number) (with_value_stored location value frames)))
+  finished next location value number outer slot may last same goes =
+      subst (FramesFit program) (sym (newest_twice (frame_at next) (without_loop_at number) (with_value_stored location value frames)))
+      (stored_with (λ one. frame_at next (without_loop_at number one)) location value (λ one. refl) (λ one. refl) (λ one. refl) may
+      (subst (λ (loops : List ℕ). GoesOn program frame.procedure.0 loops next) (sym (last_removed frame.loops number outer slot last same)) goes))

@@ -100,7 +100,7 @@ last_or_lower zero (suc (suc n)) P few lower last = lower (omega arith)
 last_or_lower (suc k) (suc n) P few lower last =
     last_or_lower k n P (omega (arith, few)) (λ h. lower (omega (arith, h))) (λ e. last (ap suc e))
 
-of_each : (program : Forest) (frames : List Frame) (P : Frame → Type 0) → FramesFit program frames
+pub of_each : (program : Forest) (frames : List Frame) (P : Frame → Type 0) → FramesFit program frames
     → ((waits : Bool) (frame : Frame) → FrameFits program waits frame → P frame) → (k : ℕ) (frame : Frame) → slice_get frames k ≡ Some frame → P frame
 of_each program frames P fit holds k frame found =
     last_or_lower k (length frames) (P frame) (slice_get_within frames k frame found) (λ more. holds true frame (fit.lower k frame found more))

@@ -23,9 +23,9 @@ use Rattle.plcs_store.specs.declared.cell.Cell.{Cell}
 use Rattle.plcs_store.specs.declared.cell.Location.{Location}
 use Rattle.plcs_store.specs.declared.frame.Frame.{Frame}
 use Rattle.plcs_store.specs.declared.variable.Variable.{Variable}
-use Rattle.plcs_store.specs.CellAt.{Variables, kept_value, unset_named, variable_at, variable_named}
+use Rattle.plcs_store.specs.CellAt.{Variables, kept_value, scalar_variable, unset_named, variable_at, variable_named}
 use Rattle.plcs_store.specs.Fits.{AreVariables, HoldsRight, declared_part, kind_of_value, variable_part}
-use Rattle.plcs_store.specs.NewFrame.{option_before, other_variables, parameter_named, parameter_of, parameter_variables, reference_parameter, scalar_variable}
+use Rattle.plcs_store.specs.NewFrame.{option_before, other_variables, parameter_named, parameter_of, parameter_variables, reference_parameter}
 use Rattle.plcs_store.proofs.FittingSteps.Found.{and_both, kinds_same}
 use Rattle.plcs_store.proofs.NewCells.{distinct_behind, item_names, no_names, or_false, same_name, unset_cell, unset_found, unset_same, unset_variables}
 use Rattle.plcs_store.proofs.KeptFit.Arguments.{IsFinalArgument, IsFinal}

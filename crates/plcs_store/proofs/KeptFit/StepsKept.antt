@@ -25,12 +25,13 @@ use Rattle.plcs_store.specs.ExpressionValue.{argument_values, expression_value, 
 use Rattle.plcs_store.specs.Fits.{AreVariables, loops_at}
 use Rattle.plcs_store.specs.InputItem.{next_item}
 use Rattle.plcs_store.specs.Limit.{most_frames, most_output}
+use Rattle.plcs_store.specs.LoopOfSlot.{NumberedLoop, newest_loop}
 use Rattle.plcs_store.specs.NewFrame.{new_frame, other_variables, parameter_variables}
 use Rattle.plcs_store.specs.Operator.{fixed_value, on_bit, on_number}
 use Rattle.plcs_store.specs.Outcome.{Outcome, faults, if_there, then_gives}
 use Rattle.plcs_store.specs.OutputItem.{output_with}
 use Rattle.plcs_store.specs.Spot.{Callee, Spot, callee_named, site_spot, spot_at}
-use Rattle.plcs_store.specs.Step.{Going, PlainStepAnswer, assignment_act, begin_going, call_going, called_frame, caller_place, enter_going, entry_going, going_on, is_over, item_outcome, iteration_going, loop_going, newest_loop, output_act, read_act, spot_answer, step_answer, storing, test_going, waits_for, write_act}
+use Rattle.plcs_store.specs.Step.{Going, PlainStepAnswer, assignment_act, begin_going, call_going, called_frame, caller_place, enter_going, entry_going, going_on, is_over, item_outcome, iteration_going, loop_going, output_act, read_act, spot_answer, step_answer, storing, test_going, waits_for, write_act}
 use Rattle.plcs_store.specs.StepLaws.{StepsKeepFit}
 use Rattle.plcs_store.proofs.KeptFit.Arguments.{IsFinalArgument, arguments_final}
 use Rattle.plcs_store.proofs.KeptFit.Callees.{IsCallee}
@@ -42,6 +43,7 @@ use Rattle.plcs_store.proofs.KeptFit.MovedFrames.{frames_called, frames_left}
 use Rattle.plcs_store.proofs.KeptFit.Outcomes.{Makes, WhenThere, makes_bit, makes_follow, makes_number, makes_then, makes_there, there_follow}
 use Rattle.plcs_store.proofs.KeptFit.Parameters.{AreParameters, are_parameters, called_right, called_variables}
 use Rattle.plcs_store.proofs.KeptFit.StoredValues.{MayKeep}
+use Rattle.plcs_store.proofs.LoopsOfSlots.{newest_kept}
 
 -- ---- what a step leads to
 
@@ -170,7 +172,7 @@ module _ (laws : SiteLaws) (tree : PlainTree) (is : IsTree tree) where
         entered laws tree.items is.once c.frames frame fit newest_there inside location value kept may one
 
     entry_kept : (kept : KeptLoop) (name : List ℕ) (first : ℤ) (inside after : PlainPlace) → Goes (slots_of frame.loops ++ kept.slot.0 ∷ []) inside
-        → Goes (slots_of frame.loops) after → Makes Keeps (entry_going c.frames kept name first inside after)
+        → Goes (slots_of frame.loops) after → Makes Keeps (then_gives (located c.frames name None) (λ location. entry_going c.frames kept location first inside after))
     entry_kept kept name first inside after one two =
         let make : Location → Value → Going =
         λ location value.
@@ -184,7 +186,8 @@ module _ (laws : SiteLaws) (tree : PlainTree) (is : IsTree tree) where
         → Goes (slots_of frame.loops) after → Makes Keeps (begin_going c.frames slot name first limit step inside after)
     begun slot name first limit step inside after one two =
         let at_step : ℤ → ℤ → ℤ → Outcome Going =
-        λ a b s. entry_going c.frames record { slot = record { 0 = slot }; limit = b; step = s } name a inside after in
+        λ a b s.
+        then_gives (located c.frames name None) (λ location. entry_going c.frames record { slot = record { 0 = slot }; limit = b; step = s } location a inside after) in
         let at_limit : ℤ → ℤ → Outcome Going = λ a b. then_gives (expression_value c.frames step) (on_number (at_step a b)) in
         let at_first : ℤ → Outcome Going = λ a. then_gives (expression_value c.frames limit) (on_number (at_limit a)) in
         makes_then Keeps (on_number at_first) (expression_value c.frames first)
@@ -200,37 +203,43 @@ module _ (laws : SiteLaws) (tree : PlainTree) (is : IsTree tree) where
         makes_number Keeps (at_step a b) three_value
         (λ s. entry_kept record { slot = record { 0 = slot }; limit = b; step = s } name a inside after one two))))))
 
-    loop_level : (over : Bool) (location : Location) (value : Value) (slot : ℕ) (outer : List ℕ) (inside after : PlainPlace)
-        → MayKeep c.frames location value → slots_of frame.loops ≡ outer ++ slot ∷ [] → Goes (slots_of frame.loops) inside → Goes outer after
-        → Keeps (if over then (Act.finish location value, after) else (Act.store location value, inside))
-    loop_level true location value slot outer inside after may same one two =
-        finished laws tree.items is.once c.frames frame fit newest_there after location value outer slot may same two
-    loop_level false location value slot outer inside after may same one two =
+    loop_level : (over : Bool) (location : Location) (value : Value) (number slot : ℕ) (outer : List ℕ) (inside after : PlainPlace)
+        → MayKeep c.frames location value → number ≡ length frame.loops - 1 → slots_of frame.loops ≡ outer ++ slot ∷ []
+        → Goes (slots_of frame.loops) inside → Goes outer after
+        → Keeps (if over then (Act.finish location value number, after) else (Act.store location value, inside))
+    loop_level true location value number slot outer inside after may last same one two =
+        finished laws tree.items is.once c.frames frame fit newest_there after location value number outer slot may last same two
+    loop_level false location value number slot outer inside after may last same one two =
         stored laws tree.items is.once c.frames frame fit newest_there inside location value may one
 
     iterated : (slot : ℕ) (name : List ℕ) (outer : List ℕ) (inside after : PlainPlace) → slots_of frame.loops ≡ outer ++ slot ∷ []
         → Goes (slots_of frame.loops) inside → Goes outer after → Makes Keeps (iteration_going c.frames slot name inside after)
     iterated slot name outer inside after same one two =
-        let at_sum : KeptLoop → Location → ℤ → Outcome Going = λ kept location sum. loop_going c.frames kept location sum inside after in
-        let at_value : KeptLoop → Location → ℤ → Outcome Going =
-        λ kept location z. then_gives (fixed_value (z +ℤ kept.step)) (on_number (at_sum kept location)) in
-        let at_location : KeptLoop → Location → Outcome Going =
-        λ kept location. then_gives (value_at c.frames location) (on_number (at_value kept location)) in
-        makes_then Keeps (λ kept. then_gives (located c.frames name None) (at_location kept)) (if_there (newest_loop slot c.frames))
-        (λ kept.
-        makes_then Keeps (at_location kept) (located c.frames name None)
+        let IsLast : NumberedLoop → Type 0 = λ found. found.0 ≡ length frame.loops - 1 in
+        let (kept, there, newest_is) = newest_kept c.frames frame outer slot newest_there same in
+        let at_sum : NumberedLoop → Location → ℤ → Outcome Going = λ found location sum. loop_going c.frames found.0 found.1 location sum inside after in
+        let at_value : NumberedLoop → Location → ℤ → Outcome Going =
+        λ found location z. then_gives (fixed_value (z +ℤ found.1.step)) (on_number (at_sum found location)) in
+        let at_location : NumberedLoop → Location → Outcome Going =
+        λ found location. then_gives (value_at c.frames location) (on_number (at_value found location)) in
+        makes_follow IsLast Keeps (λ found. then_gives (located c.frames name None) (at_location found)) (if_there (newest_loop slot c.frames))
+        (makes_there IsLast (newest_loop slot c.frames) (subst (WhenThere IsLast) (sym newest_is) refl))
+        (λ found last.
+        makes_then Keeps (at_location found) (located c.frames name None)
         (λ location.
-        makes_then Keeps (on_number (at_value kept location)) (value_at c.frames location)
+        makes_then Keeps (on_number (at_value found location)) (value_at c.frames location)
         (λ now.
-        makes_number Keeps (at_value kept location) now
+        makes_number Keeps (at_value found location) now
         (λ z.
-        makes_then Keeps (on_number (at_sum kept location)) (fixed_value (z +ℤ kept.step))
+        makes_then Keeps (on_number (at_sum found location)) (fixed_value (z +ℤ found.1.step))
         (λ later.
-        makes_number Keeps (at_sum kept location) later
+        makes_number Keeps (at_sum found location) later
         (λ sum.
         makes_storing Keeps c.frames location (Value.Fixed sum)
-        (λ value. if is_over kept.limit kept.step sum then (Act.finish location value, after) else (Act.store location value, inside))
-        (λ value may. loop_level (is_over kept.limit kept.step sum) location value slot outer inside after may same one two)))))))
+        (λ value.
+        if is_over found.1.limit found.1.step sum then (Act.finish location value found.0, after) else (Act.store location value, inside))
+        (λ value may.
+        loop_level (is_over found.1.limit found.1.step sum) location value found.0 slot outer inside after may last same one two)))))))
 
     read : (target : PlainVarRef) (next : PlainPlace) → Goes (slots_of frame.loops) next
         → Makes (λ act. Keeps (act, next)) (read_act c.frames (drop c.taken input) target)
