@@ -97,7 +97,7 @@ impl Clips {
         }
     }
 
-    /// The fragment under the name, or `None` where the name isn't held. It takes no memory.
+    /// The fragment that the clips have under the name, or `None` where the name isn't held. It takes no memory.
     pub fn get(&self, name: &Name) -> Option<&Fragment>
         ensures found { option_map (λ fragment. plain_fragment fragment.now) result
             ≡ clip_named name.now self.now.pairs }
@@ -109,8 +109,8 @@ impl Clips {
 }
 
 impl Clips {
-    /// Whether a fragment of so many slots may be put under the name, as far as the limits go. It takes
-    /// no memory.
+    /// Whether the clips may take a fragment of so many slots under the name, as far as the limits go. It takes no
+    /// memory.
     pub fn would_hold(&self, name: &Name, slots: u32) -> bool
         ensures { result ≡ not (is_full name.now slots self.now.pairs) }
     {
@@ -142,7 +142,7 @@ impl Clips {
         }
     }
 
-    /// How many slots the fragments under other names have.
+    /// How many slots the fragments of the clips under other names have.
     fn other_slots(&self, name: &Name) -> u32
         ensures sum { result ≡ slots_held (without_name name.now self.now.pairs) }
         ensures few { result ≤ most_clip_slots }

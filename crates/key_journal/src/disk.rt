@@ -63,8 +63,8 @@ pub trait Disk {
 
     ghost faults: { Self → ℕ };
 
-    /// Moves the bytes from `at` on into the front of the buffer, up to its length or to the disk's
-    /// end, and answers how many.
+    /// Moves the bytes of the disk from `at` on into the front of the buffer, up to its length or to the disk's end,
+    /// and answers how many.
     ///
     /// What stands in the buffer behind them, or where the read isn't `Ok`, isn't told.
     fn read_at(&mut self, at: u64, buf: &mut [u8]) -> Result<usize, DiskFault>

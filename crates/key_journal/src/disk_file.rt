@@ -33,7 +33,7 @@ pub trait DiskFile {
         ensures whole { OnOk result (WritesToDisk at piece.now (past self.old) (past self.new)) }
         ensures torn { OnErr result (Tears at (length piece.now) (past self.old) (past self.new)) };
 
-    /// Has the system keep all that was written. It changes nothing where it isn't `Ok`.
+    /// Has the system keep all that was written to the file. It changes nothing where it isn't `Ok`.
     fn sync_whole(&mut self) -> io::Result<()>
         ensures whole { OnOk result (Syncs (past self.old) (past self.new)) }
         ensures same { OnErr result (past self.new ≡ past self.old) };

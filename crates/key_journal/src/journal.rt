@@ -164,7 +164,7 @@ impl<S: Source, D: Disk> Source for JournalKeys<S, D> {
     ghost leads_to_itself = { λ journal. leads_to_itself S.left S.faults S.leads_to
         S.leads_to_itself D.past D.faults journal };
 
-    /// Gives at most one key. A new key is given once no crash can lose it.
+    /// Gives at most one key of the journal. A new key is given once no crash can lose it.
     fn read(&mut self, buf: &mut [u8]) -> Result<usize, SourceFault>
         requires { 0 < length buf.old }
         ensures key { ReadsKey (S.left self.old.inner) (S.left self.new.inner) self.old.given

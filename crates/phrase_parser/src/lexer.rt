@@ -9,7 +9,7 @@ use crate::front::front_of;
 use crate::token::Placed;
 use std::alloc::{AllocError, Global};
 
-/// The tokens of a text, with the place where it stops being tokens.
+/// The tokens into which a text is cut, with the place where it stops being tokens.
 #[derive(Drop)]
 pub struct TokenList {
     /// The tokens of the text, in their order.
@@ -19,8 +19,8 @@ pub struct TokenList {
     pub stop: Option<usize>,
 }
 
-/// All tokens of the text, up to its end or to the byte where none can be made. The work grows with the
-/// text's length alone: no byte is looked at more than a few times.
+/// All tokens into which the text is cut, up to its end or to the byte where none can be made. The work grows with
+/// the text's length alone: no byte is looked at more than a few times.
 pub fn tokens(alloc: Global, text: &[u8]) -> Result<TokenList, AllocError>
     ensures { IfOk result (λ tokens. AreTokens tokens.placed.items tokens.stop text.now) }
 {

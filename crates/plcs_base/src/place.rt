@@ -1,13 +1,13 @@
 //! Slots, points and places: where something stands in a program.
 
-/// The number of a node: of a main procedure, a procedure, a declaration or a statement.
+/// A slot: the number of a node, which is a main procedure, a procedure, a declaration or a statement.
 ///
 /// Numbers are given out in order from 0, and none is given out twice.
 #[derive(Clone, Copy, Debug, PartialEq, Eq, PartialOrd, Ord, Hash)]
 pub struct Slot(pub u32);
 
-/// Where in a slot a run stands: 0 is the start of what stands there, and the others are the points
-/// between its steps.
+/// A point: where in a slot a run stands. 0 is the start of what stands there, and the others are the points between
+/// its steps.
 #[derive(Clone, Copy, Debug, PartialEq, Eq, PartialOrd, Ord, Hash)]
 pub struct Point(pub u16);
 

@@ -137,7 +137,7 @@ impl PrefixSums {
         self.marks.reserve(more / BLOCK + 1)
     }
 
-    /// Sets the number of the list in this place, counted from 0. It takes no memory.
+    /// Sets the number of the list in this place, counted from 0, and mends its sums. It takes no memory.
     pub fn set(&mut self, k: usize, number: u32)
         requires there { k < length self.old.numbers }
         requires fits { sum (slice_set self.old.numbers k number) < 2 ^ 32 }
@@ -151,7 +151,8 @@ impl PrefixSums {
         }
     }
 
-    /// Puts a number into the list before the one in this place, counted from 0, or at the end. It takes no memory.
+    /// Puts a number into the list before the one in this place, counted from 0, or at the end, and mends its sums.
+    /// It takes no memory.
     pub fn insert(&mut self, k: usize, number: u32)
         requires there { k ≤ length self.old.numbers }
         requires room { 0 < self.old.spare }
@@ -168,7 +169,7 @@ impl PrefixSums {
         }
     }
 
-    /// Takes the number in this place out of the list, counted from 0. The room for it stays.
+    /// Takes the number in this place out of the list, counted from 0, and mends its sums. The room for it stays.
     pub fn remove(&mut self, k: usize) -> u32
         requires there { k < length self.old.numbers }
         ensures taken { Some result ≡ slice_get self.old.numbers k }

@@ -80,7 +80,7 @@ pub fn grid(
     Some(())
 }
 
-/// Draws a view under the one mark, or under those of the program.
+/// Draws a view on a grid under the one mark, or under those of the program.
 pub fn draw_marked(
     alloc: Global,
     tree: &Tree,

@@ -143,14 +143,14 @@ impl Beside {
         }
     }
 
-    /// The file of a new content takes the place of the file of the name, once all of its bytes are
+    /// The file of the system with a new content takes the place of the file of the name, once all of its bytes are
     /// on the disk.
     fn put_in_place<R: rt::Files>(&self, rt: &R) -> io::Result<()> {
         self.file.sync_all()?;
         fs::rename(rt, self.path.as_str(), text_of(self.name.as_slice())?)
     }
 
-    /// Removes the file of a new content, if that can be done.
+    /// Removes the file of the system with a new content, if that can be done.
     fn remove<R: rt::Files>(self, rt: &R) {
         // Where it can't be removed it stays until the next content is begun.
         let _ = fs::remove_file(rt, self.path.as_str());

@@ -159,7 +159,7 @@ impl<W: Work> Session<W> {
         Answer::Refused(why)
     }
 
-    /// Accepts a key: no message is shown, and the window follows the cursor.
+    /// Accepts a key of the session: no message is shown, and the window follows the cursor.
     pub(crate) fn accept(&mut self) -> Answer
         requires agrees { Agrees self.old.program }
         requires placed { IsPlaced (plain_session self.old) }
@@ -175,7 +175,7 @@ impl<W: Work> Session<W> {
         Answer::Done
     }
 
-    /// Accepts a key that took the whole typed line.
+    /// Accepts a key of the session that took the whole typed line.
     pub(crate) fn accept_line(&mut self) -> Answer
         requires agrees { Agrees self.old.program }
         requires placed { IsPlaced (plain_session self.old) }
@@ -185,7 +185,7 @@ impl<W: Work> Session<W> {
         self.accept()
     }
 
-    /// Accepts a key that took the whole typed line, and tells this notice.
+    /// Accepts a key of the session that took the whole typed line, and tells this notice.
     pub(crate) fn accept_line_with(&mut self, notice: Notice) -> Answer
         requires agrees { Agrees self.old.program }
         requires placed { IsPlaced (plain_session self.old) }

@@ -19,7 +19,7 @@ pub struct Keys {
     pub second: Option<Key>,
 }
 
-/// ESC, the byte with which the sequence of a move begins.
+/// ESC, the byte of keys with which the sequence of a move begins.
 const ESCAPE: u8 = 27;
 
 /// The bytes that the reader holds back: they are read and are no key yet.

@@ -10,10 +10,10 @@ use screen_window::{FEWEST_COLS, FEWEST_ROWS, MOST_COLS, MOST_ROWS};
 use session_words::is_file_name;
 use synth_session::ScreenSize;
 
-/// The least number of bytes of keys that words can ask for.
+/// The least number of bytes of keys that an option can ask for.
 const FEWEST_KEYS: u32 = 1;
 
-/// The greatest number of bytes of keys that words can ask for; where they ask for none, it is this.
+/// The greatest number of bytes of keys that an option can ask for; where none asks for one, it is this.
 const MOST_KEYS: u32 = 1_000_000_000;
 
 /// How many rows a screen has where no option says it.
@@ -64,8 +64,8 @@ pub fn options_with<'a>(given: &Given<'a>) -> Option<Options<'a>>
     })
 }
 
-/// The number that the words ask for, if it is in its range, which both bounds are part of; the usual one
-/// where they give none.
+/// The number that the words of an option ask for, if it is in its range, which both bounds are part of; the usual
+/// one where they give none.
 fn count_given(least: u32, most: u32, usual: u32, word: Option<&str>) -> Option<u32>
     requires least { least ≤ usual }
     requires most { usual ≤ most }
@@ -90,7 +90,7 @@ fn count_between(least: u32, most: u32, word: &str) -> Option<u32>
     Some(count)
 }
 
-/// Whether the words name no file, or one by a name that a file may have.
+/// Whether the words of an option name no file, or one by a name that a file may have.
 fn is_name_given(name: Option<&str>) -> bool
     ensures { result ≡ is_name_given (option_map (λ name. name.now) name.entry) }
 {

@@ -14,8 +14,8 @@ use plcs_grammar::NodeKind;
 use std::alloc::Global;
 use std::marker::Model;
 
-/// Main, a procedure, a declaration or a statement with its parts and with what stands inside it, or
-/// a hole. Contracts see it as plain data.
+/// A node: main, a procedure, a declaration or a statement with its parts and with what stands inside it, or a hole.
+/// Contracts see it as plain data.
 #[cycle(node)]
 #[derive(Drop)]
 pub struct Node {

@@ -11,7 +11,7 @@ use plcs_grammar::NodeKind;
 use std::alloc::Global;
 use std::marker::Model;
 
-/// A program whose nodes have slots, which contracts see as plain data.
+/// A tree: a program whose nodes have slots, which contracts see as plain data.
 ///
 /// Each call that takes one asks that it is a tree, and those that change it give that back. The type
 /// does not keep it, since `node_mut` lends a node for writing.

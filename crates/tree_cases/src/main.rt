@@ -61,7 +61,7 @@ struct Cases {
 impl Cases {
     ghost use Rattle.std.specs.Prelude.{IfSome};
 
-    /// A new tree, with nothing held beside it.
+    /// What cases on trees are played on first: a new tree, with nothing held beside it.
     fn new(alloc: Global) -> Option<Cases>
         ensures { IfSome result (λ cases. IsTree cases.trees.tree) }
     {

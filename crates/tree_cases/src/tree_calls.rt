@@ -19,7 +19,7 @@ pub(crate) struct Trees {
 }
 
 impl Trees {
-    /// A new tree, with no nodes held.
+    /// What cases have of trees first: a new tree, with no nodes held.
     pub(crate) fn new(alloc: Global) -> Option<Trees>
         ensures { IfSome result (λ trees. IsTree trees.tree) }
     {

@@ -89,7 +89,7 @@ impl At<'_> {
         }
     }
 
-    /// The path that is meant, if it is one.
+    /// The path that the word of a case means, if it is one.
     pub(crate) fn find(self, tree: &Tree) -> Option<Path>
         requires { IsTree tree.now }
     {
@@ -100,7 +100,7 @@ impl At<'_> {
     }
 }
 
-/// The path that the word says, if it is one.
+/// The path that the word of a case says, if it is one.
 pub(crate) fn find(tree: &Tree, word: &[u8]) -> Option<Path>
     requires { IsTree tree.now }
 {

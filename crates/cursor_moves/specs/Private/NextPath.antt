@@ -8,7 +8,7 @@ use Rattle.template_tree.specs.Positions.Stop.{visible_at}
 abbrev pub inner_of : Forest → ℕ → Forest
 inner_of items k = option_map_or (λ item. item.inner) (slice_get (nodes items) k) Forest.nil
 
--- the path of the item behind the one of this number, if there is one
+-- the next path behind an item: that of the item behind the one of this number, if there is one
 abbrev pub item_behind : Forest → ℕ → Option (List ℕ)
 item_behind items k = option_map (λ _. (k + 1) ∷ []) (slice_get (nodes items) (k + 1))
 

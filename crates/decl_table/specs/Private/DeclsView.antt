@@ -10,11 +10,11 @@ use Rattle.decl_table.specs.PlainDecls.{PlainHeadings, PlainDecls, PlainUses, sl
 use Rattle.decl_table.specs.Private.ItemsView.{items_code}
 use Rattle.decl_table.specs.Private.UsesView.{AddsNodes, uses_code}
 
--- the code of the items of procedures in a table
+-- the code of the items of procedures in a table of declarations
 abbrev pub item_map_code : Coded ItemMap
 item_map_code = code coded_ℕ items_code
 
--- the code of the headings in a table
+-- the code of the headings in a table of declarations
 abbrev pub headings_code : Coded PlainHeadings
 headings_code = coded_list (coded× (coded_list coded_ℕ) coded_ℕ)
 

@@ -22,7 +22,7 @@ desk told begun wait fault = record { told = told; begun = begun; wait = wait; f
 abbrev pub with_wait : Desk → Option (List ℕ)
 with_wait desk = append_known (begun_bytes desk.begun) desk.wait
 
--- this fault came to the sink between two moments
+-- this fault came to the sink that passes bytes on, between two moments
 abbrev pub Came : FilesFault → Desk → Desk → Type 0
 Came fault before now = (before.fault ≡ None) × (now.fault ≡ Some fault)
 

@@ -19,11 +19,11 @@ said_bytes said = blank_bytes said.level ++ text_of said.saying
 
 -- ---- parts
 
--- the text is read as the part: it is what is written for it
+-- the text of a line is read as the part: it is what is written for it
 abbrev pub IsPartText : Category → List ℕ → Option PlainPhrase → Type 0
 IsPartText category x part = IsPart category part × (part_text category part ≡ x)
 
--- the text is read as no part of the category
+-- the text of a line is read as no part of the category
 abbrev pub IsNoPart : Category → List ℕ → Type 0
 IsNoPart category x = (part : Option PlainPhrase) → IsPart category part → part_text category part ≢ x
 

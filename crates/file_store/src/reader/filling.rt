@@ -82,10 +82,10 @@ impl Filling {
     }
 }
 
-/// The line before a section.
+/// The line before a section, behind which a list has come into it.
 pub(crate) const LEAD: &[u8] = b"ELSE";
 
-/// The last line of a node.
+/// The last line of a node, where its list has come to its end.
 pub(crate) const LAST: &[u8] = b"END;";
 
 /// Whether a list of this sort goes on where it has come behind an item.
@@ -113,7 +113,7 @@ fn behind(amount: Amount, sort: Sort, left: &'static [Section]) -> Filling
     }
 }
 
-/// Whether the text is that line of the table, if there is one.
+/// Whether the text is that line of the table, at which a list goes on or ends, if there is one.
 pub(crate) fn is_text(text: &[u8], own: Option<&[u8]>) -> bool
     ensures { result ≡ is_text text.now (option_map (λ own. own.now) own.entry) }
 {

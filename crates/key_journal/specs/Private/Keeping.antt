@@ -10,7 +10,7 @@ use Rattle.key_journal.specs.Private.Stages.{HoldsAt, IsAppending, IsReplaying}
 use Rattle.key_journal.specs.declared.stage.Stage.{Stage}
 use Rattle.key_journal.specs.declared.stage.Stage.TheVariants.{Replaying, Appending}
 
--- the source of new keys gave one byte or is at its end, or may have lost one
+-- a step of a read took a new key: the source gave one byte or is at its end, or may have lost one
 abbrev pub GivesByte : {E : Type 0} → Option (List ℕ) → Option (List ℕ) → Result (Option ℕ) E → Type 0
 GivesByte left left_after (Ok (Some byte)) = Consumes left left_after (byte ∷ [])
 GivesByte left left_after (Ok None) = Consumes left left_after [] × IsAtEnd left_after

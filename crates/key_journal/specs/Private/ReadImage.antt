@@ -7,7 +7,7 @@ use Rattle.key_journal.specs.MemDisk.{empty_state, states, with_call, with_write
 use Rattle.key_journal.specs.declared.mem_disk.DiskCall.{DiskCall}
 use Rattle.key_journal.specs.declared.mem_disk.DiskCall.TheVariants.{Write, Sync}
 
--- written bytes are torn ones
+-- bytes that are written as a whole are torn ones too, so that what a disk in memory reads as is an image
 pub torn_written : (at : ℕ) (piece bytes : List ℕ) → at ≤ length bytes →
     Torn at (length piece) bytes (overwritten bytes at piece)
 torn_written at piece bytes within =

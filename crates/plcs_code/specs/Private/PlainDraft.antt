@@ -29,13 +29,13 @@ pub record PlainTally : Type 0 where
   pub count : ℕ
   pub failed : Bool
 
--- a tally is told by its fields
+-- a tally, which counts code ahead, is told by its fields
 abbrev pub tally_code : Coded PlainTally
 tally_code =
     code_by (ℕ × Bool) (coded× coded_ℕ coded_bool) (λ tally. (tally.count, tally.failed))
     (λ t. record { count = t.0; failed = t.1 }) (λ _. refl)
 
--- an instruction came into a tally, unless there are too many by now; it is no work
+-- an instruction came into a tally, which counts code ahead, unless there are too many by now; it is no work
 pub record TalliesOne (before : PlainTally) (counts_before : PlainCounts) (instr : PlainInstr) (after : PlainTally) (counts_now : PlainCounts) : Type 0 where
   pub failed : after.failed ≡ false → before.failed ≡ false
   pub count : after.failed ≡ false → after.count ≡ before.count + 1

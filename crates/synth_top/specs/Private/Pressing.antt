@@ -69,7 +69,7 @@ pub record Moment : Type 0 where
   pub files : PlainFiles
   pub counts : PlainCounts
 
--- what is seen of an editor, a sink, files and counts
+-- what is seen at a moment of a run, of an editor, a sink, files and counts
 abbrev pub moment_of : {W : Type 0} → Editor W → Option (List ℕ) → ℕ → PlainFiles → PlainCounts → Moment
 moment_of e taken wanted files counts = record {
   session = plain_session e.session;
@@ -185,7 +185,7 @@ pub record PressesKeys {W : Type 0} (going : Going) (keys : List Key) (before no
   pub cause : RisesWith (going ≡ Over WriteFault) faults_before faults_now
   pub ready : IsReady e
 
--- the status that ended the run, or else this one
+-- the status with which pressing keys ended the run, or else this one
 abbrev pub ended_as : Going → Status → Status
 ended_as On status = status
 ended_as (Over ended) status = ended

@@ -28,8 +28,8 @@ pub record IsChangeOf (tree : PlainTree) (slot : ℕ) (what : What) (change : Ch
   pub what_is : change.what ≡ what
   pub within : procedure_of tree.items slot ≡ Some change.procedure.0
 
--- the first limit that a node would meet, where the depth is within its own or not, and so many slots would be live and
--- drawn
+-- the first limit that a node would meet which comes in place of another, where the depth is within its own or not,
+-- and so many slots would be live and drawn
 abbrev pub MeetsLimit : Bool → (live drawn : ℕ) → TreeFault → Type 0
 MeetsLimit shallow live drawn TreeFault.NotHere = ⊥
 MeetsLimit shallow live drawn TreeFault.TooDeep = shallow ≡ false

@@ -6,7 +6,7 @@ use Rattle.template_tree.specs.Checks.KindTable.{same_kind}
 use Rattle.template_tree.specs.Checks.Verdict.{fit, is_count, then_found}
 use Rattle.type_marks.specs.declared.kind_table.BuiltinRow.{BuiltinRow}
 
--- the kinds that a built-in function takes, with the one that it perhaps takes
+-- the kinds that a built-in function takes of its arguments, with the one that it perhaps takes
 abbrev pub taken_of : BuiltinRow → List Kind
 taken_of row = row.takes.now ++ option_to_list row.perhaps
 

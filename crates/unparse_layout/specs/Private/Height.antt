@@ -9,7 +9,7 @@ abbrev pub line_count : Option (List ℕ) → ℕ
 line_count None = 0
 line_count (Some bytes) = 1
 
--- how many lines of the table of templates stand before a node: one where it is led
+-- how many lines of a node's height stand before it by the table of templates: one where it is led
 abbrev pub one_if : Bool → ℕ
 one_if led = if led then 1 else 0
 
