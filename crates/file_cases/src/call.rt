@@ -7,10 +7,16 @@ pub(crate) enum Call {
     Text(TextCall),
     /// More lines of the text.
     Longer(Way),
+    /// Files in memory are at hand.
+    Memory,
+    /// The files of the system are at hand.
+    System,
+    /// What stands under a name in the files at hand.
+    Content,
     /// A call on the files at hand.
     Files(FilesCall),
-    /// Other files at hand, or a call on what lies where the program runs.
-    Place(PlaceCall),
+    /// A change of what lies where the program runs.
+    Change(Change),
     /// A source that is read, or a sink that is written to.
     Stream(StreamCall),
 }
@@ -46,12 +52,9 @@ pub(crate) enum FilesCall {
     LoadInput,
 }
 
-/// Other files at hand, or a call on what lies where the program runs, by the word that a case begins with.
+/// A change of what lies where the program runs, by the word that a case begins with.
 #[derive(Clone, Copy)]
-pub(crate) enum PlaceCall {
-    Memory,
-    System,
-    Content,
+pub(crate) enum Change {
     MakeFolder,
     RemoveFolder,
     RemoveFile,
@@ -74,7 +77,7 @@ pub(crate) enum StreamCall {
 }
 
 /// Each word that a case of files begins with, with its call.
-static CALLS: [(&[u8], Call); 32] = [
+pub(crate) static CALLS: [(&[u8], Call); 32] = [
     (b"read_listing", Call::Text(TextCall::ReadListing)),
     (b"damage", Call::Text(TextCall::Damage)),
     (b"save", Call::Text(TextCall::Save)),
@@ -90,13 +93,13 @@ static CALLS: [(&[u8], Call); 32] = [
     (b"load_and_save", Call::Files(FilesCall::LoadAndSave)),
     (b"load_and_rescue", Call::Files(FilesCall::LoadAndRescue)),
     (b"load_input", Call::Files(FilesCall::LoadInput)),
-    (b"memory", Call::Place(PlaceCall::Memory)),
-    (b"system", Call::Place(PlaceCall::System)),
-    (b"content", Call::Place(PlaceCall::Content)),
-    (b"make_folder", Call::Place(PlaceCall::MakeFolder)),
-    (b"remove_folder", Call::Place(PlaceCall::RemoveFolder)),
-    (b"remove_file", Call::Place(PlaceCall::RemoveFile)),
-    (b"link", Call::Place(PlaceCall::Link)),
+    (b"memory", Call::Memory),
+    (b"system", Call::System),
+    (b"content", Call::Content),
+    (b"make_folder", Call::Change(Change::MakeFolder)),
+    (b"remove_folder", Call::Change(Change::RemoveFolder)),
+    (b"remove_file", Call::Change(Change::RemoveFile)),
+    (b"link", Call::Change(Change::Link)),
     (b"source", Call::Stream(StreamCall::Source)),
     (b"file_source", Call::Stream(StreamCall::FileSource)),
     (
@@ -114,13 +117,3 @@ static CALLS: [(&[u8], Call); 32] = [
     (b"slice_sink", Call::Stream(StreamCall::SliceSink)),
     (b"stumbling_sink", Call::Stream(StreamCall::StumblingSink)),
 ];
-
-/// The call that the first word of a case of files names.
-pub(crate) fn call_of(word: &[u8]) -> Option<Call> {
-    for (name, call) in &CALLS {
-        if *name == word {
-            return Some(*call);
-        }
-    }
-    None
-}

@@ -1,8 +1,9 @@
 //! Listings of which one line is damaged.
 
 use crate::listing::{Reading, reading_of};
+use case_script::Told;
 use file_store::FileRefusal;
-use std::alloc::{AllocError, Global};
+use std::alloc::Global;
 
 /// What befalls one line of a text.
 #[derive(Clone, Copy)]
@@ -49,27 +50,51 @@ static DAMAGES: [(&str, Damage, bool); 20] = [
     ("ended", Damage::Ended, true),
 ];
 
-/// Says of each of these damages what a listing is read as where it befalls one line, each line in turn.
-pub(crate) fn make(
-    alloc: Global,
+/// Tells of each of these damages what the listing is read as where it befalls one line, each line in turn.
+pub(crate) fn play(text: &[u8], words: &[Vec<u8>], told: &mut Told) -> Option<()> {
+    let mut damaged = Vec::new(told.alloc());
+    play_each(str::from_utf8(text).ok()?, words, &mut damaged, told)
+}
+
+/// Tells it by damaged texts that are made one after the other.
+fn play_each(
     listing: &str,
     words: &[Vec<u8>],
-) -> Result<Option<String>, AllocError> {
-    let mut answer = String::new(alloc);
+    damaged: &mut Vec<u8>,
+    told: &mut Told,
+) -> Option<()> {
     for (name, damage, is_no_line) in &DAMAGES {
-        if words.iter().any(|word| word.as_slice() == name.as_bytes()) {
-            let ends = lines_answered(alloc, listing, *damage, *is_no_line)?;
-            let rule = match (ends, is_no_line) {
-                (None, _) => "a damaged text is read otherwise",
-                (_, true) => "each damaged text goes wrong at that line",
-                (_, false) => {
-                    "each damaged text is read as its own listing or goes wrong at that line or behind it"
-                }
-            };
-            write!(answer, "{name}, {} lines: {rule}\n", ends.unwrap_or(0))?;
+        if are_with(words, name.as_bytes()) {
+            told.text(name);
+            let lines = lines_answered(told.alloc(), listing, *damage, *is_no_line, damaged)?;
+            tell_rule(lines, *is_no_line, told);
         }
     }
-    Ok(Some(answer))
+    Some(())
+}
+
+/// Whether the word is among these.
+fn are_with(words: &[Vec<u8>], word: &[u8]) -> bool {
+    for other in words {
+        if other.as_slice() == word {
+            return true;
+        }
+    }
+    false
+}
+
+/// Tells behind the name of a damage how many lines it befell, if each of the texts is read as may be.
+fn tell_rule(lines: Option<u32>, is_no_line: bool, told: &mut Told) {
+    told.text(", ");
+    told.value(&lines.unwrap_or(0));
+    told.text(" lines: ");
+    told.line(match (lines, is_no_line) {
+        (None, _) => "a damaged text is read otherwise",
+        (_, true) => "each damaged text goes wrong at that line",
+        (_, false) => {
+            "each damaged text is read as its own listing or goes wrong at that line or behind it"
+        }
+    });
 }
 
 /// How many lines the listing has, if each text in which one of them is damaged is answered as may be.
@@ -78,47 +103,43 @@ fn lines_answered(
     listing: &str,
     damage: Damage,
     is_no_line: bool,
-) -> Result<Option<u32>, AllocError> {
+    damaged: &mut Vec<u8>,
+) -> Option<Option<u32>> {
     let mut lines = 0u32;
     for (k, _) in listing.lines().enumerate() {
-        let text = damaged(alloc, listing, k, damage)?;
+        damage_line(listing, k, damage, damaged)?;
         lines = lines.saturating_add(1);
-        if !is_answer(alloc, text.as_slice(), lines, is_no_line) {
-            return Ok(None);
+        if !is_answer(alloc, damaged.as_slice(), lines, is_no_line) {
+            return Some(None);
         }
     }
-    Ok(Some(lines))
+    Some(Some(lines))
 }
 
-/// The listing with the line of this number damaged, from 0.
-fn damaged(
-    alloc: Global,
-    listing: &str,
-    number: usize,
-    damage: Damage,
-) -> Result<Vec<u8>, AllocError> {
-    let mut text = Vec::new(alloc);
+/// Makes the text the listing with the line of this number damaged, from 0.
+fn damage_line(listing: &str, number: usize, damage: Damage, text: &mut Vec<u8>) -> Option<()> {
+    text.clear();
     for (k, line) in listing.lines().enumerate() {
         if k != number {
-            push_line(&mut text, line.as_bytes())?;
+            push_line(text, line.as_bytes())?;
         } else {
-            push_damaged(&mut text, line.as_bytes(), damage)?;
+            push_damaged(text, line.as_bytes(), damage)?;
             if matches!(damage, Damage::Ended) {
                 break;
             }
         }
     }
-    Ok(text)
+    Some(())
 }
 
 /// Puts the line of a listing behind the text, damaged so.
-fn push_damaged(text: &mut Vec<u8>, line: &[u8], damage: Damage) -> Result<(), AllocError> {
+fn push_damaged(text: &mut Vec<u8>, line: &[u8], damage: Damage) -> Option<()> {
     match damage {
-        Damage::Replaced(other) => text.extend_from_slice(other),
+        Damage::Replaced(other) => push(text, other),
         Damage::Between(before, behind) => {
-            text.extend_from_slice(before)?;
-            text.extend_from_slice(line)?;
-            text.extend_from_slice(behind)
+            push(text, before)?;
+            push(text, line)?;
+            push(text, behind)
         }
         Damage::WithoutFirst(count) => push_line(text, &line[count.min(line.len())..]),
         Damage::WithoutLast => push_line(text, &line[..line.len().saturating_sub(1)]),
@@ -126,14 +147,19 @@ fn push_damaged(text: &mut Vec<u8>, line: &[u8], damage: Damage) -> Result<(), A
             push_line(text, line)?;
             push_line(text, line)
         }
-        Damage::Ended => text.extend_from_slice(line),
+        Damage::Ended => push(text, line),
     }
 }
 
 /// Puts a line of the listing of which one is damaged, with its end, behind the text.
-fn push_line(text: &mut Vec<u8>, line: &[u8]) -> Result<(), AllocError> {
-    text.extend_from_slice(line)?;
-    text.extend_from_slice(b"\n")
+fn push_line(text: &mut Vec<u8>, line: &[u8]) -> Option<()> {
+    push(text, line)?;
+    push(text, b"\n")
+}
+
+/// Puts the bytes behind the text of which one line is damaged.
+fn push(text: &mut Vec<u8>, bytes: &[u8]) -> Option<()> {
+    text.extend_from_slice(bytes).ok()
 }
 
 /// Whether the answer to a listing with the line of this number damaged, from 1, may be: what is read is

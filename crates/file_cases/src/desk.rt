@@ -1,9 +1,12 @@
 //! Files, and what of them the next calls ask for.
 
 use crate::call::FilesCall;
-use case_script::{number_of, quoted};
+use crate::streams::buffer;
+use case_script::Told;
 use file_store::{FileRefusal, load, load_input, read_listing, rescue, save};
-use std::alloc::{AllocError, Global};
+use plcs_base::ByteOut;
+use std::alloc::Global;
+use std::fmt::Debug;
 use std::marker::Model;
 use synth_outside::{Files, FilesFault};
 
@@ -37,30 +40,26 @@ impl<F: Files> Desk<F> {
     }
 
     /// Makes the call on the files of the desk with these words behind its name, if it may be made.
-    pub(crate) fn make(
+    pub(crate) fn play(
         &mut self,
-        alloc: Global,
         call: FilesCall,
         words: &[Vec<u8>],
-    ) -> Result<Option<String>, AllocError> {
+        told: &mut Told,
+    ) -> Option<()> {
+        let alloc = told.alloc();
         match (call, words) {
-            (FilesCall::OpenRead, [name]) => said(alloc, self.open_read(name.as_slice())),
-            (FilesCall::Begin, [name]) => said(alloc, self.begin(name.as_slice())),
-            (FilesCall::Commit, []) => self.commit(alloc),
-            (FilesCall::Read, [size]) => self.read(alloc, size.as_slice()),
-            (FilesCall::Write, [piece]) => self.write(alloc, piece.as_slice()),
-            (FilesCall::Load, [name]) => self.load(alloc, name.as_slice()),
-            (FilesCall::LoadInput, [name]) => self.load_input(alloc, name.as_slice()),
+            (FilesCall::OpenRead, [name]) => tell(&self.open_read(name), told),
+            (FilesCall::Begin, [name]) => tell(&self.begin(name), told),
+            (FilesCall::Commit, []) => tell(&self.commit()?, told),
+            (FilesCall::Read, [size]) => self.read(size, told),
+            (FilesCall::Write, [piece]) => tell(&self.write(piece)?, told),
+            (FilesCall::Load, [name]) => tell_slots(self.load(alloc, name), told),
+            (FilesCall::LoadInput, [name]) => self.load_input(name, told),
             (FilesCall::LoadAndSave, [name, other]) => {
-                said_of_file(
-                    alloc,
-                    self.load_and_save(alloc, name.as_slice(), other.as_slice()),
-                )
+                tell(&self.load_and_save(alloc, name, other), told)
             }
-            (FilesCall::LoadAndRescue, [name]) => {
-                said_of_file(alloc, self.load_and_rescue(alloc, name.as_slice()))
-            }
-            _ => Ok(None),
+            (FilesCall::LoadAndRescue, [name]) => tell(&self.load_and_rescue(alloc, name), told),
+            _ => None,
         }
     }
 
@@ -81,62 +80,54 @@ impl<F: Files> Desk<F> {
     }
 
     /// Commits the new content, if one is begun on the desk.
-    fn commit(&mut self, alloc: Global) -> Result<Option<String>, AllocError> {
+    fn commit(&mut self) -> Option<Result<(), FilesFault>> {
         if !self.is_begun {
-            return Ok(None);
+            return None;
         }
         match self.files.commit() {
             Ok(()) => {
                 self.is_begun = false;
-                said(alloc, Ok(()))
+                Some(Ok(()))
             }
-            Err(fault) => said(alloc, Err(fault)),
+            Err(fault) => Some(Err(fault)),
         }
     }
 
-    /// Reads into a buffer of the size, of blanks, if a file is open on the desk.
-    fn read(&mut self, alloc: Global, size: &[u8]) -> Result<Option<String>, AllocError> {
-        let Some(size @ 1..) = number_of(size) else {
-            return Ok(None);
-        };
+    /// Reads into a buffer of the size, of blanks, if a file is open on the desk, and tells what the buffer has.
+    fn read(&mut self, size: &[u8], told: &mut Told) -> Option<()> {
+        let mut buf = buffer(told.alloc(), size)?;
         if !self.is_open {
-            return Ok(None);
+            return None;
         }
-        let mut buf = vec![in alloc; b' '; size as usize]?;
-        let answer = self.files.read(buf.as_mut_slice());
-        let shown = quoted(alloc, buf.as_slice())?;
-        Ok(Some(format!(in alloc; "{answer:?} {shown}")?))
+        told.value(&self.files.read(buf.as_mut_slice()));
+        told.put(b' ');
+        told.word_line(buf.as_slice());
+        Some(())
     }
 
     /// Writes the piece, if a new content is begun on the desk.
-    fn write(&mut self, alloc: Global, piece: &[u8]) -> Result<Option<String>, AllocError> {
+    fn write(&mut self, piece: &[u8]) -> Option<Result<usize, FilesFault>> {
         if piece.is_empty() || !self.is_begun {
-            return Ok(None);
+            return None;
         }
-        let answer = self.files.write(piece);
-        Ok(Some(format!(in alloc; "{answer:?}")?))
+        Some(self.files.write(piece))
     }
 
-    /// Loads the file of the name from the desk's files as a program.
-    fn load(&mut self, alloc: Global, name: &[u8]) -> Result<Option<String>, AllocError> {
+    /// Loads the file of the name from the desk's files as a program: how many slots that has.
+    fn load(&mut self, alloc: Global, name: &[u8]) -> Result<u32, FileRefusal> {
         self.is_open = false;
-        let slots = match load(alloc, name, &mut self.files) {
-            Ok(tree) => Ok(tree.slots()),
-            Err(refusal) => Err(refusal),
-        };
-        match slots {
-            Ok(slots) => Ok(Some(format!(in alloc; "{slots} slots")?)),
-            Err(refusal) => Ok(Some(format!(in alloc; "{refusal:?}")?)),
-        }
+        let tree = load(alloc, name, &mut self.files)?;
+        Ok(tree.slots())
     }
 
-    /// Loads the file of the name from the desk's files as the input of a program.
-    fn load_input(&mut self, alloc: Global, name: &[u8]) -> Result<Option<String>, AllocError> {
+    /// Loads the file of the name from the desk's files as the input of a program, and tells its bytes.
+    fn load_input(&mut self, name: &[u8], told: &mut Told) -> Option<()> {
         self.is_open = false;
-        match load_input(alloc, name, &mut self.files) {
-            Ok(bytes) => Ok(Some(shown(alloc, bytes.as_slice())?)),
-            Err(refusal) => Ok(Some(format!(in alloc; "{refusal:?}")?)),
+        match load_input(told.alloc(), name, &mut self.files) {
+            Ok(bytes) => tell_bytes(bytes.as_slice(), told),
+            Err(refusal) => told.value_line(&refusal),
         }
+        Some(())
     }
 
     /// Saves the program whose listing the text is in the desk's files.
@@ -174,23 +165,31 @@ impl<F: Files> Desk<F> {
     }
 }
 
-/// Says how a call on the desk's files answered.
-fn said(alloc: Global, answer: Result<(), FilesFault>) -> Result<Option<String>, AllocError> {
-    Ok(Some(format!(in alloc; "{answer:?}")?))
+/// Tells what a call on the desk's files answered.
+pub(crate) fn tell<T: Debug>(answer: &T, told: &mut Told) -> Option<()> {
+    told.value_line(answer);
+    Some(())
 }
 
-/// Says how a save or a load of the desk's files answered.
-pub(crate) fn said_of_file(
-    alloc: Global,
-    answer: Result<(), FileRefusal>,
-) -> Result<Option<String>, AllocError> {
-    Ok(Some(format!(in alloc; "{answer:?}")?))
+/// Tells how many slots the program has that was loaded, or why none was.
+fn tell_slots(loaded: Result<u32, FileRefusal>, told: &mut Told) -> Option<()> {
+    match loaded {
+        Ok(slots) => {
+            told.value(&slots);
+            told.line(" slots");
+        }
+        Err(refusal) => told.value_line(&refusal),
+    }
+    Some(())
 }
 
-/// What the desk says of bytes: these in quotes, or of more than 200 how many they are.
-pub(crate) fn shown(alloc: Global, bytes: &[u8]) -> Result<String, AllocError> {
+/// Tells bytes of a file or of an input, or of more than 200 how many they are.
+pub(crate) fn tell_bytes(bytes: &[u8], told: &mut Told) {
     match bytes.len() {
-        0..=200 => quoted(alloc, bytes),
-        count => format!(in alloc; "{count} bytes"),
+        0..=200 => told.word_line(bytes),
+        count => {
+            told.value(&count);
+            told.line(" bytes");
+        }
     }
 }

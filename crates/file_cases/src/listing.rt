@@ -1,25 +1,23 @@
 //! Texts read as listings.
 
+ghost use Rattle.template_tree.specs.Programs.Tree.{IsTree};
+
 use crate::call::Way;
-use case_script::number_of;
+use case_script::{Told, number_of};
 use file_store::{FileRefusal, read_listing};
 use plcs_base::ByteOut;
-use std::alloc::{AllocError, Global};
+use std::alloc::Global;
+use template_tree::Tree;
 
 /// Puts a line behind the text of a listing so many times, at these levels.
 pub(crate) fn lengthen(
-    alloc: Global,
-    text: &mut String,
+    text: &mut Vec<u8>,
     way: Way,
-    words: &[Vec<u8>],
-) -> Result<Option<String>, AllocError> {
-    let [times, line] = words else {
-        return Ok(None);
-    };
-    let (Some(times), Ok(line)) = (number_of(times.as_slice()), str::from_utf8(line.as_slice()))
-    else {
-        return Ok(None);
-    };
+    times: &[u8],
+    line: &[u8],
+    told: &mut Told,
+) -> Option<()> {
+    let times = number_of(times)?;
     for k in 0..times {
         let level = match way {
             Way::Level => 1,
@@ -28,34 +26,46 @@ pub(crate) fn lengthen(
         };
         push_at(text, level, line)?;
     }
-    Ok(Some(format!(in alloc; "{times} lines")?))
+    told.value(&times);
+    told.line(" lines");
+    Some(())
 }
 
 /// Puts a line of the level behind the text of a listing.
-fn push_at(text: &mut String, level: u32, line: &str) -> Result<(), AllocError> {
+fn push_at(text: &mut Vec<u8>, level: u32, line: &[u8]) -> Option<()> {
     for _ in 0..level {
-        text.push_str("  ")?;
+        text.extend_from_slice(b"  ").ok()?;
     }
-    text.push_str(line)?;
-    text.push('\n')
+    text.extend_from_slice(line).ok()?;
+    text.push(b'\n').ok()
 }
 
 /// Reads the text, with these pieces behind it, as a listing.
-pub(crate) fn read(
-    alloc: Global,
-    text: &[u8],
-    pieces: &[Vec<u8>],
-) -> Result<Option<String>, AllocError> {
-    let mut bytes = text.to_vec(alloc)?;
+pub(crate) fn read(text: &[u8], pieces: &[Vec<u8>], told: &mut Told) -> Option<()> {
+    let bytes = with_pieces(told.alloc(), text, pieces)?;
+    tell_reading(reading_of(told.alloc(), bytes.as_slice()), told);
+    Some(())
+}
+
+/// The text with these pieces behind it.
+fn with_pieces(alloc: Global, text: &[u8], pieces: &[Vec<u8>]) -> Option<Vec<u8>> {
+    let mut bytes = text.to_vec(alloc).ok()?;
     for piece in pieces {
-        bytes.extend_from_slice(piece.as_slice())?;
+        bytes.extend_from_slice(piece.as_slice()).ok()?;
     }
-    let answer = match reading_of(alloc, bytes.as_slice()) {
-        Reading::Same(slots) => format!(in alloc; "{slots} slots, listed as it was read")?,
-        Reading::Other => String::from_str(alloc, "listed otherwise than it was read")?,
-        Reading::Refused(refusal) => format!(in alloc; "{refusal:?}")?,
-    };
-    Ok(Some(answer))
+    Some(bytes)
+}
+
+/// Tells what a text is read as.
+fn tell_reading(reading: Reading, told: &mut Told) {
+    match reading {
+        Reading::Same(slots) => {
+            told.value(&slots);
+            told.line(" slots, listed as it was read");
+        }
+        Reading::Other => told.line("listed otherwise than it was read"),
+        Reading::Refused(refusal) => told.value_line(&refusal),
+    }
 }
 
 /// What a text is read as that may be a listing.
@@ -65,16 +75,22 @@ pub(crate) enum Reading {
     Same(u32),
     /// A tree with another listing.
     Other,
-    /// None.
+    /// No tree.
     Refused(FileRefusal),
 }
 
 /// Reads the text as a listing, and lists what was read.
 pub(crate) fn reading_of(alloc: Global, text: &[u8]) -> Reading {
-    let tree = match read_listing(alloc, text) {
-        Ok(tree) => tree,
-        Err(refusal) => return Reading::Refused(refusal),
-    };
+    match read_listing(alloc, text) {
+        Ok(tree) => compared(&tree, text),
+        Err(refusal) => Reading::Refused(refusal),
+    }
+}
+
+/// What the text is read as, which is this tree.
+fn compared(tree: &Tree, text: &[u8]) -> Reading
+    requires { IsTree tree.now }
+{
     let mut out = Listed {
         left: text,
         same: true,

@@ -10,108 +10,144 @@ mod listing;
 mod streams;
 mod stumbling;
 
-use call::{Call, call_of};
-use case_script::words_of;
+use call::{CALLS, Call, TextCall};
+use case_script::{Told, meaning, print_told, words_of};
 use files_at_hand::FilesAtHand;
-use std::alloc::{AllocError, Global};
+use std::alloc::Global;
 use std::fs::File;
 use std::io;
 use std::rt::Files;
 
 fn main(rt: HostRuntime) -> io::Result<()> {
-    play(&rt)
+    play_all(&rt)
 }
 
 /// Plays the script of cases of files that standard input has.
-fn play<R: Files<File = File> + Input + Print + AllocGlobal>(rt: &R) -> io::Result<()> {
+fn play_all<R: Files<File = File> + Input + Print + AllocGlobal>(rt: &R) -> io::Result<()> {
+    let mut scene = Scene::new(rt, rt.alloc());
+    play_script(rt, &mut scene)
+}
+
+/// What a script holds from line to line: the files at hand, the lines of text for the next case on a text, and the
+/// answer to the case at hand.
+#[derive(Drop)]
+struct Scene<'a, R: Files<File = File>> {
+    files: FilesAtHand<'a, R>,
+    text: Vec<u8>,
+    told: Told,
+}
+
+impl<'a, R: Files<File = File> + AllocGlobal> Scene<'a, R> {
+    /// The scene at the beginning of a script: files in memory, of which there is none, and no text.
+    fn new(rt: &'a R, alloc: Global) -> Self {
+        Scene {
+            files: FilesAtHand::new(rt, alloc),
+            text: Vec::new(alloc),
+            told: Told::new(alloc),
+        }
+    }
+}
+
+/// Plays the lines of the script on this scene.
+fn play_script<'a, R: Files<File = File> + Input + Print + AllocGlobal>(
+    rt: &'a R,
+    scene: &mut Scene<'a, R>,
+) -> io::Result<()> {
     let alloc = rt.alloc();
-    let mut files = FilesAtHand::in_memory(alloc, Vec::new(alloc));
-    let mut text = String::new(alloc);
     for line in rt.lines(alloc) {
         let line = line?;
         println!(rt; "{line}")?;
-        match line.as_str().strip_prefix("| ") {
-            Some(more) => push_line(&mut text, more)?,
-            None if is_case(line.as_str()) => {
-                let answer = answer_to(rt, &mut files, &mut text, line.as_bytes())?;
-                print_answer(rt, answer)?;
+        play_line(rt, scene, line.as_bytes())?;
+        print_told(rt, &scene.told)?;
+    }
+    Ok(())
+}
+
+/// Plays a line of the script of files: a heading, a line of text, or a case, whose answer is told.
+fn play_line<'a, R: Files<File = File> + AllocGlobal>(
+    rt: &'a R,
+    scene: &mut Scene<'a, R>,
+    line: &[u8],
+) -> io::Result<()> {
+    scene.told.clear();
+    match line {
+        [] | [b'#', ..] => {}
+        [b'|', b' ', text @ ..] => {
+            scene.text.extend_from_slice(text)?;
+            scene.text.push(b'\n')?;
+        }
+        case => {
+            if play_case(rt, scene, case).is_none() {
+                scene.told.clear();
+                scene.told.line("NOT A CASE");
             }
-            None => {}
         }
     }
     Ok(())
 }
 
-/// Whether a line of the script of files that is none of a text is a case: all are but empty ones, and headings,
-/// which begin with `#`.
-fn is_case(line: &str) -> bool {
-    !line.is_empty() && !line.starts_with("#")
-}
-
-/// Puts a line of the script of files behind the text.
-fn push_line(text: &mut String, line: &str) -> Result<(), AllocError> {
-    text.push_str(line)?;
-    text.push('\n')
-}
-
-/// Prints the lines of an answer to a case of files.
-fn print_answer<R: Print + Alloc>(rt: &R, answer: Option<String>) -> io::Result<()> {
-    match answer {
-        Some(answer) => print_lines(rt, answer.as_str()),
-        None => println!(rt; "= NOT A CASE"),
-    }
-}
-
-/// Prints each line as one of an answer to a case of files.
-fn print_lines<R: Print + Alloc>(rt: &R, answer: &str) -> io::Result<()> {
-    for line in answer.lines() {
-        println!(rt; "= {line}")?;
-    }
-    Ok(())
-}
-
-/// The answer to a case of files, if it is one.
-fn answer_to<'a, R: Files<File = File> + AllocGlobal>(
+/// Plays a case of files, if it is one.
+fn play_case<'a, R: Files<File = File> + AllocGlobal>(
     rt: &'a R,
-    files: &mut FilesAtHand<'a, R>,
-    text: &mut String,
-    line: &[u8],
-) -> Result<Option<String>, AllocError> {
-    let alloc = rt.alloc();
-    let Some(words) = words_of(alloc, line)? else {
-        return Ok(None);
-    };
-    match words.as_slice() {
-        [name, rest @ ..] => match call_of(name.as_slice()) {
-            Some(call) => made(rt, alloc, files, text, call, rest),
-            None => Ok(None),
-        },
-        [] => Ok(None),
+    scene: &mut Scene<'a, R>,
+    case: &[u8],
+) -> Option<()> {
+    match words_of(rt.alloc(), case) {
+        Ok(Some(words)) => play_words(rt, scene, words.as_slice()),
+        _ => None,
     }
 }
 
-/// Makes the call of a case of files with these words behind its name. A call on the text takes it, but for those
-/// that make it longer.
-fn made<'a, R: Files<File = File> + AllocGlobal>(
+/// Makes the call of a case of files that the words are, if they are one.
+fn play_words<'a, R: Files<File = File> + AllocGlobal>(
     rt: &'a R,
-    alloc: Global,
-    files: &mut FilesAtHand<'a, R>,
-    text: &mut String,
+    scene: &mut Scene<'a, R>,
+    words: &[Vec<u8>],
+) -> Option<()> {
+    let (word, arguments) = words.split_first()?;
+    play(rt, scene, meaning(&CALLS, word.as_slice())?, arguments)
+}
+
+/// Makes the call of a case of files with these words behind its name, if it takes them.
+fn play<'a, R: Files<File = File> + AllocGlobal>(
+    rt: &'a R,
+    scene: &mut Scene<'a, R>,
     call: Call,
     words: &[Vec<u8>],
-) -> Result<Option<String>, AllocError> {
-    match call {
-        Call::Stream(call) => streams::make(rt, alloc, call, words),
-        Call::Place(call) => files.place(rt, alloc, call, words),
-        Call::Files(call) => files.make(alloc, call, words),
-        Call::Longer(way) => listing::lengthen(alloc, text, way, words),
-        Call::Text(call) => {
-            let taken = std::mem::replace(text, String::new(alloc));
-            match call {
-                call::TextCall::ReadListing => listing::read(alloc, taken.as_bytes(), words),
-                call::TextCall::Damage => damage::make(alloc, taken.as_str(), words),
-                call::TextCall::Save => files.save(alloc, taken.as_bytes(), words),
-            }
+) -> Option<()> {
+    match (call, words) {
+        (Call::Stream(call), [first, rest @ ..]) => {
+            streams::play(rt, call, first, rest, &mut scene.told)
         }
+        (Call::Memory, fails) => scene.files.take_memory(fails, &mut scene.told),
+        (Call::System, []) => scene.files.take_system(rt, &mut scene.told),
+        (Call::Content, [name]) => scene.files.tell_content(rt, name, &mut scene.told),
+        (Call::Change(change), [name]) => {
+            files_at_hand::change(rt, change, name, &mut scene.told)
+        }
+        (Call::Files(call), words) => scene.files.play(call, words, &mut scene.told),
+        (Call::Longer(way), [times, line]) => {
+            listing::lengthen(&mut scene.text, way, times, line, &mut scene.told)
+        }
+        (Call::Text(call), words) => play_text(scene, call, words),
+        _ => None,
     }
+}
+
+/// Makes a call on the text, which takes it.
+fn play_text<R: Files<File = File> + AllocGlobal>(
+    scene: &mut Scene<'_, R>,
+    call: TextCall,
+    words: &[Vec<u8>],
+) -> Option<()> {
+    let text = scene.text.as_slice();
+    let told = &mut scene.told;
+    let played = match (call, words) {
+        (TextCall::ReadListing, pieces) => listing::read(text, pieces, told),
+        (TextCall::Damage, kinds) => damage::play(text, kinds, told),
+        (TextCall::Save, [name]) => scene.files.save(text, name, told),
+        _ => None,
+    };
+    scene.text.clear();
+    played
 }

@@ -1,153 +1,158 @@
 //! Sources that are read, and sinks that are written to.
 
+ghost use Rattle.std.specs.Prelude.{◌<◌, IfSome, length};
+
 use crate::call::StreamCall;
-use crate::files_at_hand::numbers;
 use crate::stumbling::Stumbling;
-use case_script::{number_of, quoted, words_of};
-use std::alloc::{AllocError, Global};
+use case_script::{Told, number_of, numbers_of, words_of};
+use plcs_base::ByteOut;
+use std::alloc::Global;
 use std::fs::File;
+use std::io;
 use std::io::BufWriter;
 use std::rt::Files;
 use synth_outside::{MemSink, MemSource, Sink, Source, StdSink, StdSource};
 
-/// Makes a source or a sink of the first words, and reads pieces of these sizes from it, or writes these
-/// pieces to it.
-pub(crate) fn make<R: Files<File = File>>(
+/// Makes a source or a sink of the first word, and reads pieces of these sizes from it, or writes these pieces to
+/// it. Of a source in memory the first word behind has the numbers of the calls that are to fail.
+pub(crate) fn play<R: Files<File = File>>(
     rt: &R,
-    alloc: Global,
     call: StreamCall,
-    words: &[Vec<u8>],
-) -> Result<Option<String>, AllocError> {
-    let [first, rest @ ..] = words else {
-        return Ok(None);
-    };
+    first: &[u8],
+    rest: &[Vec<u8>],
+    told: &mut Told,
+) -> Option<()> {
     match call {
-        StreamCall::Source => memory_source(alloc, first.as_slice(), rest),
-        StreamCall::SliceSource => reads(alloc, &mut StdSource::new(first.as_slice()), rest),
-        StreamCall::StumblingSource => match number_of(first.as_slice()) {
-            Some(failing) => reads(alloc, &mut StdSource::new(Stumbling::new(failing)), rest),
-            None => Ok(None),
-        },
-        StreamCall::Sink => memory_sink(alloc, first.as_slice(), rest),
-        StreamCall::SliceSink => slice_sink(alloc, first.as_slice(), rest),
-        StreamCall::StumblingSink => match number_of(first.as_slice()) {
-            Some(failing) => writes(alloc, &mut StdSink::new(Stumbling::new(failing)), rest),
-            None => Ok(None),
-        },
-        _ => match str::from_utf8(first.as_slice()) {
-            Ok(name) => file_stream(rt, alloc, call, name, rest),
-            Err(_) => Ok(None),
-        },
+        StreamCall::Source => read_memory(first, rest, told),
+        StreamCall::SliceSource => reads(&mut StdSource::new(first), rest, told),
+        StreamCall::StumblingSource => read_stumbling(number_of(first)?, rest, told),
+        StreamCall::FileSource => read_file(File::open(rt, name_of(first)?), rest, told),
+        StreamCall::UnreadableSource => read_file(File::create(rt, name_of(first)?), rest, told),
+        StreamCall::Sink => write_memory(first, rest, told),
+        StreamCall::SliceSink => write_slice(first, rest, told),
+        StreamCall::StumblingSink => write_stumbling(number_of(first)?, rest, told),
+        StreamCall::FileSink => write_buffered(File::create(rt, name_of(first)?), rest, told),
+        StreamCall::UnwritableSink => write_file(File::open(rt, name_of(first)?), rest, told),
     }
 }
 
-/// Reads from a source in memory with the bytes; the first word behind them has the numbers of the calls
-/// that are to fail.
-fn memory_source(
-    alloc: Global,
-    bytes: &[u8],
-    words: &[Vec<u8>],
-) -> Result<Option<String>, AllocError> {
-    let [fails, sizes @ ..] = words else {
-        return Ok(None);
-    };
-    let Some(fails) = words_of(alloc, fails.as_slice())? else {
-        return Ok(None);
-    };
-    let fails = numbers(alloc, fails.as_slice())?;
-    reads(
-        alloc,
-        &mut MemSource::new(bytes.to_vec(alloc)?, fails),
-        sizes,
-    )
+/// The name of a file of the system.
+fn name_of(word: &[u8]) -> Option<&str> {
+    str::from_utf8(word).ok()
 }
 
-/// Writes to a sink in memory whose calls of these numbers are to fail, and says what it took.
-fn memory_sink(
-    alloc: Global,
-    fails: &[u8],
-    pieces: &[Vec<u8>],
-) -> Result<Option<String>, AllocError> {
-    let Some(fails) = words_of(alloc, fails)? else {
-        return Ok(None);
-    };
-    let mut sink = MemSink::new(alloc, numbers(alloc, fails.as_slice())?);
-    let Some(mut answer) = writes(alloc, &mut sink, pieces)? else {
-        return Ok(None);
-    };
-    answer.push_str(quoted(alloc, sink.bytes())?.as_str())?;
-    Ok(Some(answer))
+/// Reads from a source in memory with the bytes; the first word has the numbers of the calls that are to fail.
+fn read_memory(bytes: &[u8], words: &[Vec<u8>], told: &mut Told) -> Option<()> {
+    let (fails, sizes) = words.split_first()?;
+    let mut source = memory_source(told.alloc(), bytes, fails)?;
+    reads(&mut source, sizes, told)
+}
+
+/// A source in memory with the bytes, of which the calls of these numbers are to fail.
+fn memory_source(alloc: Global, bytes: &[u8], fails: &[u8]) -> Option<MemSource> {
+    let bytes = bytes.to_vec(alloc).ok()?;
+    Some(MemSource::new(bytes, fails_of(alloc, fails)?))
+}
+
+/// The numbers of the calls of a source or a sink that are to fail, in a word.
+fn fails_of(alloc: Global, word: &[u8]) -> Option<Vec<u64>> {
+    match words_of(alloc, word) {
+        Ok(Some(words)) => numbers_of(alloc, words.as_slice()),
+        _ => None,
+    }
+}
+
+/// Reads from a stream whose call of this number fails.
+fn read_stumbling(failing: u32, sizes: &[Vec<u8>], told: &mut Told) -> Option<()> {
+    reads(&mut StdSource::new(Stumbling::new(failing)), sizes, told)
+}
+
+/// Reads from a file of the system, if it could be opened.
+fn read_file(file: io::Result<File>, sizes: &[Vec<u8>], told: &mut Told) -> Option<()> {
+    match file {
+        Ok(file) => reads(&mut StdSource::new(file), sizes, told),
+        Err(_) => tell_refused(told),
+    }
+}
+
+/// Tells that the file of a source or a sink couldn't be opened.
+fn tell_refused(told: &mut Told) -> Option<()> {
+    told.line("refused by the system");
+    Some(())
+}
+
+/// Reads a source into buffers of these sizes, of blanks, and tells each answer and what the buffer has.
+fn reads<S: Source>(source: &mut S, sizes: &[Vec<u8>], told: &mut Told) -> Option<()> {
+    for size in sizes {
+        read(source, size, told)?;
+    }
+    Some(())
+}
+
+/// Reads a source into a buffer of the size.
+fn read<S: Source>(source: &mut S, size: &[u8], told: &mut Told) -> Option<()> {
+    let mut buf = buffer(told.alloc(), size)?;
+    told.value(&source.read(buf.as_mut_slice()));
+    told.put(b' ');
+    told.word_line(buf.as_slice());
+    Some(())
+}
+
+/// A buffer of the size, of blanks, if that isn't 0.
+pub(crate) fn buffer(alloc: Global, size: &[u8]) -> Option<Vec<u8>>
+    ensures { IfSome result (λ buffer. 0 < length buffer.items) }
+{
+    match number_of(size)? {
+        0 => None,
+        size => vec![in alloc; b' '; size as usize].ok(),
+    }
+}
+
+/// Writes to a sink in memory whose calls of these numbers are to fail, and tells what it took.
+fn write_memory(fails: &[u8], pieces: &[Vec<u8>], told: &mut Told) -> Option<()> {
+    let mut sink = MemSink::new(told.alloc(), fails_of(told.alloc(), fails)?);
+    let written = writes(&mut sink, pieces, told);
+    told.word_line(sink.bytes());
+    written
 }
 
 /// Writes to a stream that takes as many bytes as the room has.
-fn slice_sink(
-    alloc: Global,
-    room: &[u8],
-    pieces: &[Vec<u8>],
-) -> Result<Option<String>, AllocError> {
-    let mut room = room.to_vec(alloc)?;
-    writes(alloc, &mut StdSink::new(room.as_mut_slice()), pieces)
+fn write_slice(room: &[u8], pieces: &[Vec<u8>], told: &mut Told) -> Option<()> {
+    let mut room = room.to_vec(told.alloc()).ok()?;
+    writes(&mut StdSink::new(room.as_mut_slice()), pieces, told)
 }
 
-/// Reads from a file of the system, or writes to it.
-fn file_stream<R: Files<File = File>>(
-    rt: &R,
-    alloc: Global,
-    call: StreamCall,
-    name: &str,
-    words: &[Vec<u8>],
-) -> Result<Option<String>, AllocError> {
-    let file = match call {
-        StreamCall::FileSource | StreamCall::UnwritableSink => File::open(rt, name),
-        _ => File::create(rt, name),
-    };
-    let Ok(file) = file else {
-        return Ok(Some(String::from_str(alloc, "refused by the system")?));
-    };
-    match call {
-        StreamCall::FileSource | StreamCall::UnreadableSource => {
-            reads(alloc, &mut StdSource::new(file), words)
-        }
-        StreamCall::UnwritableSink => writes(alloc, &mut StdSink::new(file), words),
-        _ => match BufWriter::new(alloc, file) {
-            Ok(writer) => writes(alloc, &mut StdSink::new(writer), words),
-            Err(_) => Ok(None),
+/// Writes to a stream whose call of this number fails.
+fn write_stumbling(failing: u32, pieces: &[Vec<u8>], told: &mut Told) -> Option<()> {
+    writes(&mut StdSink::new(Stumbling::new(failing)), pieces, told)
+}
+
+/// Writes to a file of the system, if it could be opened.
+fn write_file(file: io::Result<File>, pieces: &[Vec<u8>], told: &mut Told) -> Option<()> {
+    match file {
+        Ok(file) => writes(&mut StdSink::new(file), pieces, told),
+        Err(_) => tell_refused(told),
+    }
+}
+
+/// Writes to a file of the system by a writer with a buffer, if it could be made.
+fn write_buffered(file: io::Result<File>, pieces: &[Vec<u8>], told: &mut Told) -> Option<()> {
+    match file {
+        Ok(file) => match BufWriter::new(told.alloc(), file) {
+            Ok(writer) => writes(&mut StdSink::new(writer), pieces, told),
+            Err(_) => None,
         },
+        Err(_) => tell_refused(told),
     }
 }
 
-/// Reads a source into buffers of these sizes, of blanks, and says each answer and what the buffer has.
-fn reads<S: Source>(
-    alloc: Global,
-    source: &mut S,
-    sizes: &[Vec<u8>],
-) -> Result<Option<String>, AllocError> {
-    let mut text = String::new(alloc);
-    for size in sizes {
-        let Some(size @ 1..) = number_of(size.as_slice()) else {
-            return Ok(None);
-        };
-        let mut buf = vec![in alloc; b' '; size as usize]?;
-        let answer = source.read(buf.as_mut_slice());
-        let shown = quoted(alloc, buf.as_slice())?;
-        write!(text, "{answer:?} {shown}\n")?;
-    }
-    Ok(Some(text))
-}
-
-/// Writes the pieces to a sink, and says each answer.
-fn writes<S: Sink>(
-    alloc: Global,
-    sink: &mut S,
-    pieces: &[Vec<u8>],
-) -> Result<Option<String>, AllocError> {
-    let mut text = String::new(alloc);
+/// Writes the pieces to a sink, none of which may be empty, and tells each answer.
+fn writes<S: Sink>(sink: &mut S, pieces: &[Vec<u8>], told: &mut Told) -> Option<()> {
     for piece in pieces {
         if piece.is_empty() {
-            return Ok(None);
+            return None;
         }
-        let answer = sink.write(piece.as_slice());
-        write!(text, "{answer:?}\n")?;
+        told.value_line(&sink.write(piece));
     }
-    Ok(Some(text))
+    Some(())
 }
