@@ -56,7 +56,7 @@ pub(crate) fn play(text: &[u8], words: &[Vec<u8>], told: &mut Told) -> Option<()
     play_each(str::from_utf8(text).ok()?, words, &mut damaged, told)
 }
 
-/// Tells it by damaged texts that are made one after the other.
+/// Tells what the listing is read as by damaged texts that are made one after the other.
 fn play_each(
     listing: &str,
     words: &[Vec<u8>],
@@ -73,7 +73,7 @@ fn play_each(
     Some(())
 }
 
-/// Whether the word is among these.
+/// Whether the word of a damage is among these.
 fn are_with(words: &[Vec<u8>], word: &[u8]) -> bool {
     for other in words {
         if other.as_slice() == word {

@@ -47,7 +47,7 @@ pub(crate) fn read(text: &[u8], pieces: &[Vec<u8>], told: &mut Told) -> Option<(
     Some(())
 }
 
-/// The text with these pieces behind it.
+/// The text that is read as a listing, with these pieces behind it.
 fn with_pieces(alloc: Global, text: &[u8], pieces: &[Vec<u8>]) -> Option<Vec<u8>> {
     let mut bytes = text.to_vec(alloc).ok()?;
     for piece in pieces {
@@ -56,7 +56,7 @@ fn with_pieces(alloc: Global, text: &[u8], pieces: &[Vec<u8>]) -> Option<Vec<u8>
     Some(bytes)
 }
 
-/// Tells what a text is read as.
+/// Tells what a text is read as that may be a listing.
 fn tell_reading(reading: Reading, told: &mut Told) {
     match reading {
         Reading::Same(slots) => {
@@ -87,7 +87,7 @@ pub(crate) fn reading_of(alloc: Global, text: &[u8]) -> Reading {
     }
 }
 
-/// What the text is read as, which is this tree.
+/// What the text is read as a listing, which is this tree.
 fn compared(tree: &Tree, text: &[u8]) -> Reading
     requires { IsTree tree.now }
 {

@@ -28,8 +28,8 @@ fn play_all<R: Files<File = File> + Input + Print + AllocGlobal>(rt: &R) -> io::
     play_script(rt, &mut scene)
 }
 
-/// What a script holds from line to line: the files at hand, the lines of text for the next case on a text, and the
-/// answer to the case at hand.
+/// What a script of files holds from line to line: the files at hand, the lines of text for the next case on a text,
+/// and the answer to the case at hand.
 #[derive(Drop)]
 struct Scene<'a, R: Files<File = File>> {
     files: FilesAtHand<'a, R>,
@@ -38,7 +38,7 @@ struct Scene<'a, R: Files<File = File>> {
 }
 
 impl<'a, R: Files<File = File> + AllocGlobal> Scene<'a, R> {
-    /// The scene at the beginning of a script: files in memory, of which there is none, and no text.
+    /// The scene at the beginning of a script of files: files in memory, of which there is none, and no text.
     fn new(rt: &'a R, alloc: Global) -> Self {
         Scene {
             files: FilesAtHand::new(rt, alloc),
@@ -48,7 +48,7 @@ impl<'a, R: Files<File = File> + AllocGlobal> Scene<'a, R> {
     }
 }
 
-/// Plays the lines of the script on this scene.
+/// Plays the lines of the script of files on this scene.
 fn play_script<'a, R: Files<File = File> + Input + Print + AllocGlobal>(
     rt: &'a R,
     scene: &mut Scene<'a, R>,
@@ -134,7 +134,7 @@ fn play<'a, R: Files<File = File> + AllocGlobal>(
     }
 }
 
-/// Makes a call on the text, which takes it.
+/// Makes a call of a case of files on the text, which takes it.
 fn play_text<R: Files<File = File> + AllocGlobal>(
     scene: &mut Scene<'_, R>,
     call: TextCall,

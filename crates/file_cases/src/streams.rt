@@ -36,7 +36,7 @@ pub(crate) fn play<R: Files<File = File>>(
     }
 }
 
-/// The name of a file of the system.
+/// The name of a file of the system, from which a source or a sink is made.
 fn name_of(word: &[u8]) -> Option<&str> {
     str::from_utf8(word).ok()
 }
@@ -98,7 +98,7 @@ fn read<S: Source>(source: &mut S, size: &[u8], told: &mut Told) -> Option<()> {
     Some(())
 }
 
-/// A buffer of the size, of blanks, if that isn't 0.
+/// A buffer of the size, of blanks, for reading a source, if that isn't 0.
 pub(crate) fn buffer(alloc: Global, size: &[u8]) -> Option<Vec<u8>>
     ensures { IfSome result (λ buffer. 0 < length buffer.items) }
 {
