@@ -87,7 +87,7 @@ pub(crate) fn reading_of(alloc: Global, text: &[u8]) -> Reading {
     }
 }
 
-/// What the text is read as a listing, which is this tree.
+/// What a text that may be a listing is read as, where that is this tree.
 fn compared(tree: &Tree, text: &[u8]) -> Reading
     requires { IsTree tree.now }
 {
