@@ -28,3 +28,5 @@ pub mod KeptFit
 pub mod LoopRoom
 -- `items_keep_limits`
 pub mod ItemLimits
+-- `callers_wait`: the cells of a frame
+pub mod FewCells

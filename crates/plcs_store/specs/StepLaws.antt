@@ -1,6 +1,7 @@
 -- The laws of steps: a new run fits, what fits has a step, and what that leads to fits again.
-use Rattle.std.specs.Prelude.{◌≡◌, ℕ, ◌+◌, ◌<◌, List, length, slice_get, Some, IsSome}
+use Rattle.std.specs.Prelude.{◌≡◌, ℕ, ◌+◌, ◌<◌, ◌≤◌, List, length, slice_get, sum_by, Some, IsSome}
 use Rattle.template_tree.specs.Positions.Place.{PlainPlace}
+use Rattle.template_tree.specs.Programs.Limit.{most_cells}
 use Rattle.template_tree.specs.Programs.PlainTree.{Forest, PlainTree}
 use Rattle.template_tree.specs.Programs.Tree.{IsTree}
 use Rattle.plcs_store.specs.declared.frame.Frame.{Frame}
@@ -44,6 +45,12 @@ abbrev pub FittingLoopsHaveRoom : Type 0
 FittingLoopsHaveRoom =
     (tree : PlainTree) (c : PlainConfiguration) (number : ℕ) (frame : Frame) → IsTree tree → Fits tree.items c
     → slice_get c.frames number ≡ Some frame → length frame.loops < most_loops
+
+-- a frame of a run that fits a tree has no more cells than a frame may have
+abbrev pub FittingCellsFew : Type 0
+FittingCellsFew =
+    (tree : PlainTree) (c : PlainConfiguration) (number : ℕ) (frame : Frame) → IsTree tree → Fits tree.items c
+    → slice_get c.frames number ≡ Some frame → sum_by (λ named. length named.1.cells) frame.cells ≤ most_cells
 
 -- a step of a run that fits a tree does an act that its configuration allows, and goes on somewhere
 abbrev pub StepsDoAllowedActs : Type 0

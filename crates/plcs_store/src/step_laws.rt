@@ -2,7 +2,7 @@
 ghost use Rattle.plcs_store.specs.NewFrame.{ItemsKeepLimits};
 ghost use Rattle.plcs_store.specs.OutputItem.{WrittenStands};
 ghost use Rattle.plcs_store.specs.Resume.{UneditedResumes};
-ghost use Rattle.plcs_store.specs.StepLaws.{FittingCallersWait, FittingLoopsHaveRoom, FittingRunsStep, NewRunsFit, StepsDoAllowedActs, StepsKeepFit, StepsOfRunsTakenBack};
+ghost use Rattle.plcs_store.specs.StepLaws.{FittingCallersWait, FittingCellsFew, FittingLoopsHaveRoom, FittingRunsStep, NewRunsFit, StepsDoAllowedActs, StepsKeepFit, StepsOfRunsTakenBack};
 ghost use Rattle.plcs_store.specs.Undone.{StepsTakenBack};
 
 use tree_steps::{sites_stand, slots_stand};
@@ -25,10 +25,11 @@ pub fn what_fits_has_a_step()
 }
 
 /// Of the frames of a run that fits a tree each but the newest waits at point 1 of its CALL, and each has room for
-/// one more loop.
+/// one more loop and no more cells than it may have.
 pub fn callers_wait()
     ensures wait { FittingCallersWait }
     ensures loops { FittingLoopsHaveRoom }
+    ensures cells { FittingCellsFew }
 {
     sites_stand();
     slots_stand();
