@@ -1,5 +1,7 @@
 //! The words that cases begin with.
 
+use crate::code::Question;
+
 /// What a case on runs asks for, by its first word.
 #[derive(Clone, Copy)]
 pub(crate) enum Call {
@@ -15,14 +17,30 @@ pub(crate) enum Call {
     PutSkip,
     /// What was written.
     Output,
+    /// A program of the lines of text.
+    Program,
+    /// The refinement of a comment hidden, or shown again.
+    Elide,
+    /// What the code of the program tells.
+    About(Question),
 }
 
 /// The calls of cases on runs, with the words that these begin with.
-pub(crate) static CALLS: [(&'static [u8], Call); 6] = [
+pub(crate) static CALLS: [(&'static [u8], Call); 16] = [
     (b"read_item", Call::ReadItem),
     (b"kept_value", Call::KeptValue),
     (b"begin", Call::Begin),
     (b"put", Call::Put),
     (b"put_skip", Call::PutSkip),
     (b"output", Call::Output),
+    (b"program", Call::Program),
+    (b"elide", Call::Elide),
+    (b"code", Call::About(Question::Code)),
+    (b"counted", Call::About(Question::Counted)),
+    (b"entry", Call::About(Question::Entry)),
+    (b"procedure", Call::About(Question::Procedure)),
+    (b"address", Call::About(Question::Address)),
+    (b"span", Call::About(Question::Span)),
+    (b"places", Call::About(Question::Places)),
+    (b"spans", Call::About(Question::Spans)),
 ];

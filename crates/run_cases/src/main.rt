@@ -1,71 +1,92 @@
-//! A script of cases on runs: the items of the input and of the output, and what variables keep. Each line of the script is printed as it
-//! is, and after a case its answer, in lines that begin with `= `.
+//! A script of cases on runs: the items of the input and of the output, what variables keep, and the code of programs. Each line of the
+//! script is printed as it is, and after a case its answer, in lines that begin with `= `.
 #![tactic(auto)]
 
+ghost use Rattle.template_tree.specs.Programs.Tree.{IsTree};
+
 mod call;
+mod code;
+mod held;
 mod input;
 mod keeping;
 mod output;
+mod program;
 mod value;
 
 use call::{CALLS, Call};
 use case_script::{Told, meaning, print_told, words_of};
-use output::{empty_state, put};
-use plcs_store::RunState;
-use std::alloc::AllocError;
+use held::Held;
+use output::put;
 use std::io;
 use std::io::{BufRead, BufReader};
 
 fn main(rt: HostRuntime) -> io::Result<()> {
-    let Ok(mut state) = empty_state(rt.alloc()) else {
-        return Err(AllocError.into());
-    };
-    play_script(&rt, &mut state)
+    let mut held = Held::new(rt.alloc())?;
+    play_script(&rt, &mut held)
 }
 
-/// Plays the script of cases on runs that standard input has, over the state of a run.
-fn play_script(rt: &HostRuntime, state: &mut RunState) -> io::Result<()> {
+/// Plays the script of cases on runs that standard input has.
+fn play_script(rt: &HostRuntime, held: &mut Held) -> io::Result<()>
+    requires { IsTree held.old.tree }
+{
     let alloc = rt.alloc();
     let mut told = Told::new(alloc);
     for line in BufReader::new(alloc, rt.reader())?.lines(alloc) {
         let line = line?;
         println!(rt; "{line}")?;
-        play_line(state, line.as_bytes(), &mut told);
+        play_line(held, line.as_bytes(), &mut told)?;
         print_told(rt, &told)?;
     }
     Ok(())
 }
 
-/// Plays a line of the script on runs, which is a case unless it is empty or a heading, and tells its answer.
-fn play_line(state: &mut RunState, line: &[u8], told: &mut Told) {
+/// Plays a line of the script on runs: a heading, a line of text, or a case, whose answer is told.
+fn play_line(held: &mut Held, line: &[u8], told: &mut Told) -> io::Result<()>
+    requires { IsTree held.old.tree }
+    ensures { IsTree held.new.tree }
+{
     told.clear();
-    if matches!(line, [] | [b'#', ..]) {
-        return;
+    match line {
+        [] | [b'#', ..] => {}
+        [b'|', b' ', text @ ..] => held.text.push(text.to_vec(told.alloc())?)?,
+        case => {
+            if play_case(held, case, told).is_none() {
+                told.clear();
+                told.line("NOT A CASE");
+            }
+            held.text.clear();
+        }
     }
-    if play_case(state, line, told).is_none() {
-        told.clear();
-        told.line("NOT A CASE");
-    }
+    Ok(())
 }
 
 /// Plays a case on runs, if it is one.
-fn play_case(state: &mut RunState, case: &[u8], told: &mut Told) -> Option<()> {
+fn play_case(held: &mut Held, case: &[u8], told: &mut Told) -> Option<()>
+    requires { IsTree held.old.tree }
+    ensures { IsTree held.new.tree }
+{
     match words_of(told.alloc(), case) {
-        Ok(Some(words)) => play_words(state, words.as_slice(), told),
+        Ok(Some(words)) => play_words(held, words.as_slice(), told),
         _ => None,
     }
 }
 
 /// Makes the call of a case on runs, which the first word names, with the words behind it.
-fn play_words(state: &mut RunState, words: &[Vec<u8>], told: &mut Told) -> Option<()> {
+fn play_words(held: &mut Held, words: &[Vec<u8>], told: &mut Told) -> Option<()>
+    requires { IsTree held.old.tree }
+    ensures { IsTree held.new.tree }
+{
     let (name, words) = words.split_first()?;
     match (meaning(&CALLS, name.as_slice())?, words) {
         (Call::ReadItem, [ty, input]) => input::read(ty, input, told),
         (Call::KeptValue, [ty, value]) => keeping::keep(ty, value, told),
-        (Call::Begin, []) => output::begin(state, told),
-        (Call::Put, values) => put(state, false, values, told),
-        (Call::PutSkip, values) => put(state, true, values, told),
-        (Call::Output, []) => Some(told.word_line(state.output.as_slice())),
+        (Call::Begin, []) => output::begin(&mut held.state, told),
+        (Call::Put, values) => put(&mut held.state, false, values, told),
+        (Call::PutSkip, values) => put(&mut held.state, true, values, told),
+        (Call::Output, []) => Some(told.word_line(held.state.output.as_slice())),
+        (Call::Program, []) => program::read(&mut held.tree, held.text.as_slice(), told),
+        (Call::Elide, [slot]) => program::elide(&mut held.tree, slot, told),
+        (Call::About(question), words) => code::ask(&held.tree, question, words, told),
         _ => None,
     }
 }
