@@ -63,6 +63,8 @@ fn main(rt: HostRuntime) -> ExitCode {
 #[cfg(test)]
 mod crash_tests;
 #[cfg(test)]
+mod images;
+#[cfg(test)]
 mod playing;
 #[cfg(test)]
 mod row_tests;

@@ -1,11 +1,10 @@
 //! What sessions write, keep on their disks and end with.
 
-use crate::playing::{
-    DONE, NEVER, SMALL, failing_disk, images, play, play_failing, recovered, screens_of,
-};
+use crate::images::Images;
+use crate::playing::{DONE, NEVER, Played, Words};
 use crate::status::KeptStatus;
-use key_journal::{DiskCall, DiskFault};
-use std::alloc::{AllocError, Global};
+use key_journal::MemDisk;
+use std::alloc::Global;
 use std::test::Fail;
 use synth_top::Status;
 
@@ -15,8 +14,11 @@ const PUT_KEYS: &[u8] = b".put\r7\r";
 /// How many of the pieces are those of the screens up to the second Enter.
 const PUT_PIECES: usize = 25;
 
+/// How many pieces there are.
+const ALL_PIECES: usize = 35;
+
 /// What these keys and then those of a quit write on a small screen, piece by piece.
-static STORED_RUN: [&[u8]; 35] = [
+static STORED_RUN: [&[u8]; ALL_PIECES] = [
     b"\x1b[0m\x1b[2J",
     b"\x1b[1;1H  main: PROCEDURE OPTIONS ( MAIN );\x1b[K",
     b"\x1b[2;1H    {declaration}\x1b[K",
@@ -77,165 +79,354 @@ const QUIT_KEPT: &[u8] = b"\x01.\x01q\x01u\x01i\x01t\x01\r\x00";
 
 const QUIT_SHUT: &[u8] = b"\x00.\x01q\x01u\x01i\x01t\x01\r\x00";
 
-#[test]
-fn a_session_goes_on_where_it_was_not_quit(rt: HostRuntime) -> Result<(), Fail> {
-    let first = play(rt.alloc(), PUT_KEYS, failing_disk(rt.alloc(), NEVER)?)?;
-    let wanted = STORED_RUN[..PUT_PIECES].concat(rt.alloc())?;
-    assert!(rt; first.is(DONE, wanted.as_slice(), PUT_KEPT));
-    let second = play(rt.alloc(), b".quit\r", first.disk)?;
-    let wanted = STORED_RUN.concat(rt.alloc())?;
-    assert_eq!(rt; second.status, DONE);
-    assert_eq!(rt; second.written(), wanted.as_slice());
-    assert!(rt; second.is_cleared());
-    Ok(())
-}
-
-#[test]
-fn a_session_begins_anew_after_a_quit(rt: HostRuntime) -> Result<(), Fail> {
-    let first = play(rt.alloc(), b".quit\r", failing_disk(rt.alloc(), NEVER)?)?;
-    assert!(rt;
-        first.is(
-            DONE,
-            screens_of(rt.alloc(), b".quit\r")?.as_slice(),
-            QUIT_SHUT
-        )
-    );
-    let second = play(rt.alloc(), b"", first.disk)?;
-    assert_eq!(rt; second.written(), screens_of(rt.alloc(), b"")?.as_slice());
-    Ok(())
-}
-
-#[test]
-fn a_quit_that_was_kept_quits_again(rt: HostRuntime) -> Result<(), Fail> {
-    // The call that clears the journal fails, so that its keys stay.
-    let first = play(rt.alloc(), b".quit\r", failing_disk(rt.alloc(), 29)?)?;
-    let screens = screens_of(rt.alloc(), b".quit\r")?;
-    assert!(rt; first.is(KeptStatus::JournalFault, screens.as_slice(), QUIT_KEPT));
-    let second = play(rt.alloc(), b"a", first.disk)?;
-    assert!(rt; second.is(DONE, screens.as_slice(), QUIT_SHUT));
-    Ok(())
-}
-
-/// Whether each image that a crash may leave after these calls recovers to nothing or to these keys, and
-/// one to these.
-fn leaves(alloc: Global, calls: &[DiskCall], keys: &[u8]) -> Result<bool, DiskFault> {
-    let mut is_found = false;
-    for image in images(alloc, calls)? {
-        let found = recovered(alloc, image.as_slice())?;
-        if found.as_slice() == keys {
-            is_found = true;
-        } else if !found.is_empty() {
-            return Ok(false);
-        }
-    }
-    Ok(is_found)
-}
-
-#[test]
-fn a_sync_that_fails_loses_no_key_that_was_acted_on(rt: HostRuntime) -> Result<(), Fail> {
-    // The third sync is the sixth call, and the fourth one the eighth.
-    for (call, most) in [(6, b"".as_slice()), (8, b"a".as_slice())] {
-        let played = play(rt.alloc(), b"a", failing_disk(rt.alloc(), call)?)?;
-        assert_eq!(rt; played.status.code(), 1);
-        assert!(rt; leaves(rt.alloc(), played.disk.done(), most)?, "at {call}");
-    }
-    Ok(())
-}
-
-#[test]
-fn a_clear_that_fails_leaves_nothing_or_all_keys(rt: HostRuntime) -> Result<(), Fail> {
-    // Six keys take four calls each after the first four, and then the journal is cleared.
-    for call in [29, 30] {
-        let played = play(rt.alloc(), b".quit\ra", failing_disk(rt.alloc(), call)?)?;
-        assert_eq!(rt; played.status.code(), 6);
-        assert!(rt;
-            leaves(rt.alloc(), played.disk.done(), b".quit\r")?,
-            "at {call}"
-        );
-    }
-    Ok(())
-}
-
-/// A session that ends with a fault, or isn't begun: its keys, which calls of disk, source and sink fail,
-/// its status, the keys whose screens it writes, and what its disk reads as.
-struct Ending {
+/// A session, and what comes of it.
+struct Row {
+    /// What it shows.
+    shows: &'static str,
+    disk: Found,
+    words: Words,
     keys: &'static [u8],
-    disk_call: u64,
+    /// Which call of the source and which of the sink fails.
     read: u64,
     write: u64,
     status: KeptStatus,
-    shown: &'static [u8],
-    kept: &'static [u8],
+    /// The number with which its program ends.
+    number: u8,
+    written: Written,
+    kept: Kept,
 }
 
-static ENDINGS: [Ending; 4] = [
-    // A read fails.
-    Ending {
-        keys: b"abc",
-        disk_call: NEVER,
-        read: 3,
-        write: NEVER,
-        status: KeptStatus::Run(Status::ReadFault),
-        shown: b"ab",
-        kept: b"\x01a\x01b\x00",
-    },
-    // The write of a key's gate fails.
-    Ending {
-        keys: b"abc",
-        disk_call: 11,
+/// The disk that a session finds.
+#[derive(Clone, Copy)]
+enum Found {
+    /// An empty one, whose call of this number fails.
+    Empty(u64),
+    /// The one that the row before left.
+    Left,
+}
+
+/// What a session writes.
+#[derive(Clone, Copy)]
+enum Written {
+    /// So many pieces of the stored run.
+    Pieces(usize),
+    /// The screens of these keys.
+    Screens(&'static [u8]),
+    Nothing,
+}
+
+/// What a session leaves of its disk.
+#[derive(Clone, Copy)]
+enum Kept {
+    /// These bytes.
+    Bytes(&'static [u8]),
+    /// The first gate isn't open.
+    Shut,
+    /// Each image that a crash may leave recovers to nothing or to these keys, and one to these.
+    Images(&'static [u8]),
+}
+
+static ROWS: [Row; 16] = [
+    Row {
+        shows: "a session keeps its keys",
+        disk: Found::Empty(NEVER),
+        words: Words::Small,
+        keys: PUT_KEYS,
         read: NEVER,
         write: NEVER,
-        status: KeptStatus::Run(Status::ReadFault),
-        shown: b"a",
-        kept: b"\x01a\x00b\x00",
+        status: DONE,
+        number: 0,
+        written: Written::Pieces(PUT_PIECES),
+        kept: Kept::Bytes(PUT_KEPT),
     },
-    // The write of the screen after the first key fails: the key is kept.
-    Ending {
-        keys: b"abc",
-        disk_call: NEVER,
+    Row {
+        shows: "a session goes on where it was not quit",
+        disk: Found::Left,
+        words: Words::Small,
+        keys: b".quit\r",
         read: NEVER,
-        write: 10,
-        status: KeptStatus::Run(Status::WriteFault),
-        shown: b"",
-        kept: b"\x01a\x00",
+        write: NEVER,
+        status: DONE,
+        number: 0,
+        written: Written::Pieces(ALL_PIECES),
+        kept: Kept::Shut,
     },
-    // The journal can't be cleared.
-    Ending {
-        keys: b".quit\ra",
-        disk_call: 29,
+    Row {
+        shows: "a session is quit",
+        disk: Found::Empty(NEVER),
+        words: Words::Small,
+        keys: b".quit\r",
+        read: NEVER,
+        write: NEVER,
+        status: DONE,
+        number: 0,
+        written: Written::Screens(b".quit\r"),
+        kept: Kept::Bytes(QUIT_SHUT),
+    },
+    Row {
+        shows: "a session begins anew after a quit",
+        disk: Found::Left,
+        words: Words::Small,
+        keys: b"",
+        read: NEVER,
+        write: NEVER,
+        status: DONE,
+        number: 0,
+        written: Written::Screens(b""),
+        kept: Kept::Shut,
+    },
+    // The call that clears the journal fails, so that its keys stay.
+    Row {
+        shows: "a quit is kept where the journal is not cleared",
+        disk: Found::Empty(29),
+        words: Words::Small,
+        keys: b".quit\r",
         read: NEVER,
         write: NEVER,
         status: KeptStatus::JournalFault,
-        shown: b".quit\r",
-        kept: QUIT_KEPT,
+        number: 6,
+        written: Written::Screens(b".quit\r"),
+        kept: Kept::Bytes(QUIT_KEPT),
+    },
+    Row {
+        shows: "a quit that was kept quits again",
+        disk: Found::Left,
+        words: Words::Small,
+        keys: b"a",
+        read: NEVER,
+        write: NEVER,
+        status: DONE,
+        number: 0,
+        written: Written::Screens(b".quit\r"),
+        kept: Kept::Bytes(QUIT_SHUT),
+    },
+    // The third sync is the sixth call, and the fourth one the eighth. No key was acted on before, and so none that was
+    // is lost.
+    Row {
+        shows: "the third sync fails",
+        disk: Found::Empty(6),
+        words: Words::Small,
+        keys: b"a",
+        read: NEVER,
+        write: NEVER,
+        status: KeptStatus::Run(Status::ReadFault),
+        number: 1,
+        written: Written::Screens(b""),
+        kept: Kept::Images(b""),
+    },
+    Row {
+        shows: "the fourth sync fails",
+        disk: Found::Empty(8),
+        words: Words::Small,
+        keys: b"a",
+        read: NEVER,
+        write: NEVER,
+        status: KeptStatus::Run(Status::ReadFault),
+        number: 1,
+        written: Written::Screens(b""),
+        kept: Kept::Images(b"a"),
+    },
+    // Six keys take four calls each after the first four, and then the journal is cleared. Where that fails, a crash
+    // leaves nothing or all keys.
+    Row {
+        shows: "the write that clears fails",
+        disk: Found::Empty(29),
+        words: Words::Small,
+        keys: b".quit\ra",
+        read: NEVER,
+        write: NEVER,
+        status: KeptStatus::JournalFault,
+        number: 6,
+        written: Written::Screens(b".quit\r"),
+        kept: Kept::Images(b".quit\r"),
+    },
+    Row {
+        shows: "the sync that clears fails",
+        disk: Found::Empty(30),
+        words: Words::Small,
+        keys: b".quit\ra",
+        read: NEVER,
+        write: NEVER,
+        status: KeptStatus::JournalFault,
+        number: 6,
+        written: Written::Screens(b".quit\r"),
+        kept: Kept::Images(b".quit\r"),
+    },
+    Row {
+        shows: "a read fails",
+        disk: Found::Empty(NEVER),
+        words: Words::Small,
+        keys: b"abc",
+        read: 3,
+        write: NEVER,
+        status: KeptStatus::Run(Status::ReadFault),
+        number: 1,
+        written: Written::Screens(b"ab"),
+        kept: Kept::Bytes(b"\x01a\x01b\x00"),
+    },
+    Row {
+        shows: "the write of a key's gate fails",
+        disk: Found::Empty(11),
+        words: Words::Small,
+        keys: b"abc",
+        read: NEVER,
+        write: NEVER,
+        status: KeptStatus::Run(Status::ReadFault),
+        number: 1,
+        written: Written::Screens(b"a"),
+        kept: Kept::Bytes(b"\x01a\x00b\x00"),
+    },
+    // The write of the screen after the first key fails: the key is kept.
+    Row {
+        shows: "a write of a screen fails",
+        disk: Found::Empty(NEVER),
+        words: Words::Small,
+        keys: b"abc",
+        read: NEVER,
+        write: 10,
+        status: KeptStatus::Run(Status::WriteFault),
+        number: 2,
+        written: Written::Screens(b""),
+        kept: Kept::Bytes(b"\x01a\x00"),
+    },
+    Row {
+        shows: "the journal is not cleared",
+        disk: Found::Empty(29),
+        words: Words::Small,
+        keys: b".quit\ra",
+        read: NEVER,
+        write: NEVER,
+        status: KeptStatus::JournalFault,
+        number: 6,
+        written: Written::Screens(b".quit\r"),
+        kept: Kept::Bytes(QUIT_KEPT),
+    },
+    // The first call opens the journal.
+    Row {
+        shows: "the journal is not opened",
+        disk: Found::Empty(1),
+        words: Words::Small,
+        keys: b"a",
+        read: NEVER,
+        write: NEVER,
+        status: KeptStatus::JournalFault,
+        number: 6,
+        written: Written::Nothing,
+        kept: Kept::Bytes(b""),
+    },
+    Row {
+        shows: "the words are not of the command",
+        disk: Found::Empty(NEVER),
+        words: Words::Lacking,
+        keys: b"a",
+        read: NEVER,
+        write: NEVER,
+        status: KeptStatus::Run(Status::BadWords),
+        number: 4,
+        written: Written::Nothing,
+        kept: Kept::Bytes(b""),
     },
 ];
 
-/// Whether the session ends so.
-fn ends(alloc: Global, ending: &Ending) -> Result<bool, AllocError> {
-    let disk = failing_disk(alloc, ending.disk_call)?;
-    let played = play_failing(alloc, &SMALL, ending.keys, disk, ending.read, ending.write)?;
-    let screens = screens_of(alloc, ending.shown)?;
-    Ok(played.is(ending.status, screens.as_slice(), ending.kept))
+/// How a session agrees with its row.
+#[derive(Clone, Copy, Debug)]
+enum Outcome {
+    AsSaid,
+    OtherStatus,
+    OtherNumber,
+    OtherScreens,
+    OtherDisk,
+    OutOfMemory,
 }
 
 #[test]
-fn a_fault_ends_the_session(rt: HostRuntime) -> Result<(), Fail> {
-    for (number, ending) in ENDINGS.iter().enumerate() {
-        assert!(rt; ends(rt.alloc(), ending)?, "row {number}");
+fn sessions_keep_their_keys(rt: HostRuntime) -> Result<(), Fail> {
+    let other = first_other(rt.alloc());
+    assert!(rt; other.is_none(), "{other:?}");
+    Ok(())
+}
+
+/// What the first session shows that doesn't agree with its row, if there is one, and what of it is otherwise.
+fn first_other(alloc: Global) -> Option<(&'static str, Outcome)> {
+    let mut played = Played::none(alloc);
+    let mut images = Images::none(alloc);
+    other_row(alloc, &mut played, &mut images)
+}
+
+/// Plays the rows in turn, up to the first one that is otherwise.
+fn other_row(
+    alloc: Global,
+    played: &mut Played,
+    images: &mut Images,
+) -> Option<(&'static str, Outcome)> {
+    for row in &ROWS {
+        match compared(alloc, played, images, row).unwrap_or(Outcome::OutOfMemory) {
+            Outcome::AsSaid => {}
+            other => return Some((row.shows, other)),
+        }
     }
-    Ok(())
+    None
 }
 
-#[test]
-fn nothing_is_done_where_it_is_not_begun(rt: HostRuntime) -> Result<(), Fail> {
-    // The first call opens the journal.
-    let played = play(rt.alloc(), b"a", failing_disk(rt.alloc(), 1)?)?;
-    assert!(rt; played.is(KeptStatus::JournalFault, b"", b""));
-    // Words that aren't of the command.
-    let disk = failing_disk(rt.alloc(), NEVER)?;
-    let played = play_failing(rt.alloc(), &["--rows"], b"a", disk, NEVER, NEVER)?;
-    assert!(rt; played.is(KeptStatus::Run(Status::BadWords), b"", b""));
-    assert_eq!(rt; played.status.code(), 4);
-    Ok(())
+/// Plays the session of a row, and compares it with that.
+fn compared(alloc: Global, played: &mut Played, images: &mut Images, row: &Row) -> Option<Outcome> {
+    play_row(alloc, played, row)?;
+    if played.status != row.status {
+        return Some(Outcome::OtherStatus);
+    }
+    if played.status.code() != row.number {
+        return Some(Outcome::OtherNumber);
+    }
+    if !is_written(alloc, played, row.written)? {
+        return Some(Outcome::OtherScreens);
+    }
+    if !is_kept(alloc, images, &played.disk, row.kept)? {
+        return Some(Outcome::OtherDisk);
+    }
+    Some(Outcome::AsSaid)
+}
+
+/// Plays the session of a row.
+fn play_row(alloc: Global, played: &mut Played, row: &Row) -> Option<()> {
+    if let Found::Empty(failing_call) = row.disk {
+        played.take_disk(alloc, failing_call)?;
+    }
+    played.take_words(alloc, row.words)?;
+    played.play(alloc, row.keys, row.read, row.write)
+}
+
+/// Whether that is what the session wrote.
+fn is_written(alloc: Global, played: &mut Played, written: Written) -> Option<bool> {
+    match written {
+        Written::Pieces(count) => Some(are_pieces(played.written(), count)),
+        Written::Screens(keys) => {
+            played.find_wanted(alloc, keys)?;
+            Some(played.written() == played.wanted())
+        }
+        Written::Nothing => Some(played.written().is_empty()),
+    }
+}
+
+/// Whether the bytes are so many pieces of the stored run.
+fn are_pieces(bytes: &[u8], count: usize) -> bool {
+    let mut left = bytes;
+    for piece in &STORED_RUN[..count.min(ALL_PIECES)] {
+        match left.strip_prefix(*piece) {
+            Some(behind) => left = behind,
+            None => return false,
+        }
+    }
+    left.is_empty()
+}
+
+/// Whether that is what is left of the disk.
+fn is_kept(alloc: Global, images: &mut Images, disk: &MemDisk, kept: Kept) -> Option<bool> {
+    match kept {
+        Kept::Bytes(bytes) => Some(disk.bytes() == bytes),
+        Kept::Shut => Some(disk.bytes().first() == Some(&0)),
+        Kept::Images(keys) => {
+            images.find(alloc, disk.done())?;
+            images.leave(keys)
+        }
+    }
 }
