@@ -30,35 +30,35 @@ pub data Act : Type 0 where
   -- the newest frame is left
   leave : Act
 
--- frames without the newest
+-- the frames without the newest, which an act leaves
 abbrev pub without_newest : List Frame → List Frame
 without_newest frames = take (newest frames) frames
 
--- frames of which the newest is changed
+-- frames of which an act changed the newest
 abbrev pub with_newest : (Frame → Frame) → List Frame → List Frame
 with_newest change frames = changed_at (newest frames) change frames
 
--- frames of which the newest stands at the place
+-- frames of which the newest stands at the place where an act goes on
 abbrev pub newest_at : PlainPlace → List Frame → List Frame
 newest_at place frames = with_newest (frame_at place) frames
 
--- a frame whose loops have one more inside them
+-- a frame after an act, whose loops have one more inside them
 abbrev pub with_loop : KeptLoop → Frame → Frame
 with_loop kept frame = record frame { loops = frame.loops ++ (kept ∷ []) }
 
--- a frame without its innermost loop
+-- a frame after an act, without its innermost loop
 abbrev pub without_loop : Frame → Frame
 without_loop frame = record frame { loops = take (length frame.loops - 1) frame.loops }
 
--- a frame without the loop of this number, counted from 0 at the outermost
+-- a frame after an act, without the loop of this number, counted from 0 at the outermost
 abbrev pub without_loop_at : (number : ℕ) → Frame → Frame
 without_loop_at number frame = record frame { loops = remove frame.loops number }
 
--- a frame that waits for the procedure that it calls
+-- a frame after an act, which waits for the procedure that it calls
 abbrev pub frame_waiting : Frame → Frame
 frame_waiting frame = frame_at (place_at frame.place.slot.0 1) frame
 
--- a value stored at a location of frames
+-- frames after an act that stored a value at a location
 abbrev pub with_value_stored : Location → Value → List Frame → List Frame
 with_value_stored location value frames = with_cell location (Cell.Held value) frames
 

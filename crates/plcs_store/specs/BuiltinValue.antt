@@ -9,20 +9,20 @@ use Rattle.plcs_store.specs.Operator.{fixed_value, is_zero, on_number, on_number
 
 -- ---- so many arguments
 
--- what is made of one argument
+-- what a built-in function makes of one argument
 abbrev pub on_one : (Value → Outcome Value) → List Value → Outcome Value
 on_one make [] = Outcome.undefined
 on_one make (a ∷ []) = make a
 on_one make (a ∷ (b ∷ rest)) = Outcome.undefined
 
--- what is made of two arguments
+-- what a built-in function makes of two arguments
 abbrev pub on_two : (Value → Value → Outcome Value) → List Value → Outcome Value
 on_two make [] = Outcome.undefined
 on_two make (a ∷ []) = Outcome.undefined
 on_two make (a ∷ (b ∷ [])) = make a b
 on_two make (a ∷ (b ∷ (c ∷ rest))) = Outcome.undefined
 
--- what is made of two arguments, or of three
+-- what a built-in function makes of two arguments, or of three
 abbrev pub on_two_or_three : (Value → Value → Outcome Value) → (Value → Value → Value → Outcome Value) → List Value → Outcome Value
 on_two_or_three two three [] = Outcome.undefined
 on_two_or_three two three (a ∷ []) = Outcome.undefined
@@ -50,7 +50,7 @@ text_part x i k =
     then Outcome.gives (Value.Text (take (nat_abs k) (drop (nat_abs i - 1) x)))
     else faults FaultKind.StringRange
 
--- where a text first stands in another whose first byte has this number; 0 where it doesn't
+-- for INDEX: where a text first stands in another whose first byte has this number; 0 where it doesn't
 abbrev pub found_from : ℕ → (x sought : List ℕ) → ℕ
 found_from k [] sought = 0
 found_from k (byte ∷ rest) sought =

@@ -99,7 +99,7 @@ abbrev pub kept_at : List Frame → Location → Value → Outcome Value
 kept_at frames location value =
     if_there (option_and_then (λ variable. kept_value variable.ty value) (variable_at frames location.frame location.name))
 
--- a list with one of its items changed, if there is the item
+-- a list, as of cells, variables or frames, with one of its items changed, if there is the item
 abbrev pub changed_at : {A : Type 0} → ℕ → (A → A) → List A → List A
 changed_at k change items = option_map_or (λ item. slice_set items k (change item)) (slice_get items k) items
 
@@ -131,7 +131,7 @@ new_variable ty size = record { ty = ty; size = size; cells = unset_cells size }
 abbrev pub unset_variable : Declared → Variable
 unset_variable item = new_variable item.ty item.size
 
--- a scalar of the type with this in its cell
+-- a scalar variable of the type with this in its cell
 abbrev pub scalar_variable : ItemType → Cell → Variable
 scalar_variable ty cell = record { ty = ty; size = 0; cells = cell ∷ [] }
 

@@ -123,13 +123,13 @@ LoopsFit program frames = All (HasLoops program) frames
 
 -- ---- what is in cells
 
--- the kind of a value
+-- the kind of a value, which has to fit its cell
 abbrev pub kind_of_value : Value → Kind
 kind_of_value (Value.Fixed z) = Kind.Fixed
 kind_of_value (Value.Bit b) = Kind.Bit
 kind_of_value (Value.Text x) = Kind.Text
 
--- a cell doesn't stand for another
+-- a cell that fits doesn't stand for another
 abbrev pub IsNoReference : Cell → Type 0
 IsNoReference Cell.Unset = Unit {0}
 IsNoReference (Cell.Held value) = Unit {0}

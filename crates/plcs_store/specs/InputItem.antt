@@ -23,11 +23,11 @@ is_comma byte = byte == 44
 abbrev pub is_item_byte : ℕ → Bool
 is_item_byte byte = not (is_input_blank byte || is_comma byte)
 
--- how many blanks stand at the front
+-- how many blanks stand at the front of the input
 abbrev pub blanks_before : List ℕ → ℕ
 blanks_before input = prefix_len is_input_blank input
 
--- how many bytes at the front go on with an item
+-- how many bytes at the front of the input go on with an item
 abbrev pub item_bytes_before : List ℕ → ℕ
 item_bytes_before input = prefix_len is_item_byte input
 
@@ -40,33 +40,34 @@ closed_at count true [] = Some count
 closed_at count false (byte ∷ rest) = closed_at (count + 1) (is_quote byte) rest
 closed_at count true (byte ∷ rest) = if is_quote byte then closed_at (count + 1) false rest else Some count
 
--- how many bytes an item has of which a quote stood before these: to the closing quote, and on as any other
+-- how many bytes an item of the input has of which a quote stood before these: to the closing quote, and on as any
+-- other
 abbrev pub quoted_length : List ℕ → Option ℕ
 quoted_length rest = option_map (λ n. 1 + n + item_bytes_before (drop n rest)) (closed_at 0 false rest)
 
--- how many bytes an item has: to the next blank, comma or end; one that begins with a quote goes to its closing quote first,
--- and has no length where there is none
+-- how many bytes an item of the input has: to the next blank, comma or end; one that begins with a quote goes to its
+-- closing quote first, and has no length where there is none
 abbrev pub item_length : List ℕ → Option ℕ
 item_length [] = Some 0
 item_length (byte ∷ rest) = if is_quote byte then quoted_length rest else Some (item_bytes_before (byte ∷ rest))
 
--- how many bytes a comma has that stands at the front, with the blanks behind it
+-- how many bytes a comma has that stands at the front of the input, with the blanks behind it
 abbrev pub comma_length : List ℕ → ℕ
 comma_length [] = 0
 comma_length (byte ∷ rest) = if is_comma byte then blanks_before rest + 1 else 0
 
--- how many bytes stand between an item and the next one
+-- how many bytes of the input stand between an item and the next one
 abbrev pub separator_length : List ℕ → ℕ
 separator_length input = blanks_before input + comma_length (drop (blanks_before input) input)
 
 -- ---- what an item says
 
--- whether bytes are digits, and one at least
+-- whether the bytes of an item are digits, and one at least
 abbrev pub are_digits : List ℕ → Bool
 are_digits [] = false
 are_digits (byte ∷ rest) = list_all is_digit (byte ∷ rest)
 
--- the number, if it is in range
+-- the number that an item is, if it is in range
 abbrev pub number_in_range : ℤ → Option Value
 number_in_range z = if is_fixed z then Some (Value.Fixed z) else None
 
@@ -90,13 +91,13 @@ bit_item item =
     if bytes_eq item (codes "0") || bytes_eq item (codes "'0'B") then Some (Value.Bit false)
     else (if bytes_eq item (codes "1") || bytes_eq item (codes "'1'B") then Some (Value.Bit true) else None)
 
--- the bytes of a constant's value: what stands between its quotes, each two quotes as one
+-- the bytes of a constant's value in the input: what stands between its quotes, each two quotes as one
 abbrev pub unquoted : (behind_quote : Bool) → List ℕ → List ℕ
 unquoted behind_quote [] = []
 unquoted false (byte ∷ rest) = if is_quote byte then unquoted true rest else byte ∷ unquoted false rest
 unquoted true (byte ∷ rest) = if is_quote byte then byte ∷ unquoted false rest else []
 
--- the text of these bytes, if it isn't too long and each may stand in a constant
+-- the text of these bytes of an item, if it isn't too long and each may stand in a constant
 abbrev pub readable_text : List ℕ → Option Value
 readable_text x = if nat_le (length x) longest_text && list_all is_printable x then Some (Value.Text x) else None
 
@@ -133,7 +134,7 @@ abbrev pub item_at_front : ItemType → List ℕ → Result (Value × ℕ) ItemF
 item_at_front ty [] = Err ItemFault.Wanted
 item_at_front ty (byte ∷ rest) = cut_or_wanted ty (byte ∷ rest) (item_length (byte ∷ rest))
 
--- an item with the blanks before it
+-- an item of the input with the blanks before it
 abbrev pub behind_blanks : ℕ → Result (Value × ℕ) ItemFault → Result (Value × ℕ) ItemFault
 behind_blanks n (Ok found) = Ok (found.0, n + found.1)
 behind_blanks n (Err fault) = Err fault

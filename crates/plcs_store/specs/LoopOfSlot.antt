@@ -9,7 +9,7 @@ use Rattle.plcs_store.specs.CellAt.{newest}
 abbrev pub NumberedLoop : Type 0
 NumberedLoop = ℕ × KeptLoop
 
--- a loop with one more around it
+-- a numbered loop of a slot, with one more around it
 abbrev pub inside_one_more : NumberedLoop → NumberedLoop
 inside_one_more found = (suc found.0, found.1)
 

@@ -55,7 +55,7 @@ parameter_named frames items name argument =
     option_and_then (λ item. option_map (λ variable. (name, variable)) (parameter_of frames item.ty argument))
     (option_and_then scalar_item (item_named name items))
 
--- a thing before others, where all are there
+-- a parameter before the others of a new frame, where all are there
 abbrev pub option_before : {A : Type 0} → Option A → Option (List A) → Option (List A)
 option_before first others = option_and_then (λ a. option_map (λ more. a ∷ more) others) first
 
@@ -73,11 +73,12 @@ other_variables names items = map unset_named (filter (λ item. not (list_any (b
 
 -- ---- limits
 
--- the variables of declared items have different names, and together as many cells as a frame may have
+-- the variables of declared items, which a new frame has, have different names, and together as many cells as a frame
+-- may have
 pub record AreWithinLimits (items : List Declared) : Type 0 where
   pub few : cells items ≤ most_cells
   pub once : IsDistinct bytes_eq (keys_of (map unset_named items))
 
--- the effective items of a procedure keep these limits
+-- the effective items of a procedure, of which a new frame has the variables, keep these limits
 abbrev pub ItemsKeepLimits : Type 0
 ItemsKeepLimits = (inner : Forest) → AreWithinLimits (items_inside inner)

@@ -13,78 +13,78 @@ use Rattle.plcs_store.specs.Outcome.{Outcome, faults}
 
 -- ---- values of a kind
 
--- what is made of a whole number
+-- what an operator makes of a whole number
 abbrev pub on_number : {A : Type 0} → (ℤ → Outcome A) → Value → Outcome A
 on_number make (Value.Fixed z) = make z
 on_number make (Value.Bit b) = Outcome.undefined
 on_number make (Value.Text x) = Outcome.undefined
 
--- what is made of a truth value
+-- what an operator makes of a truth value
 abbrev pub on_bit : {A : Type 0} → (Bool → Outcome A) → Value → Outcome A
 on_bit make (Value.Fixed z) = Outcome.undefined
 on_bit make (Value.Bit b) = make b
 on_bit make (Value.Text x) = Outcome.undefined
 
--- what is made of a text
+-- what an operator makes of a text
 abbrev pub on_text : {A : Type 0} → (List ℕ → Outcome A) → Value → Outcome A
 on_text make (Value.Fixed z) = Outcome.undefined
 on_text make (Value.Bit b) = Outcome.undefined
 on_text make (Value.Text x) = make x
 
--- what is made of two whole numbers
+-- what an operator makes of two whole numbers
 abbrev pub on_numbers : (ℤ → ℤ → Outcome Value) → Value → Value → Outcome Value
 on_numbers make left right = on_number (λ a. on_number (make a) right) left
 
--- what is made of two truth values
+-- what an operator makes of two truth values
 abbrev pub on_bits : (Bool → Bool → Outcome Value) → Value → Value → Outcome Value
 on_bits make left right = on_bit (λ a. on_bit (make a) right) left
 
--- what is made of two texts
+-- what an operator makes of two texts
 abbrev pub on_texts : (List ℕ → List ℕ → Outcome Value) → Value → Value → Outcome Value
 on_texts make left right = on_text (λ a. on_text (make a) right) left
 
 -- ---- whole numbers
 
--- whether a number is from -2147483648 to 2147483647
+-- whether an operator may give a number: it is from -2147483648 to 2147483647
 abbrev pub is_fixed : ℤ → Bool
 is_fixed (pos n) = nat_lt n (2 ^ 31)
 is_fixed (negsuc n) = nat_lt n (2 ^ 31)
 
--- the whole number as a value, if it is one
+-- the whole number as the value that an operator gives, if it is one
 abbrev pub fixed_value : ℤ → Outcome Value
 fixed_value z = if is_fixed z then Outcome.gives (Value.Fixed z) else faults FaultKind.FixedOverflow
 
--- whether a number is 0
+-- whether a number is 0, by which an operator then can't divide
 abbrev pub is_zero : ℤ → Bool
 is_zero (pos n) = n == 0
 is_zero (negsuc n) = false
 
--- a quotient, cut off toward zero
+-- a quotient that an operator gives, cut off toward zero
 abbrev pub quotient : ℤ → ℤ → Outcome Value
 quotient a b = if is_zero b then faults FaultKind.ZeroDivide else fixed_value (int_div a b)
 
--- the number from 0 to m - 1 that differs from a number by a multiple of m
+-- what operators and MOD leave of a number: the one from 0 to m - 1 that differs from it by a multiple of m
 abbrev pub residue : ℤ → ℕ → ℕ
 residue (pos n) m = n % m
 residue (negsuc n) m = m - 1 - n % m
 
 -- ---- texts
 
--- the text as a value, if it isn't too long
+-- the text as the value that an operator gives, if it isn't too long
 abbrev pub text_value : List ℕ → Outcome Value
 text_value x = if nat_le (length x) longest_text then Outcome.gives (Value.Text x) else faults FaultKind.StringSize
 
--- a text, padded with blanks to at least this length
+-- a text that an operator compares, padded with blanks to at least this length
 abbrev pub padded_to : ℕ → List ℕ → List ℕ
 padded_to n x = x ++ replicate (n - length x) 32
 
 -- ---- comparisons
 
--- how two texts are ordered: byte by byte, the shorter one padded with blanks
+-- how two texts are ordered where an operator compares them: byte by byte, the shorter one padded with blanks
 abbrev pub text_order : List ℕ → List ℕ → Ordering
 text_order x y = slice_cmp nat_cmp (padded_to (length y) x) (padded_to (length x) y)
 
--- how two values of one kind are ordered
+-- how two values of one kind are ordered where an operator compares them
 abbrev pub value_order : Value → Value → Option Ordering
 value_order (Value.Fixed a) (Value.Fixed b) = Some (int_cmp a b)
 value_order (Value.Fixed a) (Value.Bit b) = None

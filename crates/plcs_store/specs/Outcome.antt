@@ -10,21 +10,21 @@ pub data Outcome (A : Type 0) : Type 0 where
   stops : Reason → Outcome A
   undefined : Outcome A
 
--- the step stops with a fault
+-- the outcome of a step that stops with a fault
 abbrev pub faults : {A : Type 0} → FaultKind → Outcome A
 faults kind = stops (Reason.Fault kind)
 
--- what comes of a part that another follows
+-- the outcome of a part that another follows
 abbrev pub then_gives : {A B : Type 0} → Outcome A → (A → Outcome B) → Outcome B
 then_gives (gives a) make = make a
 then_gives (stops reason) make = stops reason
 then_gives undefined make = undefined
 
--- what comes of two parts that a third follows, the left one first
+-- the outcome of two parts that a third follows, the left one first
 abbrev pub both_give : {A B C : Type 0} → Outcome A → Outcome B → (A → B → Outcome C) → Outcome C
 both_give left right make = then_gives left (λ a. then_gives right (make a))
 
--- what is there, or undefined
+-- the outcome that is what is there, or undefined
 abbrev pub if_there : {A : Type 0} → Option A → Outcome A
 if_there None = undefined
 if_there (Some a) = gives a

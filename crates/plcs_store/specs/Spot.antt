@@ -74,7 +74,7 @@ pub data Spot : Type 0 where
 
 -- ---- the parts that are needed
 
--- whether one of the parts of these numbers is empty
+-- whether one of the parts of these numbers is empty, so that the spot halts a run
 abbrev pub lacks_part : List (Option PlainPhrase) → (needed : List ℕ) → Bool
 lacks_part parts needed = list_any (λ part. is_none (part_at parts part)) needed
 
@@ -90,32 +90,32 @@ needing marked parts needed spot = option_or (option_map Spot.halts (halt_reason
 
 -- ---- what the parts say
 
--- the condition in a phrase
+-- the condition in the phrase at a spot
 abbrev pub condition_in : PlainPhrase → Option PlainExpr
 condition_in (PlainPhrase.condition e) = Some e
 condition_in other = None
 
--- the expression in a phrase
+-- the expression in the phrase at a spot
 abbrev pub expression_in : PlainPhrase → Option PlainExpr
 expression_in (PlainPhrase.expression e) = Some e
 expression_in other = None
 
--- the expressions in a phrase
+-- the expressions in the phrase at a spot
 abbrev pub expressions_in : PlainPhrase → Option PlainExprs
 expressions_in (PlainPhrase.expression_list es) = Some es
 expressions_in other = None
 
--- the variables in a phrase
+-- the variables in the phrase at a spot
 abbrev pub variables_in : PlainPhrase → Option (List PlainVarRef)
 variables_in (PlainPhrase.variable_list targets) = Some targets
 variables_in other = None
 
--- the name of the variable in a phrase
+-- the name of the variable in the phrase at a spot
 abbrev pub variable_in : PlainPhrase → Option (List ℕ)
 variable_in (PlainPhrase.variable_name name) = Some name
 variable_in other = None
 
--- what the phrase in a part says
+-- what the phrase in a part says at a spot
 abbrev pub said : {A : Type 0} → (PlainPhrase → Option A) → List (Option PlainPhrase) → (part : ℕ) → Option A
 said read parts part = option_and_then read (part_at parts part)
 
@@ -207,7 +207,7 @@ start_spot marked callees found (NodeKind.Filled template) = template_start mark
 
 -- ---- what stands at the other points
 
--- what stands at point 1 alone
+-- what stands at the spot at point 1 alone
 abbrev pub at_one : (point : ℕ) → Option Spot → Option Spot
 at_one point spot = if point == 1 then spot else None
 

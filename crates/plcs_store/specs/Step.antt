@@ -95,7 +95,7 @@ item_outcome (Ok found) = Outcome.gives found
 item_outcome (Err ItemFault.Wanted) = Outcome.stops Reason.InputWanted
 item_outcome (Err ItemFault.Conversion) = faults FaultKind.Conversion
 
--- an item of the input is read into the cell at a location
+-- a step's act by which an item of the input is read into the cell at a location
 abbrev pub item_act : List Frame → (rest : List ℕ) → Location → Outcome Act
 item_act frames rest location =
     then_gives (if_there (variable_at frames location.frame location.name)) (λ variable.

@@ -29,7 +29,7 @@ StepsKeepFit =
     (tree : PlainTree) (input : List ℕ) (c d : PlainConfiguration) → IsTree tree → Fits tree.items c
     → Step tree.items input c ≡ Some (PlainStepAnswer.stepped d) → Fits tree.items d
 
--- a frame waits at point 1 of its CALL for what it called
+-- a frame waits at point 1 of its CALL for what it called, as the laws of steps say
 abbrev pub WaitsAtCall : (program : Forest) → Frame → Type 0
 WaitsAtCall program frame =
     (frame.place.point.0 ≡ 1) × ((next : PlainPlace) × (spot_at program (frame_place frame) ≡ Some (Spot.waits next)))

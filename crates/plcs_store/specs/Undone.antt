@@ -17,7 +17,7 @@ use Rattle.plcs_store.specs.Configuration.{PlainConfiguration, plain_place}
 abbrev pub stored_back : Place → Location → Cell → List Frame → List Frame
 stored_back place location cell frames = newest_at (plain_place place) (with_cell location cell frames)
 
--- a frame with one more loop, which has this number then, counted from 0 at the outermost
+-- a frame to which a loop is given back, which has this number then, counted from 0 at the outermost
 abbrev pub with_loop_at : (number : ℕ) → KeptLoop → Frame → Frame
 with_loop_at number kept frame = record frame { loops = insert frame.loops number kept }
 
@@ -47,11 +47,13 @@ undo_of_cell frames location make = option_map_or make (cell_at frames location)
 abbrev pub newest_frame : List Frame → Option Frame
 newest_frame frames = slice_get frames (newest frames)
 
--- the loop of this number of the newest frame, counted from 0 at the outermost, if there is one
+-- the loop of this number of the newest frame, which a record of a step keeps, counted from 0 at the outermost, if
+-- there is one
 abbrev pub loop_at : (number : ℕ) → List Frame → Option KeptLoop
 loop_at number frames = option_and_then (λ frame. slice_get frame.loops number) (newest_frame frames)
 
--- the newest frame, if there is one, has as many loops as one more of this number has outside it
+-- the newest frame, if there is one, has as many loops as one more of this number has outside it, where it is put
+-- back
 abbrev pub HasLoopsBefore : (number : ℕ) → List Frame → Type 0
 HasLoopsBefore number frames = (frame : Frame) → newest_frame frames ≡ Some frame → number ≤ length frame.loops
 

@@ -31,7 +31,7 @@ impl CellList {
         CellList { cells }
     }
 
-    /// So many cells that aren't set.
+    /// The list of so many cells that aren't set.
     pub fn unset(alloc: Global, count: usize) -> Result<CellList, OutOfMemory>
         ensures { IfOk result (λ cells. cells ≡ replicate count Cell.Unset) }
     {
@@ -42,7 +42,7 @@ impl CellList {
         Ok(CellList { cells })
     }
 
-    /// This cell alone.
+    /// The list of this cell alone.
     pub fn single(alloc: Global, cell: Cell) -> Result<CellList, OutOfMemory>
         ensures { IfOk result (λ cells. cells ≡ cell ∷ []) }
     {

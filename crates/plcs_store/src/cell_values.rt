@@ -96,7 +96,7 @@ fn value_in_cell(cell: &Cell) -> Result<Option<Value>, FaultKind>
     }
 }
 
-/// The same value.
+/// The same value, as it is read from a cell.
 pub fn copy_value(value: &Value) -> Value
     ensures { result ≡ value.now }
 {
@@ -152,7 +152,7 @@ fn kept_text(length: u16, value: Value) -> Option<Value>
     }
 }
 
-/// The first so many bytes of a text, or all of a shorter one.
+/// The first so many bytes of a text, as many as a cell keeps, or all of a shorter one.
 fn first_bytes(text: &TextValue, count: usize) -> TextValue
     ensures { result ≡ take count text.now }
 {

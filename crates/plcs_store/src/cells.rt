@@ -26,7 +26,7 @@ impl Model for Cells {
 }
 
 impl Cells {
-    /// No cells. It takes no memory.
+    /// No cells of a frame yet. It takes no memory.
     pub fn new(alloc: Global) -> Cells
         ensures { result ≡ [] }
     {
@@ -42,7 +42,7 @@ impl Cells {
         self.variables.get(name)
     }
 
-    /// Whether there is a variable of the name.
+    /// Whether the cells of the frame have a variable of the name.
     pub fn contains(&self, name: &Name) -> bool
         ensures { result ≡ is_some (variable_named name.now self.now) }
     {
@@ -72,8 +72,8 @@ impl Cells {
         }
     }
 
-    /// Adds a variable behind the others, under a name that none of them has. Where memory runs out nothing is
-    /// changed.
+    /// Adds a variable to the cells of a frame, behind the others, under a name that none of them has. Where memory
+    /// runs out nothing is changed.
     pub fn add(&mut self, name: Name, variable: Variable) -> Result<(), OutOfMemory>
         requires new { variable_named name self.old ≡ None }
         ensures added { OnOk result (self.new ≡ self.old ++ (name, variable) ∷ []) }

@@ -25,21 +25,21 @@ impl Model for CopiedParts {
 }
 
 impl CopiedParts {
-    /// These in order. It takes no memory.
+    /// These copied parts in order. It takes no memory.
     pub fn from_vec(places: Vec<PhrasePlace>) -> CopiedParts
         ensures { result ≡ map plain_phrase_place places.items }
     {
         CopiedParts { places }
     }
 
-    /// Gives them back. It takes no memory.
+    /// Gives the copied parts back. It takes no memory.
     pub fn into_vec(self) -> Vec<PhrasePlace>
         ensures { map plain_phrase_place result.items ≡ self }
     {
         self.places
     }
 
-    /// Them in order.
+    /// The copied parts in order.
     pub fn as_slice(&self) -> &[PhrasePlace]
         ensures { map plain_phrase_place result.now ≡ self.now }
     {

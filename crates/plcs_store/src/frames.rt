@@ -36,7 +36,7 @@ impl Model for Frames {
 }
 
 impl Frames {
-    /// None, with room for 64.
+    /// No frames of a run, with room for 64.
     pub fn new(alloc: Global) -> Result<Frames, OutOfMemory>
         ensures { IfOk result (λ frames. frames ≡ []) }
     {
@@ -45,14 +45,14 @@ impl Frames {
         })
     }
 
-    /// How many there are.
+    /// How many frames there are.
     pub fn count(&self) -> usize
         ensures { result ≡ length self.now }
     {
         self.frames.len()
     }
 
-    /// Puts one more behind them. It takes no memory.
+    /// Puts one more frame behind the others. It takes no memory.
     pub fn push(&mut self, frame: Frame)
         requires room { length self.old < most_frames }
         ensures { self.new ≡ self.old ++ frame ∷ [] }
@@ -62,7 +62,7 @@ impl Frames {
         }
     }
 
-    /// Takes the last one off, or `None` where there is none.
+    /// Takes the last frame off, or `None` where there is none.
     pub fn pop(&mut self) -> Option<Frame>
         ensures some { IfSome result (λ frame. self.old ≡ self.new ++ frame ∷ []) }
         ensures none { IfNone result ((self.old ≡ []) × (self.new ≡ self.old)) }
@@ -72,7 +72,7 @@ impl Frames {
         self.frames.pop()
     }
 
-    /// Them in order.
+    /// The frames in order.
     pub fn as_slice(&self) -> &[Frame]
         ensures all { result.now ≡ self.now }
         ensures few { length self.now ≤ most_frames }
@@ -80,7 +80,7 @@ impl Frames {
         self.frames.as_slice()
     }
 
-    /// The newest of them, which is the last, or `None` where there is none.
+    /// The newest of the frames, which is the last, or `None` where there is none.
     pub fn newest(&self) -> Option<&Frame>
         ensures { option_map (λ frame. frame.now) result ≡ newest_frame self.now }
     {

@@ -58,7 +58,7 @@ fn cut_item(input: &[u8], bytes: usize, ty: ItemType) -> Result<(Value, usize), 
 
 // ---- where an item ends
 
-/// How many bytes the item at the front has, or `None` where it isn't whole.
+/// How many bytes the item at the front of the input has, or `None` where it isn't whole.
 fn item_length(input: &[u8]) -> Option<usize>
     ensures item { result ≡ item_length input.now }
     ensures within { IfSome result (λ n. n ≤ length input.now) }
@@ -72,7 +72,7 @@ fn item_length(input: &[u8]) -> Option<usize>
     }
 }
 
-/// How many blanks stand at the front.
+/// How many blanks stand at the front of the input.
 fn blanks_before(input: &[u8]) -> usize
     ensures blanks { result ≡ blanks_before input.now }
     ensures within { result ≤ length input.now }
@@ -84,7 +84,7 @@ fn blanks_before(input: &[u8]) -> usize
     count
 }
 
-/// How many bytes at the front go on with an item.
+/// How many bytes at the front of the input go on with an item.
 fn item_bytes_before(input: &[u8]) -> usize
     ensures bytes { result ≡ item_bytes_before input.now }
     ensures within { result ≤ length input.now }
@@ -110,7 +110,7 @@ fn is_input_blank(byte: u8) -> bool
     byte == 9 || byte == 10 || byte == 13 || byte == 32
 }
 
-/// How many bytes a constant has behind its opening quote, or `None` where it isn't closed.
+/// How many bytes of the input a constant has behind its opening quote, or `None` where it isn't closed.
 fn constant_length(input: &[u8]) -> Option<usize>
     ensures closed { result ≡ closed_at 0 false input.now }
     ensures within { IfSome result (λ n. n ≤ length input.now) }
@@ -131,7 +131,7 @@ fn constant_length(input: &[u8]) -> Option<usize>
     if behind_quote { Some(count) } else { None }
 }
 
-/// How many bytes stand between an item and the next one.
+/// How many bytes of the input stand between an item and the next one.
 fn separator_length(input: &[u8]) -> usize
     ensures separator { result ≡ separator_length input.now }
     ensures within { result ≤ length input.now }
@@ -140,7 +140,7 @@ fn separator_length(input: &[u8]) -> usize
     blanks + comma_length(&input[blanks..])
 }
 
-/// How many bytes a comma at the front has, with the blanks behind it.
+/// How many bytes a comma at the front of the input has, with the blanks behind it.
 fn comma_length(input: &[u8]) -> usize
     ensures comma { result ≡ comma_length input.now }
     ensures within { result ≤ length input.now }
@@ -164,13 +164,16 @@ fn item_value(item: &[u8], ty: ItemType) -> Option<Value>
     }
 }
 
-/// How the truth values may be written.
+/// How an item may write the truth value that is false, by a number.
 const ZERO: &[u8] = b"0";
 
+/// How an item may write the truth value that is true, by a number.
 const ONE: &[u8] = b"1";
 
+/// How an item may write the truth value that is false, by a bit constant.
 const FALSE: &[u8] = b"'0'B";
 
+/// How an item may write the truth value that is true, by a bit constant.
 const TRUE: &[u8] = b"'1'B";
 
 /// The truth value that the item is, or `None` where it is none.
@@ -228,14 +231,14 @@ fn negative_item(digits: &[u8]) -> Option<Value>
     }
 }
 
-/// Whether the bytes are digits, one at least.
+/// Whether the bytes of an item are digits, one at least.
 fn are_digits(bytes: &[u8]) -> bool
     ensures { result ≡ are_digits bytes.now }
 {
     !bytes.is_empty() && all_digits(bytes)
 }
 
-/// Whether each of the bytes is a digit.
+/// Whether each of the bytes of an item is a digit.
 fn all_digits(bytes: &[u8]) -> bool
     ensures { result ≡ list_all is_digit bytes.now }
 {
@@ -264,7 +267,7 @@ fn whole_constant(rest: &[u8]) -> Option<Value>
     }
 }
 
-/// The text of these bytes, or `None` where they are too many or one may not stand in a constant.
+/// The text of these bytes of an item, or `None` where they are too many or one may not stand in a constant.
 fn readable_text(bytes: &[u8]) -> Option<Value>
     ensures { result ≡ readable_text bytes.now }
 {
@@ -277,7 +280,7 @@ fn readable_text(bytes: &[u8]) -> Option<Value>
     }
 }
 
-/// Whether each of the bytes may stand in a constant.
+/// Whether each of the bytes of an item may stand in a constant.
 fn all_printable(bytes: &[u8]) -> bool
     ensures { result ≡ list_all is_printable bytes.now }
 {

@@ -25,21 +25,21 @@ impl Model for Headings {
 }
 
 impl Headings {
-    /// These in order. It takes no memory.
+    /// The parts of these headings in order, as they are kept. It takes no memory.
     pub fn from_vec(headings: Vec<CopiedParts>) -> Headings
         ensures { result ≡ headings.items }
     {
         Headings { headings }
     }
 
-    /// Gives them back. It takes no memory.
+    /// Gives the parts of the kept headings back. It takes no memory.
     pub fn into_vec(self) -> Vec<CopiedParts>
         ensures { result.items ≡ self }
     {
         self.headings
     }
 
-    /// Them in order.
+    /// The parts of the kept headings in order.
     pub fn as_slice(&self) -> &[CopiedParts]
         ensures { result.now ≡ self.now }
     {

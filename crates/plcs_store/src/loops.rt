@@ -30,7 +30,7 @@ impl Model for Loops {
 }
 
 impl Loops {
-    /// None, with room for 64.
+    /// No loops of a frame, with room for 64.
     pub fn new(alloc: Global) -> Result<Loops, OutOfMemory>
         ensures { IfOk result (λ loops. loops ≡ []) }
     {
@@ -39,14 +39,14 @@ impl Loops {
         })
     }
 
-    /// How many there are.
+    /// How many loops the frame keeps.
     pub fn count(&self) -> usize
         ensures { result ≡ length self.now }
     {
         self.loops.len()
     }
 
-    /// Puts one more behind them. It takes no memory.
+    /// Puts one more loop behind those that the frame keeps. It takes no memory.
     pub fn push(&mut self, kept: KeptLoop)
         requires room { length self.old < most_loops }
         ensures { self.new ≡ self.old ++ kept ∷ [] }
@@ -56,7 +56,7 @@ impl Loops {
         }
     }
 
-    /// Takes the last one off, or `None` where there is none.
+    /// Takes the last loop off, or `None` where the frame keeps none.
     pub fn pop(&mut self) -> Option<KeptLoop>
         ensures some { IfSome result (λ kept. self.old ≡ self.new ++ kept ∷ []) }
         ensures none { IfNone result ((self.old ≡ []) × (self.new ≡ self.old)) }
@@ -66,15 +66,15 @@ impl Loops {
         self.loops.pop()
     }
 
-    /// The loop of the slot, the innermost where there are more, with its number, counted from 0 at the
-    /// outermost; `None` where no loop is of the slot. It looks from the innermost outward.
+    /// The loop of the slot that the frame keeps, the innermost where there are more, with its number, counted from 0
+    /// at the outermost; `None` where no loop is of the slot. It looks from the innermost outward.
     pub fn of(&self, slot: Slot) -> Option<(usize, KeptLoop)>
         ensures { result ≡ loop_of_slot slot.0 self.now }
     {
         innermost_of(self.loops.as_slice(), slot)
     }
 
-    /// Takes the loop of this number off, counted from 0 at the outermost.
+    /// Takes the loop of this number off those that the frame keeps, counted from 0 at the outermost.
     pub fn take(&mut self, number: usize) -> KeptLoop
         requires there { number < length self.old }
         ensures taken { slice_get self.old number ≡ Some result }
@@ -83,8 +83,8 @@ impl Loops {
         self.loops.remove(number)
     }
 
-    /// Puts a loop between the others, so that it has this number, counted from 0 at the outermost. It takes no
-    /// memory.
+    /// Puts a loop between the others that the frame keeps, so that it has this number, counted from 0 at the
+    /// outermost. It takes no memory.
     pub fn put_back(&mut self, number: usize, kept: KeptLoop)
         requires room { length self.old < most_loops }
         requires before { number ≤ length self.old }
@@ -95,7 +95,7 @@ impl Loops {
         }
     }
 
-    /// Them in order.
+    /// The loops that the frame keeps in order.
     pub fn as_slice(&self) -> &[KeptLoop]
         ensures all { result.now ≡ self.now }
         ensures few { length self.now ≤ most_loops }
@@ -104,7 +104,7 @@ impl Loops {
     }
 }
 
-/// The loop of the slot, the innermost where there are more, with its number.
+/// The loop of the slot among those that a frame keeps, the innermost where there are more, with its number.
 fn innermost_of(loops: &[KeptLoop], slot: Slot) -> Option<(usize, KeptLoop)>
     ensures { result ≡ loop_of_slot slot.0 loops.now }
 {

@@ -28,7 +28,7 @@ impl Model for OperandValues {
 }
 
 impl OperandValues {
-    /// None, with room for 400.
+    /// No values of a step's operators, with room for 400.
     pub fn new(alloc: Global) -> Result<OperandValues, OutOfMemory>
         ensures { IfOk result (λ values. values ≡ []) }
     {
@@ -37,14 +37,14 @@ impl OperandValues {
         })
     }
 
-    /// How many there are.
+    /// How many values a step works on.
     pub fn count(&self) -> usize
         ensures { result ≡ length self.now }
     {
         self.values.len()
     }
 
-    /// Puts one more before them. It takes no memory.
+    /// Puts one more value behind those that a step works on. It takes no memory.
     pub fn push(&mut self, value: Value)
         requires room { length self.old < most_operands }
         ensures { self.new ≡ value ∷ self.old }
@@ -54,7 +54,7 @@ impl OperandValues {
         }
     }
 
-    /// Takes the newest off, or `None` where there is none.
+    /// Takes the last value off that a step works on, or `None` where there is none.
     pub fn pop(&mut self) -> Option<Value>
         ensures some { IfSome result (λ value. self.old ≡ value ∷ self.new) }
         ensures none { IfNone result ((self.old ≡ []) × (self.new ≡ self.old)) }
@@ -62,14 +62,15 @@ impl OperandValues {
         self.values.pop()
     }
 
-    /// The newest ones, so many of them or all, in the order in which they were put: the newest last.
+    /// The newest of the values that a step works on, so many of them or all, in the order in which they were put:
+    /// the newest last.
     pub fn newest(&self, count: usize) -> &[Value]
         ensures { result.now ≡ reverse (take count self.now) }
     {
         &self.values.as_slice()[self.values.len().saturating_sub(count)..]
     }
 
-    /// Takes the newest ones off, so many of them or all.
+    /// Takes the newest of the values off that a step works on, so many of them or all.
     pub fn drop_newest(&mut self, count: usize)
         ensures { self.new ≡ drop count self.old }
     {
@@ -77,7 +78,7 @@ impl OperandValues {
             .truncate(self.values.len().saturating_sub(count));
     }
 
-    /// Takes all off.
+    /// Takes all values off that a step works on.
     pub fn clear(&mut self)
         ensures { self.new ≡ [] }
     {
@@ -105,7 +106,7 @@ impl Model for Arguments {
 }
 
 impl Arguments {
-    /// None, with room for 400.
+    /// No evaluated arguments, with room for 400.
     pub fn new(alloc: Global) -> Result<Arguments, OutOfMemory>
         ensures { IfOk result (λ arguments. arguments ≡ []) }
     {
@@ -114,14 +115,14 @@ impl Arguments {
         })
     }
 
-    /// How many there are.
+    /// How many evaluated arguments there are.
     pub fn count(&self) -> usize
         ensures { result ≡ length self.now }
     {
         self.arguments.len()
     }
 
-    /// Puts one more behind them. It takes no memory.
+    /// Puts one more evaluated argument behind the others. It takes no memory.
     pub fn push(&mut self, argument: Argument)
         requires room { length self.old < most_operands }
         ensures { self.new ≡ self.old ++ argument ∷ [] }
@@ -131,7 +132,7 @@ impl Arguments {
         }
     }
 
-    /// Takes the last one off, or `None` where there is none.
+    /// Takes the last evaluated argument off, or `None` where there is none.
     pub fn pop(&mut self) -> Option<Argument>
         ensures some { IfSome result (λ argument. self.old ≡ self.new ++ argument ∷ []) }
         ensures none { IfNone result ((self.old ≡ []) × (self.new ≡ self.old)) }
@@ -139,21 +140,21 @@ impl Arguments {
         self.arguments.pop()
     }
 
-    /// The argument of this number, counted from 0 at the first, or `None` where there is none.
+    /// The evaluated argument of this number, counted from 0 at the first, or `None` where there is none.
     pub fn get(&self, number: usize) -> Option<&Argument>
         ensures { option_map (λ argument. argument.now) result ≡ slice_get self.now number }
     {
         self.arguments.get(number)
     }
 
-    /// Takes all off.
+    /// Takes all evaluated arguments off.
     pub fn clear(&mut self)
         ensures { self.new ≡ [] }
     {
         self.arguments.clear();
     }
 
-    /// Them in order.
+    /// The evaluated arguments in order.
     pub fn as_slice(&self) -> &[Argument]
         ensures { result.now ≡ self.now }
     {

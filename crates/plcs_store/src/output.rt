@@ -41,7 +41,7 @@ impl Output {
         })
     }
 
-    /// The bytes that were written.
+    /// The bytes that were written to the output.
     pub fn as_slice(&self) -> &[u8]
         ensures bytes { result.now ≡ self.now }
         ensures few { length self.now ≤ most_output }
@@ -49,8 +49,7 @@ impl Output {
         self.bytes.as_slice()
     }
 
-    /// Writes the values, on a new line or not, each behind what separates it from what stands before. It takes
-    /// no memory.
+    /// Writes the values to the output, on a new line or not; where not all fit, nothing.
     ///
     /// `OutputFull` where the output would have over 100,000 bytes; then nothing is changed.
     pub fn write(&mut self, skip: bool, items: &[Value]) -> Result<(), OutputFull>
@@ -68,7 +67,7 @@ impl Output {
         }
     }
 
-    /// Writes the values, on a new line or not; where not all fit, as many as do.
+    /// Writes the values to the output, on a new line or not; where not all fit, as many as do.
     fn write_some(&mut self, skip: bool, items: &[Value]) -> Result<(), OutputFull>
         ensures fits { IsOk result ↔ (length (output_with skip self.old items.now) ≤ most_output) }
         ensures written { OnOk result (self.new ≡ output_with skip self.old items.now) }
@@ -81,8 +80,8 @@ impl Output {
         }
     }
 
-    /// Ends the line, unless nothing was written yet, and writes the values; where not all fit, as many as
-    /// do.
+    /// Ends the line of the output, unless nothing was written yet, and writes the values; where not all fit, as many
+    /// as do.
     fn write_on_new_line(&mut self, items: &[Value]) -> Result<(), OutputFull>
         ensures fits { IsOk result ↔ (length (output_with true self.old items.now) ≤ most_output) }
         ensures written { OnOk result (self.new ≡ output_with true self.old items.now) }
@@ -92,7 +91,7 @@ impl Output {
         self.write_all(items)
     }
 
-    /// Ends the line, unless nothing was written yet.
+    /// Ends the line of the output, unless nothing was written yet.
     fn end_line(&mut self) -> Result<(), OutputFull>
         ensures fits { IsOk result ↔ (length (with_line_ended self.old) ≤ most_output) }
         ensures written { OnOk result (self.new ≡ with_line_ended self.old) }
@@ -104,7 +103,7 @@ impl Output {
         self.put(b"\n")
     }
 
-    /// Writes the values; where not all fit, as many as do.
+    /// Writes the values to the output; where not all fit, as many as do.
     fn write_all(&mut self, items: &[Value]) -> Result<(), OutputFull>
         ensures fits { IsOk result ↔ (length (with_items_written self.old items.now) ≤ most_output) }
         ensures written { OnOk result (self.new ≡ with_items_written self.old items.now) }
@@ -140,7 +139,7 @@ impl Output {
         }
     }
 
-    /// Puts a value, or nothing where it doesn't fit.
+    /// Puts a value into the output, or nothing where it doesn't fit.
     fn put_value(&mut self, value: &Value) -> Result<(), OutputFull>
         ensures fits { IsOk result ↔ (length (self.old ++ value_bytes value.now) ≤ most_output) }
         ensures written { OnOk result (self.new ≡ self.old ++ value_bytes value.now) }
@@ -154,7 +153,7 @@ impl Output {
         }
     }
 
-    /// Puts the bytes, or nothing where they don't fit.
+    /// Puts the bytes into the output, or nothing where they don't fit.
     fn put(&mut self, bytes: &[u8]) -> Result<(), OutputFull>
         ensures fits { IsOk result ↔ (length (self.old ++ bytes.now) ≤ most_output) }
         ensures written { OnOk result (self.new ≡ self.old ++ bytes.now) }

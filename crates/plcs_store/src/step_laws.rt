@@ -35,12 +35,13 @@ pub fn callers_wait()
     slots_stand();
 }
 
-/// The effective items of a procedure have different names, and together at most as many cells as a frame may have.
+/// The effective items of a procedure, of which steps that call it make the variables, have different names, and
+/// together at most as many cells as a frame may have.
 pub fn items_keep_limits()
     ensures { ItemsKeepLimits }
 {}
 
-/// What is written stands behind what was written before, so a write is taken back by the count of bytes alone.
+/// What a step writes stands behind what was written before, so a write is taken back by the count of bytes alone.
 pub fn written_stands()
     ensures { WrittenStands }
 {}

@@ -35,7 +35,7 @@ pub enum Undo {
 }
 
 impl Undo {
-    /// An empty record. It takes no memory.
+    /// An empty record of a step. It takes no memory.
     pub fn new() -> Undo
         ensures { result ≡ Undo.Empty }
     {
