@@ -3,6 +3,7 @@ use Rattle.std.proofs.Common.{◌≡◌, ℕ, ◌+◌, ◌≤◌, ◌<◌, ◌�
 use Rattle.std.specs.Prelude.{◌≢◌, IsSome}
 use Rattle.plcs_base.specs.Count.{raised}
 use Rattle.std.specs.Io.KnownBytes.{Consumes, IsAtEnd}
+use Rattle.std.proofs.KnownBytes.{Consumes-trans}
 use Rattle.key_journal.specs.AfterReads.{BreaksAt, CountsEnds, CountsJournalFault, KeepsAll, KeepsAllButLast, LeadsTo}
 use Rattle.key_journal.specs.Crash.{LeavesBetween, LeavesOneOf, LeavesOnly, Throughout}
 use Rattle.key_journal.specs.Disk.{DiskState, Newest}
@@ -164,16 +165,6 @@ keeps_fault (start ∷ first) (state ∷ old) (next ∷ now) given taken more ke
           let many : length (recovered state.bytes) ≡ length (recovered start.bytes ++ taken) = ap length keeps.safe.reads in
           inr (omega (arith, ends, many, keeps.within))
 
--- what two reads took
-consumes_both : (left between left_after : Option (List ℕ)) (taken more : List ℕ) →
-    Consumes left between taken → Consumes between left_after more →
-    Consumes left left_after (taken ++ more)
-consumes_both None between left_after taken more first second = tt
-consumes_both (Some left) None left_after taken more first second = absurd first
-consumes_both (Some left) (Some between) None taken more first second = absurd second
-consumes_both (Some left) (Some between) (Some left_after) taken more first second =
-    first ∙ ap (λ (bytes : List ℕ). taken ++ bytes) second ∙ sym (append_assoc taken more left_after)
-
 -- what is left of a told source is told
 told_left : (left left_after : Option (List ℕ)) (taken : List ℕ) → Consumes left left_after taken →
     IsSome left → (bytes : List ℕ) × (left_after ≡ Some bytes)
@@ -310,7 +301,7 @@ leads_key left source_faults leads_to past disk_faults first old now key leads l
   source_same = source_same ∙ leads.source_same;
   disk_same = disk_same ∙ leads.disk_same;
   taken = leads.taken ++ reads.taken;
-  consumes = consumes_both (left first.inner) (left old.inner) (left now.inner) leads.taken reads.taken leads.consumes reads.consumes;
+  consumes = Consumes-trans (left first.inner) (left old.inner) (left now.inner) leads.taken reads.taken leads.consumes reads.consumes;
   given_later = omega (arith, leads.given_later, one);
   counts = counts_key left past first old now key leads.taken leads.counts leads.consumes reads one read not_ended;
   keeps = λ few safe.
@@ -334,7 +325,7 @@ leads_end left source_faults leads_to past disk_faults first old now leads led s
   source_same = source_same ∙ leads.source_same;
   disk_same = disk_same ∙ leads.disk_same;
   taken = leads.taken ++ reads.taken;
-  consumes = consumes_both (left first.inner) (left old.inner) (left now.inner) leads.taken reads.taken leads.consumes reads.consumes;
+  consumes = Consumes-trans (left first.inner) (left old.inner) (left now.inner) leads.taken reads.taken leads.consumes reads.consumes;
   given_later = omega (arith, leads.given_later, same);
   counts = counts_end left past first old now leads.counts reads same read ended;
   keeps = λ few safe.
@@ -360,7 +351,7 @@ breaks left source_faults leads_to breaks_at past disk_faults first old now faul
   taken = leads.taken;
   last = reads.taken;
   few = reads.few;
-  consumes = consumes_both (left first.inner) (left old.inner) (left now.inner) leads.taken reads.taken leads.consumes reads.consumes;
+  consumes = Consumes-trans (left first.inner) (left old.inner) (left now.inner) leads.taken reads.taken leads.consumes reads.consumes;
   given_later = omega (arith, leads.given_later, same);
   counts = counts_fault left past first old now fault leads.taken leads.counts leads.consumes reads same read;
   keeps = λ few safe.

@@ -4,6 +4,7 @@ use Rattle.std.specs.Prelude.{slice_get, IfOk}
 use Rattle.std.specs.Io.KnownBytes.{Consumes, IsAtEnd}
 use Rattle.synth_outside.specs.Source.{LosesAtMost}
 use Rattle.std.proofs.Math.ListN.{drop_of_length-le}
+use Rattle.std.proofs.KnownBytes.{Consumes-nil}
 use Rattle.key_journal.specs.Crash.{LeavesOnly, LeavesOneOf, Throughout}
 use Rattle.key_journal.specs.Disk.{DiskState, Newest, Syncs, with_sync}
 use Rattle.key_journal.specs.JournalRead.{NextOrEnd, Gave, ReadsKey}
@@ -105,11 +106,6 @@ keep_done left left_after given key past now appending gives keeps = record {
   answer = key_gave given key past now appending keeps.each keeps.safe;
 }
 
--- nothing is taken of a source that isn't read
-takes_none : (left : Option (List ℕ)) → Consumes left left []
-takes_none None = tt
-takes_none (Some left) = refl
-
 only_one_of : (keys taken : List ℕ) (past now : List DiskState) → Throughout (LeavesOnly keys) past now →
     Throughout (LeavesOneOf keys taken) past now
 only_one_of keys taken past now each =
@@ -127,7 +123,7 @@ pub found_kept : {E F : Type 0} (left : Option (List ℕ)) (given key : ℕ) (pa
 found_kept left given key past now replays = record {
   taken = [];
   few = omega arith;
-  consumes = takes_none left;
+  consumes = Consumes-nil left;
   behind = inl refl;
   each = only_one_of (kept_keys past) [] past now replays.each;
   answer = subst (λ (keys : List ℕ). Newest (Gave given key keys) now) (sym (append-nil (kept_keys past))) replays.found.0;

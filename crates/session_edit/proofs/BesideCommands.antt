@@ -3,7 +3,7 @@ use Rattle.std.specs.Prelude.{◌≡◌, refl, ℕ, zero, suc, ◌+◌, ◌<◌,
 use Rattle.std.specs.Option.{option_map_or}
 use Rattle.std.proofs.Common.{ap, sym, ◌∙◌, subst, arith}
 use Rattle.std.proofs.lemmas.List.{take-append-le}
-use Rattle.std.proofs.lemmas.Bool.{false≢true}
+use Rattle.std.proofs.lemmas.Bool.{false≢true, false_from_ne_true}
 use Rattle.std.proofs.lemmas.Option.{none-some}
 use Rattle.plcs_grammar.specs.declared.node_kind.NodeKind.{NodeKind}
 use Rattle.plcs_grammar.specs.declared.node_kind.Sort.{Sort}
@@ -35,7 +35,6 @@ use Rattle.session_edit.proofs.DropCommands.{item_listed, item_roomless_is, item
 use Rattle.session_edit.proofs.Outcomes.{applied_is, edited_is, node_there, refused_is, stands_after}
 use Rattle.session_edit.proofs.PutCommands.{edit_there}
 use Rattle.session_edit.specs.Private.RoomLaws.{RoomLaws}
-use Rattle.session_edit.proofs.StopTests.{is_false}
 use Rattle.session_edit.proofs.VisibleEdits.{first_comes, last_number, second_comes, seen_beside, seen_here, shelf_of, visible_node}
 
 -- the last number of a path to a node is below the number of nodes
@@ -216,7 +215,7 @@ beside_applied room law tree after side path receipt stop_after t shown adds the
 
 not_item : (items : Forest) (path : List ℕ) → (IsSomeAnd (node_at items path) (IsListItem items path) → ⊥) → is_list_item items path ≡ false
 not_item items path missing =
-    is_false (is_list_item items path) (λ e. missing (found (node_at items path) refl e))
+    false_from_ne_true (is_list_item items path) (λ e. missing (found (node_at items path) refl e))
   where
     found : (there : Option PlainNode) → node_at items path ≡ there → is_list_item items path ≡ true → IsSomeAnd there (IsListItem items path)
     found None same e =

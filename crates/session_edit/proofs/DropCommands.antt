@@ -2,7 +2,7 @@
 use Rattle.std.specs.Prelude.{◌≡◌, refl, ℕ, suc, pred, ◌+◌, ◌≤◌, Bool, true, false, ◌&&◌, nat_lt, if◌then◌else◌, List, [], ◌∷◌, length, Option, Some, None, IsSomeAnd, is_some, is_none, option_map, option_and_then, slice_get}
 use Rattle.std.specs.Option.{option_map_or}
 use Rattle.std.proofs.Common.{ap, sym, ◌∙◌, subst, arith}
-use Rattle.std.proofs.lemmas.Bool.{false≢true}
+use Rattle.std.proofs.lemmas.Bool.{false≢true, false_from_ne_true}
 use Rattle.std.proofs.lemmas.Bool.Decides.{Decides-ltb}
 use Rattle.std.proofs.lemmas.Option.{none-some, same_Some}
 use Rattle.plcs_grammar.specs.declared.node_kind.Sort.{Sort}
@@ -30,7 +30,6 @@ use Rattle.session_edit.proofs.Outcomes.{Node, applied_is, edited_is, items_afte
 use Rattle.session_edit.proofs.PutCommands.{edit_there, of_found}
 use Rattle.session_edit.specs.Private.RoomLaws.{RoomLaws}
 use Rattle.session_edit.proofs.Room.{item_roomless, itself}
-use Rattle.session_edit.proofs.StopTests.{is_false}
 use Rattle.session_edit.proofs.VisibleEdits.{item_of, last_number, other_stays, seen_beside, seen_here, shelf, shelf_after, shelf_of}
 
 -- the room of lists makes no difference to the sections and the neighbours of a node
@@ -112,7 +111,7 @@ both false b e = absurd (false≢true e)
 spare_false : RoomLaws → (tree : PlainTree) (at : PlainStop) (n : Node tree at) → (IsSpareHole tree.items at.path n.node → ⊥)
     → is_spare_hole (roomless_tree tree).items at (roomless_node n.node) ≡ false
 spare_false room tree at n wrong =
-    is_false (is_spare_hole (roomless_tree tree).items at (roomless_node n.node))
+    false_from_ne_true (is_spare_hole (roomless_tree tree).items at (roomless_node n.node))
     (λ e.
     let halves = both (is_none at.part && is_hole n.node.label.kind)
     (is_list_item (roomless tree.items) at.path

@@ -2,6 +2,7 @@
 use Rattle.std.specs.Prelude.{◌≡◌, refl, ℕ, ◌<◌, ◌≤◌, Bool, true, false, nat_lt, List, Option, Some, None, IfSome, IsSomeAnd, option_map}
 use Rattle.std.proofs.Common.{ap, sym, ◌∙◌, subst, arith}
 use Rattle.std.proofs.lemmas.Bool.Decides.{Decides-ltb}
+use Rattle.std.proofs.lemmas.Bool.{false_from_ne_true}
 use Rattle.template_tree.specs.declared.stop.Stop.{Stop}
 use Rattle.template_tree.specs.declared.tree_fault.TreeFault.{TreeFault}
 use Rattle.template_tree.specs.Edits.Edit.{edit_at, edit_slot, with_items}
@@ -25,15 +26,11 @@ use Rattle.session_edit.specs.Private.RoomLaws.{RoomLaws}
 use Rattle.session_edit.proofs.Room.{stop_roomless, stop_with_room}
 use Rattle.session_edit.proofs.VisibleEdits.{visible_node}
 
-is_false : (b : Bool) → (b ≡ true → ⊥) → b ≡ false
-is_false true wrong = absurd (wrong refl)
-is_false false wrong = refl
-
 above : (a b : ℕ) → a < b → nat_lt a b ≡ true
 above a b h = (Decides-ltb a b).1 h
 
 not_above : (a b : ℕ) → b ≤ a → nat_lt a b ≡ false
-not_above a b h = is_false (nat_lt a b) (λ e. let over = (Decides-ltb a b).0 e in absurd (omega arith))
+not_above a b h = false_from_ne_true (nat_lt a b) (λ e. let over = (Decides-ltb a b).0 e in absurd (omega arith))
 
 within_depth : RoomLaws → (tree : PlainTree) → depth tree.items ≤ deepest_path → nat_lt deepest_path (depth (roomless tree.items)) ≡ false
 within_depth room tree h = not_above deepest_path (depth (roomless tree.items)) (omega (arith, room.depths tree.items))

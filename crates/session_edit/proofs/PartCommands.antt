@@ -2,7 +2,7 @@
 use Rattle.std.specs.Prelude.{◌≡◌, refl, ℕ, ◌<◌, Bool, true, false, ◌&&◌, if◌then◌else◌, List, [], ◌∷◌, Option, Some, None, IsSome, IsSomeAnd, is_some, is_none}
 use Rattle.std.specs.Option.{option_map_or}
 use Rattle.std.proofs.Common.{ap, sym, ◌∙◌, subst}
-use Rattle.std.proofs.lemmas.Bool.{false≢true}
+use Rattle.std.proofs.lemmas.Bool.{false≢true, false_from_ne_true, and_right}
 use Rattle.plcs_grammar.specs.PlainPhrase.{PlainPhrase}
 use Rattle.template_tree.specs.declared.stop.Stop.{Stop}
 use Rattle.template_tree.specs.declared.tree_fault.TreeFault.{TreeFault}
@@ -25,7 +25,7 @@ use Rattle.session_edit.proofs.Outcomes.{Node, applied_is, edited_is, node_there
 use Rattle.session_edit.proofs.PutCommands.{edit_there, of_found}
 use Rattle.session_edit.specs.Private.RoomLaws.{RoomLaws}
 use Rattle.session_edit.proofs.StopNodes.{takes_is}
-use Rattle.session_edit.proofs.StopTests.{is_false, part_empties, wanted_takes, wanted_true}
+use Rattle.session_edit.proofs.StopTests.{part_empties, wanted_takes, wanted_true}
 use Rattle.session_edit.proofs.VisibleEdits.{first_comes, last_number, seen_here, shelf_of}
 
 -- how a part at the stop is set
@@ -118,7 +118,7 @@ enter_applied room tree after at phrase receipt stop_after stop sets there seen 
 unwanted : (tree : PlainTree) (at : PlainStop) (n : Node tree at) (phrase : PlainPhrase) (k : ℕ) → at.part ≡ Some k
     → (TakesThere at (Some phrase) tree → ⊥) → is_wanted phrase (part_category n.node.label.kind k) ≡ false
 unwanted tree at n phrase k part missing =
-    is_false (is_wanted phrase (part_category n.node.label.kind k))
+    false_from_ne_true (is_wanted phrase (part_category n.node.label.kind k))
     (λ e.
     missing
     (subst (λ (p : Option ℕ). IsSomeAnd p (λ part. IsSomeAnd (node_at tree.items at.path) (TakesAtStop part (Some phrase)))) (sym part)
@@ -196,17 +196,13 @@ insert_applied room law tree after at phrase receipt stop_after is_tree stop emp
     s.edit (room.edits te te tree n.node.label.slot refl) (insert_some room tree at n phrase s.part true s.is fits) there
     (subst (λ q. IsStop (roomless_tree after).items q) (sym there) (stands room law tree after at n s.part (Some phrase) receipt is_tree s.edit)) tt
 
-false_and : (a b : Bool) → b ≡ false → (a && b) ≡ false
-false_and true b e = e
-false_and false b e = refl
-
 unfit : RoomLaws → (tree : PlainTree) (at : PlainStop) (n : Node tree at) (phrase : PlainPhrase) (part : Option ℕ) → at.part ≡ part
     → (TakesThere at (Some phrase) tree → ⊥)
     → edited (roomless_tree tree) at (PlainEdit.insert (PlainFragment.phrase phrase)) ≡ not_here
 unfit room tree at n phrase None e missing = insert_is room tree at n phrase None e
 unfit room tree at n phrase (Some k) e missing =
     insert_some room tree at n phrase k false e
-    (false_and (is_none (part_at n.node.label.parts k)) (is_wanted phrase (part_category n.node.label.kind k)) (unwanted tree at n phrase k e missing))
+    (and_right (is_none (part_at n.node.label.parts k)) (is_wanted phrase (part_category n.node.label.kind k)) (unwanted tree at n phrase k e missing))
 
 pub insert_refused : RoomLaws → (tree : PlainTree) (at : PlainStop) (phrase : PlainPhrase) (fault : TreeFault)
     → IsStop (roomless_tree tree).items at → fault ≡ TreeFault.NotHere → (TakesThere at (Some phrase) tree → ⊥)

@@ -1,7 +1,7 @@
 -- Commands that put a node in at the stop of a node.
 use Rattle.std.specs.Prelude.{◌≡◌, refl, ℕ, ◌+◌, Bool, true, false, if◌then◌else◌, List, [], ◌∷◌, Option, Some, None, IsSome, IsSomeAnd, is_some, unwrap_or}
 use Rattle.std.proofs.Common.{ap, sym, ◌∙◌, subst}
-use Rattle.std.proofs.lemmas.Bool.{false≢true}
+use Rattle.std.proofs.lemmas.Bool.{false≢true, false_from_ne_true}
 use Rattle.std.proofs.lemmas.Option.{same_Some}
 use Rattle.plcs_grammar.specs.declared.node_kind.NodeKind.{NodeKind}
 use Rattle.plcs_grammar.specs.declared.template.Template.{Template}
@@ -29,7 +29,7 @@ use Rattle.session_edit.specs.Here.{category_in, is_wanted, takes_nodes}
 use Rattle.session_edit.specs.PlainEdit.{PlainEdit}
 use Rattle.session_edit.proofs.Outcomes.{Node, applied_is, edited_is, node_there, not_here_is, onward_applied, refused_is, stands_after, without_memory}
 use Rattle.session_edit.specs.Private.RoomLaws.{RoomLaws}
-use Rattle.session_edit.proofs.StopTests.{assignment_true, is_false, takes_assignment, takes_at_part, takes_false, takes_true}
+use Rattle.session_edit.proofs.StopTests.{assignment_true, takes_assignment, takes_at_part, takes_false, takes_true}
 use Rattle.session_edit.proofs.VisibleEdits.{first_comes, last_number, seen_here, shelf_of}
 
 pub at_found : (found : Option PlainNode) (P : PlainNode → Type 0) (node : PlainNode) → found ≡ Some node → IsSomeAnd found P → P node
@@ -163,7 +163,7 @@ assign_refused room tree at phrase fault stop part refuses =
     (room.edits (TreeEdit.put new) (TreeEdit.put new) tree n.node.label.slot refl)
     (λ here. assign_if room tree at n phrase true part (assignment_true phrase n.node here))
     (λ missing. assign_if room tree at n phrase false part
-    (is_false (is_wanted phrase (category_in None n.node.label.kind)) (λ e. missing (takes_assignment phrase n.node e))))
+    (false_from_ne_true (is_wanted phrase (category_in None n.node.label.kind)) (λ e. missing (takes_assignment phrase n.node e))))
     fault
     (subst (λ there. Refuses (TreeEdit.put new) there (TakesAssignment phrase) tree fault) n.there refuses)
 

@@ -1,7 +1,7 @@
 -- The tests of what stands at a stop, and what they tell.
 use Rattle.std.specs.Prelude.{◌≡◌, refl, ℕ, zero, suc, ◌<◌, ◌⊎◌, Bool, true, false, ◌&&◌, ◌==◌, if◌then◌else◌, List, [], ◌∷◌, length, Option, Some, None, is_some, slice_get}
 use Rattle.std.proofs.Common.{ap, sym, ◌∙◌, arith, inl, inr}
-use Rattle.std.proofs.lemmas.Bool.{false≢true}
+use Rattle.std.proofs.lemmas.Bool.{false≢true, false_from_ne_true}
 use Rattle.std.proofs.lemmas.Bool.Decides.{Decides-eqb}
 use Rattle.std.proofs.lemmas.Option.{none-some, same_Some}
 use Rattle.plcs_grammar.specs.declared.category.Category.{Category}
@@ -19,10 +19,6 @@ use Rattle.template_tree.specs.Programs.Program.{may_be_empty, parts_of, sort_of
 use Rattle.template_tree.specs.Listings.Section.{same_sort}
 use Rattle.template_tree.specs.Positions.Stop.{part_stops}
 use Rattle.session_edit.specs.Here.{category_in, is_typed, is_wanted, takes_nodes}
-
-pub is_false : (b : Bool) → (b ≡ true → ⊥) → b ≡ false
-is_false true wrong = absurd (wrong refl)
-is_false false wrong = refl
 
 -- the category of a number
 abbrev category_of_number : ℕ → Category
@@ -135,7 +131,7 @@ takes_at_part kind (Some part) node e = refl
 
 pub takes_false : (kind : NodeKind) (part : Option ℕ) (node : PlainNode) → (IsHoleFor kind node → ⊥) → takes_nodes kind part node ≡ false
 takes_false kind None node wrong =
-    is_false (is_hole node.label.kind && same_sort (sort_of node.label.kind) (sort_of kind))
+    false_from_ne_true (is_hole node.label.kind && same_sort (sort_of node.label.kind) (sort_of kind))
     (λ e. wrong (hole_is (sort_of kind) node.label.kind e))
 takes_false kind (Some part) node wrong = refl
 

@@ -38,10 +38,9 @@ impl<W: Work> Session<W> {
         requires { IsSession self.old }
         ensures { HasOutcome (last_erased (plain_session self.old)) self.old self.new result }
     {
-        if self.typed.is_empty() {
+        if self.typed.pop().is_none() {
             return self.refuse(Refusal::NotHere);
         }
-        let _ = self.typed.pop();
         self.accept()
     }
 

@@ -6,6 +6,7 @@ use Rattle.std.proofs.lemmas.Bool.Decides.{nat_tests}
 use Rattle.std.proofs.lemmas.List.Folds.{find-append, list_any-append}
 use Rattle.std.proofs.lemmas.List.Sums.{sum_by-append}
 use Rattle.std.proofs.lemmas.Slice.Eq.{bytes_eq-Decides}
+use Rattle.std.proofs.lemmas.Bool.{or_right}
 use Rattle.plcs_base.specs.declared.declared.Declared.{Declared}
 use Rattle.plcs_base.specs.declared.mark.MarkKind.{MarkKind}
 use Rattle.plcs_grammar.specs.declared.builtin.Builtin.{Builtin}
@@ -110,10 +111,6 @@ fits before item fine = by (is_builtin_name item.name) (named_in item.name befor
 is_less : (m n : ℕ) → m < n → nat_lt m n ≡ true
 is_less m n l = grind (arith, nat_tests)
 
-or_second : (a b : Bool) → b ≡ true → (a || b) ≡ true
-or_second true b is = refl
-or_second false b is = is
-
 -- an item that comes behind others where none of its name is
 module _ (name : List ℕ) (before : List Declared) (item : Declared) (none : item_named name before ≡ None) where
   comes : bytes_eq name item.name ≡ true → item_named name (before ++ (item ∷ [])) ≡ Some item
@@ -173,7 +170,7 @@ is_among name before (item ∷ rest) known none is =
         → ((b : List Declared) → item_named name b ≡ None → item_named name (effective b rest) ≡ Some known → has_such name (cells_of known) rest ≡ true)
         → has_such name (cells_of known) (item ∷ rest) ≡ true
     by true here o h again =
-        or_second (is_such name (cells_of known) item) (has_such name (cells_of known) rest)
+        or_right (is_such name (cells_of known) item) (has_such name (cells_of known) rest)
         (again before none (passed name before rest item (Some known) is o))
     by false true o h again =
         let there : item_named name (before ++ (item ∷ [])) ≡ Some item = comes name before item none h in
@@ -183,7 +180,7 @@ is_among name before (item ∷ rest) known none is =
         ∙ ap (λ (d : Declared). nat_eq (cells_of item) (cells_of d) || has_such name (cells_of known) rest) (sym one)
         ∙ ap (λ b. b || has_such name (cells_of known) rest) (itself (cells_of item))
     by false false o h again =
-        or_second (is_such name (cells_of known) item) (has_such name (cells_of known) rest)
+        or_right (is_such name (cells_of known) item) (has_such name (cells_of known) rest)
         (again (before ++ (item ∷ [])) (still name before item none h) (taken name before rest item (Some known) is o))
 
 -- an item of the name that takes so many cells has an offence where none of the name is effective behind it, and that

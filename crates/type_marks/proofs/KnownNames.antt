@@ -1,11 +1,12 @@
 -- A phrase has one verdict under two lists of items that agree on its names.
-use Rattle.std.proofs.Common.{◌≡◌, ℕ, Bool, true, false, cond, List, [], ◌∷◌, ◌++◌, Option, Some, None, option_map, refl, ap, subst, ◌∙◌}
-use Rattle.std.specs.Prelude.{◌||◌, bytes_eq, count_by, flat_map, is_some, nat_lt, ok_or, option_and_then, unwrap_or, Ok, Err}
+use Rattle.std.proofs.Common.{◌≡◌, ℕ, true, cond, List, [], ◌∷◌, ◌++◌, Option, Some, None, option_map, refl, ap, subst, ◌∙◌}
+use Rattle.std.specs.Prelude.{bytes_eq, count_by, flat_map, is_some, nat_lt, ok_or, option_and_then, unwrap_or, Ok, Err}
 use Rattle.std.specs.List.{list_any}
 use Rattle.std.specs.Option.{option_or}
 use Rattle.std.proofs.lemmas.List.Concat.{flat_map-cons}
 use Rattle.std.proofs.lemmas.List.Folds.{list_any-append}
 use Rattle.std.proofs.lemmas.Slice.Eq.{bytes_eq-Decides}
+use Rattle.std.proofs.lemmas.Bool.{or_right, or_left}
 use Rattle.plcs_base.specs.declared.declared.Declared.{Declared}
 use Rattle.plcs_base.specs.declared.mark.MarkKind.{MarkKind}
 use Rattle.plcs_base.specs.declared.value.Kind.{Kind}
@@ -26,32 +27,25 @@ use Rattle.type_marks.specs.Private.MarksView.{known_surroundings}
 abbrev pub Agree : (items others : List Declared) → List (List ℕ) → Type 0
 Agree items others names = (name : List ℕ) → list_any (bytes_eq name) names ≡ true → item_named name items ≡ item_named name others
 
-or_first : (a b : Bool) → a ≡ true → (a || b) ≡ true
-or_first a b is = ap (λ c. c || b) is
-
-or_last : (a b : Bool) → b ≡ true → (a || b) ≡ true
-or_last true b is = refl
-or_last false b is = is
-
 module _ (items others : List Declared) where
   -- they agree on the first of the names, and on the others
   pub on_first : (name : List ℕ) (names : List (List ℕ)) → Agree items others (name ∷ names) → item_named name items ≡ item_named name others
   on_first name names agree =
-      agree name (or_first (bytes_eq name name) (list_any (bytes_eq name) names) ((bytes_eq-Decides name name).1 refl))
+      agree name (or_left (bytes_eq name name) (list_any (bytes_eq name) names) ((bytes_eq-Decides name name).1 refl))
 
   pub on_rest : (name : List ℕ) (names : List (List ℕ)) → Agree items others (name ∷ names) → Agree items others names
-  on_rest name names agree other there = agree other (or_last (bytes_eq other name) (list_any (bytes_eq other) names) there)
+  on_rest name names agree other there = agree other (or_right (bytes_eq other name) (list_any (bytes_eq other) names) there)
 
   -- they agree on the names in front, and on those behind them
   on_front : (front behind : List (List ℕ)) → Agree items others (front ++ behind) → Agree items others front
   on_front front behind agree name there =
       agree name
-      (list_any-append (bytes_eq name) front behind ∙ or_first (list_any (bytes_eq name) front) (list_any (bytes_eq name) behind) there)
+      (list_any-append (bytes_eq name) front behind ∙ or_left (list_any (bytes_eq name) front) (list_any (bytes_eq name) behind) there)
 
   on_behind : (front behind : List (List ℕ)) → Agree items others (front ++ behind) → Agree items others behind
   on_behind front behind agree name there =
       agree name
-      (list_any-append (bytes_eq name) front behind ∙ or_last (list_any (bytes_eq name) front) (list_any (bytes_eq name) behind) there)
+      (list_any-append (bytes_eq name) front behind ∙ or_right (list_any (bytes_eq name) front) (list_any (bytes_eq name) behind) there)
 
   -- ---- names, expressions and variables
 

@@ -4,7 +4,7 @@ use Rattle.std.specs.Prelude.{◌≡◌, ◌≢◌, ◌<◌, refl, ℕ, suc, Boo
 use Rattle.std.specs.Option.{option_eq, option_map_or}
 use Rattle.std.specs.Str.{bytes_eq}
 use Rattle.std.proofs.Common.{ap, sym, ◌∙◌, subst, arith}
-use Rattle.std.proofs.lemmas.Bool.{false≢true}
+use Rattle.std.proofs.lemmas.Bool.{false≢true, false_from_ne_true}
 use Rattle.std.proofs.lemmas.Bool.Decides.{Decides-eqb}
 use Rattle.std.proofs.lemmas.Option.{none-some, same_Some}
 use Rattle.std.proofs.lemmas.Slice.Eq.{bytes_eq-Decides}
@@ -39,10 +39,6 @@ stops_same one other e =
     let parts = same_part one.part other.part halves.1 in
     λ i. record { path = paths i; part = parts i }
 
-is_false : (b : Bool) → (b ≡ true → ⊥) → b ≡ false
-is_false true wrong = absurd (wrong refl)
-is_false false wrong = refl
-
 -- the stop of a listed one
 abbrev of_listed : VisibleStop → PlainStop
 of_listed listed = listed.stop
@@ -75,7 +71,7 @@ divided_at [] here behind at apart is_at =
     record { is_listed = rw same refl; are_before = rw same refl; are_behind = rw same refl }
 divided_at (b ∷ before) here behind at apart is_at =
     let other : same_stop b.stop at ≡ false =
-    is_false (same_stop b.stop at)
+    false_from_ne_true (same_stop b.stop at)
     (λ e.
     apart 0 (suc (length before)) at (omega arith) (let h = seam_within before here behind in omega arith)
     (at_seam before here behind at ∙ (is_at ∙ sym (stops_same b.stop at e))))
