@@ -9,13 +9,13 @@ use std::mem;
 use synth_outside::{MemFiles, MemSink, MemSource};
 use synth_top::{Status, synth};
 
-/// The words that ask for a small screen.
+/// The words of a played session that ask for a small screen.
 static SMALL: [&str; 4] = ["--rows", "12", "--cols", "40"];
 
 /// A word that asks for a number, and none behind it.
 static LACKING: [&str; 1] = ["--rows"];
 
-/// Calls are counted from 1.
+/// No call of a played session has this number: they are counted from 1.
 pub const NEVER: u64 = 0;
 
 /// How a session ends that the source's end ends, or a key.
@@ -30,7 +30,7 @@ pub enum Words {
     Lacking,
 }
 
-/// The session that was played last: its words, how it ended, its disk and what it wrote; and what it is to write.
+/// What a played session ended with, what it wrote, and its disk.
 #[derive(Drop)]
 pub struct Played {
     words: Vec<String>,
@@ -126,13 +126,13 @@ impl Played {
         self.wanted.bytes()
     }
 
-    /// All bytes that the sink took.
+    /// All bytes that the sink of the played session took.
     pub fn written(&self) -> &[u8] {
         self.screen.bytes()
     }
 }
 
-/// A disk that a crash left so.
+/// A disk that a crash of a played session left so.
 fn disk_of(alloc: Global, image: &[u8]) -> Option<MemDisk> {
     let mut disk = MemDisk::new(alloc, Vec::new(alloc));
     disk.write_at(0, image).ok()?;
