@@ -28,7 +28,7 @@ use Rattle.plcs_code.proofs.StoodCode.{StandsAt, first_stands}
 -- ---- what begins with a step
 
 -- the code begins with the step that ends at the start of the slot
-abbrev BeginsAt : (slot : ℕ) → List PlainInstr → Type 0
+abbrev pub BeginsAt : (slot : ℕ) → List PlainInstr → Type 0
 BeginsAt slot code = (more : List PlainInstr) × (code ≡ PlainInstr.place (place_at slot 0) ∷ more)
 
 -- the code of a GET with a list of variables
@@ -76,7 +76,7 @@ kind_begins marks label items one (NodeKind.Filled template) are statement stays
 kind_begins marks label items one other are statement stays = absurd (false≢true statement)
 
 -- the code of a statement that doesn't pass a run on begins with the step at its start
-node_begins : (marks : MarkMap) (items : ItemMap) (label : Label) (codes : List (List PlainInstr))
+pub node_begins : (marks : MarkMap) (items : ItemMap) (label : Label) (codes : List (List PlainInstr))
     → AreParts (parts_of (row_of label.kind).line) label.parts → is_statement (sort_of label.kind) ≡ true → passes_in label.kind ≡ false
     → BeginsAt label.slot (code_around marks items label codes)
 node_begins marks items label codes are statement stays =
@@ -125,7 +125,7 @@ passed_start marks items start label inner is =
 -- ---- the first of nodes
 
 -- the first of the sorts is that of statements
-abbrev StartsWithStatement : List Sort → Type 0
+abbrev pub StartsWithStatement : List Sort → Type 0
 StartsWithStatement [] = ⊥
 StartsWithStatement (sort ∷ others) = sort ≡ Sort.Statement
 
@@ -145,7 +145,7 @@ template_starts Template.Comment items e fill = filled_starts items fill
 template_starts other items e fill = absurd (false≢true e)
 
 -- what passes a run on to its first item has a statement there
-kind_starts : (kind : NodeKind) (items : List Sort) → passes_in kind ≡ true → Fill (row_of kind).sections items → StartsWithStatement items
+pub kind_starts : (kind : NodeKind) (items : List Sort) → passes_in kind ≡ true → Fill (row_of kind).sections items → StartsWithStatement items
 kind_starts (NodeKind.Filled template) items e fill = template_starts template items e fill
 kind_starts other items e fill = absurd (false≢true e)
 
@@ -156,7 +156,7 @@ read_behind [] instr back = refl
 read_behind (first ∷ front) instr back = read_behind front instr back
 
 -- the first instruction of code that stands at an address is read there
-stands_read : (instrs : List PlainInstr) (address : ℕ) (instr : PlainInstr) (code : List PlainInstr) → StandsAt instrs address (instr ∷ code)
+pub stands_read : (instrs : List PlainInstr) (address : ℕ) (instr : PlainInstr) (code : List PlainInstr) → StandsAt instrs address (instr ∷ code)
     → slice_get instrs address ≡ Some instr
 stands_read instrs address instr code stands =
     ap (slice_get instrs) (sym stands.long)
@@ -164,7 +164,7 @@ stands_read instrs address instr code stands =
     ∙ read_behind stands.front instr (code ++ stands.back)
 
 -- where the code of nodes stands that begin with a statement, a run that comes to them begins
-begin_read : (marks : MarkMap) (items : ItemMap) (instrs : List PlainInstr) (start : ℕ) (between : List PlainInstr) (nodes : Forest) (behind : PlainPlace)
+pub begin_read : (marks : MarkMap) (items : ItemMap) (instrs : List PlainInstr) (start : ℕ) (between : List PlainInstr) (nodes : Forest) (behind : PlainPlace)
     → AreNodes nodes → StartsWithStatement (sorts nodes) → StandsAt instrs start (codes_around between (node_codes marks items nodes))
     → slice_get instrs start ≡ Some (PlainInstr.place (begin nodes behind))
 begin_read marks items instrs start between Forest.nil behind are starts stands = absurd starts

@@ -44,5 +44,12 @@ pub mod PlaceAddresses
 -- the law `addresses_hold_steps`
 pub mod BegunCode
 pub mod StoodSteps
+-- the law `statements_go_on`
+pub mod InnerEnds
+pub mod LandedEnds
+-- the law `bodies_begin`
+pub mod BegunBodies
+-- the law `steps_have_addresses`
+pub mod OnlySteps
 -- the law `entries_are_headings`
 pub mod HeadingEntries

@@ -342,7 +342,7 @@ around_stays address whole between (code ∷ codes) fits stays each =
     (joined_stays (address + length code + jump_length between) whole codes fits each.1))
 
 -- the lengths of codes are that of the first one and those of the others
-lengths_split : (lengths : List ℕ) → sum lengths ≡ first_length lengths + other_lengths lengths
+pub lengths_split : (lengths : List ℕ) → sum lengths ≡ first_length lengths + other_lengths lengths
 lengths_split [] = refl
 lengths_split (n ∷ lengths) = sum_by-cons (λ n. n) n lengths
 

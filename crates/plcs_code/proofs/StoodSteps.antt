@@ -1,6 +1,6 @@
 -- What stands at the address of a place. A step that ends at a place has the address at which it stands in the code; the start of a
 -- group or a comment, and where a call comes back, have the ends of their spans, which are those of the first node in the slot.
-use Rattle.std.proofs.Common.{◌≡◌, ℕ, zero, suc, ◌+◌, Bool, true, false, List, [], ◌∷◌, ◌++◌, Option, Some, None, refl, ap, sym, subst, ◌∙◌, arith}
+use Rattle.std.proofs.Common.{◌≡◌, ℕ, zero, suc, ◌+◌, ◌≤◌, Bool, true, false, List, [], ◌∷◌, ◌++◌, Option, Some, None, refl, ap, sym, subst, ◌∙◌, arith}
 use Rattle.std.specs.Prelude.{◌&&◌, ◌==◌, IsSome, cond, flat_map, if◌then◌else◌, not, slice_get}
 use Rattle.std.specs.FinMap.{find, get-from_entries}
 use Rattle.std.specs.Ordering.{eq_by_cmp}
@@ -8,11 +8,15 @@ use Rattle.std.proofs.Math.Bool.{false≢true}
 use Rattle.std.proofs.lemmas.Bool.{eq-eqb}
 use Rattle.std.proofs.lemmas.Cmp.{nat_cmp_total}
 use Rattle.std.proofs.lemmas.Option.{none-some}
+use Rattle.plcs_base.specs.Mark.{MarkMap}
+use Rattle.plcs_base.specs.Scope.{ItemMap}
 use Rattle.plcs_base.specs.declared.place.Place.{Place}
 use Rattle.plcs_grammar.specs.declared.node_kind.NodeKind.{NodeKind}
 use Rattle.plcs_grammar.specs.declared.template.Template.{Template}
 use Rattle.template_tree.specs.Positions.Place.{PlainPlace, Site, begin, passes_in, place_at, site}
-use Rattle.plcs_code.specs.CodeLaws.{AddressesHoldSteps, CallsComeBack, PassedStartsStand}
+use Rattle.template_tree.specs.Programs.PlainTree.{Forest}
+use Rattle.template_tree.specs.Programs.Slots.{times}
+use Rattle.plcs_code.specs.CodeLaws.{AddressesHoldSteps, CallsComeBack, PassedStartsStand, ends_step}
 use Rattle.plcs_code.specs.declared.node_span.NodeSpan.{NodeSpan}
 use Rattle.plcs_code.specs.Gen.{addresses_in, codes_joined, has_code, is_call, node_address, node_codes, node_spans, place_cmp, span_by_slot}
 use Rattle.plcs_code.specs.PlainInstr.{PlainInstr, place_of}
@@ -39,7 +43,7 @@ find_left q (entry ∷ one) other address e = by (eq_by_cmp place_cmp (place_of 
     by false e again = again e
 
 -- and what isn't
-find_behind : (q : PlainPlace) (one other : List (Place × ℕ)) → (Addressed q one → ⊥)
+pub find_behind : (q : PlainPlace) (one other : List (Place × ℕ)) → (Addressed q one → ⊥)
     → find place_cmp (place_of q) (one ++ other) ≡ find place_cmp (place_of q) other
 find_behind q [] other none = refl
 find_behind q (entry ∷ one) other none = by (eq_by_cmp place_cmp (place_of q) entry.0) none (find_behind q one other)
@@ -96,13 +100,10 @@ endless_ends_not true call slot q h ends = false≢true ends
 endless_ends_not false true slot q h ends = false≢true (sym (ap not (eq-eqb q.point 1 (sym h.1))) ∙ ends)
 endless_ends_not false false slot q h ends = h
 
-pub addresses_hold_steps : AddressesHoldSteps
-addresses_hold_steps marks items program q found address once e ends is =
-    let nodes = node_spans marks items 0 0 program in
-    let instrs = codes_joined (node_codes marks items program) in
-    let entries : List (Place × ℕ) = endless nodes ++ addresses_in 0 instrs in
-    let none : Addressed q (endless nodes) → ⊥ =
-    λ has.
+-- a place at which a step ends is none at which none does
+pub none_endless : (marks : MarkMap) (items : ItemMap) (program : Forest) (q : PlainPlace) (found : Site) → times q.slot program ≤ 1
+    → site program q.slot ≡ Some found → ends_step found.label.kind q.point ≡ true → Addressed q (endless (node_spans marks items 0 0 program)) → ⊥
+none_endless marks items program q found once e ends has =
     let at : SiteWith (EndlessOf q) (site program q.slot) =
     somewhere_site (EndlessOf q) q.slot false program (place_at 0 1) once
     (somewhere_map (EndlessOf q) (InSlot (EndlessOf q) q.slot)
@@ -110,7 +111,14 @@ addresses_hold_steps marks items program q found address once e ends is =
     (spans_endless marks items q 0 0 program has)) in
     let same : at.0 ≡ found = ap (site_or at.0) (sym at.1 ∙ e) in
     let there : EndlessOf q found.label = subst (λ (s : Site). EndlessOf q s.label) same at.2 in
-    endless_ends_not (passes_in found.label.kind) (is_call found.label.kind) found.label.slot q there ends in
+    endless_ends_not (passes_in found.label.kind) (is_call found.label.kind) found.label.slot q there ends
+
+pub addresses_hold_steps : AddressesHoldSteps
+addresses_hold_steps marks items program q found address once e ends is =
+    let nodes = node_spans marks items 0 0 program in
+    let instrs = codes_joined (node_codes marks items program) in
+    let entries : List (Place × ℕ) = endless nodes ++ addresses_in 0 instrs in
+    let none : Addressed q (endless nodes) → ⊥ = none_endless marks items program q found once e ends in
     let stands : StepAt q 0 instrs address =
     step_found q 0 instrs address
     (sym (find_behind q (endless nodes) (addresses_in 0 instrs) none) ∙ sym (get-from_entries places_total entries (place_of q)) ∙ is) in

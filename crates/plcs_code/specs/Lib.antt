@@ -7,6 +7,7 @@ pub mod Pieces
 pub mod Gen
 -- ---- the laws of code
 pub mod CodeLaws
+pub mod Landing
 -- ---- the limit of code, and counted work
 pub mod BlockLimit
 pub mod Counts

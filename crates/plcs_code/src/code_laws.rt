@@ -1,5 +1,6 @@
 //! The laws of code, each a function that does nothing and whose contract states it.
 ghost use Rattle.plcs_code.specs.CodeLaws.{AddressesHoldSteps, CallsComeBack, EntriesAreHeadings, EntriesBeginProcedures, JumpsStayInNodes, JumpsStayInside, LengthsAreTold, OwnCodesAddUp, OwnCodesAreTold, OwnLengthsStay, PassedStartsStand, PlacesHaveAddresses, SpansHoldCode};
+ghost use Rattle.plcs_code.specs.Landing.{BodiesBegin, SecondBodiesBegin, StatementsGoOn, StepsHaveAddresses};
 
 /// How many instructions the code of each node has is told without that code: jumps don't change it. The own
 /// code of a node is as long, whatever stands inside it.
@@ -45,4 +46,20 @@ pub fn addresses_hold_steps()
 pub fn entries_are_headings()
     ensures headings { EntriesAreHeadings }
     ensures addresses { EntriesBeginProcedures }
+{}
+
+/// At the end of the code of a statement a run comes by jumps alone to where it goes on once the statement is done.
+pub fn statements_go_on()
+    ensures { StatementsGoOn }
+{}
+
+/// The code of what stands inside a node begins with the step at which a run begins that comes to it.
+pub fn bodies_begin()
+    ensures first { BodiesBegin }
+    ensures second { SecondBodiesBegin }
+{}
+
+/// A step that ends at a place has the address of that place.
+pub fn steps_have_addresses()
+    ensures { StepsHaveAddresses }
 {}
