@@ -1,6 +1,6 @@
 -- The law `bodies_begin`: what stands inside a node begins with the step at which a run begins that comes to it. Declarations before
 -- it have no code.
-use Rattle.std.proofs.Common.{◌≡◌, ℕ, ◌+◌, Bool, true, false, ◌⊎◌, inl, inr, List, [], ◌∷◌, ◌++◌, length, map, Option, Some, None, refl, ap, sym, subst, ◌∙◌, arith}
+use Rattle.std.proofs.Common.{◌≡◌, ℕ, ◌+◌, Bool, true, false, ◌⊎◌, inl, inr, List, [], ◌∷◌, ◌++◌, length, Some, refl, ap, sym, subst, ◌∙◌, arith}
 use Rattle.std.specs.Prelude.{◌||◌, flat_map, if◌then◌else◌, is_some, slice_get, take}
 use Rattle.std.specs.FinMap.{get-from_entries}
 use Rattle.std.specs.List.{list_any}
@@ -20,11 +20,10 @@ use Rattle.template_tree.specs.Programs.Part.{part_at}
 use Rattle.plcs_code.specs.ExprCode.{counter_name}
 use Rattle.plcs_code.specs.Gen.{code_around, codes_around, codes_joined, has_code, length_around, node_codes, node_lengths, node_spans, span_by_slot}
 use Rattle.plcs_code.specs.Landing.{BodiesBegin, SecondBodiesBegin, length_before}
-use Rattle.plcs_code.specs.Pieces.{CodeJumps, first_length, jumps, kind_jumps, other_lengths, pieces, suspension}
+use Rattle.plcs_code.specs.Pieces.{first_length, kind_jumps, other_lengths, pieces, suspension}
 use Rattle.plcs_code.specs.PlainInstr.{PlainInstr}
 use Rattle.plcs_code.proofs.BegunCode.{StartsWithStatement, begin_read, node_begins, passed_read, stands_read}
-use Rattle.plcs_code.proofs.CodeLengths.{lengths_told}
-use Rattle.plcs_code.proofs.FoundNodes.{around_nothing, inner_gap, inner_jumps, inner_stands, inner_start, node_at_site, node_long, own_node}
+use Rattle.plcs_code.proofs.FoundNodes.{around_nothing, inner_jumps, inner_stands, inner_start, node_at_site, node_long, own_node}
 use Rattle.plcs_code.proofs.FoundSites.{site_inner, site_node}
 use Rattle.plcs_code.proofs.HeldSpans.{first_span}
 use Rattle.plcs_code.proofs.LandedEnds.{AreBodies, Listed, declaration_kind, if_else_sorts, if_sorts, kind_form, none_between, none_inside}

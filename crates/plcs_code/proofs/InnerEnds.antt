@@ -1,6 +1,6 @@
 -- Where a run goes on at the end of what stands inside a node: at the step that ends there, by the node's own jump, or where it goes
 -- on behind the node, at whose end it stands. The kinds of nodes matter here alone.
-use Rattle.std.proofs.Common.{◌≡◌, ℕ, zero, suc, ◌+◌, ◌<◌, Bool, true, false, List, [], ◌∷◌, ◌++◌, length, map, Option, Some, None, refl, ap, sym, subst, ◌∙◌, arith}
+use Rattle.std.proofs.Common.{◌≡◌, ℕ, zero, suc, ◌+◌, ◌<◌, true, List, [], ◌∷◌, ◌++◌, length, map, Option, Some, None, refl, ap, subst, arith}
 use Rattle.std.specs.Prelude.{ℤ, ◌+ℤ◌, pos, neg_ℤ, is_some, slice_get, sum}
 use Rattle.std.specs.Option.{option_to_list}
 use Rattle.std.proofs.Math.Bool.{false≢true}
@@ -15,9 +15,9 @@ use Rattle.template_tree.specs.Programs.Part.{part_at}
 use Rattle.template_tree.specs.Positions.Place.{PlainPlace, end_at, inner_end, is_statement, place_at}
 use Rattle.template_tree.specs.Programs.Program.{sort_of}
 use Rattle.plcs_code.specs.ExprCode.{part_instrs}
-use Rattle.plcs_code.specs.Gen.{code_with, codes_around, codes_joined, has_code}
-use Rattle.plcs_code.specs.Landing.{Lands, LandsBy}
-use Rattle.plcs_code.specs.Pieces.{CodeJumps, CodePieces, first_length, first_piece, kind_jumps, kind_pieces, other_lengths, piece_at, template_jumps, template_pieces, unless_stopped}
+use Rattle.plcs_code.specs.Gen.{code_with, codes_around, has_code}
+use Rattle.plcs_code.specs.Landing.{Lands}
+use Rattle.plcs_code.specs.Pieces.{CodeJumps, CodePieces, first_length, first_piece, kind_jumps, kind_pieces, other_lengths, template_jumps, template_pieces, unless_stopped}
 use Rattle.plcs_code.specs.PlainInstr.{PlainInstr}
 use Rattle.plcs_code.proofs.BegunCode.{stands_read}
 use Rattle.plcs_code.proofs.CodeLengths.{around_length}

@@ -1,9 +1,8 @@
 -- The law `statements_go_on`: at the end of the code of each statement a run goes on where it does once that is done. What stands
 -- inside a node goes on by the kind of the node; in a list each goes on at the next one, which begins where it ends.
-use Rattle.std.proofs.Common.{◌≡◌, ℕ, zero, suc, ◌+◌, ◌≤◌, ◌<◌, Bool, true, false, ◌⊎◌, inl, inr, List, [], ◌∷◌, ◌++◌, length, map, take, Option, Some, None, refl, ap, sym, subst, ◌∙◌, arith}
-use Rattle.std.specs.Prelude.{All, ◌==◌, ◌&&◌, flat_map, if◌then◌else◌, is_some, pos, slice_index_or, sum}
+use Rattle.std.proofs.Common.{◌≡◌, ℕ, suc, ◌+◌, ◌<◌, Bool, true, false, ◌⊎◌, inl, inr, List, [], ◌∷◌, ◌++◌, length, map, take, Option, Some, None, refl, ap, sym, subst, ◌∙◌, arith}
+use Rattle.std.specs.Prelude.{◌==◌, flat_map, if◌then◌else◌, is_some, pos, slice_index_or, sum}
 use Rattle.std.specs.FinMap.{get-from_entries}
-use Rattle.std.specs.List.{list_any}
 use Rattle.std.specs.Option.{option_or, option_to_list}
 use Rattle.std.proofs.Math.Bool.{false≢true}
 use Rattle.std.proofs.lemmas.Cmp.{nat_cmp_total}
@@ -17,9 +16,9 @@ use Rattle.plcs_grammar.specs.declared.node_kind.Sort.{Sort}
 use Rattle.plcs_grammar.specs.declared.template.Template.{Template}
 use Rattle.plcs_grammar.specs.Template.{PlainSection, list_of, procedure_sections, program_sections, row_of}
 use Rattle.template_tree.specs.Programs.Part.{part_at}
-use Rattle.template_tree.specs.Positions.Place.{PlainPlace, Site, begin, end_at, in_turn, inner_end, is_statement, passes_in, place_at, site, site_among}
+use Rattle.template_tree.specs.Positions.Place.{PlainPlace, Site, begin, end_at, in_turn, inner_end, is_statement, passes_in, place_at, site_among}
 use Rattle.template_tree.specs.Programs.PlainTree.{Forest, Label}
-use Rattle.template_tree.specs.Programs.Program.{AreNodes, Fill, IsNode, IsProgram, sort_of, sorts}
+use Rattle.template_tree.specs.Programs.Program.{AreNodes, Fill, IsNode, sort_of, sorts}
 use Rattle.template_tree.specs.Checks.ProgramMaps.{items_in}
 use Rattle.plcs_code.specs.declared.node_span.NodeSpan.{NodeSpan}
 use Rattle.plcs_code.specs.ExprCode.{counter_name}
@@ -27,10 +26,10 @@ use Rattle.plcs_code.specs.Gen.{code_around, code_with, codes_around, codes_join
 use Rattle.plcs_code.specs.Landing.{Lands, StatementsGoOn}
 use Rattle.plcs_code.specs.Pieces.{CodeJumps, CodePieces, first_length, jumps, kind_jumps, kind_pieces, other_lengths, pieces, suspension, template_jumps, template_pieces}
 use Rattle.plcs_code.specs.PlainInstr.{PlainInstr}
-use Rattle.plcs_code.proofs.BegunCode.{StartsWithStatement, kind_starts, node_begins, passed_read, stands_read}
+use Rattle.plcs_code.proofs.BegunCode.{node_begins, passed_read, stands_read}
 use Rattle.plcs_code.proofs.CodeLengths.{around_length, lengths_told}
 use Rattle.plcs_code.proofs.FoundNodes.{around_nothing, code_of_site, first_node, first_other, first_own, inner_gap, inner_jumps, inner_stands, inner_start, node_long, nowhere_first, own_node, rest_start}
-use Rattle.plcs_code.proofs.FoundSites.{after_node, site_cases, site_node, site_of, site_within, siteless_nowhere}
+use Rattle.plcs_code.proofs.FoundSites.{after_node, site_cases, site_of, site_within, siteless_nowhere}
 use Rattle.plcs_code.proofs.HeldSpans.{first_span}
 use Rattle.plcs_code.proofs.InnerEnds.{first_body_ends, inside, inside_end, kind_ends, lands_at, lands_here}
 use Rattle.plcs_code.proofs.StayingJumps.{lengths_split}
@@ -391,11 +390,11 @@ two_inside (Forest.cons one within (Forest.cons other beside (Forest.cons last d
     absurd (omega (arith, no))
 
 pub if_sorts : (items : List Sort) → Fill (row_of (NodeKind.Filled Template.If)).sections items → items ≡ Sort.Statement ∷ []
-if_sorts items (own, others, same, are, none) =
+if_sorts items (first, others, same, are, none) =
     same ∙ ap (λ (l : List Sort). l ++ others) are ∙ ap (λ (l : List Sort). Sort.Statement ∷ l) none
 
 pub if_else_sorts : (items : List Sort) → Fill (row_of (NodeKind.Filled Template.IfElse)).sections items → items ≡ Sort.Statement ∷ (Sort.Statement ∷ [])
-if_else_sorts items (own, others, same, are, (next, more, split, is, none)) =
+if_else_sorts items (first, others, same, are, (next, more, split, is, none)) =
     same ∙ ap (λ (l : List Sort). l ++ others) are
     ∙ ap (λ (l : List Sort). Sort.Statement ∷ l) (split ∙ ap (λ (l : List Sort). l ++ more) is ∙ ap (λ (l : List Sort). Sort.Statement ∷ l) none)
 
@@ -518,7 +517,7 @@ none_append [] other first second = second
 none_append (sort ∷ one) other first second = (first.0, none_append one other first.1 second)
 
 program_none : (items : List Sort) → Fill program_sections items → no_statement_sorts items
-program_none items (own, others, same, are, (next, more, split, is, none)) =
+program_none items (first, others, same, are, (next, more, split, is, none)) =
     subst no_statement_sorts
     (sym (same ∙ ap (λ (l : List Sort). l ++ others) are ∙ ap (λ (l : List Sort). Sort.Main ∷ l) (split ∙ ap (λ (l : List Sort). next ++ l) none))) (
       refl,

@@ -1,7 +1,7 @@
 -- The law `steps_have_addresses`: a step that stands in the code of a program stands there but once, where its slot does: each place is
 -- that of one step of the own code of its node.
-use Rattle.std.proofs.Common.{◌≡◌, ℕ, zero, suc, ◌+◌, ◌≤◌, ◌<◌, Bool, true, false, List, [], ◌∷◌, ◌++◌, length, map, take, Option, Some, None, refl, ap, sym, subst, ◌∙◌, arith}
-use Rattle.std.specs.Prelude.{◌==◌, ◌&&◌, cond, flat_map, if◌then◌else◌, is_some, option_map, slice_get, unwrap_or}
+use Rattle.std.proofs.Common.{◌≡◌, ℕ, zero, suc, ◌+◌, ◌≤◌, ◌<◌, Bool, true, false, List, [], ◌∷◌, ◌++◌, length, map, take, Option, Some, None, refl, ap, sym, ◌∙◌, arith}
+use Rattle.std.specs.Prelude.{◌==◌, ◌&&◌, cond, flat_map, option_map, slice_get, unwrap_or}
 use Rattle.std.specs.FinMap.{find, get-from_entries}
 use Rattle.std.specs.Option.{option_to_list}
 use Rattle.std.specs.Ordering.{eq_by_cmp}
@@ -19,17 +19,17 @@ use Rattle.template_tree.specs.Checks.Environment.{parameters_given}
 use Rattle.template_tree.specs.Checks.ProgramMaps.{items_in}
 use Rattle.template_tree.specs.Positions.Place.{PlainPlace, place_at}
 use Rattle.template_tree.specs.Programs.Part.{part_at}
-use Rattle.template_tree.specs.Programs.PlainTree.{Forest, Label}
+use Rattle.template_tree.specs.Programs.PlainTree.{Forest}
 use Rattle.template_tree.specs.Programs.Slots.{times}
 use Rattle.plcs_code.specs.ExprCode.{counter_name, get_targets, index_instrs, items_instrs, listed_exprs, listed_instrs, part_instrs, variable_instr}
 use Rattle.plcs_code.specs.Gen.{addresses_in, code_around, codes_around, codes_joined, node_codes, node_spans, place_cmp}
 use Rattle.plcs_code.specs.Landing.{StepsHaveAddresses}
-use Rattle.plcs_code.specs.Pieces.{CodeJumps, CodePieces, cell_instr, get_piece, jump_unless, jumps, kind_jumps, kind_pieces, parameters_instrs, piece_at, pieces, suspension, template_jumps, template_pieces, unless_stopped}
+use Rattle.plcs_code.specs.Pieces.{CodeJumps, CodePieces, cell_instr, get_piece, jump_unless, jumps, kind_jumps, kind_pieces, parameters_instrs, piece_at, pieces, suspension, template_jumps, template_pieces}
 use Rattle.plcs_code.specs.PlainInstr.{PlainInstr, place_of}
 use Rattle.plcs_code.proofs.CodeActions.{AreActions, IsStop, actions_append, cells_actions, is_action, listed_actions, parameters_actions, part_actions, suspension_stops, target_actions}
 use Rattle.plcs_code.proofs.FoundSites.{one_if}
 use Rattle.plcs_code.proofs.KeyOrder.{places_total}
-use Rattle.plcs_code.proofs.PlaceAddresses.{Addressed, endless, place_tied, same_place}
+use Rattle.plcs_code.proofs.PlaceAddresses.{endless, place_tied, same_place}
 use Rattle.plcs_code.proofs.StoodSteps.{find_behind, none_endless}
 
 -- ---- how often a step stands in code

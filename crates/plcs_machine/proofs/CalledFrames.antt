@@ -4,22 +4,19 @@ use Rattle.std.specs.Prelude.{◌≡◌, refl, ℕ, zero, suc, ◌+◌, ◌≤�
 use Rattle.std.specs.List.{filter, list_all, list_any}
 use Rattle.std.proofs.Common.{ap, sym, ◌∙◌, subst, arith, append_assoc}
 use Rattle.std.proofs.Math.Bool.{false≢true}
-use Rattle.std.proofs.lemmas.Bool.{eqb-true}
 use Rattle.std.proofs.lemmas.List.{append-nil}
 use Rattle.std.proofs.lemmas.List.Sums.{sum_by-cons}
 use Rattle.std.proofs.lemmas.Option.{none-some, same_Some}
 use Rattle.std.proofs.lemmas.Slice.Eq.{bytes_eq-Decides}
 use Rattle.plcs_base.specs.declared.declared.Declared.{Declared}
 use Rattle.plcs_base.specs.declared.declared.ItemType.{ItemType}
-use Rattle.plcs_base.specs.declared.value.Kind.{Kind}
 use Rattle.plcs_base.specs.declared.value.Value.{Value}
-use Rattle.template_tree.specs.Checks.Environment.{cells, cells_in, cells_of, item_named, kind_of_type, parameter_kind, parameter_kinds, scalar_kind}
+use Rattle.template_tree.specs.Checks.Environment.{cells, cells_of, item_named, kind_of_type, parameter_kind, parameter_kinds, scalar_kind}
 use Rattle.template_tree.specs.Checks.KindTable.{same_kind}
 use Rattle.template_tree.specs.Checks.ParameterItem.{scalar_item}
 use Rattle.template_tree.specs.Programs.Limit.{most_cells}
 use Rattle.plcs_store.specs.declared.argument.Argument.{Argument}
 use Rattle.plcs_store.specs.declared.cell.Cell.{Cell}
-use Rattle.plcs_store.specs.declared.cell.Location.{Location}
 use Rattle.plcs_store.specs.declared.frame.Frame.{Frame}
 use Rattle.plcs_store.specs.declared.variable.Variable.{Variable}
 use Rattle.plcs_store.specs.CellAt.{Variables, kept_value, scalar_variable, unset_named, variable_at, variable_named}

@@ -1,6 +1,6 @@
 -- Variables that are made in a new frame: their names are different, and they have not too many cells together, so each of them can be
 -- added behind those before it. The effective items of a procedure are such.
-use Rattle.std.specs.Prelude.{◌≡◌, refl, ℕ, ◌+◌, ◌≤◌, Bool, true, false, cond, bytes_eq, if◌then◌else◌, nat_le, nat_lt, ◌&&◌, List, [], ◌∷◌, ◌++◌, length, map, replicate, sum_by, Option, Some, None, is_none, is_some}
+use Rattle.std.specs.Prelude.{◌≡◌, refl, ℕ, ◌+◌, ◌≤◌, Bool, true, false, cond, bytes_eq, if◌then◌else◌, nat_le, nat_lt, ◌&&◌, List, [], ◌∷◌, ◌++◌, length, map, Option, Some, None, is_none, is_some}
 use Rattle.std.proofs.Common.{ap, sym, ◌∙◌, subst, arith, append_assoc}
 use Rattle.std.proofs.Math.Bool.{false≢true}
 use Rattle.std.proofs.lemmas.Bool.{le-leb, ltb-false}
@@ -9,7 +9,7 @@ use Rattle.std.proofs.lemmas.List.Sums.{sum_by-append, sum_by-cons}
 use Rattle.plcs_base.specs.declared.declared.Declared.{Declared}
 use Rattle.plcs_base.specs.declared.mark.MarkKind.{MarkKind}
 use Rattle.plcs_grammar.specs.Builtin.{is_builtin_name}
-use Rattle.template_tree.specs.Checks.Environment.{all_declared, cells, cells_in, cells_of, effective, item_named, item_offence, items_inside, with_declared}
+use Rattle.template_tree.specs.Checks.Environment.{all_declared, cells, cells_of, effective, item_named, item_offence, items_inside, with_declared}
 use Rattle.template_tree.specs.Programs.Limit.{most_cells}
 use Rattle.template_tree.specs.Programs.PlainTree.{Forest}
 use Rattle.plcs_store.specs.declared.cell.Cell.{Cell}

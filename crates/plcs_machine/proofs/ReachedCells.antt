@@ -1,18 +1,17 @@
 -- On which cell an instruction works: in what fits a tree, on the one for which the variable finally stands, since a reference is to a
 -- cell of a lower frame that is none.
-use Rattle.std.specs.Prelude.{◌≡◌, refl, ℕ, ◌-◌, ◌<◌, ℤ, Bool, true, false, not, ◌&&◌, nat_lt, if◌then◌else◌, List, slice_get, Option, Some, None, option_and_then, option_map}
+use Rattle.std.specs.Prelude.{◌≡◌, refl, ℕ, ℤ, Bool, true, false, not, ◌&&◌, if◌then◌else◌, List, slice_get, Option, Some, None, option_and_then, option_map}
 use Rattle.std.specs.Option.{option_map_or}
 use Rattle.std.proofs.Common.{ap, sym, ◌∙◌}
 use Rattle.std.proofs.lemmas.Bool.{lt-ltb}
 use Rattle.plcs_store.specs.declared.cell.Cell.{Cell}
-use Rattle.plcs_store.specs.declared.cell.Location.{Location}
 use Rattle.plcs_store.specs.declared.frame.Frame.{Frame}
 use Rattle.plcs_store.specs.declared.variable.Variable.{Variable}
 use Rattle.template_tree.specs.Checks.Environment.{kind_of_type}
 use Rattle.plcs_store.specs.CellAt.{cell_at, element_of, final_location, located, newest, own_location, stands_for, variable_at}
-use Rattle.plcs_store.specs.Fits.{HoldsRight, IsNoReference, IsTarget, ValuesFit}
-use Rattle.plcs_store.specs.Outcome.{Outcome, if_there, then_gives}
-use Rattle.plcs_machine.specs.Reached.{followed, followed_at, is_reference, may_follow, reached}
+use Rattle.plcs_store.specs.Fits.{HoldsRight, IsNoReference, ValuesFit}
+use Rattle.plcs_store.specs.Outcome.{if_there, then_gives}
+use Rattle.plcs_machine.specs.Reached.{followed, followed_at, is_reference, reached}
 use Rattle.plcs_machine.proofs.RunExpressions.{then_same}
 
 no_reference : (cell : Cell) → IsNoReference cell → not (is_reference cell) ≡ true

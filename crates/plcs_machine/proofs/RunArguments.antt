@@ -1,11 +1,11 @@
 -- The code of the arguments of a call adds what they come to, one after the other, or stops the step as that does.
-use Rattle.std.specs.Prelude.{◌≡◌, refl, ℕ, zero, suc, ◌+◌, ◌≤◌, ◌<◌, ℤ, Bool, true, false, if◌then◌else◌, List, [], ◌∷◌, ◌++◌, codes, length, slice_get, Option, Some, None}
-use Rattle.std.proofs.Common.{ap, sym, ◌∙◌, subst, arith, append_assoc}
+use Rattle.std.specs.Prelude.{◌≡◌, refl, ℕ, suc, ◌+◌, ◌≤◌, ℤ, Bool, true, false, if◌then◌else◌, List, [], ◌∷◌, ◌++◌, codes, length, Option, Some, None}
+use Rattle.std.proofs.Common.{ap, sym, ◌∙◌, arith, append_assoc}
 use Rattle.std.proofs.lemmas.List.{append-nil, length-append}
 use Rattle.plcs_base.specs.declared.value.Value.{Value}
 use Rattle.plcs_grammar.specs.Canon.{canon, canon_behind, canon_list, canon_reference, comma, parenthesized_bytes}
 use Rattle.plcs_grammar.specs.PlainPhrase.{PlainExpr, PlainExprs, PlainVarRef}
-use Rattle.plcs_code.specs.ExprCode.{argument_instrs, arguments_instrs, expr_count, expr_instrs, index_instrs, variable_instr}
+use Rattle.plcs_code.specs.ExprCode.{argument_instrs, arguments_instrs, expr_count, expr_instrs}
 use Rattle.plcs_code.specs.Gen.{PlainCode}
 use Rattle.plcs_code.specs.PlainInstr.{PlainInstr}
 use Rattle.plcs_store.specs.declared.argument.Argument.{Argument}
@@ -13,11 +13,11 @@ use Rattle.plcs_store.specs.declared.cell.Location.{Location}
 use Rattle.plcs_store.specs.declared.frame.Frame.{Frame}
 use Rattle.plcs_store.specs.CellAt.{located}
 use Rattle.plcs_store.specs.Configuration.{PlainConfiguration}
-use Rattle.plcs_store.specs.ExpressionValue.{argument_value, argument_values, expression_value, reference_location, subscript_value}
+use Rattle.plcs_store.specs.ExpressionValue.{argument_value, argument_values, expression_value, subscript_value}
 use Rattle.plcs_store.specs.Operator.{on_number}
 use Rattle.plcs_store.specs.Outcome.{Outcome, both_give, then_gives}
 use Rattle.plcs_store.specs.Step.{PlainStepAnswer}
-use Rattle.plcs_machine.specs.Lead.{Lead, add_lead, has_operand_room, lead, on_newest_number, reference_lead}
+use Rattle.plcs_machine.specs.Lead.{Lead, add_lead, has_operand_room, on_newest_number, reference_lead}
 use Rattle.plcs_machine.specs.Reached.{reached}
 use Rattle.plcs_machine.proofs.RunExpressions.{HasMoreRoom, HasRoomFor, after, after_same, after_then, answer, expr_runs, led, led_on, one_step, room_there, then_assoc}
 use Rattle.plcs_machine.proofs.StandingCode.{HasAt, has_first, has_second}

@@ -1,9 +1,9 @@
 -- A call by code: the procedure's cells are made from its arguments and from its items, which are those of the frame that the tree's step
 -- makes, and the step ends where a run begins in the procedure. The code of the call and that of the cells have no instruction in common,
 -- so both together are fetched within as many fetches as there are instructions.
-use Rattle.std.specs.Prelude.{◌≡◌, refl, ℕ, zero, suc, ◌+◌, ◌≤◌, ◌<◌, ◌==◌, nat_le, ℤ, Bool, true, false, cond, not, bytes_eq, flat_map, if◌then◌else◌, List, [], ◌∷◌, ◌++◌, length, map, slice_get, Option, Some, None, is_some, option_and_then, option_map}
+use Rattle.std.specs.Prelude.{◌≡◌, refl, ℕ, zero, suc, ◌+◌, ◌≤◌, ◌<◌, ◌==◌, nat_le, ℤ, Bool, true, false, not, bytes_eq, flat_map, if◌then◌else◌, List, [], ◌∷◌, ◌++◌, length, map, slice_get, Option, Some, None, is_some, option_and_then, option_map}
 use Rattle.std.specs.FinMap.{get}
-use Rattle.std.specs.List.{filter, list_all, list_any}
+use Rattle.std.specs.List.{list_all, list_any}
 use Rattle.std.proofs.Common.{ap, sym, ◌∙◌, subst, arith, append_assoc, ◌⊎◌, inl, inr}
 use Rattle.std.proofs.Math.Bool.{false≢true}
 use Rattle.std.proofs.lemmas.Bool.{eq-eqb}
@@ -11,11 +11,9 @@ use Rattle.std.proofs.lemmas.List.{append-nil, length-append}
 use Rattle.std.proofs.lemmas.Option.{none-some, same_Some}
 use Rattle.plcs_base.specs.declared.declared.Declared.{Declared}
 use Rattle.plcs_base.specs.declared.declared.ItemType.{ItemType}
-use Rattle.plcs_base.specs.declared.value.Value.{Value}
 use Rattle.plcs_grammar.specs.Canon.{canon_list}
 use Rattle.plcs_grammar.specs.PlainPhrase.{PlainExpr, PlainExprs, PlainVarRef}
 use Rattle.template_tree.specs.Checks.Environment.{item_named, parameter_kind, parameter_kinds}
-use Rattle.template_tree.specs.Positions.Place.{PlainPlace}
 use Rattle.plcs_code.specs.declared.heading_entry.HeadingEntry.{HeadingEntry}
 use Rattle.plcs_code.specs.ExprCode.{argument_instrs, arguments_instrs, expr_count, expr_instrs, exprs_instrs, index_instrs, variable_instr}
 use Rattle.plcs_code.specs.Gen.{PlainCode}
@@ -33,18 +31,18 @@ use Rattle.plcs_store.specs.Limit.{most_frames}
 use Rattle.plcs_store.specs.NewFrame.{new_frame, other_variables, parameter_of, parameter_variables}
 use Rattle.plcs_store.specs.Outcome.{Outcome, faults, if_there, then_gives}
 use Rattle.plcs_store.specs.Spot.{Callee}
-use Rattle.plcs_store.specs.Step.{PlainStepAnswer, call_going, called_frame, enter_going, step_answer}
-use Rattle.plcs_machine.specs.Exec.{called, making_for}
+use Rattle.plcs_store.specs.Step.{PlainStepAnswer, call_going, enter_going, step_answer}
+use Rattle.plcs_machine.specs.Exec.{called}
 use Rattle.plcs_machine.specs.Fetched.{Fetched, behind_one, result_of, with_result}
 use Rattle.plcs_machine.specs.Lead.{Lead, enters_lead}
-use Rattle.plcs_machine.specs.Passing.{Landing, Making, landing, passed, passing_of, settle, with_parameter, with_unset, with_variable, with_variables}
+use Rattle.plcs_machine.specs.Passing.{Landing, Making, passed, passing_of, settle, with_unset, with_variable, with_variables}
 use Rattle.plcs_machine.specs.Reached.{reached}
-use Rattle.plcs_machine.proofs.CalledFrames.{FirstMade, IsParameter, all_parts, first_made, kept_items, parameter_is}
-use Rattle.plcs_machine.proofs.FreshVariables.{Added, Named}
+use Rattle.plcs_machine.proofs.CalledFrames.{all_parts, first_made, kept_items, parameter_is}
+use Rattle.plcs_machine.proofs.FreshVariables.{Added}
 use Rattle.plcs_machine.proofs.RunArguments.{arguments_add, arguments_count}
 use Rattle.plcs_machine.proofs.RunExpressions.{after, answer, led, one_step}
 use Rattle.plcs_machine.proofs.RunLandings.{answer_then}
-use Rattle.plcs_machine.proofs.RunSpots.{Meets, meets_after, meets_by, meets_same, split}
+use Rattle.plcs_machine.proofs.RunSpots.{Meets, meets_after, meets_by, split}
 use Rattle.plcs_machine.proofs.StandingCode.{HasAt, has_first, has_second}
 use Rattle.plcs_machine.proofs.TreeBegun.{result_behind}
 

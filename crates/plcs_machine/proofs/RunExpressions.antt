@@ -1,7 +1,7 @@
 -- The code of an expression pushes what the expression comes to, or stops the step as that does. There always is room for the operands:
 -- a phrase has at most 400 bytes, and between two operands stand two bytes or more.
-use Rattle.std.specs.Prelude.{◌≡◌, refl, ℕ, zero, suc, ◌+◌, ◌≤◌, ◌<◌, nat_le, nat_lt, ℤ, Bool, true, false, if◌then◌else◌, List, [], ◌∷◌, ◌++◌, codes, drop, length, reverse, slice_get, take, Option, Some, None, option_map}
-use Rattle.std.proofs.Common.{ap, sym, ◌∙◌, subst, arith, append_assoc}
+use Rattle.std.specs.Prelude.{◌≡◌, refl, ℕ, suc, ◌+◌, ◌≤◌, nat_le, ℤ, Bool, true, if◌then◌else◌, List, [], ◌∷◌, ◌++◌, codes, drop, length, reverse, slice_get, take, Option, Some, None}
+use Rattle.std.proofs.Common.{ap, sym, ◌∙◌, arith, append_assoc}
 use Rattle.std.proofs.Math.Seq.{drop-append_seam, take-append_seam}
 use Rattle.std.proofs.lemmas.Bool.{le-leb, lt-ltb}
 use Rattle.std.proofs.lemmas.Grind.{reverse_onto}
@@ -11,23 +11,22 @@ use Rattle.plcs_grammar.specs.Canon.{behind_sign, canon, canon_behind, canon_lis
 use Rattle.plcs_grammar.specs.PlainPhrase.{PlainExpr, PlainExprs, PlainVarRef}
 use Rattle.plcs_grammar.specs.Builtin.{builtin_name}
 use Rattle.plcs_grammar.specs.Sign.{infix_sign, prefix_sign, sign_bytes}
-use Rattle.plcs_code.specs.ExprCode.{expr_count, expr_instrs, exprs_instrs, index_instrs, variable_instr}
+use Rattle.plcs_code.specs.ExprCode.{expr_count, expr_instrs, exprs_instrs}
 use Rattle.plcs_code.specs.Gen.{PlainCode}
 use Rattle.plcs_code.specs.PlainInstr.{PlainInstr}
 use Rattle.plcs_store.specs.declared.argument.Argument.{Argument}
 use Rattle.plcs_store.specs.declared.cell.Location.{Location}
 use Rattle.plcs_store.specs.declared.frame.Frame.{Frame}
-use Rattle.plcs_store.specs.declared.reason.Reason.{Reason}
 use Rattle.plcs_store.specs.BuiltinValue.{builtin_value}
-use Rattle.plcs_store.specs.CellAt.{located, newest, value_at}
+use Rattle.plcs_store.specs.CellAt.{located, value_at}
 use Rattle.plcs_store.specs.Configuration.{PlainConfiguration}
-use Rattle.plcs_store.specs.ExpressionValue.{expression_value, expression_values, name_of_reference, subscript_value}
+use Rattle.plcs_store.specs.ExpressionValue.{expression_value, expression_values}
 use Rattle.plcs_store.specs.Limit.{most_operands}
 use Rattle.plcs_store.specs.Operator.{infix_value, on_number, prefix_value}
 use Rattle.plcs_store.specs.Outcome.{Outcome, both_give, if_there, then_gives}
 use Rattle.plcs_store.specs.Step.{PlainStepAnswer}
 use Rattle.plcs_machine.specs.Exec.{outcome_answer, run_from}
-use Rattle.plcs_machine.specs.Fetched.{Fetched, behind_one, result_of}
+use Rattle.plcs_machine.specs.Fetched.{result_of}
 use Rattle.plcs_machine.specs.Lead.{Lead, has_operand_room, lead, load_lead, on_newest_number, on_some, push_lead}
 use Rattle.plcs_machine.specs.Passing.{settle}
 use Rattle.plcs_machine.specs.Reached.{reached}

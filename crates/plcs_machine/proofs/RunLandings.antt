@@ -1,6 +1,6 @@
 -- Where a run by code ends its step: it comes by jumps alone to the next place, whether it did an act before or not.
-use Rattle.std.specs.Prelude.{◌≡◌, refl, ℕ, zero, suc, ◌+◌, ◌≤◌, ◌<◌, ℤ, pos, ◌+ℤ◌, Bool, true, false, if◌then◌else◌, List, [], ◌∷◌, ◌++◌, length, slice_get, Option, Some, None, option_and_then, option_map}
-use Rattle.std.proofs.Common.{ap, sym, ◌∙◌, subst, arith}
+use Rattle.std.specs.Prelude.{◌≡◌, refl, ℕ, zero, suc, ◌+◌, ◌<◌, ℤ, List, [], Option, Some, None, option_and_then, option_map}
+use Rattle.std.proofs.Common.{ap, sym, ◌∙◌, arith}
 use Rattle.plcs_base.specs.declared.value.Value.{Value}
 use Rattle.plcs_code.specs.Gen.{PlainCode}
 use Rattle.plcs_code.specs.Landing.{Lands, LandsBy}
@@ -12,12 +12,12 @@ use Rattle.plcs_store.specs.Act.{Act, done}
 use Rattle.plcs_store.specs.Configuration.{PlainConfiguration}
 use Rattle.plcs_store.specs.Outcome.{Outcome, if_there, then_gives}
 use Rattle.plcs_store.specs.Step.{Going, PlainStepAnswer, going_on, step_answer}
-use Rattle.plcs_machine.specs.Exec.{acted, run_from}
+use Rattle.plcs_machine.specs.Exec.{acted}
 use Rattle.plcs_machine.specs.Fetched.{Fetched, behind_one, result_of, with_result}
-use Rattle.plcs_machine.specs.Lead.{Lead, acting_at, address_at, jump_target, lead, then_acts}
-use Rattle.plcs_machine.specs.Passing.{Landing, Making, landing, passed, passing_of, settle}
-use Rattle.plcs_machine.proofs.RunExpressions.{after, after_then, answer, led, led_on, one_step}
-use Rattle.plcs_machine.proofs.TreeBegun.{result_behind, result_with}
+use Rattle.plcs_machine.specs.Lead.{Lead, address_at, then_acts}
+use Rattle.plcs_machine.specs.Passing.{Landing, landing, passed, passing_of, settle}
+use Rattle.plcs_machine.proofs.RunExpressions.{after, answer, led, led_on, one_step}
+use Rattle.plcs_machine.proofs.TreeBegun.{result_behind}
 
 -- ---- jumps
 

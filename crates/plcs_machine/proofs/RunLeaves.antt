@@ -1,7 +1,7 @@
 -- A procedure is left by code as it is in the tree's step: in main the run is over, and else the caller goes on where it waits.
-use Rattle.std.specs.Prelude.{◌≡◌, refl, ℕ, zero, suc, ◌-◌, ◌+◌, ◌≤◌, ◌<◌, nat_le, ℤ, Bool, true, false, if◌then◌else◌, List, [], ◌∷◌, length, slice_get, Option, Some, None, option_and_then, option_map}
+use Rattle.std.specs.Prelude.{◌≡◌, refl, ℕ, suc, ◌+◌, ◌≤◌, nat_le, Bool, true, false, if◌then◌else◌, List, [], length, slice_get, Option, Some, None, option_and_then, option_map}
 use Rattle.std.specs.FinMap.{get}
-use Rattle.std.proofs.Common.{ap, sym, ◌∙◌, subst, arith}
+use Rattle.std.proofs.Common.{ap, sym, ◌∙◌, arith}
 use Rattle.std.proofs.lemmas.Option.{none-some, same_Some}
 use Rattle.plcs_code.specs.Gen.{PlainCode}
 use Rattle.plcs_code.specs.Landing.{Lands}

@@ -1,20 +1,19 @@
 -- What stands at a place is run by the code that stands behind its address: each part of the step is worked on in its order, and the
 -- step ends where the spot says. Only what the tree's step is defined for is told here: in what isn't, kinds may be tested later.
-use Rattle.std.specs.Prelude.{◌≡◌, refl, ℕ, zero, suc, ◌+◌, ◌≤◌, ◌<◌, ◌==◌, nat_le, ℤ, pos, ◌+ℤ◌, Bool, true, false, if◌then◌else◌, List, [], ◌∷◌, ◌++◌, codes, length, reverse, slice_get, Option, Some, None, option_and_then, option_map}
-use Rattle.std.proofs.Common.{ap, sym, ◌∙◌, subst, arith}
-use Rattle.std.proofs.lemmas.List.{append-nil, length-append}
+use Rattle.std.specs.Prelude.{◌≡◌, refl, ℕ, zero, suc, ◌+◌, ◌≤◌, ◌<◌, ℤ, pos, ◌+ℤ◌, Bool, true, false, if◌then◌else◌, List, [], ◌∷◌, ◌++◌, codes, length, reverse, slice_get, Option, Some, None}
+use Rattle.std.proofs.Common.{ap, sym, ◌∙◌, arith}
+use Rattle.std.proofs.lemmas.List.{length-append}
 use Rattle.std.proofs.lemmas.Option.{none-some}
 use Rattle.plcs_base.specs.declared.value.Value.{Value}
-use Rattle.plcs_grammar.specs.Canon.{Canon, behind_sign, canon, canon_list, canon_reference, joined, parenthesized_bytes}
+use Rattle.plcs_grammar.specs.Canon.{Canon, behind_sign, canon, canon_list, canon_reference, parenthesized_bytes}
 use Rattle.plcs_grammar.specs.declared.sign.Sign.{Sign}
 use Rattle.plcs_grammar.specs.Sign.{sign_bytes}
 use Rattle.plcs_grammar.specs.PlainPhrase.{PlainExpr, PlainExprs, PlainPhrase, PlainVarRef}
-use Rattle.plcs_code.specs.ExprCode.{expr_count, expr_instrs, exprs_instrs, index_instrs, listed_instrs, variable_instr}
+use Rattle.plcs_code.specs.ExprCode.{expr_count, expr_instrs, exprs_instrs, index_instrs, variable_instr}
 use Rattle.plcs_code.specs.Gen.{PlainCode}
 use Rattle.plcs_code.specs.Landing.{Lands}
 use Rattle.plcs_code.specs.PlainInstr.{PlainInstr}
 use Rattle.template_tree.specs.Positions.Place.{PlainPlace}
-use Rattle.plcs_store.specs.declared.argument.Argument.{Argument}
 use Rattle.plcs_store.specs.declared.cell.Location.{Location}
 use Rattle.plcs_store.specs.declared.kept_loop.KeptLoop.{KeptLoop}
 use Rattle.plcs_store.specs.declared.reason.Reason.{Reason}
@@ -27,7 +26,7 @@ use Rattle.plcs_store.specs.Operator.{fixed_value, on_bit, on_number}
 use Rattle.plcs_store.specs.Outcome.{Outcome, if_there, then_gives}
 use Rattle.plcs_store.specs.OutputItem.{output_with}
 use Rattle.plcs_store.specs.Step.{Going, PlainStepAnswer, assignment_act, begin_going, entry_going, going_on, is_over, item_act, iteration_going, loop_going, output_act, read_act, step_answer, storing, test_going, write_act}
-use Rattle.plcs_machine.specs.Lead.{Lead, acting_at, address_at, body_address, enter_lead, has_loop_room, jump_target, lead, then_acts}
+use Rattle.plcs_machine.specs.Lead.{Lead, acting_at, address_at, body_address, has_loop_room, jump_target, lead, then_acts}
 use Rattle.plcs_machine.specs.Reached.{reached}
 use Rattle.plcs_machine.proofs.RunExpressions.{after, after_same, after_then, answer, expr_runs, exprs_run, led, led_on, led_some, one_step, then_assoc, values_count}
 use Rattle.plcs_machine.proofs.RunLandings.{answer_then, going_then, led_acts, led_then_acts, runs_on}

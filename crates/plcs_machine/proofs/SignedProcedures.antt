@@ -2,39 +2,36 @@
 -- is entered at the address that the code knows of the name.
 use Rattle.std.specs.Prelude.{◌≡◌, refl, ℕ, ◌+◌, ◌≤◌, ◌==◌, ◌&&◌, Bool, true, false, bytes_eq, flat_map, if◌then◌else◌, List, [], ◌∷◌, ◌++◌, length, map, slice_get, take, Option, Some, None, is_some, option_and_then, option_map, unwrap_or}
 use Rattle.std.specs.FinMap.{get}
-use Rattle.std.specs.List.{list_all, list_any}
+use Rattle.std.specs.List.{list_all}
 use Rattle.std.specs.Option.{option_or, option_to_list}
-use Rattle.std.proofs.Common.{ap, sym, ◌∙◌, subst, arith, ◌⊎◌, inl, inr}
-use Rattle.std.proofs.Math.Bool.{false≢true}
+use Rattle.std.proofs.Common.{ap, sym, ◌∙◌, subst, arith}
 use Rattle.std.proofs.lemmas.Bool.{eq-eqb, eqb-true, ne_eqb}
 use Rattle.std.proofs.lemmas.Option.{none-some, same_Some}
 use Rattle.plcs_base.specs.Mark.{MarkMap}
 use Rattle.plcs_base.specs.Scope.{ItemMap}
 use Rattle.plcs_base.specs.declared.declared.Declared.{Declared}
 use Rattle.plcs_grammar.specs.declared.node_kind.NodeKind.{NodeKind}
-use Rattle.plcs_grammar.specs.declared.node_kind.Sort.{Sort}
 use Rattle.plcs_grammar.specs.declared.template.Template.{Template}
 use Rattle.plcs_grammar.specs.PlainPhrase.{PlainPhrase}
 use Rattle.plcs_grammar.specs.Template.{PlainSection, procedure_sections, row_of}
-use Rattle.template_tree.specs.Checks.Environment.{Heading, Items, Sig, Signature, heading_of, heading_with, items_inside, may_be_called, name_given, parameter_kinds, parameters_given, procedure_at, signature_for, signature_of}
+use Rattle.template_tree.specs.Checks.Environment.{Heading, Sig, Signature, heading_of, heading_with, items_inside, may_be_called, name_given, parameter_kinds, parameters_given, procedure_at, signature_for, signature_of}
 use Rattle.template_tree.specs.Checks.ProgramMaps.{ScopeTells, items_in}
-use Rattle.template_tree.specs.Positions.Place.{PlainPlace, Site, begin, end_at, in_turn, inner_end, is_statement, place_at, site, site_among}
+use Rattle.template_tree.specs.Positions.Place.{PlainPlace, Site, begin, end_at, in_turn, inner_end, place_at, site, site_among}
 use Rattle.template_tree.specs.Programs.PlainTree.{Forest, Label, PlainNode}
-use Rattle.template_tree.specs.Programs.Program.{Fill, IsNode, IsProgram, sort_of, sorts}
+use Rattle.template_tree.specs.Programs.Program.{Fill, IsProgram, sorts}
 use Rattle.template_tree.specs.Programs.Slots.{times}
 use Rattle.template_tree.specs.Programs.Part.{part_at}
 use Rattle.plcs_code.specs.ExprCode.{counter_name}
 use Rattle.plcs_code.specs.declared.heading_entry.HeadingEntry.{HeadingEntry}
-use Rattle.plcs_code.specs.Gen.{Gen, PlainCode, code_around, codes_around, has_code, node_codes, node_lengths}
-use Rattle.plcs_code.specs.Landing.{length_before}
-use Rattle.plcs_code.specs.Pieces.{CodeJumps, CodePieces, cell_instr, first_length, jumps, kind_jumps, kind_pieces, other_lengths, parameters_instrs, pieces, suspension}
+use Rattle.plcs_code.specs.Gen.{Gen, codes_around, has_code, node_codes, node_lengths}
+use Rattle.plcs_code.specs.Pieces.{cell_instr, first_length, jumps, kind_jumps, kind_pieces, other_lengths, parameters_instrs, pieces, suspension}
 use Rattle.plcs_code.specs.PlainInstr.{PlainInstr}
 use Rattle.plcs_store.specs.Spot.{Callee, callee_named, callee_of, callee_with}
 use Rattle.plcs_machine.proofs.CalledFrames.{called_added}
-use Rattle.plcs_machine.proofs.FoundSites.{IsOfNode, site_is}
+use Rattle.plcs_machine.proofs.FoundSites.{site_is}
 use Rattle.plcs_machine.proofs.FreshVariables.{inside_apart, inside_few}
 use Rattle.plcs_machine.proofs.RunCalls.{EntersAt}
-use Rattle.plcs_machine.proofs.SiteCode.{CodeLawsHold, IsCodeOf, code_of_site}
+use Rattle.plcs_machine.proofs.SiteCode.{CodeLawsHold, code_of_site}
 use Rattle.plcs_machine.proofs.SiteRuns.{has_both}
 use Rattle.plcs_machine.proofs.StandingCode.{HasAt, has_first}
 use Rattle.plcs_machine.proofs.TreeBegun.{procedure_has}

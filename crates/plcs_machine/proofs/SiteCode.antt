@@ -1,6 +1,6 @@
 -- What is known of the code of a site of a program: where it stands, where a run goes on behind it and inside it, and which places have
 -- their addresses there. All of it is what the laws of code tell.
-use Rattle.std.specs.Prelude.{◌≡◌, refl, ℕ, ◌+◌, ◌≤◌, ◌<◌, Bool, true, false, is_some, List, [], ◌∷◌, ◌++◌, length, map, sum, slice_get, take, Option, Some, None, option_map}
+use Rattle.std.specs.Prelude.{◌≡◌, refl, ℕ, ◌+◌, ◌≤◌, true, is_some, List, [], ◌∷◌, ◌++◌, length, map, sum, slice_get, Option, Some}
 use Rattle.std.specs.FinMap.{get}
 use Rattle.std.specs.List.{list_any}
 use Rattle.std.specs.Option.{option_to_list}
@@ -14,7 +14,6 @@ use Rattle.plcs_base.specs.declared.declared.Declared.{Declared}
 use Rattle.plcs_grammar.specs.declared.node_kind.NodeKind.{NodeKind}
 use Rattle.plcs_grammar.specs.declared.template.Template.{Template}
 use Rattle.plcs_grammar.specs.PlainPhrase.{PlainPhrase}
-use Rattle.template_tree.specs.Checks.ProgramMaps.{items_in}
 use Rattle.template_tree.specs.Positions.Place.{PlainPlace, Site, begin, is_statement, place_at, site}
 use Rattle.template_tree.specs.Programs.Part.{part_at}
 use Rattle.template_tree.specs.Programs.PlainTree.{Forest, Label}
@@ -24,7 +23,7 @@ use Rattle.plcs_code.specs.CodeLaws.{CallsComeBack, EntriesAreHeadings, EntriesB
 use Rattle.plcs_code.specs.ExprCode.{counter_name}
 use Rattle.plcs_code.specs.Gen.{Gen, code_around, code_with, codes_around, codes_joined, has_code, is_call, length_around, node_codes, node_lengths}
 use Rattle.plcs_code.specs.Landing.{BodiesBegin, Lands, SecondBodiesBegin, StatementsGoOn, StepsHaveAddresses, length_before}
-use Rattle.plcs_code.specs.Pieces.{CodeJumps, CodePieces, first_length, kind_jumps, kind_pieces, other_lengths, suspension}
+use Rattle.plcs_code.specs.Pieces.{CodeJumps, CodePieces, first_length, kind_jumps, kind_pieces, other_lengths}
 use Rattle.plcs_code.specs.PlainInstr.{PlainInstr, place_of}
 use Rattle.plcs_machine.proofs.StandingCode.{HasAt, has_at}
 

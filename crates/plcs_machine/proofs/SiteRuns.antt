@@ -1,11 +1,10 @@
 -- What stands at a place of a site is what the code there runs: by the kind of the node, each spot is the one whose code stands behind
 -- the address of the place.
-use Rattle.std.specs.Prelude.{◌≡◌, refl, ℕ, zero, suc, ◌+◌, ◌≤◌, ◌<◌, ◌==◌, nat_lt, ℤ, pos, ◌+ℤ◌, neg_ℤ, Bool, true, false, not, ◌&&◌, ◌||◌, if◌then◌else◌, List, [], ◌∷◌, ◌++◌, drop, length, map, sum, slice_get, take, Option, Some, None, is_some, option_and_then, option_map}
+use Rattle.std.specs.Prelude.{◌≡◌, refl, ℕ, zero, suc, ◌+◌, ◌≤◌, ◌<◌, nat_lt, ℤ, pos, neg_ℤ, Bool, true, false, ◌||◌, if◌then◌else◌, List, [], ◌∷◌, ◌++◌, drop, length, map, slice_get, take, Option, Some, None, option_and_then, option_map}
 use Rattle.std.specs.FinMap.{get}
 use Rattle.std.specs.List.{list_any}
 use Rattle.std.specs.Option.{option_or, option_to_list}
 use Rattle.std.proofs.Common.{ap, sym, ◌∙◌, subst, arith, ◌⊎◌, inl, inr}
-use Rattle.std.proofs.Math.Bool.{false≢true}
 use Rattle.std.proofs.lemmas.Bool.{le-ltb, lt-ltb, ltb-false, ltb-true}
 use Rattle.std.proofs.lemmas.Int.{ints}
 use Rattle.std.proofs.lemmas.List.{length-append}
@@ -17,25 +16,25 @@ use Rattle.plcs_grammar.specs.declared.category.Category.{Category}
 use Rattle.plcs_grammar.specs.declared.node_kind.NodeKind.{NodeKind}
 use Rattle.plcs_grammar.specs.declared.node_kind.Sort.{Sort}
 use Rattle.plcs_grammar.specs.declared.template.Template.{Template}
-use Rattle.plcs_grammar.specs.Canon.{Canon, canon, canon_call, canon_list, canon_reference, comma, joined, more_joined, parenthesized_bytes}
+use Rattle.plcs_grammar.specs.Canon.{Canon, canon, canon_call, canon_list, canon_reference, comma, joined, more_joined}
 use Rattle.plcs_grammar.specs.PlainPhrase.{PlainExpr, PlainExprs, PlainPhrase, PlainVarRef}
-use Rattle.plcs_grammar.specs.Template.{PlainSection, list_of, row_of}
+use Rattle.plcs_grammar.specs.Template.{PlainSection, row_of}
 use Rattle.template_tree.specs.Checks.ProgramMaps.{items_in}
 use Rattle.template_tree.specs.Positions.Place.{PlainPlace, Site, begin, is_statement, item_count, place_at}
 use Rattle.template_tree.specs.Programs.Part.{part_at}
 use Rattle.template_tree.specs.Programs.PlainTree.{Forest, Label}
-use Rattle.template_tree.specs.Programs.Program.{AreParts, Fill, IsNode, IsPart, IsPartPhrase, parts_of, sort_of, sorts}
+use Rattle.template_tree.specs.Programs.Program.{AreParts, Fill, IsNode, IsPart, parts_of, sort_of, sorts}
 use Rattle.plcs_code.specs.CodeLaws.{LengthsAreTold, ends_step}
-use Rattle.plcs_code.specs.ExprCode.{arguments_instrs, counter_name, expr_count, expr_instrs, exprs_instrs, index_instrs, items_instrs, listed_exprs, listed_instrs, part_instrs, phrase_instrs, variable_instr}
-use Rattle.plcs_code.specs.Gen.{Gen, PlainCode, code_around, code_with, codes_around, codes_joined, is_call, length_around, node_codes, node_lengths}
+use Rattle.plcs_code.specs.ExprCode.{arguments_instrs, expr_count, expr_instrs, exprs_instrs, index_instrs, items_instrs, listed_exprs, listed_instrs, variable_instr}
+use Rattle.plcs_code.specs.Gen.{Gen, PlainCode, code_around, code_with, codes_around, is_call, length_around, node_codes, node_lengths}
 use Rattle.plcs_code.specs.Landing.{Lands, length_before}
-use Rattle.plcs_code.specs.Pieces.{CodeJumps, CodePieces, first_length, jumps, no_jumps, one_piece, other_lengths, piece_at, pieces, suspension}
+use Rattle.plcs_code.specs.Pieces.{first_length, jumps, no_jumps, one_piece, other_lengths, piece_at, pieces, suspension}
 use Rattle.plcs_code.specs.PlainInstr.{PlainInstr, place_of}
 use Rattle.plcs_store.specs.declared.reason.Reason.{Reason}
 use Rattle.plcs_store.specs.CellAt.{located}
 use Rattle.plcs_store.specs.Configuration.{PlainConfiguration}
 use Rattle.plcs_store.specs.Outcome.{Outcome}
-use Rattle.plcs_store.specs.Spot.{Callee, Spot, assignment_spot, behind_first, behind_item, call_spot, for_spot, get_spot, said, variables_in, halt_reason, iteration_spot, needing, put_spot, site_spot, start_spot, template_start, test_spot}
+use Rattle.plcs_store.specs.Spot.{Callee, Spot, assignment_spot, behind_first, behind_item, call_spot, for_spot, get_spot, said, variables_in, halt_reason, iteration_spot, needing, put_spot, start_spot, template_start, test_spot}
 use Rattle.plcs_store.specs.Step.{PlainStepAnswer, spot_answer}
 use Rattle.plcs_machine.specs.Lead.{Lead, has_loop_room, lead}
 use Rattle.plcs_machine.specs.Reached.{reached}
@@ -242,27 +241,27 @@ module _ (told : LengthsAreTold) (marks : MarkMap) (items : ItemMap) (program : 
       → RunsAt (place_at slot 0) spot
   one_needed kind part spot wanted is parts ends shape e runs =
       by (first_stops marks slot part)
-      where
-        need : needing (mark_of marks slot) (part ∷ []) (0 ∷ []) wanted ≡ Some spot
-        need = ap (λ (l : List (Option PlainPhrase)). needing (mark_of marks slot) l (0 ∷ []) wanted) (sym parts) ∙ e
+    where
+      need : needing (mark_of marks slot) (part ∷ []) (0 ∷ []) wanted ≡ Some spot
+      need = ap (λ (l : List (Option PlainPhrase)). needing (mark_of marks slot) l (0 ∷ []) wanted) (sym parts) ∙ e
 
-        by : ((suspension marks slot (part ∷ []) ≡ None) × (halt_reason (mark_of marks slot) (part ∷ []) (0 ∷ []) ≡ None))
-            ⊎ ((instr : PlainInstr) × (why : Reason) × (suspension marks slot (part ∷ []) ≡ Some instr) × (halt_reason (mark_of marks slot) (part ∷ []) (0 ∷ []) ≡ Some why) × Halts instr why)
-            → RunsAt (place_at slot 0) spot
-        by (inl (stop, none)) =
-            runs (stands_as kind (part ∷ []) None None is parts stop stop)
-            (ap (λ (r : Option Reason). option_or (option_map Spot.halts r) wanted) (sym none) ∙ need)
-        by (inr (instr, why, stop, reason, halts)) =
-            let stands = stands_as kind (part ∷ []) (Some instr) (Some instr) is parts stop stop in
-            let own = own_of slot declared codes kind (part ∷ []) (Some instr) (Some instr) in
-            let around = around_of slot declared codes kind (part ∷ []) (Some instr) (Some instr) in
-            let first : HasAt instrs start own.before =
-            has_first instrs start own.before (option_to_list around.ahead ++ (codes_around (option_to_list around.between) codes ++ (own.behind ++ option_to_list around.back))) stands.has in
-            let piece : HasAt instrs start (PlainInstr.place (place_at slot 0) ∷ (instr ∷ [])) = subst (HasAt instrs start) (shape instr) first in
-            let same : Spot.halts why ≡ spot =
-            same_Some (Spot.halts why) spot (ap (λ (r : Option Reason). option_or (option_map Spot.halts r) wanted) (sym reason) ∙ need) in
-            subst (RunsAt (place_at slot 0)) same
-            (halting instr why start 0 halts (ap (λ (k : NodeKind). ends_step k 0) is ∙ ends) piece.0 piece.1.0)
+      by : ((suspension marks slot (part ∷ []) ≡ None) × (halt_reason (mark_of marks slot) (part ∷ []) (0 ∷ []) ≡ None))
+          ⊎ ((instr : PlainInstr) × (why : Reason) × (suspension marks slot (part ∷ []) ≡ Some instr) × (halt_reason (mark_of marks slot) (part ∷ []) (0 ∷ []) ≡ Some why) × Halts instr why)
+          → RunsAt (place_at slot 0) spot
+      by (inl (stop, none)) =
+          runs (stands_as kind (part ∷ []) None None is parts stop stop)
+          (ap (λ (r : Option Reason). option_or (option_map Spot.halts r) wanted) (sym none) ∙ need)
+      by (inr (instr, why, stop, reason, halts)) =
+          let stands = stands_as kind (part ∷ []) (Some instr) (Some instr) is parts stop stop in
+          let own = own_of slot declared codes kind (part ∷ []) (Some instr) (Some instr) in
+          let around = around_of slot declared codes kind (part ∷ []) (Some instr) (Some instr) in
+          let first : HasAt instrs start own.before =
+          has_first instrs start own.before (option_to_list around.ahead ++ (codes_around (option_to_list around.between) codes ++ (own.behind ++ option_to_list around.back))) stands.has in
+          let piece : HasAt instrs start (PlainInstr.place (place_at slot 0) ∷ (instr ∷ [])) = subst (HasAt instrs start) (shape instr) first in
+          let same : Spot.halts why ≡ spot =
+          same_Some (Spot.halts why) spot (ap (λ (r : Option Reason). option_or (option_map Spot.halts r) wanted) (sym reason) ∙ need) in
+          subst (RunsAt (place_at slot 0)) same
+          (halting instr why start 0 halts (ap (λ (k : NodeKind). ends_step k 0) is ∙ ends) piece.0 piece.1.0)
 
   -- ---- statements with nothing inside
 

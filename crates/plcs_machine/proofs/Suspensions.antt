@@ -1,18 +1,16 @@
 -- What stops a run at a piece of code stops it in the tree's step, and for the same reason: a part that is needed is empty, or marked.
-use Rattle.std.specs.Prelude.{◌≡◌, refl, ℕ, ◌+◌, Bool, true, false, not, ◌||◌, if◌then◌else◌, List, [], ◌∷◌, length, slice_get, take, Option, Some, None, is_none, is_some, option_map}
+use Rattle.std.specs.Prelude.{◌≡◌, refl, ℕ, ◌+◌, Bool, true, false, not, ◌||◌, if◌then◌else◌, [], ◌∷◌, Option, Some, None, is_none, is_some}
 use Rattle.std.specs.FinMap.{get}
 use Rattle.std.specs.List.{list_any}
-use Rattle.std.specs.Option.{option_or}
-use Rattle.std.proofs.Common.{ap, sym, ◌∙◌, arith, ◌⊎◌, inl, inr}
+use Rattle.std.proofs.Common.{sym, ◌⊎◌, inl, inr}
 use Rattle.std.proofs.Math.Bool.{false≢true}
 use Rattle.plcs_base.specs.Mark.{MarkMap}
 use Rattle.plcs_grammar.specs.PlainPhrase.{PlainPhrase}
 use Rattle.template_tree.specs.Checks.Mention.{phrase_at}
-use Rattle.template_tree.specs.Programs.Part.{part_at}
-use Rattle.plcs_code.specs.Pieces.{has_empty, has_marked_part, suspension}
+use Rattle.plcs_code.specs.Pieces.{has_marked_part, suspension}
 use Rattle.plcs_code.specs.PlainInstr.{PlainInstr}
 use Rattle.plcs_store.specs.declared.reason.Reason.{Reason}
-use Rattle.plcs_store.specs.Spot.{Spot, halt_reason, needing}
+use Rattle.plcs_store.specs.Spot.{halt_reason}
 
 -- an instruction stops a run for this reason
 abbrev pub Halts : PlainInstr → Reason → Type 0

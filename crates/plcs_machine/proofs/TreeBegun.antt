@@ -1,6 +1,6 @@
 -- The law `code_begins_as_tree`: the code of a tree begins with main's cells, which are those of main's effective items, and behind them
 -- stands the step at which a run begins in main.
-use Rattle.std.specs.Prelude.{◌≡◌, refl, ℕ, zero, suc, ◌+◌, ◌≤◌, ◌<◌, Bool, true, false, cond, ◌==◌, ◌||◌, bytes_eq, flat_map, if◌then◌else◌, List, [], ◌∷◌, ◌++◌, length, map, slice_get, slice_index_or, Option, Some, None, option_and_then, option_map, unwrap_or}
+use Rattle.std.specs.Prelude.{◌≡◌, refl, ℕ, ◌+◌, ◌≤◌, ◌<◌, Bool, true, false, cond, ◌||◌, flat_map, if◌then◌else◌, List, [], ◌∷◌, ◌++◌, length, map, slice_get, slice_index_or, Option, Some, None, option_and_then, option_map, unwrap_or}
 use Rattle.std.specs.FinMap.{find, get, get-from_entries}
 use Rattle.std.specs.List.{list_any}
 use Rattle.std.specs.Option.{option_or, option_to_list}
@@ -18,14 +18,13 @@ use Rattle.plcs_grammar.specs.declared.node_kind.NodeKind.{NodeKind}
 use Rattle.plcs_grammar.specs.declared.node_kind.Sort.{Sort}
 use Rattle.plcs_grammar.specs.declared.template.Template.{Template}
 use Rattle.plcs_grammar.specs.Template.{list_of, procedure_sections, program_sections, row_of}
-use Rattle.template_tree.specs.Checks.Environment.{Items, items_inside, procedure_at}
-use Rattle.template_tree.specs.Checks.ProgramMaps.{MarksTell, ScopeTells, items_in}
+use Rattle.template_tree.specs.Checks.Environment.{items_inside, procedure_at}
+use Rattle.template_tree.specs.Checks.ProgramMaps.{ScopeTells, items_in}
 use Rattle.template_tree.specs.Positions.Place.{PlainPlace, Site, begin, end_at, in_turn, inner_end, is_statement, place_at, site, site_among}
-use Rattle.template_tree.specs.Programs.PlainTree.{Forest, Label, PlainNode, PlainTree}
+use Rattle.template_tree.specs.Programs.PlainTree.{Forest, Label, PlainNode}
 use Rattle.template_tree.specs.Programs.Program.{Fill, IsProgram, sort_of, sorts}
 use Rattle.template_tree.specs.Programs.Slots.{first_slot}
-use Rattle.template_tree.specs.Programs.Tree.{IsTree}
-use Rattle.plcs_code.specs.Gen.{Gen, code_around, codes_around, codes_joined, has_code, length_around, node_codes, node_lengths, node_spans, span_by_slot}
+use Rattle.plcs_code.specs.Gen.{Gen, codes_around, codes_joined, has_code, length_around, node_codes, node_lengths, node_spans, span_by_slot}
 use Rattle.plcs_code.specs.Landing.{BodiesBegin, length_before}
 use Rattle.plcs_code.specs.declared.node_span.NodeSpan.{NodeSpan}
 use Rattle.plcs_code.specs.Pieces.{CodeJumps, CodePieces, cell_instr, first_length, jumps, other_lengths, own_jumps, own_pieces, pieces}
@@ -36,7 +35,7 @@ use Rattle.plcs_store.specs.NewFrame.{First, new_frame}
 use Rattle.plcs_machine.specs.Enter.{Enter, begun_in, new_run}
 use Rattle.plcs_machine.specs.Fetched.{Fetched, behind_one, result_of, with_result}
 use Rattle.plcs_machine.specs.MachineLaws.{CodeBeginsAsTree}
-use Rattle.plcs_machine.specs.Passing.{Landing, landing}
+use Rattle.plcs_machine.specs.Passing.{landing}
 use Rattle.plcs_machine.proofs.FreshVariables.{Added, inside_added}
 
 -- ---- results alone

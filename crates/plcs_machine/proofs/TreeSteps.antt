@@ -9,12 +9,11 @@ use Rattle.std.proofs.lemmas.Bool.{eqb-true, le-leb, leb-false, lt-ltb}
 use Rattle.std.proofs.lemmas.Option.{none-some, same_Some}
 use Rattle.plcs_base.specs.Mark.{MarkMap}
 use Rattle.plcs_base.specs.Scope.{ItemMap}
-use Rattle.plcs_grammar.specs.declared.category.Category.{Category}
 use Rattle.plcs_grammar.specs.declared.node_kind.NodeKind.{NodeKind}
 use Rattle.plcs_grammar.specs.declared.template.Template.{Template}
 use Rattle.plcs_grammar.specs.PlainPhrase.{PlainPhrase}
 use Rattle.template_tree.specs.Checks.Marks.{Marks}
-use Rattle.template_tree.specs.Checks.ProgramMaps.{MarksTell, ScopeTells}
+use Rattle.template_tree.specs.Checks.ProgramMaps.{ScopeTells}
 use Rattle.template_tree.specs.Positions.Place.{PlainPlace, Site, begin, place_at, site}
 use Rattle.template_tree.specs.Programs.PlainTree.{Forest, PlainTree}
 use Rattle.template_tree.specs.Programs.Program.{IsNode, IsProgram, sorts}
@@ -22,7 +21,6 @@ use Rattle.template_tree.specs.Programs.Slots.{times}
 use Rattle.template_tree.specs.Programs.Tree.{IsTree}
 use Rattle.plcs_code.specs.Gen.{Gen, PlainCode, has_code}
 use Rattle.plcs_code.specs.Landing.{Lands}
-use Rattle.plcs_code.specs.Pieces.{suspension}
 use Rattle.plcs_code.specs.PlainInstr.{PlainInstr, place_of}
 use Rattle.plcs_store.specs.declared.frame.Frame.{Frame}
 use Rattle.plcs_store.specs.declared.reason.Reason.{Reason}
@@ -30,22 +28,22 @@ use Rattle.plcs_store.specs.CellAt.{located, newest}
 use Rattle.plcs_store.specs.Configuration.{PlainConfiguration, frame_place, top_place}
 use Rattle.plcs_store.specs.Fits.{Fits}
 use Rattle.plcs_store.specs.Limit.{most_frames, most_loops}
-use Rattle.plcs_store.specs.Spot.{Callee, Spot, at_one, behind_item, callee_named, halt_reason, iteration_spot, get_spot, needing, point_spot, said, site_spot, spot_at, start_spot, template_point, template_start, variable_in, variables_in}
-use Rattle.plcs_store.specs.Step.{PlainStepAnswer, Step, caller_place, leave_answer, spot_answer, step_by}
+use Rattle.plcs_store.specs.Spot.{Spot, at_one, behind_item, callee_named, halt_reason, iteration_spot, get_spot, needing, point_spot, said, site_spot, spot_at, start_spot, template_point, template_start, variable_in, variables_in}
+use Rattle.plcs_store.specs.Step.{PlainStepAnswer, Step, spot_answer}
 use Rattle.plcs_store.specs.StepLaws.{FittingCallersWait, FittingLoopsHaveRoom, FittingRunsStep}
 use Rattle.plcs_machine.specs.Exec.{Exec, run_behind}
 use Rattle.plcs_machine.specs.Fetched.{Fetched, result_of}
 use Rattle.plcs_machine.specs.Lead.{address_of, has_loop_room}
 use Rattle.plcs_machine.specs.MachineLaws.{CodeStepsAsTree, FittingRunsExec}
 use Rattle.plcs_machine.specs.Reached.{reached}
-use Rattle.plcs_machine.proofs.FoundSites.{IsOfNode, site_is}
+use Rattle.plcs_machine.proofs.FoundSites.{site_is}
 use Rattle.plcs_machine.proofs.ReachedCells.{same_reached}
 use Rattle.plcs_machine.proofs.RunExpressions.{answer}
 use Rattle.plcs_machine.proofs.RunLeaves.{WaitsLand, leaves_run}
 use Rattle.plcs_machine.proofs.RunSpots.{Meets}
 use Rattle.plcs_machine.proofs.SignedProcedures.{callee_enters}
 use Rattle.plcs_machine.proofs.SiteCode.{CodeLawsHold, IsCodeOf, code_of_site}
-use Rattle.plcs_machine.proofs.SiteRuns.{RunsAt, assign_runs, back_lands, call_runs, for_runs, get_point_runs, get_runs, hole_runs, if_else_runs, if_runs, iteration_runs, main_end, parameters_end, procedure_end, put_runs, read_within, return_address, while_runs}
+use Rattle.plcs_machine.proofs.SiteRuns.{assign_runs, back_lands, call_runs, for_runs, get_point_runs, get_runs, hole_runs, if_else_runs, if_runs, iteration_runs, main_end, parameters_end, procedure_end, put_runs, read_within, return_address, while_runs}
 use Rattle.plcs_machine.proofs.Suspensions.{mark_of}
 
 -- ---- spots that don't wait
