@@ -1,0 +1,4 @@
+-- where frames stand
+pub mod FoundFrames
+-- nodes as sites
+pub mod NodeSite
