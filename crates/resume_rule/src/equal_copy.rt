@@ -1,0 +1,126 @@
+//! Whether what is kept is as what there is now.
+ghost use Rattle.std.specs.Prelude.{◌≡◌, ◌↔◌, ◌<◌, ◌≤◌, IsTrue, None, Some, length, option_map, slice_get};
+ghost use Rattle.template_tree.specs.Checks.ProgramMaps.{items_in};
+ghost use Rattle.template_tree.specs.Programs.Limit.{most_cells};
+ghost use Rattle.template_tree.specs.Programs.PlainPhrasePlace.{plain_phrase_place};
+ghost use Rattle.resume_rule.specs.ResumeAnswer.{held_of_label};
+
+use decl_table::Decls;
+use plcs_base::{Declared, Scope, Slot};
+use plcs_grammar::same_phrase;
+use plcs_store::{CopiedParts, DeclaredList, HeldTemplate};
+use template_tree::{Node, PhrasePlace};
+
+/// Whether the node is of the kept kind, with the kept parts.
+pub(crate) fn is_template(node: &Node, kept: &HeldTemplate) -> bool
+    requires few { length node.now.label.parts < 256 }
+    ensures { IsTrue result ↔ (held_of_label node.now.label ≡ kept.now) }
+{
+    if node.kind() != kept.kind {
+        return false;
+    }
+    has_parts(node, &kept.parts)
+}
+
+/// Whether the node has the kept parts.
+pub(crate) fn has_parts(node: &Node, kept: &CopiedParts) -> bool
+    requires few { length node.now.label.parts < 256 }
+    ensures { IsTrue result ↔ (node.now.label.parts ≡ kept.now) }
+{
+    let mut part: u8 = 0;
+    while let Some(place) = node.part(part) {
+        if !is_copied(place, kept, part) {
+            return false;
+        }
+        part += 1;
+    }
+    is_last_part(kept, part)
+}
+
+/// The copied part of this number, counted from 0, or `None` where there is no such part.
+fn copied_part(kept: &CopiedParts, part: u8) -> Option<&PhrasePlace>
+    ensures { option_map (λ place. plain_phrase_place place.now) result ≡ slice_get kept.now part }
+{
+    kept.as_slice().get(part as usize)
+}
+
+/// Whether the copied parts end before the one of this number.
+fn is_last_part(kept: &CopiedParts, part: u8) -> bool
+    ensures { IsTrue result ↔ (slice_get kept.now part ≡ None) }
+{
+    match copied_part(kept, part) {
+        None => true,
+        Some(_) => false,
+    }
+}
+
+/// Whether what stands in a part is the copied part of this number.
+fn is_copied(place: &PhrasePlace, kept: &CopiedParts, part: u8) -> bool
+    ensures { IsTrue result ↔ (slice_get kept.now part ≡ Some (plain_phrase_place place.now)) }
+{
+    match copied_part(kept, part) {
+        None => false,
+        Some(copy) => is_same_place(place, copy),
+    }
+}
+
+/// Whether the same phrase stands in both parts, or nothing in either.
+fn is_same_place(one: &PhrasePlace, other: &PhrasePlace) -> bool
+    ensures { IsTrue result ↔ (plain_phrase_place one.now ≡ plain_phrase_place other.now) }
+{
+    match (one, other) {
+        (PhrasePlace::Empty, PhrasePlace::Empty) => true,
+        (PhrasePlace::Filled(phrase), PhrasePlace::Filled(copy)) => same_phrase(phrase, copy),
+        _ => false,
+    }
+}
+
+/// Whether the procedure has the kept effective items.
+pub(crate) fn has_items(decls: &Decls, procedure: Slot, kept: &DeclaredList) -> bool
+    requires few { length (items_in decls.now.items procedure.0) ≤ most_cells }
+    ensures { IsTrue result ↔ (items_in decls.now.items procedure.0 ≡ kept.now) }
+{
+    let mut k: u32 = 0;
+    while let Some(item) = item_of(decls, procedure, k) {
+        if !is_kept(&item, kept, k) {
+            return false;
+        }
+        k += 1;
+    }
+    is_last_item(kept, k)
+}
+
+/// The effective item of this number, counted from 0, or `None` where the procedure has no such item.
+#[tactic(auto, using(crate::proofs::FewItems::item_told))]
+fn item_of(decls: &Decls, procedure: Slot, k: u32) -> Option<Declared>
+    ensures { result ≡ slice_get (items_in decls.now.items procedure.0) k }
+{
+    decls.declared(procedure, k)
+}
+
+/// The kept item of this number, counted from 0, or `None` where there is no such item.
+fn kept_item(kept: &DeclaredList, k: u32) -> Option<&Declared>
+    ensures { option_map (λ item. item.now) result ≡ slice_get kept.now k }
+{
+    kept.as_slice().get(k as usize)
+}
+
+/// Whether the kept items end before the one of this number.
+fn is_last_item(kept: &DeclaredList, k: u32) -> bool
+    ensures { IsTrue result ↔ (slice_get kept.now k ≡ None) }
+{
+    match kept_item(kept, k) {
+        None => true,
+        Some(_) => false,
+    }
+}
+
+/// Whether an item is the kept one of this number.
+fn is_kept(item: &Declared, kept: &DeclaredList, k: u32) -> bool
+    ensures { IsTrue result ↔ (slice_get kept.now k ≡ Some item.now) }
+{
+    match kept_item(kept, k) {
+        None => false,
+        Some(copy) => copy == item,
+    }
+}
