@@ -1,5 +1,5 @@
 -- Lists that are copied one item after the other.
-use Rattle.std.specs.Prelude.{◌≡◌, refl, ℕ, ◌+◌, ◌<◌, ◌≤◌, List, [], ◌∷◌, ◌++◌, length, map, take, drop, slice_get, Option, Some, None, option_and_then, unwrap_or}
+use Rattle.std.specs.Prelude.{◌≡◌, refl, ℕ, ◌+◌, ◌<◌, List, [], ◌∷◌, ◌++◌, length, map, take, drop, slice_get, Option, Some, None, option_and_then, unwrap_or}
 use Rattle.std.specs.FinMap.{get}
 use Rattle.std.proofs.Common.{ap, sym, ◌∙◌, append_assoc, get_or}
 use Rattle.std.proofs.lemmas.List.{append-nil, map-append, take_more}

@@ -8,7 +8,7 @@ use Rattle.std.proofs.lemmas.Option.{none-some}
 use Rattle.plcs_grammar.specs.Template.{row_of}
 use Rattle.template_tree.specs.Positions.Path.{node_at}
 use Rattle.template_tree.specs.Positions.Place.{PlainPlace, Site, begin, end_at, in_turn, inner_end, site_among}
-use Rattle.template_tree.specs.Programs.PlainTree.{Forest, Label, PlainNode}
+use Rattle.template_tree.specs.Programs.PlainTree.{Forest, PlainNode}
 use Rattle.template_tree.specs.Programs.Slots.{times}
 use Rattle.suspend_state.specs.Private.NodeSite.{site_of}
 

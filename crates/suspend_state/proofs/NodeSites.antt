@@ -1,5 +1,5 @@
 -- A node that is found at the path of a slot tells where a run begins that comes to the slot, and what is held of it.
-use Rattle.std.specs.Prelude.{◌≡◌, ℕ, false, List, Option, Some, None, option_map}
+use Rattle.std.specs.Prelude.{◌≡◌, ℕ, false, List, Some, None, option_map}
 use Rattle.std.proofs.Common.{ap, sym, ◌∙◌, subst}
 use Rattle.std.proofs.lemmas.Option.{none-some, same_Some}
 use Rattle.template_tree.specs.Positions.Path.{node_at, slot_at}

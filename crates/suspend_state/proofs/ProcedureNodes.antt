@@ -1,6 +1,6 @@
 -- `procedure_node`: main and the procedures, gone through one after the other.
-use Rattle.std.specs.Prelude.{◌≡◌, refl, ℕ, ◌+◌, ◌==◌, Bool, true, false, if◌then◌else◌, List, drop, slice_get, Option, Some, None}
-use Rattle.std.proofs.Common.{ap, sym, ◌∙◌}
+use Rattle.std.specs.Prelude.{◌≡◌, ℕ, ◌+◌, ◌==◌, Bool, false, if◌then◌else◌, List, drop, slice_get, Option, Some, None}
+use Rattle.std.proofs.Common.{ap, ◌∙◌}
 use Rattle.std.proofs.lemmas.Bool.{eq-eqb}
 use Rattle.plcs_base.specs.ListLeft.{left_from, none_left}
 use Rattle.template_tree.specs.Checks.Environment.{procedure_at}

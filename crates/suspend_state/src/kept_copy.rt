@@ -1,13 +1,12 @@
 //! What is kept of the program for the frames of a run, copied from it.
-ghost use Rattle.std.specs.Prelude.{◌≡◌, ◌≤◌, ◌<◌, ℕ, IfOk, IfSome, IsSome, Some, length, map, option_map, slice_get};
-ghost use Rattle.template_tree.specs.Checks.Environment.{Items, procedure_at};
+ghost use Rattle.std.specs.Prelude.{◌≡◌, ◌≤◌, IfOk, IfSome, IsSome, Some, map, option_map};
+ghost use Rattle.template_tree.specs.Checks.Environment.{procedure_at};
 ghost use Rattle.template_tree.specs.Checks.ProgramMaps.{items_in};
 ghost use Rattle.template_tree.specs.Programs.PlainPhrasePlace.{plain_phrase_place};
 ghost use Rattle.template_tree.specs.Programs.Program.{IsSubtree};
 ghost use Rattle.template_tree.specs.Programs.Slots.{times};
 ghost use Rattle.template_tree.specs.Programs.Tree.{IsTree};
 ghost use Rattle.decl_table.specs.Agreement.{IsDeclsOf};
-ghost use Rattle.plcs_store.specs.declared.frame.Frame.{Frame};
 ghost use Rattle.plcs_store.specs.Configuration.{plain_configuration};
 ghost use Rattle.plcs_store.specs.Fits.{Fits};
 ghost use Rattle.plcs_store.specs.Resume.{IsKeptOf, heading_parts, template_held};

@@ -1,10 +1,4 @@
 //! The calls of a run that stands still.
-ghost use Rattle.std.specs.Prelude.{◌≡◌, None, OnErr, OnOk};
-ghost use Rattle.template_tree.specs.Programs.Tree.{IsTree};
-ghost use Rattle.plcs_store.specs.Configuration.{plain_configuration};
-ghost use Rattle.plcs_store.specs.Resume.{resolved};
-ghost use Rattle.suspend_state.specs.Suspension.{paused};
-
 use crate::kept_copy::kept_of;
 use crate::start::resolve_frames;
 use decl_table::Decls;

@@ -1,4 +1,4 @@
-use Rattle.std.specs.Prelude.{◌≡◌, ◌∷◌, [], None, Some, map, slice_get}
+use Rattle.std.specs.Prelude.{◌≡◌, ◌∷◌, [], Some, map, slice_get}
 use Rattle.std.proofs.Common.{ap, sym, ◌∙◌, ◌++◌, ◌+◌, drop, arith}
 use Rattle.std.proofs.lemmas.List.{map-append}
 use Rattle.std.proofs.lemmas.Option.{slice_get_within}

@@ -1,4 +1,4 @@
-use Rattle.std.specs.Prelude.{◌≡◌, List, Option, Some}
+use Rattle.std.specs.Prelude.{List, Option, Some}
 use Rattle.std.proofs.Common.{ap, sym, ◌∙◌}
 use Rattle.plcs_grammar.specs.declared.node_kind.NodeKind.{NodeKind}
 use Rattle.plcs_grammar.specs.PlainPhrase.{PlainPhrase}
