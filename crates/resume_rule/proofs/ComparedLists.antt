@@ -44,11 +44,11 @@ pub alike_ends : {A : Type 0} (n : ℕ) (xs ys : List A) {answer : Bool} → Ali
     → IsTrue answer ↔ (slice_get ys n ≡ None) → IsTrue answer ↔ (xs ≡ ys)
 alike_ends {A} n xs ys alike gone told = (
   (λ holds.
-  alike_lists xs ys (λ k.
-  below_or_past k n (slice_get xs k ≡ slice_get ys k) (alike k)
-  (λ past.
-  slice_get_past xs k (omega (arith, past, past_none xs n gone))
-  ∙ sym (slice_get_past ys k (omega (arith, past, past_none ys n (told.0 holds))))))),
+      alike_lists xs ys (λ k.
+      below_or_past k n (slice_get xs k ≡ slice_get ys k) (alike k)
+      (λ past.
+      slice_get_past xs k (omega (arith, past, past_none xs n gone))
+      ∙ sym (slice_get_past ys k (omega (arith, past, past_none ys n (told.0 holds))))))),
   (λ same. told.1 (sym (ap (λ (zs : List A). slice_get zs n) same) ∙ gone)),
 )
 

@@ -17,8 +17,8 @@ pub record HasEntries (c : PlainConfiguration) (kept : Kept) : Type 0 where
   pub held : length kept.held ≡ length c.frames
 
 -- the answer is right, a refusal or none: by what is kept the run may be resumed with this answer, and with no other
-abbrev pub IsAnswer : Kept → PlainConfiguration → (program : Forest) → Option ResumeRefusal → Type 0
-IsAnswer kept c program answer = (other : Option ResumeRefusal) → MayResume kept c program other ↔ (other ≡ answer)
+abbrev pub IsResumeAnswer : Kept → PlainConfiguration → (program : Forest) → Option ResumeRefusal → Type 0
+IsResumeAnswer kept c program answer = (other : Option ResumeRefusal) → MayResume kept c program other ↔ (other ≡ answer)
 
 -- ---- the answers of its parts
 

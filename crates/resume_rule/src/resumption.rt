@@ -5,7 +5,7 @@ ghost use Rattle.decl_table.specs.Agreement.{IsDeclsOf};
 ghost use Rattle.template_tree.specs.Programs.Tree.{IsTree};
 ghost use Rattle.plcs_store.specs.Configuration.{plain_configuration};
 ghost use Rattle.plcs_store.specs.Fits.{Fits};
-ghost use Rattle.resume_rule.specs.ResumeAnswer.{HasEntries, IsAnswer, IsFrameAnswer, IsFramesAnswer};
+ghost use Rattle.resume_rule.specs.ResumeAnswer.{HasEntries, IsResumeAnswer, IsFrameAnswer, IsFramesAnswer};
 
 use crate::frame_question::{heading_differs, items_differ, template_differs};
 use decl_table::Decls;
@@ -23,7 +23,7 @@ pub fn may_resume(run: &Run, tree: &Tree, decls: &Decls) -> Result<(), ResumeRef
     requires entries { IfSome run.now.kept (HasEntries (plain_configuration run.now.state)) }
     ensures unedited { run.now.kept ≡ None → result_err result ≡ None }
     ensures asked { IfSome run.now.kept (λ kept.
-        IsAnswer kept (plain_configuration run.now.state) tree.now.items (result_err result)) }
+        IsResumeAnswer kept (plain_configuration run.now.state) tree.now.items (result_err result)) }
 {
     let Some(kept) = &run.kept else {
         return Ok(());
