@@ -49,6 +49,13 @@ impl Output {
         self.bytes.as_slice()
     }
 
+    /// Keeps so many first bytes of the output, or all where there are no more. It takes no memory.
+    pub fn truncate(&mut self, count: usize)
+        ensures { self.new ≡ take count self.old }
+    {
+        self.bytes.truncate(count);
+    }
+
     /// Writes the values to the output, on a new line or not; where not all fit, nothing.
     ///
     /// `OutputFull` where the output would have over 100,000 bytes; then nothing is changed.
