@@ -51,7 +51,7 @@ abbrev pub HasNoContent : Option FileMap → List ℕ → Type 0
 HasNoContent None name = ⊥
 HasNoContent (Some map) name = get map name ≡ None
 
--- a load answers the program, unless a call failed or memory ran out
+-- a load of a file answers its program, unless a call failed or memory ran out
 abbrev pub LoadsOnly : Result PlainTree FileRefusal → Forest → Type 0
 LoadsOnly (Ok tree) items = Bare tree.items ≡ Bare items
 LoadsOnly (Err own) items = (own ≡ FileRefusal.FileFault) ⊎ (own ≡ FileRefusal.OutOfMemory)

@@ -127,7 +127,7 @@ fn recover(alloc: Global, image: &[u8], given: &mut Vec<u8>) -> Option<()> {
     Some(())
 }
 
-/// The disk for a session of a case that goes on with what a crash left.
+/// The disk for a session that recovers what a crash of a case left.
 fn disk_of(alloc: Global, image: &[u8]) -> Option<MemDisk> {
     let mut disk = MemDisk::new(alloc, Vec::new(alloc));
     disk.write_at(0, image).ok()?;

@@ -37,7 +37,7 @@ pub record ReadsKey {E : Type 0} (left left_after : Option (List ℕ)) (place : 
   pub few : length taken ≤ 1
   pub consumes : Consumes left left_after taken
   pub behind : (taken ≡ []) ⊎ (drop place (kept_keys past) ≡ [])
-  -- at each moment a crash leaves the kept keys, or these and then what was taken
+  -- at each moment of the read a crash leaves the kept keys, or these and then what was taken
   pub each : Throughout (LeavesOneOf (kept_keys past) taken) past past_after
   pub answer : IfOk result (λ key. NextOrEnd key left_after place (kept_keys past) taken past_after)
 

@@ -64,7 +64,7 @@ fn kept_value(digits: &[u8]) -> u32
     numeral_value(digits).min(u64::from(GREATEST_KEPT)) as u32
 }
 
-/// The bit constant, or else the character constant, that a text begins with, where its first byte is a quote.
+/// The token that a text begins with where its first byte is a quote: a bit constant, or else a character constant.
 fn constant_front(text: &[u8]) -> Option<Front>
     ensures { result ≡ constant_front text.now }
 {

@@ -36,7 +36,7 @@ puts_apart {before = before} [] second done = (before, puts_nothing, done)
 puts_apart (byte ∷ first) second (puts_next one rest) =
     let parts = puts_apart first second rest in (parts.0, puts_next one parts.1, parts.2)
 
--- the law `PutsInTurn`, whatever the bytes are put into
+-- several bytes are put in turn as the law `PutsInTurn` says, whatever they are put into
 pub puts_in_turn : {Out : Type 0} (puts : Out → ℕ → Out → Type 0) → PutsInTurn puts
 puts_in_turn puts before after first second =
     (λ parts. puts_append parts.1 parts.2, λ whole. puts_apart first second whole)

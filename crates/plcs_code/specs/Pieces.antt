@@ -154,7 +154,7 @@ pub record CodeJumps : Type 0 where
   pub between : Option PlainInstr
   pub back : Option PlainInstr
 
--- the jumps of a node that has none
+-- the jumps beside the codes inside a node that has no jumps
 abbrev pub no_jumps : CodeJumps
 no_jumps = record { ahead = None; between = None; back = None }
 

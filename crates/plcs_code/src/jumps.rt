@@ -56,7 +56,7 @@ pub(crate) fn own_jumps<M: Marked>(
     }
 }
 
-/// The jumps of a node that has none.
+/// The jumps of a node whose own code has none, whatever stands inside it.
 fn no_jumps() -> Jumps
     ensures { plain_jumps result ≡ no_jumps }
 {

@@ -12,7 +12,7 @@ use Rattle.plcs_store.specs.declared.refusal.ResumeRefusal.{ResumeRefusal}
 use Rattle.plcs_store.specs.Act.{with_newest}
 use Rattle.plcs_store.specs.Configuration.{PlainConfiguration, frame_at, frame_place}
 
--- the parts of a heading, which is main's, a procedure's or a hole's
+-- the parts of a heading, which must be as when the run was suspended: main's, a procedure's or a hole's
 abbrev pub Parts : Type 0
 Parts = List (Option PlainPhrase)
 
@@ -55,7 +55,7 @@ TemplateDiffers program frame kept =
 abbrev pub Asks : (question : Type 0) → ResumeRefusal → (more : Option ResumeRefusal → Type 0) → Option ResumeRefusal → Type 0
 Asks question refusal more answer = (question × (answer ≡ Some refusal)) ⊎ ((¬ question) × more answer)
 
--- the answer of the questions for one frame, before those for the frames above it
+-- the answer to whether a run may be resumed, as far as one frame says, before the frames above it are asked for
 abbrev pub AsksFrame : (program : Forest) → Frame → Parts → List Declared → HeldTemplate → (more : Option ResumeRefusal → Type 0) → Option ResumeRefusal → Type 0
 AsksFrame program frame heading items template more =
     Asks (HeadingDiffers program frame heading) (ResumeRefusal.HeadingChanged frame.procedure)
@@ -82,7 +82,8 @@ UneditedResumes =
 
 -- ---- where a resumed run goes on
 
--- the place where a run goes on that stands at the place: with point 0 where a run begins that comes to its slot, and else there
+-- the place where a run goes on that stands at the place: with point 0 where a run begins that comes to its slot, and
+-- else there
 abbrev pub resolved_place : (program : Forest) → PlainPlace → PlainPlace
 resolved_place program place = if place.point == 0 then unwrap_or (Start program place.slot) place else place
 

@@ -36,7 +36,7 @@ callee_with node heading =
       items = items_inside node.inner;
     }
 
--- what a call needs of a procedure, if each of its parameters has a kind
+-- what the call that stands at a place needs of a procedure, if each of its parameters has a kind
 abbrev pub callee_of : Signature → PlainNode → Option Callee
 callee_of signature node =
     if list_all is_some signature.parameters

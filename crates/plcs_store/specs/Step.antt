@@ -34,7 +34,7 @@ Going = Act × PlainPlace
 abbrev pub going_on : PlainPlace → Outcome Act → Outcome Going
 going_on next outcome = then_gives outcome (λ act. Outcome.gives (act, next))
 
--- the value as the cell at a location keeps it, stored by an act
+-- what a step does that stores a value: as the cell at a location keeps it, by one act
 abbrev pub storing : {A : Type 0} → List Frame → Location → Value → (Value → A) → Outcome A
 storing frames location value make = then_gives (kept_at frames location value) (λ kept. Outcome.gives (make kept))
 

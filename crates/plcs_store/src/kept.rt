@@ -70,7 +70,7 @@ impl DeclaredList {
         DeclaredList { items }
     }
 
-    /// Gives them back. It takes no memory.
+    /// Gives the kept items back. It takes no memory.
     pub fn into_vec(self) -> Vec<Declared>
         ensures { result.items ≡ self }
     {
@@ -108,7 +108,7 @@ impl DeclaredLists {
         DeclaredLists { lists }
     }
 
-    /// Gives them back. It takes no memory.
+    /// Gives the kept lists of items back. It takes no memory.
     pub fn into_vec(self) -> Vec<DeclaredList>
         ensures { result.items ≡ self }
     {
@@ -149,7 +149,7 @@ impl HeldTemplates {
         HeldTemplates { templates }
     }
 
-    /// Gives them back. It takes no memory.
+    /// Gives the kept templates back. It takes no memory.
     pub fn into_vec(self) -> Vec<HeldTemplate>
         ensures { result.items ≡ self }
     {

@@ -55,7 +55,7 @@ impl Variable {
         }
     }
 
-    /// Which of the cells a subscript means, counted from 0.
+    /// Which of the variable's cells a subscript means, counted from 0.
     fn element_by(&self, number: i32) -> Result<u32, FaultKind>
         ensures { found_or_fault result ≡ element_of self.now (Some number) }
     {
@@ -66,7 +66,7 @@ impl Variable {
     }
 }
 
-/// How many cells a variable of this size has.
+/// How many cells a frame's variable of this size has.
 fn cell_count(size: u32) -> usize
     ensures { result ≡ cells_in size }
 {

@@ -76,7 +76,7 @@ pub fn elide(alloc: Global, tree: &mut Tree, words: &[Vec<u8>], told: &mut Told)
     turn_each(alloc, &mut layout, tree, words, told)
 }
 
-/// Turns the comments in these slots of the program, and mends this layout.
+/// Edits a program that was read: turns the comments in these slots, and mends this layout.
 fn turn_each(
     alloc: Global,
     layout: &mut Layout<Counts>,

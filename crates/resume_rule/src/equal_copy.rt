@@ -90,7 +90,8 @@ pub(crate) fn has_items(decls: &Decls, procedure: Slot, kept: &DeclaredList) -> 
     is_last_item(kept, k)
 }
 
-/// The effective item of this number, counted from 0, or `None` where the procedure has no such item.
+/// The effective item of this number that there is now, counted from 0, beside that which is kept; `None` where
+/// the procedure has no such item.
 #[tactic(auto, using(crate::proofs::FewItems::item_told))]
 fn item_of(decls: &Decls, procedure: Slot, k: u32) -> Option<Declared>
     ensures { result ≡ slice_get (items_in decls.now.items procedure.0) k }

@@ -83,8 +83,8 @@ fn first_refusal(
     }
 }
 
-/// The first refusal for a frame with what is kept for it: its heading is asked for first, then what is declared, and
-/// then what stands at its place.
+/// The first cause for which a run may not be resumed that a frame gives, with what is kept for it: its heading
+/// is asked for first, then what is declared, and then what stands at its place.
 fn frame_refusal(
     tree: &Tree,
     decls: &Decls,

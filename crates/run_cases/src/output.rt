@@ -6,7 +6,7 @@ use plcs_base::{OutOfMemory, Value};
 use plcs_store::{Arguments, Frames, OperandValues, Operands, Output, RunState, write_items};
 use std::alloc::Global;
 
-/// The state of a run that has no frame and wrote nothing.
+/// A state for cases of output alone: it has no frame and wrote nothing.
 pub(crate) fn empty_state(alloc: Global) -> Result<RunState, OutOfMemory> {
     Ok(RunState {
         frames: Frames::new(alloc)?,

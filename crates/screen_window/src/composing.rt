@@ -108,7 +108,7 @@ fn stop_slot(tree: &Tree, stop: &Stop) -> Option<u32>
     Some(node.slot().0)
 }
 
-/// Whether a line that is drawn is that of the cursor's stop: the first of the node in the slot, where
+/// Whether a line drawn on a grid is that of the cursor's stop: the first of the node in the slot, where
 /// there is a slot.
 fn begins_stop<W>(slot: Option<u32>, laid: Option<&Line<W>>) -> bool
     ensures { result ≡ begins_stop slot (option_map (λ line. line.now) laid.entry) }

@@ -29,7 +29,7 @@ pub fn is_line<W>(line: NodeLine, laid: &Line<W>) -> bool
     laid.slot().0 == line.slot && same_kind(line.kind, laid.kind())
 }
 
-/// Whether two kinds of a node's lines are the same.
+/// Whether two lines of the screen that are told by their node are of the same kind.
 fn same_kind(one: LineKind, other: LineKind) -> bool
     ensures { result ≡ same_line_kind one other }
 {

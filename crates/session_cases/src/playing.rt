@@ -111,7 +111,7 @@ pub fn size_words(alloc: Global, rows: &[u8], cols: &[u8]) -> Option<Vec<String>
     Some(texts)
 }
 
-/// Puts the word behind the others with which the editor is run, if it is a text.
+/// Puts a word with which a run of the editor in memory is started behind the others, if it is a text.
 pub fn push_word(alloc: Global, texts: &mut Vec<String>, word: &[u8]) -> Option<()> {
     let text = String::from_str(alloc, str::from_utf8(word).ok()?).ok()?;
     texts.push(text).ok()

@@ -106,7 +106,7 @@ fn tell_behind(whole: &[u8], part: &[u8], told: &mut Told) {
     }
 }
 
-/// How many pieces the part is, if it is the first pieces of the whole.
+/// How many pieces of a whole run's writing the part is, if it is the first pieces of the whole.
 fn first_pieces(whole: &[u8], part: &[u8]) -> Option<usize> {
     let behind = whole.strip_prefix(part)?;
     if part.is_empty() || behind.is_empty() || is_place(behind) {

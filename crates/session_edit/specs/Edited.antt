@@ -103,7 +103,7 @@ outcome_of_drop tree stop node =
     let left : PlainTree = roomless_tree (tree_after TreeEdit.drop tree node.label.slot) in
     comes TreeEdit.drop tree node.label.slot (node_stop (path_after_drop (sort_of node.label.kind) left.items stop.path)) None
 
--- what comes of deleting what stands at the cursor: a hole in a list of two or more is dropped, all else is taken out
+-- what the edit that deletes does at a stop: a hole in a list of two or more is dropped, all else is taken out
 abbrev pub outcome_of_deletion : PlainTree → PlainStop → PlainNode → Edited
 outcome_of_deletion tree stop node = if is_spare_hole tree.items stop node then outcome_of_drop tree stop node else outcome_of_taking tree stop stop.part node
 

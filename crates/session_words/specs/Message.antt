@@ -7,8 +7,8 @@ use Rattle.session_words.specs.declared.message.RefusalMessage.TheVariants as re
 use Rattle.session_words.specs.declared.message.Notice.{Notice as NoticeKind}
 use Rattle.session_words.specs.declared.message.Notice.TheVariants as notice
 
--- the row of a refusal's message: the number of its kind, the words, and the number behind them, if there is one: a
--- place, a line or a slot
+-- the row of a message that answers a key with a refusal: the number of its kind, the words, and the number behind
+-- them, if there is one: a place, a line or a slot
 pub record PlainRefusalRow : Type 0 where
   pub number : ℕ
   pub words : List ℕ

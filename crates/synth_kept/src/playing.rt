@@ -21,7 +21,7 @@ pub const NEVER: u64 = 0;
 /// How a session ends that the source's end ends, or a key.
 pub const DONE: KeptStatus = KeptStatus::Run(Status::Done);
 
-/// The words of a session.
+/// The words of a session in memory.
 #[derive(Clone, Copy)]
 pub enum Words {
     /// Those that ask for a small screen.

@@ -17,7 +17,7 @@ edit_refusal TreeFault.TooLarge = why.Tree TreeFault.TooLarge
 edit_refusal TreeFault.SlotsUsedUp = why.Tree TreeFault.SlotsUsedUp
 edit_refusal TreeFault.OutOfMemory = why.Tree TreeFault.OutOfMemory
 
--- a session whose program was edited: it is this tree, with the cursor at this stop
+-- a session after a command that edited the program: it is this tree, with the cursor at this stop
 abbrev pub edited_session : PlainSession → PlainTree → PlainStop → PlainSession
 edited_session s tree stop = record s { tree = tree; stop = stop }
 

@@ -40,7 +40,7 @@ pub record NamedValue : Type 0 where
   pub name : List ℕ
   pub value : List ℕ
 
--- the value that a word by itself gives, which is for `program`
+-- the value that the word that stands by itself gives, which is for `program`
 abbrev pub program_value : List ℕ → NamedValue
 program_value word = record { name = codes "program"; value = word }
 

@@ -96,7 +96,7 @@ pub fn synth<S: Source, K: Sink, F: Files, W: Work>(
     }
 }
 
-/// Edits as the options ask for: loads files, runs the session to its end, and saves where memory ran out.
+/// The editor as the options ask for: loads files, runs the session to its end, and saves where memory ran out.
 fn edit<S: Source, K: Sink, F: Files, W: Work>(
     alloc: Global,
     options: &Options<'_>,

@@ -10,7 +10,7 @@ use crate::tree::Tree;
 use plcs_grammar::{Section, program_sections};
 
 impl Tree {
-    /// The sections among whose items the node at the path stands.
+    /// The sections around the node at the path: it stands among their items.
     pub(crate) fn sections_at(&self, path: &Path) -> &'static [Section]
         ensures { map plain_section result.now ≡ sections_at program_sections self.now.items path.now.items }
     {

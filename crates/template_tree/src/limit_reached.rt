@@ -34,7 +34,7 @@ impl Tree {
     }
 }
 
-/// How many slots the nodes have, or one more than may be live where there are more.
+/// How many slots the nodes have, asked before they come into a tree: one more than the limit where there are more.
 pub(crate) fn slots_up_to_limit(list: &Nodes) -> u32
     ensures { result ≡ min (count (forest list.now.items)) (most_slots + 1) }
 {

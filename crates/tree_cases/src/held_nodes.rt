@@ -91,7 +91,7 @@ fn taken(alloc: Global, tree: &mut Tree, at: &Path) -> Result<(Fragment, Change)
     }
 }
 
-/// Holds a copy of the node at the path under the name.
+/// Holds a copy of the node at the path beside the tree, under the name.
 fn copy_node(
     alloc: Global,
     trees: &mut Trees,
@@ -134,7 +134,7 @@ fn copy(alloc: Global, held: &mut Clips, name: &[u8], other: &[u8], told: &mut T
     Some(())
 }
 
-/// Holds the fragment under the name, and tells how many slots it has.
+/// Holds a node beside the tree under the name, and tells how many slots it has.
 fn hold(held: &mut Clips, name: Name, fragment: Fragment, told: &mut Told)
     requires fragment { IsFragment (plain_fragment fragment) }
     requires few { slots_of (plain_fragment fragment) ≤ 4294967295 }

@@ -10,7 +10,7 @@ use file_store::{FileRefusal, read_listing};
 use std::alloc::Global;
 use template_tree::Tree;
 
-/// The tree, the nodes that are held beside it, and what a tree showed before.
+/// The tree that a case makes, the nodes that are held beside it, and what a tree showed before.
 #[derive(Drop)]
 pub(crate) struct Trees {
     pub(crate) tree: Tree,

@@ -62,7 +62,7 @@ fn put_blanks(level: u32, out: &mut CellsOut)
     }
 }
 
-/// Puts the cells of the first line of a node that is laid behind the blanks.
+/// Puts the cells of the first line that is laid of a node, behind the blanks.
 fn put_first<M: Marked>(node: &Node, marks: &M, out: &mut CellsOut)
     requires plain { out.old.negative ≡ false }
     requires short { length out.old.cells.items ≤ longest_line }

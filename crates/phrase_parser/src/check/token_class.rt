@@ -39,7 +39,7 @@ pub fn class_at(text: &[u8], token: &Placed) -> TokenClass
     }
 }
 
-/// Whether a token of the class is a number that is too large.
+/// Whether the class of a token is that of a number that is too large.
 pub fn is_large(class: TokenClass) -> bool
     ensures { result ≡ is_large class }
 {

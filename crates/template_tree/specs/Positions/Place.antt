@@ -107,7 +107,7 @@ pub record Site : Type 0 where
   pub inner : Forest
   pub after : PlainPlace
 
--- the site of a slot among nodes, done in turn or one of them alone, behind which a run goes on at a place
+-- the site of a slot among nodes, with where a run goes on after them: they are done in turn, or one of them alone
 abbrev pub site_among : ℕ → Bool → Forest → PlainPlace → Option Site
 site_among slot turn Forest.nil behind = None
 site_among slot turn (Forest.cons label inner rest) behind =

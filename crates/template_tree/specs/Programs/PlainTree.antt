@@ -4,8 +4,8 @@ use Rattle.std.proofs.Common.{ap}
 use Rattle.plcs_grammar.specs.declared.node_kind.NodeKind.{NodeKind}
 use Rattle.plcs_grammar.specs.PlainPhrase.{PlainPhrase}
 
--- the label of a node: its slot, its kind, its parts in the order shown with nothing where one is empty, whether it is
--- elided, and how many more items its list has room for
+-- the label of a node as plain data: its slot, its kind, its parts in the order shown with nothing where one is empty,
+-- whether it is elided, and how many more items its list has room for
 pub record Label : Type 0 where
   pub slot : ℕ
   pub kind : NodeKind

@@ -10,7 +10,7 @@ use Rattle.type_marks.specs.declared.kind_table.BuiltinRow.{BuiltinRow}
 abbrev pub taken_of : BuiltinRow → List Kind
 taken_of row = row.takes.now ++ option_to_list row.perhaps
 
--- whether the kind of an argument is right where a built-in function takes this, or nothing
+-- whether the kind of the next argument of a built-in function is right where it takes this, or nothing
 abbrev pub takes_kind : Option Kind → Kind → Bool
 takes_kind None kind = true
 takes_kind (Some wanted) kind = same_kind wanted kind

@@ -55,7 +55,8 @@ abbrev pub AreListed : (inner : Forest) → Label → Type 0
 AreListed inner label =
     (part : ℕ) (phrase : PlainPhrase) → part_at label.parts part ≡ Some phrase → IsListIn inner label.slot phrase
 
--- main or the procedure to which the path of a phrase's node leads, or in which it leads to that node
+-- where a verdict is noted: main or the procedure to which the path of the phrase's node leads, or in which it leads to
+-- that node
 abbrev pub procedure_item_on : (program : Forest) → (path : List ℕ) → Option PlainNode
 procedure_item_on program [] = None
 procedure_item_on program (k ∷ path) = slice_get (nodes program) k

@@ -36,7 +36,7 @@ bones_code_of_inj (PlainLayout.cons l a b) PlainLayout.nil p = absurd (subst IsC
 abbrev pub bones_code : Coded PlainLayout
 bones_code = record { code = bones_code_of; inj = bones_code_of_inj }
 
--- a node of a layout is told apart by its fields
+-- a node of a layout is told apart by its fields, in the tree of labels
 abbrev pub node_layout_code : Coded PlainNodeLayout
 node_layout_code =
     code_by (Bone × PlainLayout) (coded× bone_code bones_code) (λ o. (o.bone, o.inner))
