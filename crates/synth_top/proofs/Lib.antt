@@ -1,6 +1,6 @@
 -- the limits: their values
 pub mod Limits
--- `given` and `bad` of read_words: uses of arguments, the looks of words, words as clap walks along them, and the command's own
+-- `given` and `bad` of read_by: uses of arguments, the looks of words, words as clap walks along them, and the command's own
 pub mod ClapUses
 pub mod ClapLooks
 pub mod ClapWalk

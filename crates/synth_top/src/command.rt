@@ -34,10 +34,19 @@ pub fn read_words<'a>(alloc: Global, words: &'a [String]) -> Result<Given<'a>, S
     ensures bad { IfErr result (λ status. (status ≡ Status.NoMemory)
         ⊎ ((status ≡ Status.BadWords) × (given_in (map string_bytes words.entry.now) ≡ None))) }
 {
-    let command = match synth_command(alloc) {
-        Ok(command) => command,
-        Err(AllocError) => return Err(Status::NoMemory),
-    };
+    match synth_command(alloc) {
+        Ok(command) => read_by(command, words),
+        Err(AllocError) => Err(Status::NoMemory),
+    }
+}
+
+/// What the words give, as clap reads them by the command.
+fn read_by<'a>(command: Command<'a>, words: &'a [String]) -> Result<Given<'a>, Status>
+    requires { app_of command ≡ synth_app }
+    ensures given { IfOk result (λ given. given_in (map string_bytes words.entry.now) ≡ Some (plain_given given)) }
+    ensures bad { IfErr result (λ status. (status ≡ Status.NoMemory)
+        ⊎ ((status ≡ Status.BadWords) × (given_in (map string_bytes words.entry.now) ≡ None))) }
+{
     match command.try_get_matches_from(words) {
         Ok(matches) => Ok(given_by(&matches)),
         Err(error) => Err(status_of(&error)),
