@@ -1,8 +1,8 @@
 //! What is written in one row of a grid, and how the cells of the row show it.
 
-ghost use Rattle.std.specs.Prelude.{◌≡◌, ℕ, ◌-◌, List, ◌++◌, length, replicate};
+ghost use Rattle.std.specs.Prelude.{◌≡◌, ◌<◌, ℕ, ◌+◌, ◌-◌, List, ◌++◌, length, nat_lt, if◌then◌else◌, replicate, slice_index_or};
 ghost use Rattle.plcs_base.specs.Byte.{is_printable};
-ghost use Rattle.screen_window.specs.ScreenCell.{is_screen_cell};
+ghost use Rattle.screen_window.specs.ScreenCell.{blank, is_screen_cell};
 ghost use Rattle.screen_window.specs.ShownRow.{margin, shown_cell, shown_row};
 ghost use Rattle.screen_window.specs.Private.RowCells.{text_cells};
 
@@ -60,11 +60,7 @@ fn show_bytes(line: &mut Vec<u16>, from: usize, bytes: &[u8])
 {
     let cols = line.len();
     for col in from..cols {
-        line[col] = if col + 1 < cols && col - from < bytes.len() {
-            shown_cell(u16::from(bytes[col - from]))
-        } else {
-            BLANK
-        };
+        line[col] = shown_in(cols, col, byte_at(bytes, col - from));
     }
 }
 
@@ -75,11 +71,7 @@ fn show_cells(line: &mut Vec<u16>, from: usize, cells: &[u16])
 {
     let cols = line.len();
     for col in from..cols {
-        line[col] = if col + 1 < cols && col - from < cells.len() {
-            shown_cell(cells[col - from])
-        } else {
-            BLANK
-        };
+        line[col] = shown_in(cols, col, cell_at(cells, col - from));
     }
 }
 
@@ -94,6 +86,38 @@ fn show_dashes(line: &mut Vec<u16>)
         } else {
             BLANK
         };
+    }
+}
+
+/// The byte in this place of what is shown in a row, or a blank behind the last.
+fn byte_at(bytes: &[u8], place: usize) -> u16
+    ensures { result ≡ slice_index_or bytes.now place blank }
+{
+    match bytes.get(place) {
+        Some(byte) => u16::from(*byte),
+        None => BLANK,
+    }
+}
+
+/// The cell in this place of what is shown in a row, or a blank behind the last.
+fn cell_at(cells: &[u16], place: usize) -> u16
+    ensures { result ≡ slice_index_or cells.now place blank }
+{
+    match cells.get(place) {
+        Some(cell) => *cell,
+        None => BLANK,
+    }
+}
+
+/// What a row of so many columns shows in a column for a number: nothing in the last.
+fn shown_in(cols: usize, col: usize, cell: u16) -> u16
+    requires { col < cols }
+    ensures { result ≡ if nat_lt (col + 1) cols then shown_cell cell else blank }
+{
+    if col + 1 < cols {
+        shown_cell(cell)
+    } else {
+        BLANK
     }
 }
 
