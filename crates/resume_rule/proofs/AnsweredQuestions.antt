@@ -1,5 +1,5 @@
 -- One answer is right, that of the questions one after the other.
-use Rattle.std.specs.Prelude.{◌≡◌, ◌↔◌, List, [], ◌∷◌, Option, Some, None}
+use Rattle.std.specs.Prelude.{◌≡◌, ◌↔◌, List, ◌∷◌, Option, Some, None}
 use Rattle.std.proofs.Common.{sym, subst, inl, inr}
 use Rattle.plcs_base.specs.declared.declared.Declared.{Declared}
 use Rattle.template_tree.specs.Programs.PlainTree.{Forest}

@@ -1,7 +1,7 @@
 -- The node at a path, found by its slot: it is the one of the site of the slot, and main or a procedure where the path has one number.
-use Rattle.std.specs.Prelude.{◌≡◌, refl, ℕ, zero, suc, ◌+◌, ◌<◌, ◌≤◌, ◌==◌, Bool, true, false, if◌then◌else◌, List, [], ◌∷◌, length, slice_get, Option, Some, None, option_map}
+use Rattle.std.specs.Prelude.{◌≡◌, refl, ℕ, zero, suc, ◌+◌, ◌≤◌, ◌==◌, Bool, true, false, if◌then◌else◌, List, [], ◌∷◌, length, Option, Some, None, option_map}
 use Rattle.std.specs.Option.{option_or}
-use Rattle.std.proofs.Common.{ap, sym, ◌∙◌, subst, arith}
+use Rattle.std.proofs.Common.{ap, sym, ◌∙◌, arith}
 use Rattle.std.proofs.Math.Bool.{false≢true}
 use Rattle.std.proofs.lemmas.Bool.{eq-eqb}
 use Rattle.std.proofs.lemmas.Option.{none-some, same_Some}
@@ -9,7 +9,7 @@ use Rattle.plcs_grammar.specs.Template.{row_of}
 use Rattle.template_tree.specs.Checks.Environment.{procedure_at}
 use Rattle.template_tree.specs.Positions.Path.{node_at, slot_at}
 use Rattle.template_tree.specs.Positions.Place.{PlainPlace, Site, begin, end_at, in_turn, inner_end, place_at, site, site_among}
-use Rattle.template_tree.specs.Programs.PlainTree.{Forest, Label, PlainNode, nodes}
+use Rattle.template_tree.specs.Programs.PlainTree.{Forest, Label, PlainNode}
 use Rattle.template_tree.specs.Programs.Slots.{times}
 
 abbrev pub label_there : Site → Label

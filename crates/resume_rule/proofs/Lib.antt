@@ -6,3 +6,17 @@ pub mod FoundSlots
 pub mod FewItems
 -- `may_resume`: one answer is right, that of the questions one after the other
 pub mod AnsweredQuestions
+-- `resumed_runs_fit`: what can't differ is the same
+pub mod SettledEquations
+-- `resumed_runs_fit`: what a yes says of each frame
+pub mod AllowedFrames
+-- `resumed_runs_fit`: where a frame stood it stands
+pub mod StandingFrames
+-- `resumed_runs_fit`, `fitting_runs_are_resolved`: frames of which the newest is changed
+pub mod NewestFrame
+-- `resumed_runs_fit`
+pub mod ResumedFrames
+-- `fitting_runs_are_resolved`
+pub mod ResolvedRuns
+-- `answers_follow_frames`
+pub mod SameAnswers

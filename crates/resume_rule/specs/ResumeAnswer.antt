@@ -1,5 +1,5 @@
 -- Which answer is right where a run is to be resumed, and what has to be kept for the question.
-use Rattle.std.specs.Prelude.{◌≡◌, ◌↔◌, ℕ, ◌≤◌, List, length, Option, None}
+use Rattle.std.specs.Prelude.{◌≡◌, ◌↔◌, ◌≤◌, List, length, Option, None}
 use Rattle.plcs_base.specs.declared.declared.Declared.{Declared}
 use Rattle.template_tree.specs.Programs.PlainTree.{Forest, Label}
 use Rattle.plcs_store.specs.declared.frame.Frame.{Frame}

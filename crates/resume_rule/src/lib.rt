@@ -4,7 +4,9 @@
 mod equal_copy;
 mod frame_question;
 mod live_node;
+mod resume_laws;
 mod resumption;
 
 pub use plcs_store::ResumeRefusal;
+pub use resume_laws::{answers_follow_frames, fitting_runs_are_resolved, resumed_runs_fit};
 pub use resumption::may_resume;

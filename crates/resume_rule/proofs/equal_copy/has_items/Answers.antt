@@ -1,4 +1,4 @@
-use Rattle.std.specs.Prelude.{◌≡◌, List, Option, Some, slice_get}
+use Rattle.std.specs.Prelude.{◌≡◌, Some, slice_get}
 use Rattle.std.proofs.Common.{arith, sym, ◌∙◌}
 use Rattle.std.proofs.lemmas.Option.{slice_get_within}
 use Rattle.template_tree.specs.Checks.ProgramMaps.{items_in}

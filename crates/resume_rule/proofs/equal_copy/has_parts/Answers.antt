@@ -1,7 +1,6 @@
-use Rattle.std.specs.Prelude.{◌≡◌, List, Option, Some, slice_get}
+use Rattle.std.specs.Prelude.{◌≡◌, Some, slice_get}
 use Rattle.std.proofs.Common.{arith, sym, ◌∙◌}
 use Rattle.std.proofs.lemmas.Option.{slice_get_within}
-use Rattle.plcs_grammar.specs.PlainPhrase.{PlainPhrase}
 use Rattle.template_tree.specs.Programs.PlainPhrasePlace.{plain_phrase_place}
 use Rattle.resume_rule.proofs.ComparedLists.{alike_ends, alike_next, told_apart}
 use Rattle.resume_rule.proofs.equal_copy.has_parts.Goals as goal

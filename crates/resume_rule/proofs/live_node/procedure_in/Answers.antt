@@ -1,5 +1,5 @@
-use Rattle.std.specs.Prelude.{◌≡◌, refl, length}
-use Rattle.std.proofs.Common.{ap, sym, ◌∙◌}
+use Rattle.std.specs.Prelude.{refl}
+use Rattle.std.proofs.Common.{sym, ◌∙◌}
 use Rattle.resume_rule.proofs.FoundSlots.{no_procedure, no_procedure_of_path, procedure_of_path}
 use Rattle.resume_rule.proofs.live_node.procedure_in.Goals as goal
 

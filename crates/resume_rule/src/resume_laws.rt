@@ -1,0 +1,32 @@
+//! The laws of resumption, each a function that does nothing and whose contract states it.
+ghost use Rattle.resume_rule.specs.ResumeLaws.{AnswersFollowFrames, ChangedBackResumes, EditedRunsFit, FittingRunsResolved, ResumedRunsFit};
+
+use plcs_store::unedited_may_resume;
+use tree_steps::{agreement_lasts, list_marks_follow_items, places_last, sites_stand, slots_stand};
+
+/// A run that fitted a tree, and may be resumed in one that agrees with it by its slots, fits this one once its
+/// newest place is resolved; so it does after any edits.
+pub fn resumed_runs_fit()
+    ensures agreed { ResumedRunsFit }
+    ensures edited { EditedRunsFit }
+{
+    slots_stand();
+    sites_stand();
+    places_last();
+    list_marks_follow_items();
+    agreement_lasts();
+}
+
+/// A run that fits a program goes on there where it stands.
+pub fn fitting_runs_are_resolved()
+    ensures { FittingRunsResolved }
+{}
+
+/// Whether a run may be resumed depends on what the program has for its frames alone, so that a change which was
+/// changed back doesn't count.
+pub fn answers_follow_frames()
+    ensures same { AnswersFollowFrames }
+    ensures back { ChangedBackResumes }
+{
+    unedited_may_resume();
+}
