@@ -126,8 +126,16 @@ impl<W: Work> Program<W> {
             (W.counts work.old) (W.counts work.new) }
     {
         let dependents = Dependents::of(alloc, &self.tree, work)?;
-        self.dependents = dependents;
+        self.depend_on(dependents);
         Ok(())
+    }
+
+    /// Puts what depends on the edited tree in the place of what did before.
+    fn depend_on(&mut self, dependents: Dependents<W>)
+        ensures dependents { self.new.dependents ≡ dependents }
+        ensures tree { self.new.tree ≡ self.old.tree }
+    {
+        self.dependents = dependents;
     }
 
     /// Takes what stands at the stop out of the program and of all that depends on it; it is something that can be
