@@ -101,9 +101,28 @@ impl<W: Work> Session<W> {
         ensures counts { ChecksAtMost (phrase_count (roomless_tree tree))
             (W.counts work.old) (W.counts work.new) }
     {
-        let screens = Screens::new(alloc, size)?;
-        let clips = Clips::new(alloc)?;
         let program = Program::new(alloc, tree, work)?;
+        Session::around(alloc, size, program, stop, input)
+    }
+
+    /// A session around the program, with the cursor at the stop, and with this input.
+    fn around(
+        alloc: Global,
+        size: ScreenSize,
+        program: Program<W>,
+        stop: Stop,
+        input: Vec<u8>,
+    ) -> Result<Session<W>, OutOfMemory>
+        requires agrees { Agrees program }
+        requires stop { IsStop (roomless_tree program.tree).items (plain_stop stop) }
+        requires input { length input.items ≤ longest_input }
+        ensures session { IfOk result (λ session. IsSession session) }
+        ensures opened { IfOk result (λ session.
+            plain_session session ≡ session_over size (roomless_tree program.tree) (plain_stop stop) input.items) }
+        ensures shown { IfOk result (λ session. shown_grid session ≡ blank_grid size.rows size.cols) }
+        ensures next { IfOk result (λ session. next_grid session ≡ blank_grid size.rows size.cols) }
+    {
+        let (screens, clips) = screens_and_clips(alloc, size)?;
         let mut session = Session {
             program,
             stop,
@@ -195,6 +214,17 @@ impl<W: Work> Session<W> {
         self.message = Some(Message::Notice(notice));
         answer
     }
+}
+
+/// The screens of a session at first, of this size and blank, and its clips, of which there are none.
+fn screens_and_clips(alloc: Global, size: ScreenSize) -> Result<(Screens, Clips), OutOfMemory>
+    ensures shown { IfOk result (λ pair. pair.0.shown ≡ blank_grid size.rows size.cols) }
+    ensures next { IfOk result (λ pair. pair.0.next ≡ blank_grid size.rows size.cols) }
+    ensures clips { IfOk result (λ pair. pair.1.pairs ≡ []) }
+{
+    let screens = Screens::new(alloc, size)?;
+    let clips = Clips::new(alloc)?;
+    Ok((screens, clips))
 }
 
 /// The new program with which a session is opened.
