@@ -18,5 +18,7 @@ pub mod NewestFrame
 pub mod ResumedFrames
 -- `fitting_runs_are_resolved`
 pub mod ResolvedRuns
+-- `kept_has_entries`
+pub mod KeptEntries
 -- `answers_follow_frames`
 pub mod SameAnswers

@@ -1,4 +1,5 @@
--- The laws of resumption: what fitted a tree and may be resumed in an edited one fits that, and what the answer depends on.
+-- The laws of resumption: what fitted a tree and may be resumed in an edited one fits that, what is kept has an entry for
+-- each frame, and what the answer depends on.
 use Rattle.std.specs.Prelude.{◌≡◌, map, Option, None}
 use Rattle.template_tree.specs.Checks.Environment.{Items}
 use Rattle.template_tree.specs.Programs.PlainTree.{Forest, PlainTree}
@@ -10,6 +11,7 @@ use Rattle.plcs_store.specs.declared.refusal.ResumeRefusal.{ResumeRefusal}
 use Rattle.plcs_store.specs.Configuration.{PlainConfiguration}
 use Rattle.plcs_store.specs.Fits.{Fits}
 use Rattle.plcs_store.specs.Resume.{IsKeptOf, MayResume, heading_parts, resolved, template_held}
+use Rattle.resume_rule.specs.ResumeAnswer.{HasEntries}
 
 -- ---- what is resumed fits
 
@@ -32,6 +34,13 @@ EditedRunsFit =
 -- where nothing was edited the newest place is resolved already: what fits a program goes on where it stands
 abbrev pub FittingRunsResolved : Type 0
 FittingRunsResolved = (program : Forest) (c : PlainConfiguration) → Fits program c → resolved program c ≡ c
+
+-- ---- what is kept
+
+-- what is kept for a configuration that fits has an entry for each frame, as the question asks of it
+abbrev pub KeptHasEntries : Type 0
+KeptHasEntries =
+    (program : Forest) (c : PlainConfiguration) (kept : Kept) → Fits program c → IsKeptOf program c kept → HasEntries c kept
 
 -- ---- what the answer depends on
 

@@ -8,5 +8,7 @@ mod resume_laws;
 mod resumption;
 
 pub use plcs_store::ResumeRefusal;
-pub use resume_laws::{answers_follow_frames, fitting_runs_are_resolved, resumed_runs_fit};
+pub use resume_laws::{
+    answers_follow_frames, fitting_runs_are_resolved, kept_has_entries, resumed_runs_fit,
+};
 pub use resumption::may_resume;

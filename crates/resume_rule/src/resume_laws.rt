@@ -1,5 +1,5 @@
 //! The laws of resumption, each a function that does nothing and whose contract states it.
-ghost use Rattle.resume_rule.specs.ResumeLaws.{AnswersFollowFrames, ChangedBackResumes, EditedRunsFit, FittingRunsResolved, ResumedRunsFit};
+ghost use Rattle.resume_rule.specs.ResumeLaws.{AnswersFollowFrames, ChangedBackResumes, EditedRunsFit, FittingRunsResolved, KeptHasEntries, ResumedRunsFit};
 
 use plcs_store::unedited_may_resume;
 use tree_steps::{agreement_lasts, list_marks_follow_items, places_last, sites_stand, slots_stand};
@@ -20,6 +20,11 @@ pub fn resumed_runs_fit()
 /// A run that fits a program goes on there where it stands.
 pub fn fitting_runs_are_resolved()
     ensures { FittingRunsResolved }
+{}
+
+/// What is kept for a run that fits has an entry for each of its frames.
+pub fn kept_has_entries()
+    ensures { KeptHasEntries }
 {}
 
 /// Whether a run may be resumed depends on what the program has for its frames alone, so that a change which was
