@@ -1,0 +1,3 @@
+-- ---- how far a run goes back
+pub mod Limit
+pub mod EarlierConfigurations
