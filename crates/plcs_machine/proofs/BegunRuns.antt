@@ -14,7 +14,8 @@ use Rattle.template_tree.specs.Programs.Limit.{most_cells}
 use Rattle.plcs_machine.specs.Enter.{begun_passing, begun_in}
 use Rattle.plcs_machine.specs.Fetched.{Fetched, behind_one, fetches_of}
 use Rattle.plcs_machine.specs.Passing.{Landing, cell_count, landing, passing_of, with_unset}
-use Rattle.plcs_machine.proofs.CountedFetches.{behind_many, behind_next}
+use Rattle.plcs_machine.specs.Private.CountedSteps.{behind_many}
+use Rattle.plcs_machine.proofs.CountedFetches.{behind_next}
 
 -- what is left of the code at an address, behind the cells that are made so far
 abbrev pub begun_at : List PlainInstr → (address : ℕ) → Variables → Option (Fetched Landing)

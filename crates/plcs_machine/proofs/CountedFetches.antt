@@ -4,10 +4,7 @@ use Rattle.std.specs.Prelude.{Option, Some, None, option_map}
 use Rattle.plcs_base.specs.Count.{raised_by}
 use Rattle.plcs_base.specs.PlainCounts.{PlainCounts}
 use Rattle.plcs_machine.specs.Fetched.{Fetched, FetchesAtMost, FetchesBy, behind_one}
-
--- what so many instructions and those behind them come to
-abbrev pub behind_many : {A : Type 0} → ℕ → Fetched A → Fetched A
-behind_many k fetched = record { result = fetched.result; fetches = fetched.fetches + k }
+use Rattle.plcs_machine.specs.Private.CountedSteps.{behind_many}
 
 -- one more of them
 pub behind_next : {A : Type 0} (k : ℕ) (fetched : Option (Fetched A))
@@ -40,6 +37,22 @@ fetches_both m n k u v w is one other =
     ∙ ap (λ (x : PlainCounts). let y : PlainCounts = record x { fetched = raised_by n x.fetched } in y) one
     ∙ ap (λ (count : ℕ). let y : PlainCounts = record u { fetched = count } in y)
     (both ∙ ap (λ (number : ℕ). raised_by number u.fetched) is)
+
+-- the same where the second part is at most so much
+pub fetches_then : (m n k : ℕ) (u v w : PlainCounts) → m + n ≡ k → FetchesBy m u v → FetchesAtMost n v w → FetchesAtMost k u w
+fetches_then m n k u v w is one most =
+    let count : v.fetched ≡ raised_by m u.fetched = ap (λ (x : PlainCounts). x.fetched) one in
+    let least = most.later in
+    let greatest = most.most in
+    record {
+      most = omega (arith, is, count, greatest);
+      later = omega (arith, count, least);
+      others = most.others ∙ ap (λ (x : PlainCounts). let y : PlainCounts = record x { fetched = w.fetched } in y) one;
+    }
+
+-- nothing is at most so much
+pub fetches_few : (n : ℕ) (u : PlainCounts) → FetchesAtMost n u u
+fetches_few n u = record { most = omega arith; later = omega arith; others = refl }
 
 -- what is fetched is at most so much
 pub fetches_most : (m n : ℕ) (u v : PlainCounts) → m ≤ n → FetchesBy m u v → FetchesAtMost n u v

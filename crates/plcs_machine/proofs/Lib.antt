@@ -26,3 +26,31 @@ pub mod SiteRuns
 pub mod SignedProcedures
 -- at every place of a tree
 pub mod TreeSteps
+-- `step`: where a step ends, one instruction after the other
+pub mod SettledCode
+-- `step`: the cell on which an instruction works
+pub mod DefinedReach
+-- `step`: what neither input nor output plays a part in
+pub mod UnwrittenLeads
+-- `step`: what an instruction leads to can be done
+pub mod DoableLeads
+-- `step`: what is left of a step at an address
+pub mod AnsweredLeads
+-- `step`: where a step ends that makes a frame
+pub mod MadeFrames
+-- `step`: the records of acts
+pub mod NotedActs
+-- `step`: how a step ends
+pub mod EndedSteps
+-- `step`: what is done behind a walk is the whole step
+pub mod DoneSteps
+-- `step`: a step that writes
+pub mod WrittenSteps
+-- `step`: a step that calls
+pub mod CalledSteps
+-- `text_order`: the order from a byte on
+pub mod TextOrders
+-- `found_in`: where a text is found from a byte on
+pub mod FoundTexts
+-- `text_part`: the part that the numbers say
+pub mod TextParts

@@ -12,7 +12,8 @@ use Rattle.plcs_machine.specs.Enter.{begun_in}
 use Rattle.plcs_machine.specs.Fetched.{Fetched, fetches_of, result_of}
 use Rattle.plcs_machine.specs.Passing.{Landing}
 use Rattle.plcs_machine.proofs.BegunRuns.{begun_at, begun_by, begun_next, begun_place, cell_counts, cell_made, no_other}
-use Rattle.plcs_machine.proofs.CountedFetches.{behind_many, behind_none, fetches_both, fetches_most, fetches_nothing}
+use Rattle.plcs_machine.specs.Private.CountedSteps.{behind_many}
+use Rattle.plcs_machine.proofs.CountedFetches.{behind_none, fetches_both, fetches_most, fetches_nothing}
 use Rattle.plcs_machine.proofs.new_run.first_place.Goals as goal
 
 -- the instruction that is found, from what was fetched and what that is

@@ -1,0 +1,123 @@
+-- A step whose instructions are run up to one that doesn't go on to another, as the code tells of it.
+use Rattle.std.specs.Prelude.{◌≡◌, ℕ, ◌+◌, ◌-◌, ◌≤◌, Bool, true, false, List, [], length, reverse, take, Option, None, Some, option_and_then, option_map}
+use Rattle.std.specs.FinMap.{get}
+use Rattle.plcs_base.specs.declared.place.Place.{Place}
+use Rattle.plcs_base.specs.declared.value.Value.{Value}
+use Rattle.plcs_code.specs.Gen.{PlainCode}
+use Rattle.plcs_store.specs.declared.argument.Argument.{Argument}
+use Rattle.plcs_store.specs.declared.cell.Location.{Location}
+use Rattle.plcs_store.specs.declared.run_state.RunState.{RunState}
+use Rattle.plcs_store.specs.declared.undo.Undo.{Undo}
+use Rattle.plcs_store.specs.Act.{Act, newest_at}
+use Rattle.plcs_store.specs.Configuration.{PlainConfiguration, plain_configuration}
+use Rattle.plcs_store.specs.Outcome.{Outcome}
+use Rattle.plcs_store.specs.OutputItem.{output_with}
+use Rattle.template_tree.specs.Positions.Place.{PlainPlace}
+use Rattle.plcs_machine.specs.declared.step_answer.StepAnswer.{StepAnswer}
+use Rattle.plcs_machine.specs.declared.led.Led.{Led}
+use Rattle.plcs_machine.specs.declared.led.Walked.{Walked}
+use Rattle.plcs_machine.specs.Exec.{FetchedAnswer, outcome_answer, run_from}
+use Rattle.plcs_machine.specs.Fetched.{fetches_of, result_of}
+use Rattle.plcs_machine.specs.Lead.{Lead, put_lead}
+use Rattle.plcs_machine.specs.Passing.{settle}
+use Rattle.plcs_machine.specs.StepMade.{DoesAct, IsKept, step_answered}
+use Rattle.plcs_machine.specs.Private.CountedSteps.{behind_many}
+use Rattle.plcs_machine.specs.Private.DoableLead.{IsDoable}
+use Rattle.plcs_machine.specs.Private.PlainLed.{TakesAtMost, plain_doing, plain_led}
+
+-- where no instruction comes next
+abbrev pub nowhere : (address : ℕ) → List Value → List Argument → Option FetchedAnswer
+nowhere address values arguments = None
+
+-- the answer of a step behind an instruction that comes to this and doesn't go on to another, where so many fetches are left
+abbrev pub ending_answer : PlainCode → PlainConfiguration → (left : ℕ) → Outcome Lead → Option FetchedAnswer
+ending_answer code c left outcome = outcome_answer c nowhere (settle c.frames code.instrs left) outcome
+
+-- the answer of a step that begins behind an address, where this is left of the input
+abbrev pub run_on : PlainCode → (rest : List ℕ) → PlainConfiguration → (address : ℕ) → Option FetchedAnswer
+run_on code rest c address = run_from code rest c (length code.instrs) (address + 1) [] []
+
+-- the answer of a step that begins behind a place, where this is left of the input
+abbrev pub run_at : PlainCode → (rest : List ℕ) → PlainConfiguration → Place → Option FetchedAnswer
+run_at code rest c place = option_and_then (run_on code rest c) (get code.addresses place)
+
+-- what an instruction came to that was walked to, where these are the operands and the arguments then
+abbrev pub walked_outcome : PlainConfiguration → Walked → List Value → List Argument → Outcome Lead
+walked_outcome c walked values arguments = plain_doing c.output walked.next walked.doing values arguments
+
+-- a step that begins behind a place was walked to an instruction that doesn't go on to another: its answer is the answer of the
+-- step, and it can be done
+pub record IsWalked (code : PlainCode) (rest : List ℕ) (c : PlainConfiguration) (place : Place) (walked : Walked) (values : List Value) (arguments : List Argument) : Type 0 where
+  pub few : walked.left + 1 ≤ length code.instrs
+  pub whole :
+      option_map (behind_many (length code.instrs - (walked.left + 1))) (ending_answer code c walked.left (walked_outcome c walked values arguments))
+      ≡ run_at code rest c place
+  pub can : IsDoable c.frames (walked_outcome c walked values arguments)
+  pub within : TakesAtMost (length rest) walked.doing
+  pub short : length code.instrs ≤ 4294967295
+
+-- ---- the answers that are wanted behind an instruction, in a state, where so many fetches are left
+
+-- behind one that was walked to
+abbrev pub walked_answer : PlainCode → RunState → Walked → Option FetchedAnswer
+walked_answer code state walked =
+    ending_answer code (plain_configuration state) walked.left
+    (walked_outcome (plain_configuration state) walked state.operands.values state.operands.arguments)
+
+-- behind one that writes so many newest operands, on a new line or not, where this is the next address
+abbrev pub put_answer : PlainCode → RunState → (left next : ℕ) → (skip : Bool) → (count : ℕ) → Option FetchedAnswer
+put_answer code state left next skip count =
+    ending_answer code (plain_configuration state) left (put_lead next state.output skip count state.operands.values)
+
+-- behind one that reads a value, which took so many bytes, where this is the next address
+abbrev pub read_answer : PlainCode → RunState → (left next : ℕ) → Location → Value → (count : ℕ) → Option FetchedAnswer
+read_answer code state left next location value count =
+    ending_answer code (plain_configuration state) left (Outcome.gives (Lead.acts (Act.read location value count) next))
+
+-- behind one that leads to anything else
+abbrev pub led_answer : PlainCode → RunState → (left : ℕ) → Led → Option FetchedAnswer
+led_answer code state left led =
+    ending_answer code (plain_configuration state) left (plain_led led state.operands.values state.operands.arguments)
+
+-- behind one that calls the procedure in a slot, which is entered at the address
+abbrev pub called_answer : PlainCode → RunState → (left address slot : ℕ) → Option FetchedAnswer
+called_answer code state left address slot =
+    ending_answer code (plain_configuration state) left (Outcome.gives (Lead.enters slot address state.operands.arguments))
+
+-- how many fetches are wanted beside that of the instruction
+abbrev pub more_fetches : Option FetchedAnswer → ℕ
+more_fetches wanted = fetches_of wanted - 1
+
+-- ---- what a step did
+
+-- what the code answers is the answer that is wanted, after which the configuration and the record are these: a step that is
+-- made does an act, and any other changes nothing
+abbrev pub IsStepDone : (wanted : Option FetchedAnswer) → StepAnswer → (before now : PlainConfiguration) → (noted notes : Undo) → Type 0
+IsStepDone wanted StepAnswer.Stepped before now noted notes =
+    DoesAct before now notes × (result_of wanted ≡ Some (step_answered StepAnswer.Stepped now))
+IsStepDone wanted (StepAnswer.Stopped reason) before now noted notes =
+    IsKept before now noted notes × (result_of wanted ≡ Some (step_answered (StepAnswer.Stopped reason) now))
+IsStepDone wanted StepAnswer.Ended before now noted notes =
+    IsKept before now noted notes × (result_of wanted ≡ Some (step_answered StepAnswer.Ended now))
+
+-- the same of states
+abbrev pub IsDone : (wanted : Option FetchedAnswer) → StepAnswer → (before now : RunState) → (noted notes : Undo) → Type 0
+IsDone wanted answer before now noted notes =
+    IsStepDone wanted answer (plain_configuration before) (plain_configuration now) noted notes
+
+-- neither a state nor the record changes, but for operands
+abbrev pub IsStateKept : (before now : RunState) → (noted notes : Undo) → Type 0
+IsStateKept before now noted notes = IsKept (plain_configuration before) (plain_configuration now) noted notes
+
+-- what was written in a state, with so many newest operands behind it, on a new line or not
+abbrev pub output_then : RunState → (skip : Bool) → (count : ℕ) → List ℕ
+output_then state skip count = output_with skip state.output (reverse (take count state.operands.values))
+
+-- what is written behind what was written before, if it fits
+abbrev pub with_output_if : Bool → (output : List ℕ) → PlainConfiguration → PlainConfiguration
+with_output_if true output c = record c { output = output }
+with_output_if false output c = c
+
+-- the configuration stands at the place where an act goes on
+abbrev pub standing_at : PlainPlace → PlainConfiguration → PlainConfiguration
+standing_at place c = record c { frames = newest_at place c.frames }
