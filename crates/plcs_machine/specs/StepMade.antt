@@ -22,15 +22,15 @@ DoesAct before now notes =
     (act : Act) × (next : PlainPlace) × Allows act before × (now ≡ done act next before) × (notes ≡ undo_of act before)
 
 -- neither the configuration nor the record changes
-abbrev pub IsKept : (before now : PlainConfiguration) → (noted notes : Undo) → Type 0
-IsKept before now noted notes = (now ≡ before) × (notes ≡ noted)
+abbrev pub NothingChanges : (before now : PlainConfiguration) → (noted notes : Undo) → Type 0
+NothingChanges before now noted notes = (now ≡ before) × (notes ≡ noted)
 
 -- a step that is made does one act, and leaves the record of it, which gives the whole configuration before the step back; any
 -- other changes nothing
 abbrev pub StepChanges : StepAnswer → (before now : PlainConfiguration) → (noted notes : Undo) → Type 0
 StepChanges StepAnswer.Stepped before now noted notes = (step_undone notes now ≡ before) × DoesAct before now notes
-StepChanges (StepAnswer.Stopped reason) before now noted notes = IsKept before now noted notes
-StepChanges StepAnswer.Ended before now noted notes = IsKept before now noted notes
+StepChanges (StepAnswer.Stopped reason) before now noted notes = NothingChanges before now noted notes
+StepChanges StepAnswer.Ended before now noted notes = NothingChanges before now noted notes
 
 -- the answer that is wanted is a step that makes one frame more, as only a call does
 abbrev pub MakesFrame : (wanted : Option FetchedAnswer) → (before : PlainConfiguration) → Type 0

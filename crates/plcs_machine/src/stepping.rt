@@ -5,7 +5,7 @@ ghost use Rattle.plcs_store.specs.Configuration.{plain_configuration, plain_plac
 ghost use Rattle.plcs_store.specs.Limit.{most_frames, most_output};
 ghost use Rattle.plcs_machine.specs.Exec.{Exec};
 ghost use Rattle.plcs_machine.specs.Fetched.{FetchesAtMost, FetchesBy, fetches_of, result_of};
-ghost use Rattle.plcs_machine.specs.StepMade.{IsKept, MakesFrame, StepChanges, step_answered};
+ghost use Rattle.plcs_machine.specs.StepMade.{MakesFrame, NothingChanges, StepChanges, step_answered};
 ghost use Rattle.plcs_machine.specs.Private.DoableLead.{IsDoable};
 ghost use Rattle.plcs_machine.specs.Private.PlainLed.{TakesAtMost, plain_led};
 ghost use Rattle.plcs_machine.specs.Private.WalkedStep.{IsDone, IsStateKept, IsWalked, called_answer, led_answer, more_fetches, output_then, put_answer, read_answer, run_at, walked_answer, walked_outcome, with_output_if};
@@ -53,7 +53,7 @@ pub fn step<W: Work, C: CodeView<W>>(
     ensures counts { FetchesAtMost (fetches_of (Exec (C.code code.now) input.now (plain_configuration state.old)))
         (W.counts work.old) (W.counts work.new) }
     ensures refused { OnErr result
-        (IsKept (plain_configuration state.old) (plain_configuration state.new) undo.old undo.new) }
+        (NothingChanges (plain_configuration state.old) (plain_configuration state.new) undo.old undo.new) }
     ensures memory { OnErr result
         (MakesFrame (Exec (C.code code.now) input.now (plain_configuration state.old))
         (plain_configuration state.old)) }

@@ -20,7 +20,7 @@ use Rattle.plcs_machine.specs.Exec.{FetchedAnswer, outcome_answer, run_from}
 use Rattle.plcs_machine.specs.Fetched.{fetches_of, result_of}
 use Rattle.plcs_machine.specs.Lead.{Lead, put_lead}
 use Rattle.plcs_machine.specs.Passing.{settle}
-use Rattle.plcs_machine.specs.StepMade.{DoesAct, IsKept, step_answered}
+use Rattle.plcs_machine.specs.StepMade.{DoesAct, NothingChanges, step_answered}
 use Rattle.plcs_machine.specs.Private.CountedSteps.{behind_many}
 use Rattle.plcs_machine.specs.Private.DoableLead.{IsDoable}
 use Rattle.plcs_machine.specs.Private.PlainLed.{TakesAtMost, plain_doing, plain_led}
@@ -96,9 +96,9 @@ abbrev pub IsStepDone : (wanted : Option FetchedAnswer) → StepAnswer → (befo
 IsStepDone wanted StepAnswer.Stepped before now noted notes =
     DoesAct before now notes × (result_of wanted ≡ Some (step_answered StepAnswer.Stepped now))
 IsStepDone wanted (StepAnswer.Stopped reason) before now noted notes =
-    IsKept before now noted notes × (result_of wanted ≡ Some (step_answered (StepAnswer.Stopped reason) now))
+    NothingChanges before now noted notes × (result_of wanted ≡ Some (step_answered (StepAnswer.Stopped reason) now))
 IsStepDone wanted StepAnswer.Ended before now noted notes =
-    IsKept before now noted notes × (result_of wanted ≡ Some (step_answered StepAnswer.Ended now))
+    NothingChanges before now noted notes × (result_of wanted ≡ Some (step_answered StepAnswer.Ended now))
 
 -- the same of states
 abbrev pub IsDone : (wanted : Option FetchedAnswer) → StepAnswer → (before now : RunState) → (noted notes : Undo) → Type 0
@@ -107,7 +107,7 @@ IsDone wanted answer before now noted notes =
 
 -- neither a state nor the record changes, but for operands
 abbrev pub IsStateKept : (before now : RunState) → (noted notes : Undo) → Type 0
-IsStateKept before now noted notes = IsKept (plain_configuration before) (plain_configuration now) noted notes
+IsStateKept before now noted notes = NothingChanges (plain_configuration before) (plain_configuration now) noted notes
 
 -- what was written in a state, with so many newest operands behind it, on a new line or not
 abbrev pub output_then : RunState → (skip : Bool) → (count : ℕ) → List ℕ

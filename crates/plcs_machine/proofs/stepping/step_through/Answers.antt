@@ -10,7 +10,7 @@ use Rattle.plcs_store.specs.Configuration.{PlainConfiguration, plain_configurati
 use Rattle.template_tree.specs.Positions.Place.{PlainPlace}
 use Rattle.plcs_machine.specs.Exec.{Exec, FetchedAnswer}
 use Rattle.plcs_machine.specs.Fetched.{fetches_of, result_of}
-use Rattle.plcs_machine.specs.StepMade.{IsKept, MakesFrame}
+use Rattle.plcs_machine.specs.StepMade.{MakesFrame, NothingChanges}
 use Rattle.plcs_machine.specs.Private.DoableLead.{IsDoable}
 use Rattle.plcs_machine.specs.Private.WalkedStep.{IsStepDone, ending_answer, more_fetches, run_at, walked_outcome}
 use Rattle.plcs_machine.proofs.CountedFetches.{fetches_both, fetches_then}
@@ -162,7 +162,7 @@ returns-clause-counts g c =
 pub returns-clause-refused : goal.returns-clause-refused
 returns-clause-refused g c =
     let after = plain_configuration c.finish.new.state in
-    subst (λ (one : PlainConfiguration). OnErr c.finish.result (IsKept one after c.args.undo.now c.finish.new.undo)) c.walk-walked.ensures.same
+    subst (λ (one : PlainConfiguration). OnErr c.finish.result (NothingChanges one after c.args.undo.now c.finish.new.undo)) c.walk-walked.ensures.same
     c.finish.ensures.refused
 
 pub returns-clause-memory : goal.returns-clause-memory
