@@ -1,6 +1,7 @@
 //! The words that cases begin with.
 
 use crate::code::Question;
+use crate::run::Telling;
 
 /// What a case on runs asks for, by its first word.
 #[derive(Clone, Copy)]
@@ -26,7 +27,7 @@ pub(crate) enum Call {
 }
 
 /// The calls of cases on runs, with the words that these begin with.
-pub(crate) static CALLS: [(&'static [u8], Call); 16] = [
+pub(crate) static CALLS: [(&'static [u8], Call); 19] = [
     (b"read_item", Call::ReadItem),
     (b"kept_value", Call::KeptValue),
     (b"begin", Call::Begin),
@@ -43,4 +44,7 @@ pub(crate) static CALLS: [(&'static [u8], Call); 16] = [
     (b"span", Call::About(Question::Span)),
     (b"places", Call::About(Question::Places)),
     (b"spans", Call::About(Question::Spans)),
+    (b"steps", Call::About(Question::Run(Telling::Steps))),
+    (b"run", Call::About(Question::Run(Telling::End))),
+    (b"state", Call::About(Question::Run(Telling::State))),
 ];

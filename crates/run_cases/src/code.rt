@@ -1,11 +1,17 @@
-//! The code of the program.
+//! The code of the program, and runs by it.
+ghost use Rattle.std.specs.Prelude.{IfSome};
 ghost use Rattle.decl_table.specs.Agreement.{IsDeclsOf};
+ghost use Rattle.template_tree.specs.Checks.Marks.{offences};
+ghost use Rattle.template_tree.specs.Checks.ProgramMaps.{MarksTell};
 ghost use Rattle.template_tree.specs.Programs.Tree.{IsTree};
+ghost use Rattle.run_cases.specs.RunOfProgram.{IsProgramCode};
 
+use crate::run::{self, Telling};
 use case_script::{Told, number_of};
 use decl_table::Decls;
 use plcs_base::{ByteOut, Counts, Name, Place, Point, Slot};
 use plcs_code::{CodeView, FlatCode, generate, show_instr};
+use std::alloc::Global;
 use template_tree::Tree;
 use type_marks::Marks;
 
@@ -28,6 +34,8 @@ pub(crate) enum Question {
     Places,
     /// Where the code of each slot stands.
     Spans,
+    /// What comes of a run by it.
+    Run(Telling),
 }
 
 /// Asks the code of the program, which is made anew under the program's own marks.
@@ -62,11 +70,35 @@ fn ask_under(
     words: &[Vec<u8>],
     told: &mut Told,
 ) -> Option<()>
-    requires { IsTree tree.now }
+    requires tree { IsTree tree.now }
+    requires decls { IsDeclsOf decls.now tree.now.items }
+    requires marks { MarksTell (offences marks.now) tree.now.items }
 {
     let mut work = Counts::default();
-    let code = generate(told.alloc(), tree, marks, decls, &mut work).ok()?;
-    answer(&code, tree.slots(), &mut work, question, words, told)
+    let code = generated(told.alloc(), tree, decls, marks, &mut work)?;
+    match question {
+        Question::Run(telling) => run::play(decls, &code, telling, words, told),
+        question => answer(&code, tree.slots(), &mut work, question, words, told),
+    }
+}
+
+/// The code of the program under its own marks, if there is memory for it.
+fn generated(
+    alloc: Global,
+    tree: &Tree,
+    decls: &Decls,
+    marks: &Marks<Counts>,
+    work: &mut Counts,
+) -> Option<FlatCode<Counts>>
+    requires tree { IsTree tree.now }
+    requires decls { IsDeclsOf decls.now tree.now.items }
+    requires marks { MarksTell (offences marks.now) tree.now.items }
+    ensures { IfSome result (λ code. IsProgramCode code) }
+{
+    match generate(alloc, tree, marks, decls, work) {
+        Ok(code) => Some(code),
+        Err(_) => None,
+    }
 }
 
 /// Answers the question about the code of a program of so many slots, which was made with this work, if it takes
