@@ -13,7 +13,7 @@ use Rattle.plcs_store.specs.Undone.{newest_frame, with_loop_at}
 
 -- ---- lists of which one item is changed
 
-changed_behind : {A : Type 0} (k : ℕ) (f : A → A) (x : A) (xs : List A) → changed_at (suc k) f (x ∷ xs) ≡ x ∷ changed_at k f xs
+pub changed_behind : {A : Type 0} (k : ℕ) (f : A → A) (x : A) (xs : List A) → changed_at (suc k) f (x ∷ xs) ≡ x ∷ changed_at k f xs
 changed_behind {A} k f x xs = by (slice_get xs k)
   where
     by : (got : Option A)
@@ -21,7 +21,7 @@ changed_behind {A} k f x xs = by (slice_get xs k)
     by None = refl
     by (Some a) = refl
 
-changed_length : {A : Type 0} (k : ℕ) (f : A → A) (xs : List A) → length (changed_at k f xs) ≡ length xs
+pub changed_length : {A : Type 0} (k : ℕ) (f : A → A) (xs : List A) → length (changed_at k f xs) ≡ length xs
 changed_length k f [] = refl
 changed_length zero f (x ∷ xs) = refl
 changed_length (suc k) f (x ∷ xs) = ap length (changed_behind k f x xs) ∙ ap suc (changed_length k f xs)
